@@ -1,1 +1,3 @@
+pub mod AddRow
 pub mod Beginnings
+pub mod Places

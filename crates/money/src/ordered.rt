@@ -1,0 +1,55 @@
+ghost use Rattle.std.specs.Prelude.{◌≡◌, ◌+◌, ◌<◌, ◌≤◌, ℕ, nat_le, length, vec_len, vec_capacity, OnOk, OnErr};
+ghost use Rattle.std.specs.List.{prefix_len};
+ghost use Rattle.std.specs.List.Sorted.{IsNonDecreasingBy};
+ghost use Rattle.money.specs.Ordered.{add_row};
+
+use std::alloc::AllocError;
+
+/// A row with a key by which rows are ordered.
+pub trait Keyed {
+    ghost key: { Self → ℕ };
+
+    /// The key. Rows of one key stand in the order in which they were written.
+    fn key(&self) -> u64
+        ensures { result ≡ key self.now };
+}
+
+/// The place behind the rows at the front whose keys are not above this one.
+pub fn place_of<T: Keyed>(rows: &[T], key: u64) -> usize
+    ensures place { result ≡ prefix_len (λ x. nat_le (T.key x) key) rows.now }
+    ensures within { result ≤ length rows.now }
+{
+    let mut place: usize = 0;
+    for row in rows {
+        if row.key() > key {
+            return place;
+        }
+        place += 1;
+    }
+    place
+}
+
+/// Writes a row at its place, behind the rows of its key and of lower ones. Where memory is refused the rows stay.
+pub fn insert_row<T: Keyed + Drop>(rows: &mut Vec<T>, row: T) -> Result<(), AllocError>
+    ensures ok { OnOk result (rows.new.items ≡ add_row T.key row rows.old.items) }
+    ensures len { OnOk result (vec_len rows.new ≡ vec_len rows.old + 1) }
+    ensures err { OnErr result (rows.new.items ≡ rows.old.items) }
+    ensures full { OnErr result (vec_capacity rows.old ≤ vec_len rows.old) }
+    ensures in_order { IsNonDecreasingBy T.key rows.old.items → IsNonDecreasingBy T.key rows.new.items }
+{
+    let place = place_of(rows, row.key());
+    rows.insert(place, row)?;
+    Ok(())
+}
+
+/// Writes a row at its place, as `insert_row` does, into room that is there. It takes no memory and cannot fail.
+pub fn insert_row_reserved<T: Keyed>(rows: &mut Vec<T>, row: T)
+    requires { vec_len rows.old < vec_capacity rows.old }
+    ensures items { rows.new.items ≡ add_row T.key row rows.old.items }
+    ensures len { vec_len rows.new ≡ vec_len rows.old + 1 }
+    ensures capacity { vec_capacity rows.new ≡ vec_capacity rows.old }
+    ensures in_order { IsNonDecreasingBy T.key rows.old.items → IsNonDecreasingBy T.key rows.new.items }
+{
+    let place = place_of(rows, row.key());
+    rows.insert(place, row).unwrap();
+}
