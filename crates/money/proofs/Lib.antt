@@ -1,3 +1,4 @@
 pub mod AddRow
 pub mod Beginnings
 pub mod Places
+pub mod TotalLemmas

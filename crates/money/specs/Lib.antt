@@ -1,3 +1,4 @@
 pub mod Counted
 pub mod Ordered
 pub mod Range
+pub mod Totals
