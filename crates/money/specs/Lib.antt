@@ -1,4 +1,5 @@
 pub mod Counted
 pub mod Ordered
 pub mod Range
+pub mod Text
 pub mod Totals

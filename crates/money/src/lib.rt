@@ -7,6 +7,7 @@ mod ordered;
 mod sending;
 mod sums;
 mod tallied;
+mod text;
 
 pub use cents::{Cents, Delta, MAX_CENTS, MAX_DELTA, add, plus};
 pub use fault::Fault;
@@ -14,3 +15,4 @@ pub use ordered::{Keyed, insert_row, insert_row_reserved, place_of};
 pub use sending::{WriteStopped, write_parts, write_whole};
 pub use sums::{Tally, sum_of};
 pub use tallied::Tallied;
+pub use text::write_cents;

@@ -1,4 +1,4 @@
-use Rattle.std.proofs.Common.{◌≡◌, arith}
+use Rattle.std.proofs.Common.{arith}
 use Rattle.std.proofs.lemmas.Int.{ints}
 use Rattle.money.proofs.TotalLemmas.{total-take_more}
 use Rattle.money.proofs.sums.sum_of.Goals as goal
