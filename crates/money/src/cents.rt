@@ -30,7 +30,7 @@ impl Model for Cents {
 }
 
 impl Cents {
-    /// The amount of these cents, or none where it lies out of range.
+    /// The amount of these cents, or none exactly where they lie out of range.
     pub fn new(value: i64) -> Option<Cents>
         ensures valid { IsSome result ↔ IsCents value }
         ensures value { IfSome result (λ c. c ≡ value) }
@@ -82,7 +82,7 @@ impl Model for Delta {
 }
 
 impl Delta {
-    /// The amount of these cents, or none where it lies out of range.
+    /// The amount of these cents, or none exactly where they lie out of range.
     pub fn new(value: i64) -> Option<Delta>
         ensures valid { IsSome result ↔ IsDelta value }
         ensures value { IfSome result (λ d. d ≡ value) }
@@ -103,7 +103,7 @@ impl Delta {
     }
 }
 
-/// The balance after an entry, or none where it would leave the range.
+/// The balance after an entry, or none exactly where it would leave the range.
 pub fn plus(balance: Cents, delta: Delta) -> Option<Cents>
     ensures in_range { IsSome result ↔ IsCents (balance +ℤ delta) }
     ensures sum { IfSome result (λ c. c ≡ balance +ℤ delta) }
@@ -111,7 +111,7 @@ pub fn plus(balance: Cents, delta: Delta) -> Option<Cents>
     Cents::new(balance.get() + delta.get())
 }
 
-/// The sum of two amounts, or none where it would leave the range.
+/// The sum of two amounts, or none exactly where it would leave the range.
 pub fn add(first: Cents, second: Cents) -> Option<Cents>
     ensures in_range { IsSome result ↔ IsCents (first +ℤ second) }
     ensures sum { IfSome result (λ c. c ≡ first +ℤ second) }

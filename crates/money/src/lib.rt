@@ -7,6 +7,8 @@ mod ordered;
 mod sending;
 mod sums;
 mod tallied;
+#[cfg(test)]
+mod tests;
 mod text;
 
 pub use cents::{Cents, Delta, MAX_CENTS, MAX_DELTA, add, plus};

@@ -5,7 +5,8 @@ ghost use Rattle.std.specs.Io.KnownBytes.{Keeps, ReadConsumes, WriteAppends};
 use std::io;
 use std::io::{Read, Write};
 
-/// A stream, and how many of its calls failed.
+/// A reader or a writer, and how many of its calls failed: each read, write and flush that answered an error, and each
+/// write that took no byte of some. Nothing else moves the count.
 #[derive(Drop)]
 pub struct Tallied<T> {
     stream: T,
@@ -26,14 +27,14 @@ impl<T> Tallied<T> {
         }
     }
 
-    /// How many calls failed so far. It stays at the greatest `u64`.
+    /// How many calls failed so far. The count stays at the greatest `u64`.
     pub fn failures(&self) -> u64
         ensures { result ≡ failure_count self.now }
     {
         self.failures
     }
 
-    /// The stream.
+    /// The stream, without its count.
     pub fn into_inner(self) -> T
         ensures { result ≡ stream_of self }
     {
@@ -103,5 +104,49 @@ impl<W: Write> Write for Tallied<W> {
                 Err(e)
             }
         }
+    }
+}
+
+#[cfg(test)]
+mod tests {
+    use super::*;
+    use std::io::ErrorKind;
+    use std::test::Fail;
+
+    /// Fails at each call.
+    #[derive(Drop)]
+    struct Broken;
+
+    impl Read for Broken {
+        fn read(&mut self, _buf: &mut [u8]) -> io::Result<usize> {
+            Err(ErrorKind::Other.into())
+        }
+    }
+
+    impl Write for Broken {
+        fn write(&mut self, _buf: &[u8]) -> io::Result<usize> {
+            Err(ErrorKind::Other.into())
+        }
+
+        fn flush(&mut self) -> io::Result<()> {
+            Err(ErrorKind::Other.into())
+        }
+    }
+
+    #[test]
+    fn stays_at_the_greatest_count(rt: HostRuntime) -> Result<(), Fail> {
+        let mut stream = Tallied {
+            stream: Broken,
+            failures: u64::MAX - 2,
+        };
+        assert!(rt; stream.read(&mut [0]).is_err());
+        assert_eq!(rt; stream.failures(), u64::MAX - 1);
+        for _ in 0..2 {
+            assert!(rt; stream.write(b"x").is_err());
+            assert_eq!(rt; stream.failures(), u64::MAX);
+            assert!(rt; stream.flush().is_err());
+            assert_eq!(rt; stream.failures(), u64::MAX);
+        }
+        Ok(())
     }
 }

@@ -15,4 +15,4 @@ joined_at parts i d within =
 pub returns-in-Err-clause-beginning : goal.returns-in-Err-clause-beginning
 returns-in-Err-clause-beginning g c =
     let h = c.in-Err.ensures.beginning in
-    beginning_after _ _ _ _ _ _ _ (joined_at c.args.parts.now c.loop-part.part-index _ c.loop-part-test.true) c.loop-part.invariant.0 h
+    beginning_after _ _ _ _ _ _ _ (joined_at c.args.parts.now c.loop-part.part-index _ c.loop-part-test.true) c.loop-part.invariant.sent h

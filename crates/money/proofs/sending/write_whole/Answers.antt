@@ -14,8 +14,9 @@ loop-done-preserved g c =
     let within : n ≤ length (drop done bytes) = rw (sym rest) c.in-Ok.ensures.bound in
     let joined : take (done + n) bytes ≡ take done bytes ++ take n (take (length bytes - done) (drop done bytes)) =
     take-add done n bytes ∙ ap (λ l. take done bytes ++ take n l) (sym rest) in
-    let same : c.write.new.self.failures ≡ c.loop-done.writer.failures = c.in-Ok.ensures.ok (inl (omega arith)) in (
-      omega (arith, length-drop done bytes),
-      subst (Appends _ _) (sym joined) (Appends-trans _ _ _ _ _ c.loop-done.invariant.1 c.in-Ok.ensures.bytes),
-      omega (arith, c.loop-done.invariant.2),
-    )
+    let same : c.write.new.self.failures ≡ c.loop-done.writer.failures = c.in-Ok.ensures.ok (inl (omega arith)) in
+    record {
+      within = omega (arith, length-drop done bytes);
+      sent = subst (Appends _ _) (sym joined) (Appends-trans _ _ _ _ _ c.loop-done.invariant.sent c.in-Ok.ensures.bytes);
+      kept = same ∙ c.loop-done.invariant.kept;
+    }
