@@ -64,7 +64,7 @@ impl From<Delta> for Cents {
 /// Whole cents that one entry adds, from -999,999 to 999,999.
 #[derive(Clone, Copy, Debug, PartialEq, Eq, PartialOrd, Ord)]
 pub struct Delta {
-    value: i64,
+    change: i64,
 }
 
 impl Model for Delta {
@@ -74,11 +74,11 @@ impl Model for Delta {
 
     ghost use Rattle.money.specs.Range.{IsDelta};
 
-    ghost view = { λ d. d.value };
+    ghost view = { λ d. d.change };
 
-    ghost invariant = { λ d. IsDelta d.value };
+    ghost invariant = { λ d. IsDelta d.change };
 
-    ghost inverse = { λ z. record { value = z } };
+    ghost inverse = { λ z. record { change = z } };
 }
 
 impl Delta {
@@ -88,7 +88,7 @@ impl Delta {
         ensures value { IfSome result (λ d. d ≡ value) }
     {
         if -MAX_DELTA <= value && value <= MAX_DELTA {
-            Some(Delta { value })
+            Some(Delta { change: value })
         } else {
             None
         }
@@ -99,7 +99,7 @@ impl Delta {
         ensures value { result ≡ self }
         ensures in_range { IsDelta self }
     {
-        self.value
+        self.change
     }
 }
 

@@ -36,6 +36,6 @@ impl<T: Drop> From<AllocFailed<T>> for Fault {
     ghost from_gives = { λ _ fault. fault ≡ Memory };
 
     fn from(_refused: AllocFailed<T>) -> Fault {
-        Fault::Memory
+        Fault::from(AllocError)
     }
 }

@@ -14,7 +14,7 @@ pub struct Tallied<T> {
 }
 
 impl<T> Tallied<T> {
-    ghost use Rattle.money.specs.Counted.{stream_of, failure_count};
+    ghost use Rattle.money.specs.Counted.{stream_of, failure_count, counted_once_more};
 
     /// The stream with no failure counted yet.
     pub fn new(stream: T) -> Self
@@ -40,6 +40,15 @@ impl<T> Tallied<T> {
     {
         self.stream
     }
+
+    /// Counts one failure more, up to the greatest `u64`.
+    fn count_failure(&mut self)
+        ensures stream { stream_of self.new ≡ stream_of self.old }
+        ensures count { failure_count self.new ≡ counted_once_more (failure_count self.old) }
+        ensures counts { failure_count self.old ≤ failure_count self.new }
+    {
+        self.failures = self.failures.saturating_add(1);
+    }
 }
 
 impl<R: Read> Read for Tallied<R> {
@@ -57,7 +66,7 @@ impl<R: Read> Read for Tallied<R> {
         match self.stream.read(buf) {
             Ok(n) => Ok(n),
             Err(e) => {
-                self.failures = self.failures.saturating_add(1);
+                self.count_failure();
                 Err(e)
             }
         }
@@ -80,12 +89,12 @@ impl<W: Write> Write for Tallied<W> {
         match self.stream.write(buf) {
             Ok(n) => {
                 if n == 0 && !buf.is_empty() {
-                    self.failures = self.failures.saturating_add(1);
+                    self.count_failure();
                 }
                 Ok(n)
             }
             Err(e) => {
-                self.failures = self.failures.saturating_add(1);
+                self.count_failure();
                 Err(e)
             }
         }
@@ -100,7 +109,7 @@ impl<W: Write> Write for Tallied<W> {
         match self.stream.flush() {
             Ok(()) => Ok(()),
             Err(e) => {
-                self.failures = self.failures.saturating_add(1);
+                self.count_failure();
                 Err(e)
             }
         }
