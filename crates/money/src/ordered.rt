@@ -10,12 +10,12 @@ pub trait Keyed {
     ghost key: { Self → ℕ };
 
     /// The key. Rows of one key stand in the order in which they were written.
-    fn key(&self) -> u64
+    fn key(&self) -> u128
         ensures { result ≡ key self.now };
 }
 
 /// The place behind the rows at the front whose keys are not above this one.
-pub fn place_of<T: Keyed>(rows: &[T], key: u64) -> usize
+pub fn place_of<T: Keyed>(rows: &[T], key: u128) -> usize
     ensures place { result ≡ prefix_len (λ x. nat_le (T.key x) key) rows.now }
     ensures within { result ≤ length rows.now }
 {
