@@ -1,3 +1,5 @@
 pub mod Policy
+pub mod PolicyKeys
 pub mod Procedure
 pub mod Rule
+pub mod SetRow

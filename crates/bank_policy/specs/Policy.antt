@@ -1,8 +1,15 @@
--- The rows of the policy as plain data.
+-- The policy as plain lists, each in order of its key.
 use Rattle.std.specs.Prelude.{ℕ, List}
 use Rattle.bank_policy.specs.declared.rows.Member.{Member}
+use Rattle.bank_policy.specs.declared.rows.User.{User}
+use Rattle.bank_policy.specs.declared.rows.Relation.{Relation}
+use Rattle.bank_policy.specs.declared.rows.Triple.{Triple}
+use Rattle.bank_policy.specs.declared.rows.Certifier.{Certifier}
+use Rattle.bank_policy.specs.SetRow.{SetRow}
 
--- a set with its members, in their order
-pub record SetRow : Type 0 where
-  pub set : ℕ
-  pub members : List Member
+pub record PolicyLists : Type 0 where
+  pub users : List User
+  pub sets : List SetRow
+  pub relations : List Relation
+  pub triples : List Triple
+  pub certifiers : List Certifier

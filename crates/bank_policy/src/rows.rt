@@ -74,7 +74,7 @@ pub struct ItemSet {
 }
 
 impl Model for ItemSet {
-    ghost use Rattle.bank_policy.specs.Policy.{SetRow};
+    ghost use Rattle.bank_policy.specs.SetRow.{SetRow};
 
     ghost Value = { SetRow };
 
