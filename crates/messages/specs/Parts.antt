@@ -13,3 +13,8 @@ pub record HeadParts : Type 0 where
 -- those of a head of the grammar
 abbrev pub parts_of : RequestHead → HeadParts
 parts_of h = record { method = h.method; target = h.target; minor = h.minor; fields = map name_and_value h.fields }
+
+-- of a message: those of its head, and its body
+pub record MessageParts : Type 0 where
+  pub head : HeadParts
+  pub body : List ℕ
