@@ -1,0 +1,6 @@
+pub mod BlankLemmas
+pub mod FieldLemmas
+pub mod JudgeLemmas
+pub mod LineLemmas
+pub mod RoomLemmas
+pub mod WordLemmas

@@ -1,0 +1,14 @@
+use Rattle.std.proofs.Common.{ℕ, List, length, ◌-◌, ◌≤◌}
+use Rattle.std.specs.Io.KnownBytes.{Keeps}
+use Rattle.messages.specs.Received.{Takes, max_message_len}
+use Rattle.messages.proofs.serving.read_next.Given as goal
+
+abbrev pub invariant-loop-next : goal.invariant-loop-next
+invariant-loop-next g l =
+    ((more : List ℕ) × Takes (g.R.Read.remaining l.fn.reader.stream) (g.R.Read.remaining l.reader.stream) l.fn.received l.received more)
+    × Keeps (g.W.Write.contents l.fn.writer.stream) (g.W.Write.contents l.writer.stream)
+    × (l.fn.reader.failures ≤ l.reader.failures)
+    × (l.fn.writer.failures ≤ l.writer.failures)
+
+abbrev pub decreases-loop-next : goal.decreases-loop-next
+decreases-loop-next g l = max_message_len - length l.received

@@ -1,0 +1,12 @@
+pub mod Blank
+pub mod Fault
+pub mod Fields
+pub mod Found
+pub mod Framing
+pub mod Judged
+pub mod Next
+pub mod Parts
+pub mod Received
+pub mod Reply
+pub mod Stream
+pub mod Words

@@ -1,0 +1,91 @@
+ghost use Rattle.std.specs.Prelude.{◌≡◌, ◌≤◌, OnOk, OnErr};
+ghost use Rattle.std.specs.Io.KnownBytes.{Appends};
+ghost use Rattle.money.specs.Counted.{stream_of, failure_count, CountsFailure, AppendsBeginning};
+ghost use Rattle.messages.specs.Fields.{values_named};
+ghost use Rattle.messages.specs.Found.{IsFound};
+ghost use Rattle.messages.specs.Framing.{closes, asks_head};
+ghost use Rattle.messages.specs.Reply.{reply_bytes};
+
+use crate::fields::Found;
+use crate::head::Head;
+use crate::reply::write_reply;
+use http::StatusCode;
+use money::{Tallied, WriteStopped};
+use std::io::Write;
+use std::marker::Model;
+
+/// A message whose whole body was read: what an engine is handed. A contract sees its parts.
+#[derive(Drop)]
+pub struct Message<'b> {
+    head: Head<'b>,
+    body: &'b [u8],
+}
+
+impl<'b> Model for Message<'b> {
+    ghost use Rattle.messages.specs.Parts.{MessageParts};
+
+    ghost Value = { MessageParts };
+
+    ghost view = { λ m. record { head = m.head; body = m.body.now } };
+}
+
+impl<'b> Message<'b> {
+    /// A head, and the body behind it.
+    pub(crate) fn new(head: Head<'b>, body: &'b [u8]) -> Message<'b>
+        ensures { result ≡ record { head = head.entry; body = body.now } }
+    {
+        Message { head, body }
+    }
+
+    /// The method, such as `GET`, in the letter case that it has.
+    pub fn method(&self) -> &'b [u8]
+        ensures { result.now ≡ self.now.head.method }
+    {
+        self.head.method()
+    }
+
+    /// The request target, such as `/policy`.
+    pub fn target(&self) -> &'b [u8]
+        ensures { result.now ≡ self.now.head.target }
+    {
+        self.head.target()
+    }
+
+    /// The value of the field with this name, which is looked for without letter case.
+    pub fn field(&self, name: &[u8]) -> Found<'b>
+        ensures { IsFound (values_named name.now self.now.head.fields) result }
+    {
+        self.head.field(name)
+    }
+
+    /// The body, which is empty where the head states none.
+    pub fn body(&self) -> &'b [u8]
+        ensures { result.now ≡ self.now.body }
+    {
+        self.body
+    }
+
+    /// Whether the connection ends after the reply.
+    pub fn closes(&self) -> bool
+        ensures { result ≡ closes self.now.head }
+    {
+        self.head.closes()
+    }
+
+    /// Writes the reply to this message: with `Connection: close` where the connection ends after it, and with no body
+    /// bytes where the method is HEAD. It takes no memory. After an error a beginning of it was written.
+    pub fn reply<W: Write>(
+        &self,
+        writer: &mut Tallied<W>,
+        status: StatusCode,
+        content_type: &str,
+        body: &[u8],
+    ) -> Result<(), WriteStopped>
+        ensures whole { OnOk result (Appends (W.contents (stream_of writer.old)) (W.contents (stream_of writer.new)) (reply_bytes status content_type.now body.now (closes self.now.head) (asks_head self.now.head))) }
+        ensures beginning { OnErr result (AppendsBeginning (W.contents (stream_of writer.old)) (W.contents (stream_of writer.new)) (reply_bytes status content_type.now body.now (closes self.now.head) (asks_head self.now.head))) }
+        ensures cause { OnErr result (CountsFailure (failure_count writer.old) (failure_count writer.new)) }
+        ensures counts { failure_count writer.old ≤ failure_count writer.new }
+    {
+        write_reply(writer, status, content_type, body, self.head.framing())
+    }
+}

@@ -1,0 +1,305 @@
+ghost use Rattle.std.specs.Prelude.{◌≡◌, ◌≢◌, ◌≤◌, ◌<◌, ◌+◌, ◌⊎◌, ℕ, List, length, IfOk, IfErr, OnOk, Ok, Err};
+ghost use Rattle.std.specs.Io.KnownBytes.{Keeps, IsAtEnd};
+ghost use Rattle.money.specs.Counted.{stream_of, failure_count, CountsFailure};
+ghost use Rattle.messages.specs.Next.{IsNext};
+ghost use Rattle.messages.specs.Received.{Takes};
+ghost use Rattle.messages.specs.Stream.{max_fields};
+
+use crate::blank::are_line_ends;
+use crate::engine::{AnswerFault, Engine};
+use crate::fault::MessageFault;
+use crate::head::Head;
+use crate::judging::{Judged, MAX_FIELDS, judge};
+use crate::message::Message;
+use crate::received::Received;
+use crate::reply::{Framing, write_reply};
+use httparse::spans::{EMPTY_HEADER_SPAN, HeaderSpan, RequestSpans};
+use money::Tallied;
+use std::alloc::{AllocError, Global};
+use std::io::{Read, Write};
+use thiserror::Error;
+
+/// What a call of `serve_messages` did.
+#[derive(Clone, Copy, Debug, PartialEq, Eq)]
+pub struct Served {
+    /// How many replies it gave, those to M1 to M4 included.
+    pub messages: u32,
+}
+
+/// Why a call of `serve_messages` stopped before its end.
+#[derive(Clone, Copy, Debug, PartialEq, Eq, Error)]
+pub enum ServeFault {
+    /// A read failed. What was answered before stands.
+    #[error("the reader failed")]
+    Read,
+    /// A write or a flush failed. What was answered before stands, the message answered last too.
+    #[error("the writer failed")]
+    Write,
+    /// The input ended inside a message, which was not acted on.
+    #[error("the input ended inside a message")]
+    Cut,
+    /// Memory was refused at the start. Nothing was read.
+    #[error("out of memory")]
+    Memory,
+    /// A report broke after its head was written.
+    #[error("a report broke")]
+    Report,
+}
+
+impl From<AllocError> for ServeFault {
+    ghost use Rattle.messages.specs.declared.serving.ServeFault.TheVariants.{Memory};
+
+    ghost from_gives = { λ _ fault. fault ≡ Memory };
+
+    fn from(_refused: AllocError) -> ServeFault {
+        ServeFault::Memory
+    }
+}
+
+/// What the bytes that were read begin with.
+#[derive(Clone, Copy, Debug, PartialEq, Eq)]
+enum Next {
+    /// A whole message: its head, and how many bytes of body follow it.
+    Message(RequestSpans, usize),
+    /// A head with a fault.
+    FaultyHead(RequestSpans, MessageFault),
+    /// Bytes that begin no head, or none within the longest.
+    NoHead(MessageFault),
+    /// Less than a whole message.
+    Partial,
+}
+
+/// How a turn of the loop ended.
+#[derive(Clone, Copy, Debug, PartialEq, Eq)]
+enum Turn {
+    /// A message was answered, and the next may follow.
+    Answered,
+    /// A message was answered by a reply that ends the connection.
+    Closed,
+    /// The input ended between two messages.
+    Ended,
+}
+
+/// What the bytes begin with.
+fn look(bytes: &[u8], headers: &mut [HeaderSpan]) -> Next
+    requires { max_fields ≤ length headers.old }
+    ensures { IsNext bytes.now headers.new result }
+{
+    match judge(bytes, headers) {
+        Judged::Head(spans) => match Head::new(bytes, headers, &spans).body_len() {
+            Ok(body_len) => {
+                if spans.len + body_len <= bytes.len() {
+                    Next::Message(spans, body_len)
+                } else {
+                    Next::Partial
+                }
+            }
+            Err(fault) => Next::FaultyHead(spans, fault),
+        },
+        Judged::Malformed => Next::NoHead(MessageFault::BadHead),
+        Judged::TooLong => Next::NoHead(MessageFault::HeadTooLong),
+        Judged::Waiting => Next::Partial,
+    }
+}
+
+/// Flushes the writer where something was written since it was flushed last.
+fn flush_written<W: Write>(writer: &mut Tallied<W>, written: &mut bool) -> Result<(), ServeFault>
+    ensures ok { OnOk result (failure_count writer.new ≡ failure_count writer.old) }
+    ensures err { IfErr result (λ fault. (fault ≡ ServeFault.Write) × CountsFailure (failure_count writer.old) (failure_count writer.new)) }
+    ensures kept { Keeps (W.contents (stream_of writer.old)) (W.contents (stream_of writer.new)) }
+    ensures counts { failure_count writer.old ≤ failure_count writer.new }
+{
+    if !*written {
+        return Ok(());
+    }
+    *written = false;
+    match writer.flush() {
+        Ok(()) => Ok(()),
+        Err(_) => Err(ServeFault::Write),
+    }
+}
+
+/// Reads until a whole message or a fault has come, or the input ends. Before each read the writer is flushed.
+fn read_next<R: Read, W: Write>(
+    reader: &mut Tallied<R>,
+    writer: &mut Tallied<W>,
+    written: &mut bool,
+    received: &mut Received,
+    headers: &mut [HeaderSpan],
+) -> Result<Next, ServeFault>
+    requires { max_fields ≤ length headers.old }
+    ensures takes { (more : List ℕ) × Takes (R.remaining (stream_of reader.old)) (R.remaining (stream_of reader.new)) received.old received.new more }
+    ensures next { IfOk result (IsNext received.new headers.new) }
+    ensures end { result ≡ Ok Next.Partial → IsAtEnd (R.remaining (stream_of reader.new)) }
+    ensures err { IfErr result (λ fault. ((fault ≡ ServeFault.Read) × CountsFailure (failure_count reader.old) (failure_count reader.new))
+        ⊎ ((fault ≡ ServeFault.Write) × CountsFailure (failure_count writer.old) (failure_count writer.new))) }
+    ensures kept { Keeps (W.contents (stream_of writer.old)) (W.contents (stream_of writer.new)) }
+    ensures counts_reads { failure_count reader.old ≤ failure_count reader.new }
+    ensures counts_writes { failure_count writer.old ≤ failure_count writer.new }
+{
+    loop {
+        match look(received.bytes(), headers) {
+            Next::Partial => {}
+            next => return Ok(next),
+        }
+        flush_written(writer, written)?;
+        match received.fill(reader) {
+            Ok(true) => {}
+            Ok(false) => return Ok(Next::Partial),
+            Err(_) => return Err(ServeFault::Read),
+        }
+    }
+}
+
+/// Writes the reply to a fault that ends the connection.
+fn refuse<W: Write>(
+    writer: &mut Tallied<W>,
+    fault: MessageFault,
+    head_only: bool,
+) -> Result<Turn, ServeFault>
+    ensures err { IfErr result (λ fault. (fault ≡ ServeFault.Write) × CountsFailure (failure_count writer.old) (failure_count writer.new)) }
+    ensures counts { failure_count writer.old ≤ failure_count writer.new }
+{
+    let framing = Framing {
+        close: true,
+        head_only,
+    };
+    match write_reply(
+        writer,
+        fault.status(),
+        "application/json",
+        fault.text(),
+        framing,
+    ) {
+        Ok(()) => Ok(Turn::Closed),
+        Err(_) => Err(ServeFault::Write),
+    }
+}
+
+/// Has the engine answer a message.
+fn answer<E: Engine, W: Write>(
+    engine: &mut E,
+    message: &Message<'_>,
+    writer: &mut Tallied<W>,
+) -> Result<Turn, ServeFault>
+    ensures write_cause { result ≡ Err ServeFault.Write → CountsFailure (failure_count writer.old) (failure_count writer.new) }
+    ensures no_read { result ≢ Err ServeFault.Read }
+    ensures counts { failure_count writer.old ≤ failure_count writer.new }
+{
+    match engine.answer(message, writer) {
+        Ok(()) => {}
+        Err(AnswerFault::Write) => return Err(ServeFault::Write),
+        Err(AnswerFault::Report) => return Err(ServeFault::Report),
+    }
+    if message.closes() {
+        Ok(Turn::Closed)
+    } else {
+        Ok(Turn::Answered)
+    }
+}
+
+/// Reads and answers one message.
+fn serve_one<E: Engine, R: Read, W: Write>(
+    engine: &mut E,
+    reader: &mut Tallied<R>,
+    writer: &mut Tallied<W>,
+    written: &mut bool,
+    received: &mut Received,
+    headers: &mut [HeaderSpan],
+) -> Result<Turn, ServeFault>
+    requires { max_fields ≤ length headers.old }
+    ensures read_cause { result ≡ Err ServeFault.Read → CountsFailure (failure_count reader.old) (failure_count reader.new) }
+    ensures write_cause { result ≡ Err ServeFault.Write → CountsFailure (failure_count writer.old) (failure_count writer.new) }
+    ensures counts_reads { failure_count reader.old ≤ failure_count reader.new }
+    ensures counts_writes { failure_count writer.old ≤ failure_count writer.new }
+{
+    let next = read_next(reader, writer, written, received, headers)?;
+    match next {
+        Next::Message(spans, body_len) => {
+            *written = true;
+            let bytes = received.bytes();
+            let end = spans.len + body_len;
+            let head = Head::new(bytes, headers, &spans);
+            let message = Message::new(head, &bytes[spans.len..end]);
+            let turn = answer(engine, &message, writer)?;
+            received.drop_front(end);
+            Ok(turn)
+        }
+        Next::FaultyHead(spans, fault) => {
+            *written = true;
+            let head = Head::new(received.bytes(), headers, &spans);
+            refuse(writer, fault, head.framing().head_only)
+        }
+        Next::NoHead(fault) => {
+            *written = true;
+            refuse(writer, fault, false)
+        }
+        Next::Partial => {
+            if are_line_ends(received.bytes()) {
+                Ok(Turn::Ended)
+            } else {
+                Err(ServeFault::Cut)
+            }
+        }
+    }
+}
+
+/// Answers the messages of a stream one after another, and answers how many replies it gave.
+fn serve_in<E: Engine, R: Read, W: Write>(
+    engine: &mut E,
+    reader: &mut Tallied<R>,
+    writer: &mut Tallied<W>,
+    written: &mut bool,
+    received: &mut Received,
+    headers: &mut [HeaderSpan],
+    most: u32,
+) -> Result<Served, ServeFault>
+    requires { max_fields ≤ length headers.old }
+    ensures most { IfOk result (λ served. served.messages ≤ most) }
+    ensures read_cause { result ≡ Err ServeFault.Read → CountsFailure (failure_count reader.old) (failure_count reader.new) }
+    ensures write_cause { result ≡ Err ServeFault.Write → CountsFailure (failure_count writer.old) (failure_count writer.new) }
+    ensures counts_reads { failure_count reader.old ≤ failure_count reader.new }
+    ensures counts_writes { failure_count writer.old ≤ failure_count writer.new }
+{
+    for done in 0..most {
+        match serve_one(engine, reader, writer, written, received, headers)? {
+            Turn::Answered => {}
+            Turn::Closed => return Ok(Served { messages: done + 1 }),
+            Turn::Ended => return Ok(Served { messages: done }),
+        }
+    }
+    Ok(Served { messages: most })
+}
+
+/// Answers the messages of a stream one after another: until the input ends between two of them, after a reply that ends
+/// the connection, or after `most` replies. With `most` 0 nothing is read. A message is acted on once its whole body was
+/// read. What a message and its reply take is one room of fixed size, which is allocated first. The writer is flushed
+/// before each read and at the end, where something was written since it was flushed last.
+pub fn serve_messages<E: Engine, R: Read, W: Write>(
+    alloc: Global,
+    engine: &mut E,
+    reader: &mut Tallied<R>,
+    writer: &mut Tallied<W>,
+    most: u32,
+) -> Result<Served, ServeFault>
+    ensures most { IfOk result (λ served. served.messages ≤ most) }
+    ensures read_cause { result ≡ Err ServeFault.Read → CountsFailure (failure_count reader.old) (failure_count reader.new) }
+    ensures write_cause { result ≡ Err ServeFault.Write → CountsFailure (failure_count writer.old) (failure_count writer.new) }
+    ensures counts_reads { failure_count reader.old ≤ failure_count reader.new }
+    ensures counts_writes { failure_count writer.old ≤ failure_count writer.new }
+{
+    let mut received = Received::new(alloc)?;
+    let mut headers = vec![in alloc; EMPTY_HEADER_SPAN; MAX_FIELDS]?;
+    let mut written = false;
+    let result = serve_in(
+        engine,
+        reader,
+        writer,
+        &mut written,
+        &mut received,
+        headers.as_mut_slice(),
+        most,
+    );
+    flush_written(writer, &mut written)?;
+    result
+}
