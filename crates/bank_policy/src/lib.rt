@@ -1,0 +1,14 @@
+//! Who may do what: items under integrity control, sets of them, and the rows of the policy.
+#![tactic(auto)]
+
+mod item;
+mod operation_row;
+mod procedure;
+mod rows;
+mod rule;
+
+pub use item::{Cdi, Kind};
+pub use operation_row::OperationRow;
+pub use procedure::Procedure;
+pub use rows::{Certifier, HeldRow, ItemSet, Member, Name, Relation, Triple, User};
+pub use rule::Rule;
