@@ -1,4 +1,5 @@
-ghost use Rattle.std.specs.Prelude.{◌≡◌, IfOk, IfSome, IsOkUnless};
+ghost use Rattle.std.specs.Prelude.{◌≡◌, ◌<◌, length, None, IfOk, IfErr, IfSome, IsOkUnless};
+ghost use Rattle.serde_json.specs.Errors.{IsMemory};
 ghost use Rattle.serde_json.specs.View.{view};
 ghost use Rattle.money.specs.declared.fault.Fault.TheVariants.{Memory};
 ghost use Rattle.counter_ops.specs.Op.{procedure_of};
@@ -13,7 +14,7 @@ use crate::releases::release;
 use bank_policy::Procedure;
 use counter_ops::Op;
 use money::Fault;
-use serde_json::Value;
+use serde_json::{Error, Value};
 use std::alloc::Global;
 
 /// The operation that the value states for the procedure.
@@ -39,6 +40,19 @@ fn op_stated(procedure: Procedure, body: &Value) -> Option<Op>
     }
 }
 
+/// What the bytes state that were refused with this error: nothing, unless memory was refused and
+/// they were not read.
+fn stated_at(error: &Error) -> Result<Option<Op>, Fault>
+    ensures none { IfOk result (λ stated. (¬ IsMemory error.now) × (stated ≡ None)) }
+    ensures memory { IfErr result (λ fault. IsMemory error.now × (fault ≡ Memory)) }
+{
+    if error.is_memory() {
+        Err(Fault::Memory)
+    } else {
+        Ok(None)
+    }
+}
+
 /// The operation that the bytes of a request's body state for the procedure, or none exactly where
 /// they state none: where they are no text or no JSON, or no object with exactly the members of the
 /// procedure's form, each a whole number in its range. An error is `Fault::Memory` and no other.
@@ -47,10 +61,14 @@ pub fn read_op(alloc: Global, procedure: Procedure, body: &[u8]) -> Result<Optio
     ensures range { IfOk result (λ stated. IfSome stated IsOp) }
     ensures procedure { IfOk result (λ stated. IfSome stated (λ op. procedure_of op ≡ procedure)) }
     ensures memory { IsOkUnless result Memory }
+    // Memory is asked for only where there are bytes.
+    ensures some { IfErr result (λ _. 0 < length body.now) }
 {
     match Value::from_slice(alloc, body) {
         Ok(value) => Ok(op_stated(procedure, &value)),
-        Err(error) if error.is_memory() => Err(Fault::Memory),
-        Err(_) => Ok(None),
+        Err(error) => stated_at(&error),
     }
 }
+
+#[cfg(test)]
+mod tests;
