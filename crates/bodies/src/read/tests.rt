@@ -166,7 +166,11 @@ fn bodies_that_state_another_operation(rt: HostRuntime) -> Result<(), Fail> {
 
 /// Whether the bytes state no operation.
 fn is_none_stated(alloc: Global, procedure: Procedure, body: &[u8]) -> Result<bool, Fault> {
-    Ok(read_op(alloc, procedure, body)?.is_none())
+    match read_op(alloc, procedure, body) {
+        Ok(Some(_)) => Ok(false),
+        Ok(None) => Ok(true),
+        Err(fault) => Err(fault),
+    }
 }
 
 #[test]
