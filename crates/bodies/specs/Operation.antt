@@ -1,6 +1,6 @@
--- The operation that a value states for a procedure: an object with exactly the members of the procedure's form, each a
--- whole number in its range. Any other value states none. A form that a release may hold takes `extra`: how many
--- members the object has beside those of the form, which is 1 inside a release, for the name of the procedure.
+-- The operation that a value states for a procedure: an object with exactly the members of the procedure's form, each
+-- in its range. Any other value states none. A form that a release may be for takes `extra`, the number of members
+-- beside those of the form: 1 inside a release, where the object names its procedure too, and else 0.
 use Rattle.std.specs.Prelude.{ℕ, ◌+◌, pos, negsuc, List, ◌==◌, Option, Some, None, option_and_then, option_map, codes, if◌then◌else◌}
 use Rattle.serde_json.specs.Data.{Data}
 use Rattle.serde_json.specs.Find.{get, as_str}
@@ -43,7 +43,8 @@ transfer_of extra value = if has_members (5 + extra) value then (do
   teller ← key_member (codes "teller") value
   branch ← key_member (codes "branch") value
   amount ← natural_member (codes "amount") 1 999999 value
-  if source == target then None else Some (record { source = source; target = target; teller = teller; branch = branch; amount = amount })) else None
+  if source == target then None else
+      Some (record { source = source; target = target; teller = teller; branch = branch; amount = amount })) else None
 
 -- an entry undone; `other` is the account of a transfer's other leg, or 0
 abbrev pub correct_of : ℕ → Data → Option Correct
@@ -54,7 +55,8 @@ correct_of extra value = if has_members (6 + extra) value then (do
   other ← natural_member (codes "other") 0 999999999 value
   teller ← key_member (codes "teller") value
   delta ← delta_member (codes "delta") value
-  if account == other then None else Some (record { branch = branch; entry = entry; account = account; other = other; teller = teller; delta = delta })) else None
+  if account == other then None else
+      Some (record { branch = branch; entry = entry; account = account; other = other; teller = teller; delta = delta })) else None
 
 -- a drawer given to the user, with cash from the vault
 abbrev pub drawer_on_of : ℕ → Data → Option DrawerOn
@@ -79,7 +81,8 @@ move_cash_of extra value = if has_members (4 + extra) value then (do
   target ← natural_member (codes "target") 0 999999999 value
   branch ← key_member (codes "branch") value
   amount ← natural_member (codes "amount") 1 999999999 value
-  if source == target then None else Some (record { source = source; target = target; branch = branch; amount = amount })) else None
+  if source == target then None else
+      Some (record { source = source; target = target; branch = branch; amount = amount })) else None
 
 -- a new account with its floor
 abbrev pub new_account_of : Data → Option NewAccount

@@ -55,7 +55,7 @@ fn stated_at(error: &Error) -> Result<Option<Op>, Fault>
 
 /// The operation that the bytes of a request's body state for the procedure, or none exactly where
 /// they state none: where they are no text or no JSON, or no object with exactly the members of the
-/// procedure's form, each a whole number in its range. An error is `Fault::Memory` and no other.
+/// procedure's form, each in its range. An error is `Fault::Memory` and no other.
 pub fn read_op(alloc: Global, procedure: Procedure, body: &[u8]) -> Result<Option<Op>, Fault>
     ensures exact { IfOk result (λ stated. stated ≡ stated_op procedure body.now) }
     ensures range { IfOk result (λ stated. IfSome stated IsOp) }
