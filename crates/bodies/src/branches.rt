@@ -1,0 +1,37 @@
+ghost use Rattle.std.specs.Prelude.{◌≡◌, IfSome};
+ghost use Rattle.serde_json.specs.View.{view};
+ghost use Rattle.bodies.specs.Operation.{new_account_of, close_day_of};
+ghost use Rattle.bodies.specs.Ranges.{IsKey, IsNewAccount};
+
+use crate::members::{is_object_of, key, member};
+use counter_ops::{CloseDay, NewAccount};
+use money::Cents;
+use serde_json::Value;
+
+/// The account that the value states, with its home and its floor.
+pub fn new_account(body: &Value) -> Option<NewAccount>
+    ensures value { result ≡ new_account_of (view body.now) }
+    ensures range { IfSome result IsNewAccount }
+{
+    if !is_object_of(body, 3) {
+        return None;
+    }
+    Some(NewAccount {
+        account: key(body, "account")?,
+        branch: key(body, "branch")?,
+        floor: Cents::new(member(body, "floor", -999_999_999, 0)?)?,
+    })
+}
+
+/// The branch that the value states, whose day is to end.
+pub fn close_day(body: &Value) -> Option<CloseDay>
+    ensures value { result ≡ close_day_of (view body.now) }
+    ensures range { IfSome result (λ close_day. IsKey close_day.branch) }
+{
+    if !is_object_of(body, 1) {
+        return None;
+    }
+    Some(CloseDay {
+        branch: key(body, "branch")?,
+    })
+}
