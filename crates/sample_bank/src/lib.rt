@@ -1,0 +1,10 @@
+//! The sample bank: the opening of its books, and the badges of its users.
+#![tactic(auto)]
+
+mod badges;
+mod opening;
+#[cfg(test)]
+mod tests;
+
+pub use badges::badge_user;
+pub use opening::sample_world;

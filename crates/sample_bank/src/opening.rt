@@ -1,0 +1,89 @@
+ghost use Rattle.std.specs.Prelude.{◌≡◌, [], pos, OnOk, IfOk};
+ghost use Rattle.money.specs.Range.{IsCents};
+ghost use Rattle.sample_bank.specs.Opening.{accounts, branches, sample_opening, tellers};
+
+use bank_books::{Account, Branch, Teller, World};
+use bank_policy::Policy;
+use money::Cents;
+use std::alloc::{AllocError, Global};
+
+/// The sample bank as its books are opened: two branches on their first day, three tellers and three accounts, with
+/// nothing entered yet and no rows of policy. The only error is that memory is refused.
+pub fn sample_world(alloc: Global) -> Result<World, AllocError>
+    ensures { IfOk result (λ world. world ≡ sample_opening) }
+{
+    let mut world = World::new(alloc, Policy::new(alloc));
+    add_branches(&mut world)?;
+    add_tellers(&mut world)?;
+    add_accounts(&mut world)?;
+    Ok(world)
+}
+
+/// An amount that is known to lie in range.
+fn cents(amount: i64) -> Cents
+    requires { IsCents amount }
+    ensures { result ≡ amount }
+{
+    Cents::new(amount).unwrap()
+}
+
+fn add_branches(world: &mut World) -> Result<(), AllocError>
+    requires { world.old.branches ≡ [] }
+    ensures { OnOk result (world.new ≡ record world.old { branches = branches }) }
+{
+    world.add_branch(Branch {
+        branch: 1,
+        opening: cents(60_000),
+        cash: cents(100_000),
+        day: 1,
+    })?;
+    world.add_branch(Branch {
+        branch: 2,
+        opening: cents(20_000),
+        cash: cents(50_000),
+        day: 1,
+    })
+}
+
+fn add_tellers(world: &mut World) -> Result<(), AllocError>
+    requires { world.old.tellers ≡ [] }
+    ensures { OnOk result (world.new ≡ record world.old { tellers = tellers }) }
+{
+    world.add_teller(Teller {
+        teller: 11,
+        branch: 1,
+        opening: cents(60_000),
+    })?;
+    world.add_teller(Teller {
+        teller: 12,
+        branch: 1,
+        opening: cents(0),
+    })?;
+    world.add_teller(Teller {
+        teller: 21,
+        branch: 2,
+        opening: cents(20_000),
+    })
+}
+
+fn add_accounts(world: &mut World) -> Result<(), AllocError>
+    requires { world.old.accounts ≡ [] }
+    ensures { OnOk result (world.new ≡ record world.old { accounts = accounts }) }
+{
+    world.add_account(account(101, 1, 50_000))?;
+    world.add_account(account(102, 1, 0))?;
+    world.add_account(account(201, 2, 30_000))
+}
+
+/// An account that may not fall below zero.
+fn account(account: u32, home: u32, opening: i64) -> Account
+    requires { IsCents opening }
+    ensures { result ≡ record { account = account; home = home; opening = opening; floor = pos 0 } }
+{
+    Account {
+        account,
+        home,
+        opening: cents(opening),
+        floor: cents(0),
+    }
+}
