@@ -1,0 +1,14 @@
+//! From the bytes of messages to the bytes of replies: routes, requests and the service of a bank.
+#![tactic(auto)]
+
+mod clock;
+mod counter;
+mod fault;
+mod gate;
+mod routes;
+mod service;
+
+pub use clock::Clock;
+pub use gate::Gate;
+pub use messages::{ServeFault, Served};
+pub use service::serve;
