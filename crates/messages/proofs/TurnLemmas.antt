@@ -17,7 +17,7 @@ use Rattle.messages.specs.Framing.{asks_head}
 use Rattle.messages.specs.Next.{BeginsMessage, BeginsFaulty}
 use Rattle.messages.specs.Parts.{MessageParts, HeadParts, parts_of}
 use Rattle.messages.specs.Received.{Takes}
-use Rattle.messages.specs.Turn.{At, OnlyReads, Handles, IsRefused, refusal_bytes, IsTurn}
+use Rattle.messages.specs.Turn.{At, Handles, IsRefused, refusal_bytes, IsTurn}
 
 pub kept_Appends : (a b c : Option (List ℕ)) (bs : List ℕ) → Keeps a b → Appends b c bs → Appends a c bs
 kept_Appends None b c bs p q = tt

@@ -1,5 +1,5 @@
 -- A whole run of the loop.
-use Rattle.std.specs.Prelude.{◌≡◌, ◌⊎◌, ℕ, ◌+◌, ◌<◌, List, [], ◌∷◌, ◌++◌, length, All, Option, Result, Ok, Err, false, true}
+use Rattle.std.specs.Prelude.{◌≡◌, ◌⊎◌, ℕ, ◌+◌, ◌<◌, List, [], ◌∷◌, ◌++◌, length, All, Result, Ok, Err, false, true}
 use Rattle.std.specs.Io.KnownBytes.{Consumes, Appends, Keeps}
 use Rattle.messages.specs.declared.serving.Served.{Served}
 use Rattle.messages.specs.declared.serving.ServeFault.{ServeFault}

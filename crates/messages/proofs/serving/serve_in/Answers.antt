@@ -1,4 +1,4 @@
-use Rattle.std.proofs.Common.{◌≡◌, ℕ, List, [], ◌∷◌, ◌++◌, ◌+◌, ◌≤◌, length, length-append, refl, sym, ap, ◌∙◌, inl, inr, arith, rules}
+use Rattle.std.proofs.Common.{◌≡◌, ℕ, [], ◌∷◌, ◌++◌, ◌+◌, length-append, refl, sym, ap, ◌∙◌, inl, inr, arith}
 use Rattle.messages.proofs.RunLemmas.{run_none, run_more}
 use Rattle.messages.proofs.serving.serve_in.Goals as goal
 
