@@ -1,3 +1,4 @@
+pub mod Answered
 pub mod Blank
 pub mod Fault
 pub mod Fields
@@ -8,5 +9,8 @@ pub mod Next
 pub mod Parts
 pub mod Received
 pub mod Reply
+pub mod Run
 pub mod Stream
+pub mod Turn
+pub mod Whole
 pub mod Words

@@ -27,8 +27,16 @@ impl From<WriteStopped> for AnswerFault {
 
 /// What answers messages.
 pub trait Engine {
-    ghost use Rattle.std.specs.Prelude.{◌≡◌, ◌≤◌, Err};
-    ghost use Rattle.money.specs.Counted.{failure_count, CountsFailure};
+    ghost use Rattle.std.specs.Prelude.{◌≡◌, ◌≤◌, ℕ, List, Err};
+    ghost use Rattle.money.specs.Counted.{stream_of, failure_count, CountsFailure};
+    ghost use Rattle.messages.specs.Answered.{IsAnswered};
+    ghost use Rattle.messages.specs.Parts.{MessageParts};
+
+    // From the first engine, the message may be answered by these bytes, which leaves the second.
+    ghost answers: { Self → MessageParts → List ℕ → Self → Type 0 };
+
+    // From the first engine, a reply of these bytes to the message may break after its head, which leaves the second.
+    ghost breaks: { Self → MessageParts → List ℕ → Self → Type 0 };
 
     /// Answers a message by one reply, as `Message::reply` writes it.
     fn answer<W: Write>(
@@ -36,6 +44,7 @@ pub trait Engine {
         message: &Message<'_>,
         writer: &mut Tallied<W>,
     ) -> Result<(), AnswerFault>
+        ensures answered { IsAnswered answers breaks self.old self.new message.now (W.contents (stream_of writer.old)) (W.contents (stream_of writer.new)) result }
         ensures write_cause { result ≡ Err AnswerFault.Write → CountsFailure (failure_count writer.old) (failure_count writer.new) }
         ensures counts { failure_count writer.old ≤ failure_count writer.new };
 }

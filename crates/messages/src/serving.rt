@@ -1,7 +1,10 @@
-ghost use Rattle.std.specs.Prelude.{◌≡◌, ◌≢◌, ◌≤◌, ◌<◌, ◌+◌, ◌⊎◌, ℕ, List, length, IfOk, IfErr, OnOk, Ok, Err};
-ghost use Rattle.std.specs.Io.KnownBytes.{Keeps, IsAtEnd};
-ghost use Rattle.money.specs.Counted.{stream_of, failure_count, CountsFailure};
+ghost use Rattle.std.specs.Prelude.{◌≡◌, ◌≢◌, ◌≤◌, ◌<◌, ◌+◌, ◌⊎◌, ℕ, List, [], length, true, false, IfOk, IfErr, OnOk, Ok, Err};
+ghost use Rattle.std.specs.Io.KnownBytes.{Appends, Keeps, IsAtEnd};
+ghost use Rattle.money.specs.Counted.{stream_of, failure_count, CountsFailure, AppendsBeginning};
+ghost use Rattle.messages.specs.Answered.{IsTurnOf};
 ghost use Rattle.messages.specs.Next.{IsNext};
+ghost use Rattle.messages.specs.Run.{IsServed, IsCall};
+ghost use Rattle.messages.specs.Turn.{IsTurn, refusal_bytes};
 ghost use Rattle.messages.specs.Received.{Takes};
 ghost use Rattle.messages.specs.Stream.{max_fields};
 
@@ -105,7 +108,8 @@ fn look(bytes: &[u8], headers: &mut [HeaderSpan]) -> Next
 /// Flushes the writer where something was written since it was flushed last.
 fn flush_written<W: Write>(writer: &mut Tallied<W>, written: &mut bool) -> Result<(), ServeFault>
     ensures ok { OnOk result (failure_count writer.new ≡ failure_count writer.old) }
-    ensures err { IfErr result (λ fault. (fault ≡ ServeFault.Write) × CountsFailure (failure_count writer.old) (failure_count writer.new)) }
+    ensures err { IfErr result (λ fault. (fault ≡ ServeFault.Write) × CountsFailure (failure_count writer.old) (failure_count writer.new) × (written.old ≡ true)) }
+    ensures spent { written.new ≡ false }
     ensures kept { Keeps (W.contents (stream_of writer.old)) (W.contents (stream_of writer.new)) }
     ensures counts { failure_count writer.old ≤ failure_count writer.new }
 {
@@ -132,7 +136,7 @@ fn read_next<R: Read, W: Write>(
     ensures next { IfOk result (IsNext received.new headers.new) }
     ensures end { result ≡ Ok Next.Partial → IsAtEnd (R.remaining (stream_of reader.new)) }
     ensures err { IfErr result (λ fault. ((fault ≡ ServeFault.Read) × CountsFailure (failure_count reader.old) (failure_count reader.new))
-        ⊎ ((fault ≡ ServeFault.Write) × CountsFailure (failure_count writer.old) (failure_count writer.new))) }
+        ⊎ ((fault ≡ ServeFault.Write) × CountsFailure (failure_count writer.old) (failure_count writer.new) × (written.old ≡ true))) }
     ensures kept { Keeps (W.contents (stream_of writer.old)) (W.contents (stream_of writer.new)) }
     ensures counts_reads { failure_count reader.old ≤ failure_count reader.new }
     ensures counts_writes { failure_count writer.old ≤ failure_count writer.new }
@@ -157,7 +161,11 @@ fn refuse<W: Write>(
     fault: MessageFault,
     head_only: bool,
 ) -> Result<Turn, ServeFault>
-    ensures err { IfErr result (λ fault. (fault ≡ ServeFault.Write) × CountsFailure (failure_count writer.old) (failure_count writer.new)) }
+    ensures ok { IfOk result (λ turn. (turn ≡ Turn.Closed)
+        × Appends (W.contents (stream_of writer.old)) (W.contents (stream_of writer.new)) (refusal_bytes fault head_only)) }
+    ensures err { IfErr result (λ stopped. (stopped ≡ ServeFault.Write)
+        × AppendsBeginning (W.contents (stream_of writer.old)) (W.contents (stream_of writer.new)) (refusal_bytes fault head_only)
+        × CountsFailure (failure_count writer.old) (failure_count writer.new)) }
     ensures counts { failure_count writer.old ≤ failure_count writer.new }
 {
     let framing = Framing {
@@ -182,8 +190,8 @@ fn answer<E: Engine, W: Write>(
     message: &Message<'_>,
     writer: &mut Tallied<W>,
 ) -> Result<Turn, ServeFault>
+    ensures turn { IsTurnOf E.answers E.breaks engine.old engine.new message.now (W.contents (stream_of writer.old)) (W.contents (stream_of writer.new)) result }
     ensures write_cause { result ≡ Err ServeFault.Write → CountsFailure (failure_count writer.old) (failure_count writer.new) }
-    ensures no_read { result ≢ Err ServeFault.Read }
     ensures counts { failure_count writer.old ≤ failure_count writer.new }
 {
     match engine.answer(message, writer) {
@@ -208,12 +216,19 @@ fn serve_one<E: Engine, R: Read, W: Write>(
     headers: &mut [HeaderSpan],
 ) -> Result<Turn, ServeFault>
     requires { max_fields ≤ length headers.old }
+    ensures turn { IsTurn E.answers E.breaks
+        (record { left = R.remaining (stream_of reader.old); held = received.old; written = W.contents (stream_of writer.old); unflushed = written.old; engine = engine.old })
+        (record { left = R.remaining (stream_of reader.new); held = received.new; written = W.contents (stream_of writer.new); unflushed = written.new; engine = engine.new })
+        result }
     ensures read_cause { result ≡ Err ServeFault.Read → CountsFailure (failure_count reader.old) (failure_count reader.new) }
     ensures write_cause { result ≡ Err ServeFault.Write → CountsFailure (failure_count writer.old) (failure_count writer.new) }
     ensures counts_reads { failure_count reader.old ≤ failure_count reader.new }
     ensures counts_writes { failure_count writer.old ≤ failure_count writer.new }
 {
-    let next = read_next(reader, writer, written, received, headers)?;
+    let next = match read_next(reader, writer, written, received, headers) {
+        Ok(next) => next,
+        Err(fault) => return Err(fault),
+    };
     match next {
         Next::Message(spans, body_len) => {
             *written = true;
@@ -221,9 +236,13 @@ fn serve_one<E: Engine, R: Read, W: Write>(
             let end = spans.len + body_len;
             let head = Head::new(bytes, headers, &spans);
             let message = Message::new(head, &bytes[spans.len..end]);
-            let turn = answer(engine, &message, writer)?;
-            received.drop_front(end);
-            Ok(turn)
+            match answer(engine, &message, writer) {
+                Ok(turn) => {
+                    received.drop_front(end);
+                    Ok(turn)
+                }
+                Err(fault) => Err(fault),
+            }
         }
         Next::FaultyHead(spans, fault) => {
             *written = true;
@@ -254,7 +273,12 @@ fn serve_in<E: Engine, R: Read, W: Write>(
     headers: &mut [HeaderSpan],
     most: u32,
 ) -> Result<Served, ServeFault>
-    requires { max_fields ≤ length headers.old }
+    requires room { max_fields ≤ length headers.old }
+    requires flushed { written.old ≡ false }
+    ensures served { IsServed E.answers E.breaks most
+        (record { left = R.remaining (stream_of reader.old); held = received.old; written = W.contents (stream_of writer.old); unflushed = written.old; engine = engine.old })
+        (record { left = R.remaining (stream_of reader.new); held = received.new; written = W.contents (stream_of writer.new); unflushed = written.new; engine = engine.new })
+        result }
     ensures most { IfOk result (λ served. served.messages ≤ most) }
     ensures read_cause { result ≡ Err ServeFault.Read → CountsFailure (failure_count reader.old) (failure_count reader.new) }
     ensures write_cause { result ≡ Err ServeFault.Write → CountsFailure (failure_count writer.old) (failure_count writer.new) }
@@ -262,10 +286,11 @@ fn serve_in<E: Engine, R: Read, W: Write>(
     ensures counts_writes { failure_count writer.old ≤ failure_count writer.new }
 {
     for done in 0..most {
-        match serve_one(engine, reader, writer, written, received, headers)? {
-            Turn::Answered => {}
-            Turn::Closed => return Ok(Served { messages: done + 1 }),
-            Turn::Ended => return Ok(Served { messages: done }),
+        match serve_one(engine, reader, writer, written, received, headers) {
+            Ok(Turn::Answered) => {}
+            Ok(Turn::Closed) => return Ok(Served { messages: done + 1 }),
+            Ok(Turn::Ended) => return Ok(Served { messages: done }),
+            Err(fault) => return Err(fault),
         }
     }
     Ok(Served { messages: most })
@@ -282,6 +307,10 @@ pub fn serve_messages<E: Engine, R: Read, W: Write>(
     writer: &mut Tallied<W>,
     most: u32,
 ) -> Result<Served, ServeFault>
+    ensures call { IsCall E.answers E.breaks most
+        (record { left = R.remaining (stream_of reader.old); held = []; written = W.contents (stream_of writer.old); unflushed = false; engine = engine.old })
+        (record { left = R.remaining (stream_of reader.new); held = []; written = W.contents (stream_of writer.new); unflushed = false; engine = engine.new })
+        result }
     ensures most { IfOk result (λ served. served.messages ≤ most) }
     ensures read_cause { result ≡ Err ServeFault.Read → CountsFailure (failure_count reader.old) (failure_count reader.new) }
     ensures write_cause { result ≡ Err ServeFault.Write → CountsFailure (failure_count writer.old) (failure_count writer.new) }
@@ -291,7 +320,7 @@ pub fn serve_messages<E: Engine, R: Read, W: Write>(
     let mut received = Received::new(alloc)?;
     let mut headers = vec![in alloc; EMPTY_HEADER_SPAN; MAX_FIELDS]?;
     let mut written = false;
-    let result = serve_in(
+    let end = serve_in(
         engine,
         reader,
         writer,
@@ -300,6 +329,8 @@ pub fn serve_messages<E: Engine, R: Read, W: Write>(
         headers.as_mut_slice(),
         most,
     );
-    flush_written(writer, &mut written)?;
-    result
+    match flush_written(writer, &mut written) {
+        Ok(()) => end,
+        Err(fault) => Err(fault),
+    }
 }

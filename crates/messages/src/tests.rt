@@ -65,6 +65,14 @@ struct Echo {
 }
 
 impl Engine for Echo {
+    ghost use Rattle.std.specs.Prelude.{◌≡◌, ℕ, List, codes};
+    ghost use Rattle.messages.specs.Framing.{closes, asks_head};
+    ghost use Rattle.messages.specs.Reply.{reply_bytes};
+
+    ghost answers = { λ _ m reply _. (text : List ℕ) × (reply ≡ reply_bytes 200 (codes "text/plain") text (closes m.head) (asks_head m.head)) };
+
+    ghost breaks = { λ _ _ _ _. ⊥ };
+
     fn answer<W: Write>(
         &mut self,
         message: &Message<'_>,

@@ -1,4 +1,4 @@
-use Rattle.std.proofs.Common.{ℕ, List, length, ◌-◌, ◌≤◌}
+use Rattle.std.proofs.Common.{◌≡◌, ℕ, true, List, length, ◌-◌, ◌≤◌}
 use Rattle.std.specs.Io.KnownBytes.{Keeps}
 use Rattle.messages.specs.Received.{Takes, max_message_len}
 use Rattle.messages.proofs.serving.read_next.Given as goal
@@ -7,6 +7,7 @@ abbrev pub invariant-loop-next : goal.invariant-loop-next
 invariant-loop-next g l =
     ((more : List ℕ) × Takes (g.R.Read.remaining l.fn.reader.stream) (g.R.Read.remaining l.reader.stream) l.fn.received l.received more)
     × Keeps (g.W.Write.contents l.fn.writer.stream) (g.W.Write.contents l.writer.stream)
+    × (l.written ≡ true → l.fn.written ≡ true)
     × (l.fn.reader.failures ≤ l.reader.failures)
     × (l.fn.writer.failures ≤ l.writer.failures)
 

@@ -1,5 +1,14 @@
-use Rattle.std.proofs.Common.{◌≤◌}
+use Rattle.std.proofs.Common.{◌≡◌, ◌≤◌, ℕ, List, length}
+use Rattle.messages.specs.Run.{Runs}
+use Rattle.messages.specs.Whole.{WholeMessage}
 use Rattle.messages.proofs.serving.serve_in.Given as goal
 
 abbrev pub invariant-loop-done : goal.invariant-loop-done
-invariant-loop-done g l = (l.fn.reader.failures ≤ l.reader.failures) × (l.fn.writer.failures ≤ l.writer.failures)
+invariant-loop-done g l =
+    ((ms : List WholeMessage) × (out : List ℕ) × (length ms ≡ l.done)
+    × Runs g.E.Engine.answers g.E.Engine.breaks
+    (record { left = g.R.Read.remaining l.fn.reader.stream; held = l.fn.received; written = g.W.Write.contents l.fn.writer.stream; unflushed = l.fn.written; engine = l.fn.engine })
+    (record { left = g.R.Read.remaining l.reader.stream; held = l.received; written = g.W.Write.contents l.writer.stream; unflushed = l.written; engine = l.engine })
+    ms out)
+    × (l.fn.reader.failures ≤ l.reader.failures)
+    × (l.fn.writer.failures ≤ l.writer.failures)

@@ -1,0 +1,131 @@
+-- What a turn of the loop says, from what its calls say.
+use Rattle.std.proofs.Common.{◌≡◌, ◌⊎◌, ℕ, ◌+◌, ◌≤◌, Bool, true, List, ◌++◌, length, length-drop, take, drop, Option, None, Some, Result, Ok, Err, IfOk, IfErr, refl, sym, ap, ◌∙◌, subst, arith, append_assoc, inl, inr}
+use Rattle.std.proofs.lemmas.List.{length-take-le, take-append-drop}
+use Rattle.std.proofs.Math.Seq.{drop-drop}
+use Rattle.std.specs.Io.KnownBytes.{Appends, Keeps}
+use Rattle.money.specs.Counted.{AppendsBeginning}
+use Rattle.httparse.specs.declared.spans.HeaderSpan.{HeaderSpan}
+use Rattle.httparse.specs.declared.spans.RequestSpans.{RequestSpans}
+use Rattle.httparse.specs.Grammar.{RequestHead, print_request}
+use Rattle.messages.specs.declared.fault.MessageFault.{MessageFault}
+use Rattle.messages.specs.declared.serving.Turn.{Turn}
+use Rattle.messages.specs.declared.serving.Turn.TheVariants.{Answered, Closed, Ended}
+use Rattle.messages.specs.declared.serving.ServeFault.{ServeFault}
+use Rattle.messages.specs.declared.serving.ServeFault.TheVariants.{Read, Write, Cut, Memory, Report}
+use Rattle.messages.specs.Answered.{IsTurnOf}
+use Rattle.messages.specs.Framing.{asks_head}
+use Rattle.messages.specs.Next.{BeginsMessage, BeginsFaulty}
+use Rattle.messages.specs.Parts.{MessageParts, HeadParts, parts_of}
+use Rattle.messages.specs.Received.{Takes}
+use Rattle.messages.specs.Turn.{At, Handles, IsRefused, refusal_bytes, IsTurn}
+
+pub kept_Appends : (a b c : Option (List ℕ)) (bs : List ℕ) → Keeps a b → Appends b c bs → Appends a c bs
+kept_Appends None b c bs p q = tt
+kept_Appends (Some x) None c bs p q = absurd p
+kept_Appends (Some x) (Some y) None bs p q = absurd q
+kept_Appends (Some x) (Some y) (Some z) bs p q = q ∙ ap (λ l. l ++ bs) p
+
+kept_beginning : (a b c : Option (List ℕ)) (bs : List ℕ) → Keeps a b → AppendsBeginning b c bs → AppendsBeginning a c bs
+kept_beginning a b c bs p (n, fits, some) = (n, fits, kept_Appends a b c (take n bs) p some)
+
+-- the bytes are the message and what is behind it
+split_message : (bytes : List ℕ) (h : RequestHead) (len n : ℕ) → bytes ≡ print_request h ++ drop len bytes
+    → bytes ≡ (print_request h ++ take n (drop len bytes)) ++ drop (len + n) bytes
+split_message bytes h len n whole =
+    let behind : drop len bytes ≡ take n (drop len bytes) ++ drop (len + n) bytes =
+    sym (take-append-drop n (drop len bytes)) ∙ ap (λ l. take n (drop len bytes) ++ l) (drop-drop n len bytes) in
+    whole ∙ ap (λ l. print_request h ++ l) behind ∙ sym (append_assoc (print_request h) (take n (drop len bytes)) (drop (len + n) bytes))
+
+-- the parts of the message that the bytes begin with
+abbrev pub begun_parts : (bytes : List ℕ) (headers : List HeaderSpan) (r : RequestSpans) (n : ℕ) → BeginsMessage bytes headers r n → MessageParts
+begun_parts bytes headers r n b = record { head = parts_of b.head; body = take n (drop r.len bytes) }
+
+module _ {S : Type 0} (answers : S → MessageParts → List ℕ → S → Type 0) where
+  handled : (old new : At S) (bytes : List ℕ) (headers : List HeaderSpan) (r : RequestSpans) (n : ℕ) (rest reply more : List ℕ)
+      → Takes old.left new.left old.held bytes more → (b : BeginsMessage bytes headers r n) → rest ≡ drop (r.len + n) bytes
+      → answers old.engine (begun_parts bytes headers r n b) reply new.engine → Handles answers old new rest reply
+  handled old new bytes headers r n rest reply more takes b behind answered =
+      let h = b.head in
+      let fits : n ≤ length (drop r.len bytes) = omega (arith, b.whole, length-drop r.len bytes) in
+      record {
+        more = more;
+        message = record { head = h; body = take n (drop r.len bytes) };
+        taken = takes.taken;
+        split =
+            sym takes.held ∙ split_message bytes h r.len n b.begins.covers.reads.1
+            ∙ ap (λ l. (print_request h ++ take n (drop r.len bytes)) ++ l) (sym behind);
+        is = record {
+          head = b.begins.covers.reads.0;
+          short = omega (arith, b.begins.short, b.begins.covers.len);
+          sound = b.sound;
+          body = length-take-le n (drop r.len bytes) fits ∙ b.body;
+        };
+        answered = answered;
+      }
+
+module _ {S : Type 0} (answers breaks : S → MessageParts → List ℕ → S → Type 0) where
+  pub turn_ok : (old new : At S) (kept : Option (List ℕ)) (bytes : List ℕ) (headers : List HeaderSpan) (r : RequestSpans) (n : ℕ) (m : MessageParts) (more : List ℕ) (t : Turn)
+      → Takes old.left new.left old.held bytes more → (b : BeginsMessage bytes headers r n) → m ≡ begun_parts bytes headers r n b
+      → new.held ≡ drop (r.len + n) bytes → Keeps old.written kept
+      → IsTurnOf answers breaks old.engine new.engine m kept new.written (Ok t) → IsTurn answers breaks old new (Ok t)
+  unfolding handled
+  turn_ok old new kept bytes headers r n m more Answered takes b is behind keeps x =
+      let y = subst (λ p. IsTurnOf answers breaks old.engine new.engine p kept new.written (Ok Answered)) is x in
+      (y.0, handled answers old new bytes headers r n new.held y.0 more takes b behind y.1, y.3, kept_Appends old.written kept new.written y.0 keeps y.2)
+  turn_ok old new kept bytes headers r n m more Closed takes b is behind keeps x =
+      let y = subst (λ p. IsTurnOf answers breaks old.engine new.engine p kept new.written (Ok Closed)) is x in
+      inl (y.0, handled answers old new bytes headers r n new.held y.0 more takes b behind y.1, y.3, kept_Appends old.written kept new.written y.0 keeps y.2)
+  turn_ok old new kept bytes headers r n m more Ended takes b is behind keeps x = absurd x
+
+  pub turn_err : (old new : At S) (kept : Option (List ℕ)) (bytes : List ℕ) (headers : List HeaderSpan) (r : RequestSpans) (n : ℕ) (m : MessageParts) (more : List ℕ) (f : ServeFault)
+      → Takes old.left new.left old.held bytes more → (b : BeginsMessage bytes headers r n) → m ≡ begun_parts bytes headers r n b → Keeps old.written kept
+      → IsTurnOf answers breaks old.engine new.engine m kept new.written (Err f) → IsTurn answers breaks old new (Err f)
+  turn_err old new kept bytes headers r n m more Write takes b is keeps x =
+      let y = subst (λ p. IsTurnOf answers breaks old.engine new.engine p kept new.written (Err Write)) is x in
+      inr (y.0, kept_beginning old.written kept new.written y.0 keeps y.2, inl (drop (r.len + n) bytes, handled answers old new bytes headers r n _ y.0 more takes b refl y.1))
+  turn_err old new kept bytes headers r n m more Report takes b is keeps x =
+      let y = subst (λ p. IsTurnOf answers breaks old.engine new.engine p kept new.written (Err Report)) is x in
+      (y.0, kept_beginning old.written kept new.written y.0 keeps y.2, drop (r.len + n) bytes, handled breaks old new bytes headers r n _ y.0 more takes b refl y.1)
+  turn_err old new kept bytes headers r n m more Read takes b is keeps x = absurd x
+  turn_err old new kept bytes headers r n m more Cut takes b is keeps x = absurd x
+  turn_err old new kept bytes headers r n m more Memory takes b is keeps x = absurd x
+
+  pub turn_refused : (old new : At S) (kept : Option (List ℕ)) (more : List ℕ) (fault : MessageFault) (head_only : Bool) (P : Type 0) (r : Result Turn ServeFault)
+      → Takes old.left new.left old.held new.held more → new.engine ≡ old.engine → IsRefused new.held fault head_only → Keeps old.written kept
+      → IfOk r (λ t. (t ≡ Closed) × Appends kept new.written (refusal_bytes fault head_only))
+      → IfErr r (λ e. (e ≡ Write) × AppendsBeginning kept new.written (refusal_bytes fault head_only) × P) → IsTurn answers breaks old new r
+  turn_refused old new kept more fault head_only P (Ok Closed) takes same refused keeps ok err =
+      let reply = refusal_bytes fault head_only in
+      inr (record { more = more; taken = takes.taken; held = takes.held; engine = same }, reply, (fault, head_only, refused, refl), kept_Appends old.written kept new.written reply keeps ok.1)
+  turn_refused old new kept more fault head_only P (Ok Answered) takes same refused keeps ok err = let e = ok.0 in absurd cc
+  turn_refused old new kept more fault head_only P (Ok Ended) takes same refused keeps ok err = let e = ok.0 in absurd cc
+  turn_refused old new kept more fault head_only P (Err Write) takes same refused keeps ok err =
+      let reply = refusal_bytes fault head_only in
+      inr (
+        reply,
+        kept_beginning old.written kept new.written reply keeps err.1,
+        inr (record { more = more; taken = takes.taken; held = takes.held; engine = same }, (fault, head_only, refused, refl)),
+      )
+  turn_refused old new kept more fault head_only P (Err Read) takes same refused keeps ok err = let e = err.0 in absurd cc
+  turn_refused old new kept more fault head_only P (Err Cut) takes same refused keeps ok err = let e = err.0 in absurd cc
+  turn_refused old new kept more fault head_only P (Err Memory) takes same refused keeps ok err = let e = err.0 in absurd cc
+  turn_refused old new kept more fault head_only P (Err Report) takes same refused keeps ok err = let e = err.0 in absurd cc
+
+  pub turn_stopped : (old new : At S) (more : List ℕ) (P Q : Type 0) (f : ServeFault) → Takes old.left new.left old.held new.held more → new.engine ≡ old.engine
+      → Keeps old.written new.written → ((f ≡ Read) × P) ⊎ ((f ≡ Write) × Q × (old.unflushed ≡ true)) → IsTurn answers breaks old new (Err f)
+  turn_stopped old new more P Q Read takes same keeps why = (record { more = more; taken = takes.taken; held = takes.held; engine = same }, keeps)
+  turn_stopped old new more P Q Write takes same keeps (inl why) = let e = why.0 in absurd cc
+  turn_stopped old new more P Q Write takes same keeps (inr why) =
+      inl (why.2, record { more = more; taken = takes.taken; held = takes.held; engine = same }, keeps)
+  turn_stopped old new more P Q Cut takes same keeps (inl why) = let e = why.0 in absurd cc
+  turn_stopped old new more P Q Cut takes same keeps (inr why) = let e = why.0 in absurd cc
+  turn_stopped old new more P Q Memory takes same keeps (inl why) = let e = why.0 in absurd cc
+  turn_stopped old new more P Q Memory takes same keeps (inr why) = let e = why.0 in absurd cc
+  turn_stopped old new more P Q Report takes same keeps (inl why) = let e = why.0 in absurd cc
+  turn_stopped old new more P Q Report takes same keeps (inr why) = let e = why.0 in absurd cc
+
+-- a head that has a fault, where its spans begin the bytes
+pub faulty_refused : (bytes : List ℕ) (headers : List HeaderSpan) (r : RequestSpans) (fault : MessageFault) (p : HeadParts) (head_only : Bool)
+    → (b : BeginsFaulty bytes headers r fault) → p ≡ parts_of b.head → head_only ≡ asks_head p → IsRefused bytes fault head_only
+faulty_refused bytes headers r fault p head_only b is asks =
+    inr (b.head, drop r.len bytes, (b.begins.covers.reads, omega (arith, b.begins.short, b.begins.covers.len)), b.faulty, asks ∙ ap asks_head is)
