@@ -1,4 +1,4 @@
-ghost use Rattle.std.specs.Prelude.{◌≡◌, ◌↔◌, ◌<◌, ◌+ℤ◌, [], ◌∷◌, int_lt, IfOk, IfSome, IsSome, IsNone, MatchResult, IsOkUnless};
+ghost use Rattle.std.specs.Prelude.{◌≡◌, ◌↔◌, ◌<◌, ◌+ℤ◌, [], ◌∷◌, int_lt, true, false, IfOk, IfSome, IsSome, IsNone, MatchResult, OnOk, IsOkUnless};
 ghost use Rattle.money.specs.Range.{IsCents, is_cents};
 ghost use Rattle.bank_books.specs.WorldLists.{WorldLists};
 ghost use Rattle.bank_books.specs.Effects.{applied};
@@ -37,6 +37,9 @@ pub fn plan_post(
         (λ plan. (first_against_post rows.now post.now ≡ None)
         × ((w : WorldLists) → rows.now ≡ post_rows w post.now → applied plan.items w ≡ post_effect w post.now user moment))
         (λ rule. first_against_post rows.now post.now ≡ Some rule)) }
+    ensures known { IfOk result (λ outcome. OnOk outcome (is_unknown rows.now ≡ false)) }
+    ensures in_range { IfOk result (λ outcome. OnOk outcome (is_in_range rows.now post.now ≡ true)) }
+    ensures room { IfOk result (λ outcome. OnOk outcome (is_full rows.now ≡ false)) }
     ensures memory { IsOkUnless result Fault.Memory }
 {
     if let Some(rule) = first_denial(rows, post) {
@@ -100,6 +103,9 @@ fn first_denial(rows: &PostRows, post: &Post) -> Option<Rule>
     ensures first { result ≡ first_against_post rows.now post.now }
     ensures turns { IsNone result → IfSome rows.now.account (λ account. account.turns < 999999999) }
     ensures entries { IsNone result → IfSome rows.now.branch (λ branch. branch.entries < 999999999) }
+    ensures known { IsNone result → is_unknown rows.now ≡ false }
+    ensures in_range { IsNone result → is_in_range rows.now post.now ≡ true }
+    ensures room { IsNone result → is_full rows.now ≡ false }
 {
     if is_unknown(rows) {
         return Some(Rule::Unknown);

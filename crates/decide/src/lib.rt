@@ -1,0 +1,15 @@
+//! Decides each operation, and carries out what is allowed: nothing comes between a decision and its effect.
+#![tactic(auto)]
+
+mod answer;
+mod brought;
+mod judge;
+mod text;
+mod who;
+
+pub use answer::{Answer, Posted};
+pub use bank_policy::Rule;
+pub use brought::is_brought;
+pub use counter_ops::Op;
+pub use text::{answer_text, denial_text};
+pub use who::Who;
