@@ -4,6 +4,7 @@
 mod answer;
 mod brought;
 mod judge;
+mod permit;
 mod text;
 mod who;
 
@@ -11,5 +12,6 @@ pub use answer::{Answer, Posted};
 pub use bank_policy::Rule;
 pub use brought::is_brought;
 pub use counter_ops::Op;
+pub use permit::{Decision, Denial, Done, Permit, Reply, carry_out, decide};
 pub use text::{answer_text, denial_text};
 pub use who::Who;

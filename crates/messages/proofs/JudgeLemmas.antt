@@ -1,7 +1,7 @@
 -- What a judgement of the lines in a window says of the whole stream.
-use Rattle.std.proofs.Common.{◌≡◌, ◌≢◌, ℕ, ◌+◌, ◌-◌, ◌*◌, ◌<◌, ◌≤◌, ◌⊎◌, List, [], ◌∷◌, ◌++◌, length, take, drop, get_or, map, refl, sym, ap, ◌∙◌, subst, append_assoc, length-append, arith, rules, All, suc, zero, add-one, inl, inr, min}
-use Rattle.httparse.specs.Grammar.{RequestHead, print_request, IsRequestHead, ReadsRequest, HasNoRequest, NeverHasRequest}
-use Rattle.std.proofs.lemmas.List.{get_or-take, take_more, drop-take}
+use Rattle.std.proofs.Common.{◌≡◌, ◌≢◌, ℕ, ◌+◌, ◌-◌, ◌<◌, ◌≤◌, ◌⊎◌, List, [], ◌∷◌, ◌++◌, length, take, drop, get_or, map, refl, sym, ap, ◌∙◌, append_assoc, length-append, arith, All, suc, zero, inl, inr, min}
+use Rattle.httparse.specs.Grammar.{RequestHead, print_request, ReadsRequest, HasNoRequest, NeverHasRequest}
+use Rattle.std.proofs.lemmas.List.{get_or-take, drop-take}
 use Rattle.std.proofs.lemmas.List.{take-append-drop}
 use Rattle.std.proofs.Math.Seq.{take-append-add, drop-append_seam, take-suc}
 use Rattle.std.proofs.Math.ListN.{get_or-append}
@@ -11,10 +11,10 @@ use Rattle.std.proofs.lemmas.List.Elements.{All-head, All-tail}
 use Rattle.httparse.specs.declared.spans.Span.{Span}
 use Rattle.httparse.specs.declared.spans.HeaderSpan.{HeaderSpan}
 use Rattle.httparse.specs.declared.spans.RequestSpans.{RequestSpans}
-use Rattle.httparse.specs.Spans.{span_bytes, header_bytes, IsWithin, IsHeaderWithin, IsRequestWithin, IsRequestOf, IsRequestAt}
-use Rattle.messages.specs.Stream.{max_head_len, EndsLine, BeginsHead, HasNoHead, IsMalformed}
+use Rattle.httparse.specs.Spans.{span_bytes, header_bytes, IsWithin, IsHeaderWithin, IsRequestWithin, IsRequestOf}
+use Rattle.messages.specs.Stream.{max_head_len, EndsLine, HasNoHead, IsMalformed}
 use Rattle.messages.specs.Judged.{CanBecomeHead}
-use Rattle.messages.proofs.LineLemmas.{head_ends, head_len, last_of_line}
+use Rattle.messages.proofs.LineLemmas.{head_ends, last_of_line}
 
 -- the front of a list up to a line feed ends a line
 pub lines_end : (bytes : List ℕ) (m n : ℕ) → n ≤ m → n ≤ length bytes → (0 < n → get_or (take m bytes) (n - 1) 0 ≡ 10)

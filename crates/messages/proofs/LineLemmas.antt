@@ -1,12 +1,12 @@
 -- Lists that end a line, and the heads of httparse's grammar among them.
-use Rattle.std.proofs.Common.{◌≡◌, ℕ, ◌+◌, ◌-◌, ◌*◌, ◌<◌, ◌≤◌, List, [], ◌∷◌, ◌++◌, length, take, drop, get_or, refl, sym, ap, ◌∙◌, subst, append_assoc, length-append, arith, rules, All, IsTrue, true, false, Bool, suc, zero}
+use Rattle.std.proofs.Common.{◌≡◌, ℕ, ◌+◌, ◌-◌, ◌*◌, ◌<◌, ◌≤◌, List, [], ◌∷◌, ◌++◌, length, get_or, refl, sym, ap, ◌∙◌, subst, append_assoc, length-append, arith, All, IsTrue, true, false}
 use Rattle.httparse.specs.Ascii.{line_feed, space, colon}
-use Rattle.httparse.specs.Grammar.{LineEnd, crlf, lf, print_end, print_blank, Field, IsField, print_field, print_section, RequestHead, print_request, IsRequestHead, ReadsRequest, AllPass, is_uri_byte, EndsInTarget}
+use Rattle.httparse.specs.Grammar.{LineEnd, crlf, lf, print_end, print_blank, Field, IsField, print_field, RequestHead, print_request, IsRequestHead, AllPass, is_uri_byte, EndsInTarget}
 use Rattle.std.specs.List.{flat_map}
 use Rattle.std.proofs.lemmas.List.{get_or-append-add}
 use Rattle.std.proofs.lemmas.List.Elements.{All-head, All-tail}
-use Rattle.std.proofs.Math.Seq.{get_or-append_seam, get_or-append_right}
-use Rattle.messages.specs.Stream.{EndsLine, max_head_len}
+use Rattle.std.proofs.Math.Seq.{get_or-append_seam}
+use Rattle.messages.specs.Stream.{EndsLine}
 
 -- the last byte, or 0
 abbrev pub last_byte : List ℕ → ℕ

@@ -1,7 +1,7 @@
 -- What a judgement of the first bytes of a stream says.
-use Rattle.std.specs.Prelude.{◌≡◌, ℕ, ◌≤◌, ◌⊎◌, List, ◌++◌, [], length}
+use Rattle.std.specs.Prelude.{◌≡◌, ℕ, ◌≤◌, ◌⊎◌, List, ◌++◌, []}
 use Rattle.httparse.specs.declared.spans.HeaderSpan.{HeaderSpan}
-use Rattle.httparse.specs.Grammar.{HasNoRequest, NeverHasRequest, RequestHead, ReadsRequest, MayBecomeRequest}
+use Rattle.httparse.specs.Grammar.{HasNoRequest, NeverHasRequest, RequestHead, ReadsRequest}
 use Rattle.httparse.specs.Spans.{IsRequestOf, IsRequestWithin}
 use Rattle.messages.specs.declared.judging.Judged.{Judged}
 use Rattle.messages.specs.declared.judging.Judged.TheVariants.{Head, Malformed, TooLong, Waiting}

@@ -1,6 +1,5 @@
 -- The words of a list value.
-use Rattle.std.specs.Prelude.{ℕ, List, [], ◌∷◌, ◌==◌, map, if◌then◌else◌, Option, Some, None}
-use Rattle.std.specs.Borrow.{Bor}
+use Rattle.std.specs.Prelude.{ℕ, List, [], ◌∷◌, ◌==◌, map, if◌then◌else◌}
 use Rattle.httparse.specs.Ascii.{comma}
 use Rattle.httparse.specs.Grammar.{trim_ows}
 

@@ -22,3 +22,6 @@ pub use judging::{Judged, MAX_FIELDS, MAX_HEAD_LEN, judge};
 pub use message::Message;
 pub use reply::{Framing, write_reply};
 pub use serving::{ServeFault, Served, serve_messages};
+
+#[cfg(test)]
+mod tests;

@@ -114,12 +114,12 @@ fn faults_have_messages(rt: HostRuntime) -> Result<(), Fail> {
 
 /// A key, and a mark that tells rows of one key apart.
 #[derive(Clone, Copy, Debug, PartialEq, Eq)]
-struct Marked(u64, char);
+struct Marked(u128, char);
 
 impl Keyed for Marked {
     ghost key = { λ m. m.0 };
 
-    fn key(&self) -> u64 {
+    fn key(&self) -> u128 {
         self.0
     }
 }
@@ -131,7 +131,7 @@ fn rows_go_behind_those_of_their_key(rt: HostRuntime) -> Result<(), Fail> {
         Marked(2, 'a'),
         Marked(1, 'b'),
         Marked(2, 'c'),
-        Marked(u64::MAX, 'd'),
+        Marked(u128::MAX, 'd'),
     ] {
         insert_row(&mut rows, row)?;
     }
@@ -143,10 +143,10 @@ fn rows_go_behind_those_of_their_key(rt: HostRuntime) -> Result<(), Fail> {
         Marked(1, 'e'),
         Marked(2, 'a'),
         Marked(2, 'c'),
-        Marked(u64::MAX, 'd'),
+        Marked(u128::MAX, 'd'),
     ];
     assert_eq!(rt; rows.as_slice(), ordered.as_slice());
-    for (key, place) in [(0, 0), (1, 2), (2, 4), (3, 4), (u64::MAX, 5)] {
+    for (key, place) in [(0, 0), (1, 2), (2, 4), (3, 4), (u128::MAX, 5)] {
         assert_eq!(rt; place_of(&rows, key), place);
     }
     Ok(())

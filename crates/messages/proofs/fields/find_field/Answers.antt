@@ -1,4 +1,4 @@
-use Rattle.std.proofs.Common.{◌≡◌, subst, rules}
+use Rattle.std.proofs.Common.{subst}
 use Rattle.messages.specs.Found.{IsFound}
 use Rattle.messages.proofs.FieldLemmas.{one_more}
 use Rattle.messages.proofs.fields.find_field.Goals as goal

@@ -1,4 +1,4 @@
-use Rattle.std.proofs.Common.{◌≡◌, ℕ, ◌≤◌, length, arith, rules, ap, sym, ◌∙◌}
+use Rattle.std.proofs.Common.{arith}
 use Rattle.std.proofs.lemmas.List.{length-take}
 use Rattle.messages.proofs.JudgeLemmas.{lines_end, no_head, well_formed, malformed, same_request, same_within}
 use Rattle.messages.proofs.judging.judge.Goals as goal

@@ -1,7 +1,6 @@
-use Rattle.std.proofs.Common.{◌≡◌, ℕ, ◌+◌, ◌*◌, ◌<◌, ◌≤◌, ◌⊎◌, List, [], ◌∷◌, ◌++◌, length, refl, sym, ap, ◌∙◌, arith, rules, Err, inl, inr, length-append, append-nil}
-use Rattle.httparse.specs.Grammar.{RequestHead, IsRequestHead, ReadsRequest, MayBecomeRequest, lf, print_end, print_blank, print_request}
+use Rattle.std.proofs.Common.{◌≡◌, ℕ, ◌≤◌, ◌⊎◌, List, [], ◌++◌, length, sym, ap, ◌∙◌, arith, Err, inl, inr, length-append}
+use Rattle.httparse.specs.Grammar.{RequestHead, IsRequestHead, MayBecomeRequest, lf, print_end, print_request}
 use Rattle.std.proofs.lemmas.Bool.Decides.{nat_tests}
-use Rattle.httparse.specs.Ascii.{space}
 use Rattle.httparse.specs.Spans.{RequestExceeds}
 use Rattle.messages.specs.Stream.{max_head_len, EndsLine}
 use Rattle.messages.specs.Judged.{CanBecomeHead}

@@ -1,4 +1,4 @@
-use Rattle.std.proofs.Common.{◌≡◌, ℕ, Bool, true, false, ◌+◌, ◌-◌, ◌||◌, List, length, take, drop, suc, sym, ap, ◌∙◌, rules, arith, add-one}
+use Rattle.std.proofs.Common.{◌≡◌, true, false, ◌+◌, ◌-◌, ◌||◌, length, take, drop, suc, sym, ap, ◌∙◌, rules, add-one}
 use Rattle.std.specs.List.{list_any}
 use Rattle.std.proofs.lemmas.List.{take_rest}
 use Rattle.httparse.specs.Grammar.{trim_ows}
