@@ -1,0 +1,48 @@
+-- The commands of the program, as `clap` reads them, and the action that words name.
+use Rattle.std.specs.Prelude.{◌≡◌, ℕ, List, [], Option, Some, None, codes, option_map, true}
+use Rattle.std.specs.Str.Parse.{digits_value, without_leading_plus}
+use Rattle.clap.specs.Words.{App, Row, Rule, Text, new_app, new_rule, one_of, with_rule, with_subcommand}
+use Rattle.clap.specs.declared.builder.ValueParser.TheVariants as parser
+use Rattle.bank_cli.specs.declared.words.Action.{Action}
+use Rattle.bank_cli.specs.declared.words.Action.TheVariants as action
+
+-- a required option `--NAME`, whose value is a number in these bounds
+abbrev pub number_rule : Text → ℕ → ℕ → Rule
+number_rule id low high = record (new_rule id) {
+  long = Some id;
+  required = true;
+  value_names = 1;
+  parser = Some (parser.Unsigned low high);
+}
+
+-- `sample --moment N`, where N is 0 to 99,999,999,999
+abbrev pub sample_app : App
+sample_app = with_rule (new_app (codes "sample")) (number_rule (codes "moment") 0 99999999999)
+
+-- the program with no command: its words begin behind its name, and a command must be among them
+abbrev pub top_app : App
+top_app = record {
+  top = record (new_app (codes "bank")).top {
+    no_binary_name = true;
+    subcommand_required = true;
+  };
+  subs = [];
+}
+
+-- the program with its commands
+abbrev pub bank_app : App
+bank_app = with_subcommand top_app sample_app.top
+
+-- the number that the matches have for an option, in decimal; a plus sign may stand before it
+abbrev pub number_in : List Row → Text → Option ℕ
+number_in rows id = option_map (λ text. digits_value 10 (without_leading_plus text)) (one_of id rows)
+
+-- the command of this name, with these matches, asks for the action
+abbrev pub IsNamedIn : Text → List Row → Action → Type 0
+IsNamedIn name rows (action.Sample moment) =
+    (name ≡ codes "sample") × (number_in rows (codes "moment") ≡ Some moment)
+
+-- the command that was met asks for the action
+abbrev pub IsNamedBy : Option (Text × List Row) → Action → Type 0
+IsNamedBy None action = ⊥
+IsNamedBy (Some met) action = IsNamedIn met.0 met.1 action
