@@ -1,24 +1,19 @@
-ghost use Rattle.std.specs.Prelude.{◌≡◌, ◌≤◌, Err, true, IfSome, OnErr};
-ghost use Rattle.money.specs.Counted.{failure_count, CountsFailure};
+ghost use Rattle.std.specs.Prelude.{◌≡◌, true, IfSome};
 ghost use Rattle.counter_ops.specs.Op.{procedure_of};
 ghost use Rattle.decide.specs.Requests.{is_brought};
 
 use crate::clock::Clock;
-use crate::fault::fault_text;
 use crate::gate::Gate;
+use crate::response::Response;
 use crate::routes::Routes;
 use bank_policy::Procedure;
 use bodies::read_op;
-use decide::{Decision, Op, Reply, Rule, Who, carry_out, decide, denial_text, is_brought};
-use http::StatusCode;
+use decide::{Decision, Op, Reply, Who, carry_out, decide, is_brought};
 use messages::{AnswerFault, Engine, Found, Message, MessageFault};
-use money::{Fault, Tallied, WriteStopped};
+use money::Tallied;
 use std::alloc::Global;
 use std::io::Write;
 use store_rows::{Bank, Store};
-
-/// The type of each reply's body.
-const JSON: &str = "application/json";
 
 /// A bank that answers messages.
 #[derive(Drop)]
@@ -30,32 +25,20 @@ pub(crate) struct Counter<'b, 'g, 'c, S, G, C> {
     pub(crate) routes: Routes,
 }
 
-/// What a message is answered.
-enum Outcome {
-    /// It asked for nothing that is served, or not in the form that it has to have.
-    Refused(MessageFault),
-    /// A rule denies what it asked for.
-    Denied(Rule),
-    /// What it asked for was carried out.
-    Done(Vec<u8>),
-    /// A fault kept it from being made.
-    Faulted(Fault),
-}
-
 impl<'b, 'g, 'c, S: Store, G: Gate, C: Clock> Counter<'b, 'g, 'c, S, G, C> {
-    /// Answers a message, and leaves the reply to be written.
-    fn outcome(&mut self, message: &Message<'_>) -> Outcome {
+    /// Does what a message asks for, and leaves the reply to be written.
+    fn response(&mut self, message: &Message<'_>) -> Response {
         let moment = self.clock.moment();
         let Some(procedure) = self.procedure(message) else {
-            return Outcome::Refused(MessageFault::NoSuchRoute);
+            return Response::refused(MessageFault::NoSuchRoute);
         };
         match read_op(self.alloc, procedure, message.body()) {
             Ok(Some(op)) => {
                 let who = self.who(message);
                 carried_out(self.bank, self.alloc, who, moment, &op)
             }
-            Ok(None) => Outcome::Refused(MessageFault::BadContent),
-            Err(fault) => Outcome::Faulted(fault),
+            Ok(None) => Response::refused(MessageFault::BadContent),
+            Err(fault) => Response::faulted(fault),
         }
     }
 
@@ -92,69 +75,40 @@ fn carried_out<S: Store>(
     who: Who,
     moment: u64,
     op: &Op,
-) -> Outcome
+) -> Response
     requires { is_brought (procedure_of op.now) ≡ true }
 {
     match decide(bank, alloc, who, moment, op) {
-        Ok(Decision::Denied(denial)) => Outcome::Denied(denial.rule()),
+        Ok(Decision::Denied(denial)) => Response::denied(alloc, denial.rule()),
         Ok(Decision::Allowed(permit)) => match carry_out(permit) {
-            Ok(Reply::Done(done)) => Outcome::Done(done.into_body()),
-            Err(fault) => Outcome::Faulted(fault),
+            Ok(Reply::Done(done)) => Response::done(done.into_body()),
+            Err(fault) => Response::faulted(fault),
         },
-        Err(fault) => Outcome::Faulted(fault),
+        Err(fault) => Response::faulted(fault),
     }
 }
 
 impl<'b, 'g, 'c, S: Store, G: Gate, C: Clock> Engine for Counter<'b, 'g, 'c, S, G, C> {
+    ghost use Rattle.std.specs.Prelude.{◌≡◌, ℕ, List, codes};
+    ghost use Rattle.messages.specs.Framing.{asks_head, closes};
+    ghost use Rattle.messages.specs.Reply.{reply_bytes};
+
+    // One reply in JSON, framed as the message asks for it.
+    ghost answers = { λ _ m reply _. (status : ℕ) × (body : List ℕ) × (reply ≡ reply_bytes status (codes "application/json") body (closes m.head) (asks_head m.head)) };
+
+    // No reply is a report yet.
+    ghost breaks = { λ _ _ _ _. ⊥ };
+
     fn answer<W: Write>(
         &mut self,
         message: &Message<'_>,
         writer: &mut Tallied<W>,
     ) -> Result<(), AnswerFault> {
-        match self.outcome(message) {
-            Outcome::Refused(fault) => message.reply(writer, fault.status(), JSON, fault.text())?,
-            Outcome::Denied(rule) => deny(self.alloc, message, writer, rule)?,
-            Outcome::Done(body) => message.reply(writer, StatusCode::OK, JSON, body.as_slice())?,
-            Outcome::Faulted(fault) => fail(message, writer, fault)?,
+        let response = self.response(message);
+        let body = response.body.bytes();
+        match message.reply(writer, response.status, "application/json", body) {
+            Ok(()) => Ok(()),
+            Err(_) => Err(AnswerFault::Write),
         }
-        Ok(())
     }
-}
-
-/// Replies that a rule denies the request.
-fn deny<W: Write>(
-    alloc: Global,
-    message: &Message<'_>,
-    writer: &mut Tallied<W>,
-    rule: Rule,
-) -> Result<(), WriteStopped>
-    ensures cause { OnErr result (CountsFailure (failure_count writer.old) (failure_count writer.new)) }
-    ensures counts { failure_count writer.old ≤ failure_count writer.new }
-{
-    let status = if rule.is_forbidden() {
-        StatusCode::FORBIDDEN
-    } else {
-        StatusCode::CONFLICT
-    };
-    match denial_text(alloc, rule) {
-        Ok(body) => message.reply(writer, status, JSON, body.as_slice()),
-        Err(_) => fail(message, writer, Fault::Memory),
-    }
-}
-
-/// Replies that a fault kept the request from being made. It takes no memory.
-fn fail<W: Write>(
-    message: &Message<'_>,
-    writer: &mut Tallied<W>,
-    fault: Fault,
-) -> Result<(), WriteStopped>
-    ensures cause { OnErr result (CountsFailure (failure_count writer.old) (failure_count writer.new)) }
-    ensures counts { failure_count writer.old ≤ failure_count writer.new }
-{
-    message.reply(
-        writer,
-        StatusCode::SERVICE_UNAVAILABLE,
-        JSON,
-        fault_text(fault),
-    )
 }

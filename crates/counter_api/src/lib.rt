@@ -3,8 +3,8 @@
 
 mod clock;
 mod counter;
-mod fault;
 mod gate;
+mod response;
 mod routes;
 mod service;
 
