@@ -15,7 +15,7 @@ pub const MAX_BODY_LEN: usize = 1024;
 
 /// A head that was taken: the parts of it that a reply depends on.
 #[derive(Drop)]
-pub struct Head<'b> {
+pub(crate) struct Head<'b> {
     bytes: &'b [u8],
     headers: &'b [HeaderSpan],
     method: &'b [u8],
@@ -61,28 +61,28 @@ impl<'b> Head<'b> {
     }
 
     /// The method, such as `GET`.
-    pub fn method(&self) -> &'b [u8]
+    pub(crate) fn method(&self) -> &'b [u8]
         ensures { result.now ≡ self.now.method }
     {
         self.method
     }
 
     /// The request target, such as `/policy`.
-    pub fn target(&self) -> &'b [u8]
+    pub(crate) fn target(&self) -> &'b [u8]
         ensures { result.now ≡ self.now.target }
     {
         self.target
     }
 
     /// The value of the field with this name, without letter case.
-    pub fn field(&self, name: &[u8]) -> Found<'b>
+    pub(crate) fn field(&self, name: &[u8]) -> Found<'b>
         ensures { IsFound (values_named name.now self.now.fields) result }
     {
         find_field(self.bytes, self.headers, name)
     }
 
     /// The length of the body, or the fault of the least number that the head has.
-    pub fn body_len(&self) -> Result<usize, MessageFault>
+    pub(crate) fn body_len(&self) -> Result<usize, MessageFault>
         ensures ok { IfOk result (λ n. (n ≡ body_len self.now) × (head_fault self.now ≡ None)) }
         ensures most { IfOk result (λ n. n ≤ max_body_len) }
         ensures err { IfErr result (λ fault. head_fault self.now ≡ Some fault) }
@@ -138,7 +138,7 @@ impl<'b> Head<'b> {
 
     /// Whether the connection ends after the reply: the head is of HTTP/1.0, or one of the words of a Connection field
     /// is `close`.
-    pub fn closes(&self) -> bool
+    pub(crate) fn closes(&self) -> bool
         ensures { result ≡ closes self.now }
     {
         if self.minor == 0 {
@@ -148,7 +148,7 @@ impl<'b> Head<'b> {
     }
 
     /// What the reply owes to this head: whether the connection ends after it, and whether it has no body bytes.
-    pub fn framing(&self) -> Framing
+    pub(crate) fn framing(&self) -> Framing
         ensures close { result.close ≡ closes self.now }
         ensures head_only { result.head_only ≡ asks_head self.now }
     {

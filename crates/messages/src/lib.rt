@@ -18,7 +18,7 @@ mod words;
 pub use engine::{AnswerFault, Engine};
 pub use fault::MessageFault;
 pub use fields::{Found, find_field};
-pub use head::{Head, MAX_BODY_LEN};
+pub use head::MAX_BODY_LEN;
 pub use judging::{Judged, MAX_FIELDS, MAX_HEAD_LEN, judge};
 pub use laws::one_reading;
 pub use message::Message;

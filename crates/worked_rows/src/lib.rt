@@ -1,0 +1,10 @@
+//! Worked requests over the library crates. It holds tests alone: what the contracts of the crates
+//! below say, seen on values that were worked out by hand.
+#![tactic(auto)]
+
+#[cfg(test)]
+mod opening;
+#[cfg(test)]
+mod policy_rows;
+#[cfg(test)]
+mod requests;

@@ -1,0 +1,169 @@
+ghost use Rattle.std.specs.Prelude.{◌≡◌, true};
+ghost use Rattle.counter_ops.specs.Op.{procedure_of};
+ghost use Rattle.decide.specs.Requests.{is_brought};
+
+use crate::opening::opening_at;
+use bank_books::{account_balance, branch_balance, teller_balance};
+use counter_ops::{Balance, Post};
+use decide::{Decision, Op, Reply, Rule, Who, carry_out, decide, denial_text};
+use money::Delta;
+use sample_bank::sample_world;
+use std::alloc::Global;
+use std::process::Abort;
+use store_rows::{Bank, ListStore, Store};
+
+/// The body of the reply to a request that is carried out, or the rule that denies it.
+fn ask<S: Store>(
+    rt: &impl Abort,
+    bank: &mut Bank<S>,
+    alloc: Global,
+    op: Op,
+) -> Result<Vec<u8>, Rule>
+    requires { is_brought (procedure_of op) ≡ true }
+{
+    let who = Who {
+        user: Some(7),
+        session: 1,
+        release: 0,
+    };
+    match decide(bank, alloc, who, 700, &op) {
+        Ok(Decision::Allowed(permit)) => match carry_out(permit) {
+            Ok(Reply::Done(done)) => Ok(done.into_body()),
+            Err(fault) => panic!(rt; "{fault}"),
+        },
+        Ok(Decision::Denied(denial)) => Err(denial.rule()),
+        Err(fault) => panic!(rt; "{fault}"),
+    }
+}
+
+/// A post that has to be carried out, with the body of its reply.
+fn posts<S: Store>(rt: &impl Abort, bank: &mut Bank<S>, alloc: Global, post: Post, body: &str) {
+    match ask(rt, bank, alloc, Op::Post(post)) {
+        Ok(given) => assert!(rt; given.as_slice() == body.as_bytes(), "{body}"),
+        Err(rule) => panic!(rt; "{}", rule.name()),
+    }
+}
+
+/// A post that has to be denied by this rule.
+fn denied<S: Store>(rt: &impl Abort, bank: &mut Bank<S>, alloc: Global, post: Post, rule: Rule) {
+    match ask(rt, bank, alloc, Op::Post(post)) {
+        Ok(_) => panic!(rt; "carried out"),
+        Err(given) => assert!(rt; given == rule, "{}", given.name()),
+    }
+}
+
+fn post(rt: &impl Abort, account: u32, teller: u32, branch: u32, delta: i64) -> Post {
+    let delta = Delta::new(delta).expect(rt, "a delta");
+    Post {
+        account,
+        branch,
+        delta,
+        teller,
+    }
+}
+
+#[test]
+fn posts_move_three_balances(rt: HostRuntime) {
+    let alloc = rt.alloc();
+    let world = sample_world(alloc).expect(&rt, "memory");
+    assert!(rt; account_balance(&world, 201) == 30_000);
+    assert!(rt; teller_balance(&world, 21) == 20_000 && branch_balance(&world, 2) == 20_000);
+    let mut bank = Bank {
+        store: ListStore::new(world),
+    };
+    let first = post(&rt, 101, 11, 1, 2_500);
+    posts(
+        &rt,
+        &mut bank,
+        alloc,
+        first,
+        "{\"balance\":52500,\"branch\":1,\"entry\":1}",
+    );
+    let remote = post(&rt, 201, 11, 1, -30_000);
+    posts(
+        &rt,
+        &mut bank,
+        alloc,
+        remote,
+        "{\"balance\":0,\"branch\":1,\"entry\":2}",
+    );
+    let nothing = post(&rt, 101, 11, 1, 0);
+    posts(
+        &rt,
+        &mut bank,
+        alloc,
+        nothing,
+        "{\"balance\":52500,\"branch\":1,\"entry\":3}",
+    );
+    let teller = bank
+        .store
+        .teller(alloc, 11)
+        .expect(&rt, "no fault")
+        .expect(&rt, "teller 11");
+    let branch = bank
+        .store
+        .branch(alloc, 1)
+        .expect(&rt, "no fault")
+        .expect(&rt, "branch 1");
+    let other = bank
+        .store
+        .branch(alloc, 2)
+        .expect(&rt, "no fault")
+        .expect(&rt, "branch 2");
+    assert!(rt; teller.balance == 32_500 && branch.balance == 32_500 && branch.entries == 3);
+    assert!(rt; other.balance == 20_000 && other.entries == 0);
+    assert!(rt; bank.store.faults() == 0);
+}
+
+#[test]
+fn a_rule_that_denies_changes_nothing(rt: HostRuntime) {
+    let alloc = rt.alloc();
+    let mut bank = Bank {
+        store: ListStore::new(opening_at(&rt, alloc, 999_999_999_999)),
+    };
+    let too_much = post(&rt, 101, 11, 1, 1);
+    denied(&rt, &mut bank, alloc, too_much, Rule::Range);
+    let below = post(&rt, 102, 12, 1, -1);
+    denied(&rt, &mut bank, alloc, below, Rule::Floor);
+    let elsewhere = post(&rt, 101, 21, 1, 100);
+    denied(&rt, &mut bank, alloc, elsewhere, Rule::Branch);
+    let missing = post(&rt, 999, 11, 1, 100);
+    denied(&rt, &mut bank, alloc, missing, Rule::Unknown);
+    let account = bank
+        .store
+        .account(alloc, 101)
+        .expect(&rt, "no fault")
+        .expect(&rt, "account 101");
+    let branch = bank
+        .store
+        .branch(alloc, 1)
+        .expect(&rt, "no fault")
+        .expect(&rt, "branch 1");
+    assert!(rt; account.balance == 999_999_999_999 && account.turns == 0);
+    assert!(rt; branch.balance == 999_999_999_999 && branch.entries == 0);
+    let down = post(&rt, 101, 11, 1, -1);
+    posts(
+        &rt,
+        &mut bank,
+        alloc,
+        down,
+        "{\"balance\":999999999998,\"branch\":1,\"entry\":1}",
+    );
+}
+
+#[test]
+fn balances_are_told(rt: HostRuntime) {
+    let alloc = rt.alloc();
+    let world = sample_world(alloc).expect(&rt, "memory");
+    let mut bank = Bank {
+        store: ListStore::new(world),
+    };
+    match ask(&rt, &mut bank, alloc, Op::Balance(Balance { account: 101 })) {
+        Ok(body) => assert!(rt; body.as_slice() == b"{\"balance\":50000}".as_slice()),
+        Err(rule) => panic!(rt; "{}", rule.name()),
+    }
+    let missing = ask(&rt, &mut bank, alloc, Op::Balance(Balance { account: 999 }));
+    assert!(rt; matches!(missing, Err(Rule::Unknown)));
+    let text = denial_text(alloc, Rule::NoTriple).expect(&rt, "memory");
+    assert!(rt; text.as_slice() == b"{\"name\":\"no triple\",\"rule\":3}".as_slice());
+}
