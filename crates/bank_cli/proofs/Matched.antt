@@ -1,8 +1,8 @@
 -- What a caller reads of the rows of matches.
 use Rattle.std.proofs.Common.{◌≡◌, ◌∙◌, true, ℕ, List, Option, Some, None, refl, sym, ap, IfSome, option_map}
 use Rattle.std.specs.Str.Parse.{ParsesUnsigned, digits_value, without_leading_plus}
-use Rattle.std.specs.Prelude.{Result, Ok, Err}
-use Rattle.clap.specs.Words.{Row, Text, subcommand_name_of, subcommand_rows_of, is_simple, found_of, one_text, rows_of, ReadsOne, one_of}
+use Rattle.std.specs.Prelude.{Result, Ok}
+use Rattle.clap.specs.Words.{Row, Text, subcommand_name_of, subcommand_rows_of, is_simple, is_simple_and_free, found_of, one_text, rows_of, ReadsOne}
 use Rattle.clap.specs.declared.ArgMatches.{ArgMatches}
 use Rattle.clap.proofs.WalkLemmas.{one_text-rows}
 use Rattle.std.specs.Prelude.{Box}
@@ -51,3 +51,8 @@ names_go (Some b) = refl
 pub subcommand_is : (m : ArgMatches) (name : Text) (rows : List Row) → Some name ≡ subcommand_name_of m
     → Some rows ≡ option_map (λ p. p.1) (subcommand_rows_of m) → subcommand_rows_of m ≡ Some (name, rows)
 subcommand_is m name rows n r = two_is (subcommand_rows_of m) name rows (n ∙ names_go (out-ArgMatches m).subcommand) r
+
+-- and no argument of it has a rule on another, so that the faults of its words are known
+pub bank_is_free : is_simple_and_free bank_app ≡ true
+unfolding clap_on_literals
+bank_is_free = refl

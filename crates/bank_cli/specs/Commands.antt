@@ -1,8 +1,10 @@
 -- The commands of the program, as `clap` reads them, and the action that words name.
-use Rattle.std.specs.Prelude.{◌≡◌, ℕ, List, [], Option, Some, None, codes, option_map, true}
+use Rattle.std.specs.Prelude.{◌≡◌, ◌⊎◌, ℕ, List, [], Option, Some, None, codes, option_map, true}
 use Rattle.std.specs.Str.Parse.{digits_value, without_leading_plus}
-use Rattle.clap.specs.Words.{App, Row, Rule, Text, new_app, new_rule, one_of, with_rule, with_subcommand}
+use Rattle.clap.specs.Words.{App, HasKind, Row, Rule, Text, fault_of, kind_of, new_app, new_rule, one_of, with_rule, with_subcommand}
 use Rattle.clap.specs.declared.builder.ValueParser.TheVariants as parser
+use Rattle.clap.specs.declared.error.Error.{Error}
+use Rattle.clap.specs.declared.error.ErrorKind.TheVariants as kind
 use Rattle.bank_cli.specs.declared.words.Action.{Action}
 use Rattle.bank_cli.specs.declared.words.Action.TheVariants as action
 
@@ -46,3 +48,8 @@ IsNamedIn name rows (action.Sample moment) =
 abbrev pub IsNamedBy : Option (Text × List Row) → Action → Type 0
 IsNamedBy None action = ⊥
 IsNamedBy (Some met) action = IsNamedIn met.0 met.1 action
+
+-- why words are refused: memory is, or they have this fault, or an argument is missing
+abbrev pub IsRefusal : List Text → Error → Type 0
+IsRefusal words error =
+    HasKind (fault_of bank_app words) error ⊎ (kind_of error ≡ kind.MissingRequiredArgument)

@@ -1,7 +1,7 @@
-ghost use Rattle.std.specs.Prelude.{◌≡◌, IfOk, IfSome, Some, map, false};
-ghost use Rattle.clap.specs.Words.{app_of, found_of, rows_of, rule_of, subcommand_of};
+ghost use Rattle.std.specs.Prelude.{◌≡◌, [], IfOk, IfErr, IfSome, Some, map, false};
+ghost use Rattle.clap.specs.Words.{app_of, fault_of, found_of, rows_of, rule_of, subcommand_of};
 ghost use Rattle.clap.specs.declared.builder.Command.TheViews.{out-Command as fields_of};
-ghost use Rattle.bank_cli.specs.Commands.{IsNamedBy, IsNamedIn, bank_app, number_in, number_rule, sample_app, top_app};
+ghost use Rattle.bank_cli.specs.Commands.{IsNamedBy, IsNamedIn, IsRefusal, bank_app, number_in, number_rule, sample_app, top_app};
 
 use crate::moment::{LAST_MOMENT, Moment};
 use clap::builder::ValueParser;
@@ -82,6 +82,8 @@ fn action_in(name: &str, found: &ArgMatches<'_>) -> Option<Action>
 /// asked for, or that memory is refused.
 pub fn read_words<'a>(alloc: Global, words: &'a [&'a str]) -> Result<Action, Error>
     ensures named { IfOk result (IsNamedBy (subcommand_of bank_app (map (λ w. w.now) words.now))) }
+    ensures taken { IfOk result (λ _. fault_of bank_app (map (λ w. w.now) words.now) ≡ []) }
+    ensures refused { IfErr result (IsRefusal (map (λ w. w.now) words.now)) }
 {
     let mut command = bank_command(alloc)?;
     let matches = command.try_get_matches_from_mut(words)?;

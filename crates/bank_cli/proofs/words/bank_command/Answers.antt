@@ -1,7 +1,6 @@
-use Rattle.std.proofs.Common.{◌≡◌, ◌∙◌, ap, ap₂}
+use Rattle.std.proofs.Common.{◌∙◌, ap, ap₂}
 use Rattle.std.proofs.lemmas.Result.{IfOk-weaker}
-use Rattle.clap.specs.Words.{App, app_of, with_subcommand}
-use Rattle.bank_cli.specs.Commands.{top_app, sample_app}
+use Rattle.clap.specs.Words.{App, with_subcommand}
 use Rattle.bank_cli.proofs.words.bank_command.Goals as goal
 
 pub returns : goal.returns

@@ -1,0 +1,16 @@
+use counter_api::Gate;
+use sample_bank::badge_user;
+
+/// The gate of the sample bank, which knows its six users by their badges.
+#[derive(Clone, Copy, Debug, PartialEq, Eq)]
+pub struct SampleBadges;
+
+impl Gate for SampleBadges {
+    ghost use Rattle.sample_bank.specs.Badges.{badge_user};
+
+    ghost users = { λ _ badge. badge_user badge };
+
+    fn user_of(&self, badge: &[u8]) -> Option<u32> {
+        badge_user(badge)
+    }
+}
