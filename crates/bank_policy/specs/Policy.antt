@@ -1,6 +1,5 @@
 -- The policy as plain lists, each in order of its key.
-use Rattle.std.specs.Prelude.{ℕ, List}
-use Rattle.bank_policy.specs.declared.rows.Member.{Member}
+use Rattle.std.specs.Prelude.{List}
 use Rattle.bank_policy.specs.declared.rows.User.{User}
 use Rattle.bank_policy.specs.declared.rows.Relation.{Relation}
 use Rattle.bank_policy.specs.declared.rows.Triple.{Triple}

@@ -1,5 +1,5 @@
 -- The values behind the replies have no float, and their compact text is the reply.
-use Rattle.std.proofs.Common.{◌≡◌, ℕ, ℤ, pos, negsuc, List, ◌++◌, Bool, false, ◌||◌, refl, ap, append_assoc}
+use Rattle.std.proofs.Common.{◌≡◌, ℤ, pos, negsuc, false, refl, append_assoc}
 use Rattle.std.specs.Fmt.{signed_decimal}
 use Rattle.serde_json.specs.Find.{of_integer, is_float}
 use Rattle.serde_json.specs.Written.{compact_text, has_float, number_text}

@@ -1,5 +1,5 @@
 -- What the rules say of an operation, what it leaves and what it is answered.
-use Rattle.std.specs.Prelude.{ℕ, ℤ, ◌+◌, ◌+ℤ◌, Bool, true, false, not, is_none, List, [], ◌∷◌, Option, Some, None, option_map, option_and_then}
+use Rattle.std.specs.Prelude.{ℕ, ◌+◌, ◌+ℤ◌, Bool, true, false, not, is_none, [], ◌∷◌, Option, None, option_map, option_and_then}
 use Rattle.std.specs.Option.{option_map_or}
 use Rattle.std.specs.List.{find}
 use Rattle.money.specs.Range.{is_cents}
@@ -8,7 +8,6 @@ use Rattle.bank_policy.specs.declared.rule.Rule.TheVariants as rule
 use Rattle.bank_policy.specs.declared.procedure.Procedure.{Procedure}
 use Rattle.bank_policy.specs.declared.procedure.Procedure.TheVariants as procedure
 use Rattle.counter_ops.specs.declared.op.Post.{Post}
-use Rattle.counter_ops.specs.declared.op.Balance.{Balance}
 use Rattle.counter_ops.specs.declared.op.Op.{Op}
 use Rattle.counter_ops.specs.declared.op.Op.TheVariants as op
 use Rattle.bank_books.specs.Balances.{account_record}

@@ -1,5 +1,5 @@
 -- What a store stands for, and what each call of it says beside its answer.
-use Rattle.std.specs.Prelude.{◌≡◌, ℕ, ◌+◌, ◌-◌, ◌≤◌, ◌^◌, Bool, true, false, ◌⊎◌, Option, Some, None, Result, Ok, Err, IsTrue, ⊤}
+use Rattle.std.specs.Prelude.{◌≡◌, ℕ, ◌+◌, ◌-◌, ◌≤◌, ◌^◌, Bool, true, ◌⊎◌, Option, Some, None, Result, Ok, Err, IsTrue}
 use Rattle.bank_books.specs.WorldLists.{WorldLists}
 use Rattle.money.specs.declared.fault.Fault.{Fault}
 use Rattle.money.specs.declared.fault.Fault.TheVariants.{Memory, Size, Disk, Stopped}
