@@ -140,10 +140,8 @@ pub struct Certifier {
 /// A triple with the members of its set.
 #[derive(Debug, Drop)]
 pub struct HeldRow {
-    /// The triple's set.
-    pub set: u32,
-    /// Up to which amount, in cents, 0 to 999,999,999.
-    pub limit: u32,
-    /// The members of the set, in order.
+    /// The triple.
+    pub triple: Triple,
+    /// The members of its set, in order.
     pub members: Vec<Member>,
 }

@@ -1,8 +1,5 @@
 ghost use Rattle.std.specs.Prelude.{ℕ, ◌≤◌};
 
-/// The greatest moment, in seconds.
-pub const LAST_MOMENT: u64 = 99_999_999_999;
-
 /// Where the moments of messages come from.
 pub trait Clock {
     /// Which moment it may give next, and what it is then.

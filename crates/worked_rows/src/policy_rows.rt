@@ -1,6 +1,9 @@
 use bank_policy::{
-    Certifier, ItemSet, Kind, Member, Name, Policy, Procedure, Relation, Rule, Triple, User,
+    Cdi, Certifier, HeldRow, ItemSet, Kind, Member, Name, Policy, Procedure, Relation, Rule,
+    Triple, User, best_limit, covers,
 };
+use std::alloc::Global;
+use std::process::Abort;
 
 #[test]
 fn procedures_and_rules_have_their_numbers_and_names(rt: HostRuntime) {
@@ -94,4 +97,66 @@ fn policy_rows_stand_in_order(rt: HostRuntime) {
             .first()
             .is_some_and(|u| u.name.as_str() == "Sue")
     );
+}
+
+fn item(kind: Kind, key: u32) -> Cdi {
+    Cdi { kind, key }
+}
+
+/// A triple of the procedure transfer with a set of accounts of branch 1.
+fn held(
+    rt: &impl Abort,
+    alloc: Global,
+    user: u32,
+    set: u32,
+    limit: u32,
+    accounts: (u32, u32),
+) -> HeldRow {
+    let (low, high) = accounts;
+    let accounts = Member {
+        kind: Kind::Account,
+        low,
+        high,
+    };
+    let branch = Member {
+        kind: Kind::Branch,
+        low: 1,
+        high: 1,
+    };
+    HeldRow {
+        triple: Triple {
+            user,
+            procedure: Procedure::Transfer,
+            set,
+            limit,
+        },
+        members: vec![in alloc; accounts, branch].expect(rt, "memory"),
+    }
+}
+
+#[test]
+fn one_triple_has_to_hold_every_item(rt: HostRuntime) {
+    let alloc = rt.alloc();
+    let touched = [
+        item(Kind::Account, 101),
+        item(Kind::Account, 102),
+        item(Kind::Branch, 1),
+    ];
+    // Two triples that hold one account each: their union would do, and neither does.
+    let halves = [
+        held(&rt, alloc, 7, 3, 50_000, (101, 101)),
+        held(&rt, alloc, 7, 4, 50_000, (102, 102)),
+    ];
+    assert!(rt; best_limit(&halves, &touched).is_none());
+    assert!(rt; best_limit(&halves, &[item(Kind::Account, 102)]) == Some(50_000));
+    // Two triples that hold all: the greater limit counts, and not the first.
+    let wholes = [
+        held(&rt, alloc, 8, 1, 1_000, (1, 999_999)),
+        held(&rt, alloc, 8, 2, 50_000, (101, 102)),
+    ];
+    assert!(rt; best_limit(&wholes, &touched) == Some(50_000));
+    assert!(rt; best_limit(&wholes, &[item(Kind::Account, 201)]) == Some(1_000));
+    assert!(rt; best_limit(&wholes, &[item(Kind::Teller, 11)]).is_none());
+    assert!(rt; best_limit(&[], &touched).is_none());
+    assert!(rt; covers(&[], &[]) && !covers(&[], &touched));
 }
