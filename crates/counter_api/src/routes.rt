@@ -1,4 +1,5 @@
 use bank_policy::Procedure;
+use http::Method;
 use matchit::Router;
 use std::alloc::{AllocError, Global};
 use std::str;
@@ -42,7 +43,7 @@ impl Routes {
     /// The procedure that a method and a target ask for, or none where they ask for none: exactly
     /// POST, in capitals, and exactly a path of the table, with no query.
     pub(crate) fn procedure(&self, method: &[u8], target: &[u8]) -> Option<Procedure> {
-        if method != b"POST".as_slice() {
+        if method != Method::POST.as_str().as_bytes() {
             return None;
         }
         let path = str::from_utf8(target).ok()?;
