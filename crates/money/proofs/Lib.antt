@@ -1,4 +1,6 @@
 pub mod AddRow
 pub mod Beginnings
+pub mod DistinctKeys
+pub mod LookUps
 pub mod Places
 pub mod TotalLemmas

@@ -1,7 +1,7 @@
-ghost use Rattle.std.specs.Prelude.{◌≡◌, ◌+◌, ◌<◌, ◌≤◌, ℕ, nat_le, length, vec_len, vec_capacity, OnOk, OnErr};
+ghost use Rattle.std.specs.Prelude.{◌≡◌, ◌+◌, ◌<◌, ◌≤◌, ◌↔◌, ℕ, nat_le, length, map, IsTrue, vec_len, vec_capacity, OnOk, OnErr};
 ghost use Rattle.std.specs.List.{prefix_len};
 ghost use Rattle.std.specs.List.Sorted.{IsNonDecreasingBy};
-ghost use Rattle.money.specs.Ordered.{add_row};
+ghost use Rattle.money.specs.Ordered.{AreDistinct, HasRow, add_row};
 
 use std::alloc::AllocError;
 
@@ -52,4 +52,18 @@ pub fn insert_row_reserved<T: Keyed>(rows: &mut Vec<T>, row: T)
 {
     let place = place_of(rows, row.key());
     rows.insert(place, row).unwrap();
+}
+
+/// Whether no two of the rows have one key. The rows stand in order of their keys, so each is compared to its neighbour alone.
+pub fn has_distinct_keys<T: Keyed>(rows: &[T]) -> bool
+    ensures { IsNonDecreasingBy T.key rows.now → (IsTrue result ↔ AreDistinct (map T.key rows.now)) }
+{
+    rows.is_sorted_by(|row, next| row.key() < next.key())
+}
+
+/// Whether a row of this key is there. The rows stand in order of their keys, so each look halves those that are left.
+pub fn is_there<T: Keyed>(rows: &[T], key: u128) -> bool
+    ensures { IsNonDecreasingBy T.key rows.now → (IsTrue result ↔ HasRow T.key rows.now key) }
+{
+    rows.binary_search_by_key(&key, |row| row.key()).is_ok()
 }

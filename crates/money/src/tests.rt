@@ -1,6 +1,7 @@
 use crate::{
     Cents, Delta, Fault, Keyed, MAX_CENTS, MAX_DELTA, Tallied, Tally, WriteStopped, add,
-    insert_row, insert_row_reserved, place_of, plus, sum_of, write_cents, write_parts, write_whole,
+    has_distinct_keys, insert_row, insert_row_reserved, is_there, place_of, plus, sum_of,
+    write_cents, write_parts, write_whole,
 };
 use std::alloc::{AllocError, Global};
 use std::io;
@@ -146,9 +147,18 @@ fn rows_go_behind_those_of_their_key(rt: HostRuntime) -> Result<(), Fail> {
         Marked(u128::MAX, 'd'),
     ];
     assert_eq!(rt; rows.as_slice(), ordered.as_slice());
-    for (key, place) in [(0, 0), (1, 2), (2, 4), (3, 4), (u128::MAX, 5)] {
+    for (key, place, stands) in [
+        (0, 0, false),
+        (1, 2, true),
+        (2, 4, true),
+        (3, 4, false),
+        (u128::MAX, 5, true),
+    ] {
         assert_eq!(rt; place_of(&rows, key), place);
+        assert_eq!(rt; is_there(&rows, key), stands);
     }
+    assert!(rt; !has_distinct_keys(&rows));
+    assert!(rt; has_distinct_keys(&ordered[1..3]));
     Ok(())
 }
 
