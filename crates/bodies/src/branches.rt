@@ -1,11 +1,10 @@
 ghost use Rattle.std.specs.Prelude.{◌≡◌, IfSome};
 ghost use Rattle.serde_json.specs.View.{view};
 ghost use Rattle.bodies.specs.Operation.{new_account_of, close_day_of};
-ghost use Rattle.bodies.specs.Ranges.{IsKey, IsNewAccount};
+ghost use Rattle.counter_ops.specs.Ranges.{IsKey, IsNewAccount};
 
 use crate::members::{is_object_of, key, member};
 use counter_ops::{CloseDay, NewAccount};
-use money::Cents;
 use serde_json::Value;
 
 /// The account that the value states, with its home and its floor.
@@ -19,7 +18,7 @@ pub fn new_account(body: &Value) -> Option<NewAccount>
     Some(NewAccount {
         account: key(body, "account")?,
         branch: key(body, "branch")?,
-        floor: Cents::new(member(body, "floor", -999_999_999, 0)?)?,
+        floor: member(body, "floor", -999_999_999, 0)? as i32,
     })
 }
 

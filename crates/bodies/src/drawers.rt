@@ -1,7 +1,7 @@
 ghost use Rattle.std.specs.Prelude.{◌≡◌, ◌+◌, ◌<◌, IfSome};
 ghost use Rattle.serde_json.specs.View.{view};
 ghost use Rattle.bodies.specs.Operation.{drawer_on_of, drawer_off_of, move_cash_of};
-ghost use Rattle.bodies.specs.Ranges.{IsDrawerOn, IsDrawerOff, IsMoveCash};
+ghost use Rattle.counter_ops.specs.Ranges.{IsDrawerOn, IsDrawerOff, IsMoveCash};
 
 use crate::members::{MAX_KEY, is_object_of, key, member, natural};
 use counter_ops::{DrawerOff, DrawerOn, MoveCash};

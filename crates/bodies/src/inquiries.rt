@@ -1,7 +1,7 @@
 ghost use Rattle.std.specs.Prelude.{◌≡◌, IfSome};
 ghost use Rattle.serde_json.specs.View.{view};
 ghost use Rattle.bodies.specs.Operation.{balance_of, statement_of, accounts_of, proof_of};
-ghost use Rattle.bodies.specs.Ranges.{IsKey, IsStatement, IsAccounts};
+ghost use Rattle.counter_ops.specs.Ranges.{IsKey, IsStatement, IsAccounts};
 
 use crate::members::{MAX_KEY, is_object_of, key, natural};
 use counter_ops::{Accounts, Balance, Proof, Statement};

@@ -2,7 +2,7 @@ ghost use Rattle.std.specs.Prelude.{◌≡◌, ◌≤◌, ◌≤ℤ◌, IfSome};
 ghost use Rattle.serde_json.specs.View.{view};
 ghost use Rattle.money.specs.Range.{IsDelta};
 ghost use Rattle.bodies.specs.Body.{has_members, number_member, natural_member, key_member, delta_member};
-ghost use Rattle.bodies.specs.Ranges.{IsKey};
+ghost use Rattle.counter_ops.specs.Ranges.{IsKey};
 
 use money::{Delta, MAX_DELTA};
 use serde_json::Value;

@@ -1,7 +1,7 @@
 ghost use Rattle.std.specs.Prelude.{◌≡◌, ◌+◌, ◌<◌, IfSome};
 ghost use Rattle.serde_json.specs.View.{view};
 ghost use Rattle.bodies.specs.Operation.{post_of, transfer_of, correct_of};
-ghost use Rattle.bodies.specs.Ranges.{IsPost, IsTransfer, IsCorrect};
+ghost use Rattle.counter_ops.specs.Ranges.{IsPost, IsTransfer, IsCorrect};
 
 use crate::members::{MAX_KEY, delta, is_object_of, key, natural};
 use counter_ops::{Correct, Post, Transfer};

@@ -4,7 +4,7 @@ ghost use Rattle.serde_json.specs.View.{view};
 ghost use Rattle.money.specs.declared.fault.Fault.TheVariants.{Memory};
 ghost use Rattle.counter_ops.specs.Op.{procedure_of};
 ghost use Rattle.bodies.specs.Operation.{op_of, stated_op};
-ghost use Rattle.bodies.specs.Ranges.{IsOp};
+ghost use Rattle.counter_ops.specs.Ranges.{IsOp};
 
 use crate::branches::{close_day, new_account};
 use crate::drawers::{drawer_off, drawer_on, move_cash};

@@ -1,7 +1,7 @@
 ghost use Rattle.std.specs.Prelude.{◌≡◌, IfSome};
 ghost use Rattle.serde_json.specs.View.{view};
 ghost use Rattle.bodies.specs.Operation.{releasable_of, release_of};
-ghost use Rattle.bodies.specs.Ranges.{IsReleasable, IsRelease};
+ghost use Rattle.counter_ops.specs.Ranges.{IsReleasable, IsRelease};
 
 use crate::drawers::{drawer_on, move_cash};
 use crate::members::{is_object_of, natural};

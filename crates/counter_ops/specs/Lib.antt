@@ -1,1 +1,3 @@
 pub mod Op
+pub mod Ranges
+pub mod Touched

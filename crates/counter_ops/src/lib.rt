@@ -1,9 +1,13 @@
 //! The operations that a counter asks of the bank.
 #![tactic(auto)]
 
+mod item_list;
 mod op;
+mod touched;
 
+pub use item_list::ItemList;
 pub use op::{
     Accounts, Balance, CloseDay, Correct, DrawerOff, DrawerOn, MoveCash, NewAccount, Op, Post,
     Proof, Releasable, Release, Statement, Transfer,
 };
+pub use touched::{amount, touches};

@@ -91,8 +91,8 @@ pub struct NewAccount {
     pub account: u32,
     /// Its home, 1 to 999,999,999.
     pub branch: u32,
-    /// The least balance that it may have, -999,999,999 to 0.
-    pub floor: Cents,
+    /// The least balance that it may have, in cents, -999,999,999 to 0.
+    pub floor: i32,
 }
 
 /// The balance of an account, asked for.

@@ -85,7 +85,6 @@ fn bodies_that_state_a_posting(rt: HostRuntime) -> Result<(), Fail> {
 #[test]
 fn bodies_that_state_another_operation(rt: HostRuntime) -> Result<(), Fail> {
     let counted = Cents::new(999_999_999_999).ok_or("in range")?;
-    let floor = Cents::new(-999_999_999).ok_or("in range")?;
     let cases = [
         (
             Procedure::DrawerOn,
@@ -121,7 +120,7 @@ fn bodies_that_state_another_operation(rt: HostRuntime) -> Result<(), Fail> {
             Op::NewAccount(NewAccount {
                 account: 103,
                 branch: 1,
-                floor,
+                floor: -999_999_999,
             }),
         ),
         (
