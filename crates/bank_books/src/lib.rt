@@ -2,16 +2,22 @@
 #![tactic(auto)]
 
 mod balances;
+mod cash;
+mod check;
+mod kept;
 mod lists;
+mod record_of;
 mod records;
 mod row_write;
 mod rows;
 mod world;
 
-pub use balances::{
-    account_balance, account_record, branch_balance, branch_record, teller_balance, teller_record,
-};
-pub use records::{AccountRecord, BranchRecord, TellerRecord};
+pub use balances::{account_balance, branch_balance, teller_balance};
+pub use cash::{cash_of, holder_of};
+pub use check::BooksFault;
+pub use kept::Kept;
+pub use record_of::{account_record, branch_record, teller_record};
+pub use records::{AccountRecord, BranchRecord, EntryRecord, ReleaseCount, TellerRecord};
 pub use row_write::{Plan, RowWrite};
 pub use rows::{Account, Branch, CashLine, Entry, EntryForm, LineForm, Proof, Release, Teller};
 pub use world::World;

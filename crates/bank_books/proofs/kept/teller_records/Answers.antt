@@ -1,0 +1,8 @@
+use Rattle.bank_books.specs.Records.{teller_record_of}
+use Rattle.bank_books.proofs.Mapped.{mapped_more}
+use Rattle.bank_books.proofs.kept.teller_records.Goals as goal
+
+pub loop-row-preserved : goal.loop-row-preserved
+loop-row-preserved c =
+    mapped_more (teller_record_of c.args.world.now) c.tellers-row-items.result.now c.args.world.now.tellers c.loop-row.row-index c.row-item.result _ _ c.teller_record_of.result
+    c.tellers-row-items.ensures.value c.loop-row-test.true c.row-item.is c.teller_record_of.ensures c.loop-row.invariant c.in_ok-push.ensures.items
