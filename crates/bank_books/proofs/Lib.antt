@@ -1,1 +1,2 @@
+pub mod FirstFailing
 pub mod Mapped

@@ -1,8 +1,9 @@
 -- What it means that a bank's books hold, and which fault of them is the first.
-use Rattle.std.specs.Prelude.{ℕ, ◌≡◌, ◌<◌, Option, Some, None, Result, Ok, Err}
+use Rattle.std.specs.Prelude.{ℕ, ◌≡◌, Result, Ok, Err}
 use Rattle.bank_books.specs.declared.check.BooksFault.{BooksFault}
 use Rattle.bank_books.specs.declared.check.BooksFault.TheVariants as fault
 use Rattle.bank_books.specs.Conditions.{CashAgrees, HistoryAgrees, TellersAgree, TotalsAgree}
+use Rattle.bank_books.specs.Least.{IsLeastFailing}
 use Rattle.bank_books.specs.Range.{IsInRange}
 use Rattle.bank_books.specs.Records.{KeptLists, kept_of}
 use Rattle.bank_books.specs.WorldLists.{WorldLists}
@@ -18,16 +19,6 @@ pub record ConditionsHold (w : WorldLists) (kept : KeptLists) : Type 0 where
 -- The books of a World hold: every condition, of its rows and of the numbers that they give.
 abbrev pub Books : WorldLists → Type 0
 Books w = ConditionsHold w (kept_of w)
-
--- a condition on branches fails of this one, and of none with a lesser number
-pub record IsLeastFailing (holds : ℕ → Type 0) (branch : ℕ) : Type 0 where
-  pub fails : ¬ holds branch
-  pub least : (other : ℕ) → other < branch → holds other
-
--- the least branch of which the condition fails, or none where it holds of every number
-abbrev pub IsFirstFailing : (ℕ → Type 0) → Option ℕ → Type 0
-IsFirstFailing holds None = (branch : ℕ) → holds branch
-IsFirstFailing holds (Some branch) = IsLeastFailing holds branch
 
 -- The verdict on a World and the numbers kept beside it. The conditions are tested in this order: the range, the sums of
 -- tellers, the history, the cash, and the totals.

@@ -43,7 +43,7 @@ pub record HistoryAgrees (w : WorldLists) (kept : KeptLists) (branch : ℕ) : Ty
   pub accounts : (a : AccountRecord) → Contains kept.accounts a → a.row.home ≡ branch → IsAccountOfHistory a (account_record_of w a.row)
   pub entries : (e : EntryRecord) → Contains kept.entries e → home_of w e.row.account ≡ branch → e.balance_after ≡ (entry_record_of w e.row).balance_after
   pub numbers : AreNumbered (λ e. e.branch) (λ e. e.number) w.entries branch
-  pub turns : (a : AccountRecord) → Contains kept.accounts a → a.row.home ≡ branch → AreNumbered (λ e. e.account) (λ e. e.turn) w.entries a.row.account
+  pub turns : (account : ℕ) → home_of w account ≡ branch → AreNumbered (λ e. e.account) (λ e. e.turn) w.entries account
 
 -- What is kept of the cash of a branch is what its lines give, they are numbered, and the cash in its vault and its
 -- drawers is what it opened with, what its entries brought, and what counts of drawers differed by.

@@ -4,7 +4,9 @@
 mod balances;
 mod cash;
 mod check;
+mod history;
 mod kept;
+mod least;
 mod lists;
 mod record_of;
 mod records;

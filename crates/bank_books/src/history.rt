@@ -1,0 +1,147 @@
+ghost use Rattle.std.specs.Prelude.{◌≡◌, ◌↔◌, ◌≤◌, IsTrue};
+ghost use Rattle.bank_books.specs.Balances.{turn_count};
+ghost use Rattle.bank_books.specs.Conditions.{home_of};
+ghost use Rattle.bank_books.specs.RowConditions.{same_turn_count};
+
+use crate::balances::{account_row, entry_count, turn_count};
+use crate::least::{Condition, least_failing, lesser_of};
+use crate::records::{AccountRecord, BranchRecord, EntryRecord, TellerRecord};
+use crate::rows::Entry;
+use crate::world::World;
+
+/// That what is kept of a branch is what its history gives.
+#[derive(Clone, Copy)]
+struct BranchHistory;
+
+impl Condition<BranchRecord> for BranchHistory {
+    ghost use Rattle.bank_books.specs.Conditions.{IsBranchOfHistory};
+
+    ghost holds = { λ _ kept computed. IsBranchOfHistory kept computed };
+    ghost branch_of = { λ _ kept. kept.row.branch };
+
+    fn holds(&self, row: &BranchRecord, computed: &BranchRecord) -> bool {
+        row.balance == computed.balance
+            && row.entries == computed.entries
+            && row.history == computed.history
+            && row.accounts == computed.accounts
+    }
+
+    fn branch_of(&self, row: &BranchRecord) -> u32 {
+        row.row.branch
+    }
+}
+
+/// That the balance kept of a teller is what the history gives.
+#[derive(Clone, Copy)]
+struct TellerHistory;
+
+impl Condition<TellerRecord> for TellerHistory {
+    ghost use Rattle.std.specs.Prelude.{◌≡◌};
+
+    ghost holds = { λ _ kept computed. kept.balance ≡ computed.balance };
+    ghost branch_of = { λ _ kept. kept.row.branch };
+
+    fn holds(&self, row: &TellerRecord, computed: &TellerRecord) -> bool {
+        row.balance == computed.balance
+    }
+
+    fn branch_of(&self, row: &TellerRecord) -> u32 {
+        row.row.branch
+    }
+}
+
+/// That what is kept of an account is what the history gives.
+#[derive(Clone, Copy)]
+struct AccountHistory;
+
+impl Condition<AccountRecord> for AccountHistory {
+    ghost use Rattle.bank_books.specs.Conditions.{IsAccountOfHistory};
+
+    ghost holds = { λ _ kept computed. IsAccountOfHistory kept computed };
+    ghost branch_of = { λ _ kept. kept.row.home };
+
+    fn holds(&self, row: &AccountRecord, computed: &AccountRecord) -> bool {
+        row.balance == computed.balance && row.turns == computed.turns
+    }
+
+    fn branch_of(&self, row: &AccountRecord) -> u32 {
+        row.row.home
+    }
+}
+
+/// That the balance kept beside an entry is what the history gives, and that its turn is one of its
+/// account's, and no other's. It is told of the account's home.
+#[derive(Clone, Copy)]
+struct EntryHistory<'w> {
+    world: &'w World,
+}
+
+impl<'w> Condition<EntryRecord> for EntryHistory<'w> {
+    ghost use Rattle.bank_books.specs.Conditions.{home_of};
+    ghost use Rattle.bank_books.specs.RowConditions.{IsEntryOfHistory};
+
+    ghost holds = { λ q kept computed. IsEntryOfHistory q.world.now kept computed };
+    ghost branch_of = { λ q kept. home_of q.world.now kept.row.account };
+
+    fn holds(&self, row: &EntryRecord, computed: &EntryRecord) -> bool {
+        row.balance_after == computed.balance_after
+            && is_turn(self.world, &row.row)
+            && has_own_turn(self.world, &row.row)
+    }
+
+    fn branch_of(&self, row: &EntryRecord) -> u32 {
+        home_of(self.world, row.row.account)
+    }
+}
+
+/// Whether the turn of an entry is from 1 to how many entries its account has.
+fn is_turn(world: &World, entry: &Entry) -> bool
+    ensures { IsTrue result ↔ ((1 ≤ entry.now.turn) × (entry.now.turn ≤ turn_count entry.now.account world.now.entries)) }
+{
+    1 <= entry.turn && entry.turn as u64 <= turn_count(world.entries(), entry.account)
+}
+
+/// Whether no other entry of its account bears the turn of an entry.
+fn has_own_turn(world: &World, entry: &Entry) -> bool
+    ensures { IsTrue result ↔ (same_turn_count entry.now.account entry.now.turn world.now.entries ≤ 1) }
+{
+    same_turn_count(world.entries(), entry.account, entry.turn) <= 1
+}
+
+fn same_turn_count(entries: &[Entry], account: u32, turn: u32) -> u64
+    ensures { result ≡ same_turn_count account turn entries.now }
+{
+    let alike = |entry: &&Entry| entry.account == account && entry.turn == turn;
+    entries.iter().filter(alike).count() as u64
+}
+
+/// The home of an account, 0 where there is no account.
+fn home_of(world: &World, account: u32) -> u32
+    ensures { result ≡ home_of world.now account }
+{
+    match account_row(world.accounts(), account) {
+        Some(row) => row.home,
+        None => 0,
+    }
+}
+
+/// That the number of an entry is one of its branch's.
+#[derive(Clone, Copy)]
+struct EntryNumber<'w> {
+    world: &'w World,
+}
+
+impl<'w> Condition<Entry> for EntryNumber<'w> {
+    ghost use Rattle.bank_books.specs.RowConditions.{IsNumberedEntry};
+
+    ghost holds = { λ q entry _. IsNumberedEntry q.world.now entry };
+    ghost branch_of = { λ _ entry. entry.branch };
+
+    fn holds(&self, row: &Entry, _: &Entry) -> bool {
+        1 <= row.number && row.number as u64 <= entry_count(self.world.entries(), row.branch)
+    }
+
+    fn branch_of(&self, row: &Entry) -> u32 {
+        row.branch
+    }
+}
