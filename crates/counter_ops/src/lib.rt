@@ -4,6 +4,10 @@
 mod item_list;
 mod op;
 mod touched;
+mod from_row;
+mod row_forms;
+mod row_numbers;
+mod row_places;
 
 pub use item_list::ItemList;
 pub use op::{
