@@ -1,13 +1,14 @@
 //! The operations that a counter asks of the bank.
 #![tactic(auto)]
 
+mod from_row;
 mod item_list;
 mod op;
-mod touched;
-mod from_row;
 mod row_forms;
 mod row_numbers;
 mod row_places;
+mod to_row;
+mod touched;
 
 pub use item_list::ItemList;
 pub use op::{

@@ -125,7 +125,16 @@ pub fn release(members: &[i64; 8]) -> Option<Release>
     ensures some { IfSome result (StandsIn IsRelease release_numbers members.now) }
     ensures only { IsOnlyIn IsRelease release_numbers members.now result }
 {
-    let [beneficiary, form, first, second, third, fourth, fifth, sixth] = *members;
+    let [
+        beneficiary,
+        form,
+        first,
+        second,
+        third,
+        fourth,
+        fifth,
+        sixth,
+    ] = *members;
     let beneficiary = number(beneficiary, 1, 9_999)?;
     let row = OperationRow {
         form: releasable_form(form)?,
