@@ -1,3 +1,4 @@
 pub mod Op
 pub mod Ranges
+pub mod Rows
 pub mod Touched

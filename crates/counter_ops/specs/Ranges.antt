@@ -1,5 +1,5 @@
 -- In which ranges the members of an operation lie, and which of them may not be equal.
-use Rattle.std.specs.Prelude.{◌≢◌, ℕ, ◌≤◌, ◌≤ℤ◌, pos, negsuc}
+use Rattle.std.specs.Prelude.{◌≢◌, ℕ, ℤ, ◌≤◌, ◌≤ℤ◌, pos, negsuc}
 use Rattle.money.specs.Range.{IsDelta}
 use Rattle.counter_ops.specs.declared.op.Post.{Post}
 use Rattle.counter_ops.specs.declared.op.Transfer.{Transfer}
@@ -27,6 +27,14 @@ IsKey n = IsWithin 1 999999999 n
 -- a key, or 0 for none
 abbrev pub IsKeyOrZero : ℕ → Type 0
 IsKeyOrZero n = IsWithin 0 999999999 n
+
+-- a cash that was counted, in cents
+abbrev pub IsCash : ℤ → Type 0
+IsCash z = (pos 0 ≤ℤ z) × (z ≤ℤ pos 999999999999)
+
+-- the least balance of an account, in cents
+abbrev pub IsFloor : ℤ → Type 0
+IsFloor z = (negsuc 999999998 ≤ℤ z) × (z ≤ℤ pos 0)
 
 pub record IsPost (post : Post) : Type 0 where
   pub account : IsKey post.account
@@ -59,7 +67,7 @@ pub record IsDrawerOn (drawer_on : DrawerOn) : Type 0 where
 pub record IsDrawerOff (drawer_off : DrawerOff) : Type 0 where
   pub teller : IsKey drawer_off.teller
   pub branch : IsKey drawer_off.branch
-  pub counted : (pos 0 ≤ℤ drawer_off.counted) × (drawer_off.counted ≤ℤ pos 999999999999)
+  pub counted : IsCash drawer_off.counted
 
 pub record IsMoveCash (move_cash : MoveCash) : Type 0 where
   pub source : IsKeyOrZero move_cash.source
@@ -71,7 +79,7 @@ pub record IsMoveCash (move_cash : MoveCash) : Type 0 where
 pub record IsNewAccount (new_account : NewAccount) : Type 0 where
   pub account : IsKey new_account.account
   pub branch : IsKey new_account.branch
-  pub floor : (negsuc 999999998 ≤ℤ new_account.floor) × (new_account.floor ≤ℤ pos 0)
+  pub floor : IsFloor new_account.floor
 
 pub record IsStatement (statement : Statement) : Type 0 where
   pub account : IsKey statement.account

@@ -1,8 +1,13 @@
 //! The operations that a counter asks of the bank.
 #![tactic(auto)]
 
+mod from_row;
 mod item_list;
 mod op;
+mod row_forms;
+mod row_numbers;
+mod row_places;
+mod to_row;
 mod touched;
 
 pub use item_list::ItemList;
