@@ -4,7 +4,10 @@ use Rattle.money.specs.Ordered.{AreDistinct, HasRow}
 use Rattle.money.specs.Range.{IsCents}
 use Rattle.bank_policy.specs.PolicyKeys.{user_key}
 use Rattle.bank_policy.specs.declared.rows.User.{User}
-use Rattle.counter_ops.specs.Ranges.{IsKey, IsKeyOrZero, IsWithin}
+use Rattle.counter_ops.specs.Ranges.{IsKey, IsKeyOrZero, IsReleasable, IsWithin}
+use Rattle.counter_ops.specs.Rows.{op_of, row_of}
+use Rattle.counter_ops.specs.Touched.{branch_of}
+use Rattle.counter_ops.specs.declared.op.Releasable.{Releasable}
 use Rattle.bank_books.specs.declared.records.AccountRecord.{AccountRecord}
 use Rattle.bank_books.specs.declared.records.BranchRecord.{BranchRecord}
 use Rattle.bank_books.specs.declared.records.EntryRecord.{EntryRecord}
@@ -100,6 +103,10 @@ pub record IsProofInRange (w : WorldLists) (p : Proof) : Type 0 where
   pub day : IsDay p.day
   pub entries : p.entries ≤ 999999999
 
+-- its row holds an operation that may be released, all its members in their ranges, at the branch of the release
+abbrev pub HoldsReleasable : Release → Type 0
+HoldsReleasable r = (op : Releasable) × (IsReleasable op × (row_of (op_of op) ≡ r.operation) × (branch_of op ≡ r.branch))
+
 pub record IsReleaseInRange (w : WorldLists) (r : Release) : Type 0 where
   pub user : IsUser w r.user
   pub number : IsWithin 1 100000 r.number
@@ -107,6 +114,7 @@ pub record IsReleaseInRange (w : WorldLists) (r : Release) : Type 0 where
   pub giver : IsUser w r.giver
   pub branch : IsBranch w r.branch
   pub day : IsDay r.day
+  pub operation : HoldsReleasable r
 
 -- no key stands twice
 pub record HasDistinctKeys (w : WorldLists) : Type 0 where
