@@ -1,2 +1,5 @@
+pub mod Counting
 pub mod FirstFailing
+pub mod HistoryConditions
+pub mod KeptRows
 pub mod Mapped
