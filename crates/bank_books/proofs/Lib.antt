@@ -3,3 +3,4 @@ pub mod FirstFailing
 pub mod HistoryConditions
 pub mod KeptRows
 pub mod Mapped
+pub mod CashConditions
