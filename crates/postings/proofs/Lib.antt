@@ -1,0 +1,3 @@
+pub mod GrownLists
+pub mod KeepsRange
+pub mod NextEntry
