@@ -1,5 +1,5 @@
 -- What is known of a post that no rule denies: its rows are there, and its entry may come next.
-use Rattle.std.proofs.Common.{◌≡◌, ◌≢◌, ℕ, ◌+◌, ◌<◌, ◌≤◌, ℤ, ◌+ℤ◌, Bool, true, false, cond, not, refl, ap, arith, sym, ◌∙◌, subst, ◌==◌, ◌||◌, ◌&&◌, Option, Some, None, int_lt}
+use Rattle.std.proofs.Common.{◌≡◌, ℕ, ◌+◌, ◌≤◌, ℤ, ◌+ℤ◌, Bool, true, false, cond, not, refl, ap, arith, sym, ◌∙◌, subst, ◌==◌, ◌||◌, ◌&&◌, Option, Some, None, int_lt}
 use Rattle.std.specs.Prelude.{◌≤ℤ◌, is_none, nat_le, option_and_then, option_map}
 use Rattle.std.specs.Option.{option_map_or}
 use Rattle.std.proofs.lemmas.Bool.{and_parts, eq-eqb, eqb-true, leb-false, ne_eqb, not-false, or_parts}
@@ -15,7 +15,7 @@ use Rattle.bank_books.specs.declared.rows.Branch.{Branch}
 use Rattle.bank_books.specs.declared.rows.Entry.{Entry}
 use Rattle.bank_books.specs.declared.rows.Teller.{Teller}
 use Rattle.bank_books.specs.Keys.{entry_key}
-use Rattle.bank_books.specs.Records.{account_record_of, branch_record_of, kept_of, teller_record_of}
+use Rattle.bank_books.specs.Records.{account_record_of, branch_record_of, teller_record_of}
 use Rattle.bank_books.specs.WorldLists.{WorldLists}
 use Rattle.postings.specs.declared.post.PostRows.{PostRows}
 use Rattle.postings.specs.Laws.{IsMovedAlone, PostKeepsBooks, PostMovesItsBalances, PostMovesItsBranch}

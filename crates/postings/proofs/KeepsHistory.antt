@@ -1,11 +1,7 @@
 -- What a World gives agrees with what is computed from it, and with its next entry the entries and turns stay numbered.
-use Rattle.std.proofs.Common.{◌≡◌, ℕ, ◌+◌, map, refl, sym, ◌∙◌, subst, Contains}
+use Rattle.std.proofs.Common.{◌≡◌, ℕ, ◌+◌, refl, ◌∙◌, subst, Contains}
 use Rattle.bank_books.specs.Balances.{entry_count, turn_count}
 use Rattle.bank_books.specs.Conditions.{HistoryAgrees, IsAccountOfHistory, IsBranchOfHistory, home_of}
-use Rattle.bank_books.specs.declared.records.AccountRecord.{AccountRecord}
-use Rattle.bank_books.specs.declared.records.BranchRecord.{BranchRecord}
-use Rattle.bank_books.specs.declared.records.EntryRecord.{EntryRecord}
-use Rattle.bank_books.specs.declared.records.TellerRecord.{TellerRecord}
 use Rattle.bank_books.specs.declared.rows.Account.{Account}
 use Rattle.bank_books.specs.declared.rows.Entry.{Entry}
 use Rattle.bank_books.specs.Keys.{entry_key}

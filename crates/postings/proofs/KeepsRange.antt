@@ -1,24 +1,20 @@
 -- With its next entry a World's numbers stay in range.
-use Rattle.std.proofs.Common.{◌≡◌, ◌≢◌, ℕ, ◌+◌, ◌*◌, ◌^◌, ◌<◌, ◌≤◌, ℤ, pos, ◌+ℤ◌, List, map, Bool, true, false, refl, ap, arith, sym, ◌∙◌, subst, ◌==◌, ◌&&◌, Contains, ◌⊎◌, inl, inr}
+use Rattle.std.proofs.Common.{◌≡◌, ◌≢◌, ℕ, ◌+◌, ◌*◌, ◌^◌, ◌<◌, ◌≤◌, ℤ, pos, ◌+ℤ◌, true, false, refl, ap, arith, sym, ◌∙◌, subst, ◌==◌, ◌&&◌, Contains, ◌⊎◌, inl, inr}
 use Rattle.std.specs.Prelude.{◌≤ℤ◌, if◌then◌else◌, nat_le}
 use Rattle.std.specs.Option.{option_map_or}
 use Rattle.std.proofs.lemmas.Bool.{and_left, and_right, cases_Bool, eq-eqb, eqb-true, le-leb, lt-leb}
-use Rattle.money.specs.Ordered.{AreDistinct, add_row}
+use Rattle.money.specs.Ordered.{add_row}
 use Rattle.money.specs.Range.{IsCents}
 use Rattle.bank_books.specs.Balances.{account_deltas, account_opening, branch_deltas, deltas_up_to, entry_count, teller_deltas, turn_count}
 use Rattle.bank_books.specs.Conditions.{HistoryAgrees}
-use Rattle.bank_books.specs.declared.records.AccountRecord.{AccountRecord}
-use Rattle.bank_books.specs.declared.records.BranchRecord.{BranchRecord}
-use Rattle.bank_books.specs.declared.records.EntryRecord.{EntryRecord}
-use Rattle.bank_books.specs.declared.records.TellerRecord.{TellerRecord}
 use Rattle.bank_books.specs.declared.rows.Account.{Account}
 use Rattle.bank_books.specs.declared.rows.Branch.{Branch}
 use Rattle.bank_books.specs.declared.rows.Entry.{Entry}
 use Rattle.bank_books.specs.declared.rows.Teller.{Teller}
 use Rattle.bank_books.specs.Keys.{entry_key}
 use Rattle.bank_books.specs.Numbering.{AreNumbered}
-use Rattle.bank_books.specs.Range.{AreOfRows, HasDistinctKeys, IsAccountInRange, IsBranchInRange, IsEntryInRange, IsInRange, IsLineInRange, IsProofInRange, IsReleaseInRange, IsTellerInRange}
-use Rattle.bank_books.specs.Records.{KeptLists, account_record_of, branch_record_of, entry_record_of, kept_of, teller_record_of}
+use Rattle.bank_books.specs.Range.{IsAccountInRange, IsBranchInRange, IsEntryInRange, IsInRange, IsTellerInRange}
+use Rattle.bank_books.specs.Records.{account_record_of, branch_record_of, entry_record_of, kept_of, teller_record_of}
 use Rattle.bank_books.specs.WorldLists.{WorldLists}
 use Rattle.postings.proofs.GrownLists.{AreDistinct-add_row, Contains-add_row_cases, Contains-map, above, count_named, count_other, every_made, map-made, total_named, total_other, total_same}
 use Rattle.postings.proofs.NextEntry.{IsNextEntry, account_case, account_deltas_named, account_deltas_other, account_there, branch_case, branch_deltas_named, branch_deltas_other, branch_there, grown, teller_case, teller_deltas_named, teller_deltas_other, teller_there}
@@ -93,6 +89,7 @@ teller_is_in_range w e next old row there =
   where
     was : IsTellerInRange w (teller_record_of w row)
     was = old.tellers (teller_record_of w row) (Contains-map (teller_record_of w) w.tellers row there)
+
     balance_of : ((row ≡ next.teller) × ((e.teller == row.teller) ≡ true)) ⊎ ((e.teller == row.teller) ≡ false) → IsCents (row.opening +ℤ teller_deltas row.teller (add_row entry_key e w.entries))
     balance_of (inl (is, named)) =
         moved_cents row.opening (teller_deltas row.teller w.entries) (teller_deltas row.teller (add_row entry_key e w.entries)) e.delta (teller_deltas_named e w.entries row.teller named)
@@ -185,6 +182,7 @@ balance_before w e next history =
     le_test : (x : Entry) → Contains w.entries x → (x.account == e.account) ≡ true → nat_le x.turn e.turn ≡ true
     le_test x there named =
         le-leb x.turn e.turn (earlier_le x.turn e.turn (turn_count e.account w.entries) ((earlier_turns w e next history).high x there (eqb-true x.account e.account named)) (turn_from_count w e next))
+
     same : (x : Entry) → Contains w.entries x → ((x.account == e.account) ≡ true) ⊎ ((x.account == e.account) ≡ false)
         → (if x.account == e.account && nat_le x.turn e.turn then x.delta else pos 0) ≡ (if x.account == e.account then x.delta else pos 0)
     same x there (inl named) =
@@ -231,6 +229,7 @@ entry_is_in_range w e next old history row there = go row (Contains-add_row_case
           undoes = next.undoes;
           balance_after = balance_after_new w e next history;
         }
+
     go : (row : Entry) → (e ≡ row) ⊎ Contains w.entries row → IsEntryInRange (grown w e) (entry_record_of (grown w e) row)
     go row (inl is) = subst (λ r. IsEntryInRange (grown w e) (entry_record_of (grown w e) r)) is new
     go row (inr there) =
@@ -294,12 +293,12 @@ keeps_range w e next old history = record {
   lines = λ l there. let was = old.lines l there in record { branch = was.branch; number = was.number; place = was.place; moment = was.moment; day = was.day };
   proofs = λ p there. let was = old.proofs p there in record { branch = was.branch; day = was.day; entries = was.entries };
   releases = λ r there. let was = old.releases r there in record {
-      user = was.user;
-      number = was.number;
-      numbered = was.numbered;
-      giver = was.giver;
-      branch = was.branch;
-      day = was.day;
-    };
+    user = was.user;
+    number = was.number;
+    numbered = was.numbered;
+    giver = was.giver;
+    branch = was.branch;
+    day = was.day;
+  };
   users = old.users;
 }

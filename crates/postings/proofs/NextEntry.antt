@@ -1,12 +1,12 @@
 -- An entry that may come next in the books of a World, and the World with it.
-use Rattle.std.proofs.Common.{◌≡◌, ◌≢◌, ℕ, ◌+◌, ◌<◌, ◌≤◌, ℤ, ◌+ℤ◌, List, Bool, true, false, refl, ap, arith, sym, ◌∙◌, subst, ◌==◌, ◌&&◌, Option, Some, Contains, ◌⊎◌, inl, inr}
+use Rattle.std.proofs.Common.{◌≡◌, ℕ, ◌+◌, ◌≤◌, ◌+ℤ◌, List, Bool, true, false, refl, ap, arith, sym, ◌∙◌, subst, ◌==◌, ◌&&◌, Some, Contains, ◌⊎◌, inl, inr}
 use Rattle.std.specs.Prelude.{◌≤ℤ◌}
 use Rattle.std.specs.List.{count_by}
-use Rattle.std.proofs.lemmas.Bool.{and_parts, cases_Bool, eq-eqb, eqb-true, false_from_ne_true, ne_eqb}
-use Rattle.money.specs.Ordered.{AreDistinct, add_row}
+use Rattle.std.proofs.lemmas.Bool.{and_parts, cases_Bool, eq-eqb, eqb-true, false_from_ne_true}
+use Rattle.money.specs.Ordered.{add_row}
 use Rattle.money.specs.Range.{IsCents}
 use Rattle.counter_ops.specs.Ranges.{IsKeyOrZero}
-use Rattle.bank_books.specs.Balances.{account_balance, account_deltas, account_row, branch_balance, branch_deltas, branch_row, entry_count, teller_balance, teller_deltas, teller_row, turn_count}
+use Rattle.bank_books.specs.Balances.{account_deltas, account_row, branch_deltas, branch_row, teller_deltas, teller_row}
 use Rattle.bank_books.specs.declared.rows.Account.{Account}
 use Rattle.bank_books.specs.declared.rows.Branch.{Branch}
 use Rattle.bank_books.specs.declared.rows.Entry.{Entry}
@@ -16,7 +16,7 @@ use Rattle.bank_books.specs.Numbering.{AreNumbered}
 use Rattle.bank_books.specs.Range.{HasDistinctKeys, IsDay}
 use Rattle.bank_books.specs.Records.{account_record_of, branch_record_of, teller_record_of}
 use Rattle.bank_books.specs.WorldLists.{WorldLists}
-use Rattle.postings.proofs.GrownLists.{Contains-add_row_cases, above, count-add_row, count_named, count_none, count_other, find-found, found_by_key, total_named, total_other}
+use Rattle.postings.proofs.GrownLists.{Contains-add_row_cases, count-add_row, count_named, count_none, count_other, find-found, found_by_key, total_named, total_other}
 
 -- the World with one more entry
 abbrev pub grown : WorldLists → Entry → WorldLists
@@ -67,23 +67,23 @@ branch_there w e next =
 pub account_case : (w : WorldLists) (e : Entry) (next : IsNextEntry w e) → HasDistinctKeys w → (row : Account) → Contains w.accounts row
     → ((row ≡ next.account) × ((e.account == row.account) ≡ true)) ⊎ ((e.account == row.account) ≡ false)
 account_case w e next distinct row there = elim (cases_Bool (e.account == row.account)) [
-    inl named ↦ inl (found_by_key account_key e.account w.accounts next.account row distinct.accounts next.account_is there (sym (eqb-true e.account row.account named)), named)
+  | inl named ↦ inl (found_by_key account_key e.account w.accounts next.account row distinct.accounts next.account_is there (sym (eqb-true e.account row.account named)), named)
   | inr other ↦ inr other
-  ]
+]
 
 pub teller_case : (w : WorldLists) (e : Entry) (next : IsNextEntry w e) → HasDistinctKeys w → (row : Teller) → Contains w.tellers row
     → ((row ≡ next.teller) × ((e.teller == row.teller) ≡ true)) ⊎ ((e.teller == row.teller) ≡ false)
 teller_case w e next distinct row there = elim (cases_Bool (e.teller == row.teller)) [
-    inl named ↦ inl (found_by_key teller_key e.teller w.tellers next.teller row distinct.tellers next.teller_is there (sym (eqb-true e.teller row.teller named)), named)
+  | inl named ↦ inl (found_by_key teller_key e.teller w.tellers next.teller row distinct.tellers next.teller_is there (sym (eqb-true e.teller row.teller named)), named)
   | inr other ↦ inr other
-  ]
+]
 
 pub branch_case : (w : WorldLists) (e : Entry) (next : IsNextEntry w e) → HasDistinctKeys w → (row : Branch) → Contains w.branches row
     → ((row ≡ next.branch) × ((e.branch == row.branch) ≡ true)) ⊎ ((e.branch == row.branch) ≡ false)
 branch_case w e next distinct row there = elim (cases_Bool (e.branch == row.branch)) [
-    inl named ↦ inl (found_by_key branch_key e.branch w.branches next.branch row distinct.branches next.branch_is there (sym (eqb-true e.branch row.branch named)), named)
+  | inl named ↦ inl (found_by_key branch_key e.branch w.branches next.branch row distinct.branches next.branch_is there (sym (eqb-true e.branch row.branch named)), named)
   | inr other ↦ inr other
-  ]
+]
 
 -- ---- the sums of deltas of one key
 
@@ -126,14 +126,15 @@ at_least_one n c is = omega arith
 pub AreNumbered-add_row : {X : Type 0} (key group number : X → ℕ) (e : X) (xs : List X) (k : ℕ) → AreNumbered group number xs k
     → (group e ≡ k → number e ≡ count_by (λ r. group r == k) xs + 1) → AreNumbered group number (add_row key e xs) k
 AreNumbered-add_row {X = X} key group number e xs k old next = record {
-    low = λ row there of. low_of row (Contains-add_row_cases key e xs row there) of;
-    high = λ row there of. high_of row (Contains-add_row_cases key e xs row there) of;
-    once = λ n. once_of n (group e == k && number e == n) refl;
-  }
+  low = λ row there of. low_of row (Contains-add_row_cases key e xs row there) of;
+  high = λ row there of. high_of row (Contains-add_row_cases key e xs row there) of;
+  once = λ n. once_of n (group e == k && number e == n) refl;
+}
   where
     low_of : (row : X) → (e ≡ row) ⊎ Contains xs row → group row ≡ k → 1 ≤ number row
     low_of row (inl new) of = subst (λ r. 1 ≤ number r) new (at_least_one (number e) (count_by (λ r. group r == k) xs) (next (ap group new ∙ of)))
     low_of row (inr there) of = old.low row there of
+
     high_of : (row : X) → (e ≡ row) ⊎ Contains xs row → group row ≡ k → number row ≤ count_by (λ r. group r == k) (add_row key e xs)
     high_of row (inl new) of =
         subst (λ r. number r ≤ count_by (λ r. group r == k) (add_row key e xs)) new
@@ -141,12 +142,14 @@ AreNumbered-add_row {X = X} key group number e xs k old next = record {
         (count_named key (λ r. group r == k) e xs (eq-eqb (group e) k (ap group new ∙ of))))
     high_of row (inr there) of =
         still_high (number row) (count_by (λ r. group r == k) xs) (count_by (λ r. group r == k) (add_row key e xs)) _ (old.high row there of) (count-add_row key (λ r. group r == k) e xs)
+
     none_before : (n : ℕ) → (group e == k && number e == n) ≡ true → (x : X) → Contains xs x → (group x == k && number x == n) ≡ false
     none_before n new x there = false_from_ne_true (group x == k && number x == n) (λ is.
         let new_parts = and_parts (group e == k) (number e == n) new in
         let parts = and_parts (group x == k) (number x == n) is in
         above_count (number e) (number x) (count_by (λ r. group r == k) xs) (next (eqb-true (group e) k new_parts.0)) (old.high x there (eqb-true (group x) k parts.0))
         (eqb-true (number x) n parts.1 ∙ sym (eqb-true (number e) n new_parts.1)))
+
     once_of : (n : ℕ) (b : Bool) → (group e == k && number e == n) ≡ b → count_by (λ r. group r == k && number r == n) (add_row key e xs) ≤ 1
     once_of n true is =
         only_one (count_by (λ r. group r == k && number r == n) xs) (count_by (λ r. group r == k && number r == n) (add_row key e xs))

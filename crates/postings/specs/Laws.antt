@@ -6,7 +6,8 @@ use Rattle.bank_books.specs.WorldLists.{WorldLists}
 use Rattle.counter_ops.specs.declared.op.Post.{Post}
 use Rattle.postings.specs.Post.{first_against_post, post_effect, post_rows}
 
--- A post is a well-formed transaction: from books that hold it makes books that hold (Clark and Wilson's rule C2).
+-- A post is a well-formed transaction: of books that hold it makes books that hold, as Clark and Wilson's rule C2 asks of every
+-- transformation procedure.
 abbrev pub PostKeepsBooks : Type 0
 PostKeepsBooks = (w : WorldLists) (post : Post) (user moment : ℕ) → Books w → moment ≤ 99999999999 → first_against_post (post_rows w post) post ≡ None
     → Books (post_effect w post user moment)
