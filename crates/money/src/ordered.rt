@@ -1,6 +1,7 @@
-ghost use Rattle.std.specs.Prelude.{◌≡◌, ◌+◌, ◌<◌, ◌≤◌, ◌↔◌, ℕ, nat_le, length, map, IsTrue, vec_len, vec_capacity, OnOk, OnErr};
-ghost use Rattle.std.specs.List.{prefix_len};
-ghost use Rattle.std.specs.List.Sorted.{IsNonDecreasingBy};
+ghost use Rattle.std.specs.Prelude.{◌≡◌, ◌==◌, ◌+◌, ◌<◌, ◌≤◌, ◌↔◌, ℕ, nat_le, length, map, IsTrue, vec_len, vec_capacity, OnOk, OnErr};
+ghost use Rattle.std.specs.List.{find, prefix_len};
+ghost use Rattle.std.specs.Option.{option_copied};
+ghost use Rattle.std.specs.List.Sorted.{IsNonDecreasingBy, IsPartitionPoint};
 ghost use Rattle.money.specs.Ordered.{AreDistinct, HasRow, add_row};
 
 use std::alloc::AllocError;
@@ -66,4 +67,20 @@ pub fn is_there<T: Keyed>(rows: &[T], key: u128) -> bool
     ensures { IsNonDecreasingBy T.key rows.now → (IsTrue result ↔ HasRow T.key rows.now key) }
 {
     rows.binary_search_by_key(&key, |row| row.key()).is_ok()
+}
+
+/// The first row of this key, or none where there is none. The rows stand in order of their keys, so each look halves those that are
+/// left. It takes no memory.
+pub fn find_row<T: Keyed>(rows: &[T], key: u128) -> Option<&T>
+    ensures { IsNonDecreasingBy T.key rows.now → option_copied result ≡ find (λ row. T.key row == key) rows.now }
+{
+    let row = rows.get(end_below(rows, key))?;
+    if row.key() == key { Some(row) } else { None }
+}
+
+/// The place behind the rows whose keys are below this one.
+fn end_below<T: Keyed>(rows: &[T], key: u128) -> usize
+    ensures { IsNonDecreasingBy T.key rows.now → IsPartitionPoint (λ row. T.key row < key) (λ row. key ≤ T.key row) rows.now result }
+{
+    rows.partition_point(|row| row.key() < key)
 }

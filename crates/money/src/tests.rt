@@ -1,5 +1,5 @@
 use crate::{
-    Cents, Delta, Fault, Keyed, MAX_CENTS, MAX_DELTA, Tallied, Tally, WriteStopped, add,
+    Cents, Delta, Fault, Keyed, MAX_CENTS, MAX_DELTA, Tallied, Tally, WriteStopped, add, find_row,
     has_distinct_keys, insert_row, insert_row_reserved, is_there, place_of, plus, sum_of,
     write_cents, write_parts, write_whole,
 };
@@ -147,15 +147,16 @@ fn rows_go_behind_those_of_their_key(rt: HostRuntime) -> Result<(), Fail> {
         Marked(u128::MAX, 'd'),
     ];
     assert_eq!(rt; rows.as_slice(), ordered.as_slice());
-    for (key, place, stands) in [
-        (0, 0, false),
-        (1, 2, true),
-        (2, 4, true),
-        (3, 4, false),
-        (u128::MAX, 5, true),
+    for (key, place, first) in [
+        (0, 0, None),
+        (1, 2, Some('b')),
+        (2, 4, Some('a')),
+        (3, 4, None),
+        (u128::MAX, 5, Some('d')),
     ] {
         assert_eq!(rt; place_of(&rows, key), place);
-        assert_eq!(rt; is_there(&rows, key), stands);
+        assert_eq!(rt; is_there(&rows, key), first.is_some());
+        assert_eq!(rt; find_row(&rows, key).map(|row| row.1), first);
     }
     assert!(rt; !has_distinct_keys(&rows));
     assert!(rt; has_distinct_keys(&ordered[1..3]));
