@@ -5,14 +5,14 @@ ghost use Rattle.bank_books.specs.Balances.{account_balance, account_count, acco
 
 use crate::rows::{Account, Branch, Entry, Teller};
 use crate::world::World;
-use money::{Tally, sum_of};
+use money::{Tally, find_row, sum_of};
 
 /// The balance of an account in cents: its opening, 0 where it isn't there, plus the deltas of the
 /// entries that name it. It is exact and takes no memory.
 pub fn account_balance(world: &World, account: u32) -> i128
     ensures { result ≡ account_balance world.now account }
 {
-    account_opening(world.accounts(), account) + account_deltas(world.entries(), account)
+    account_opening(world, account) + account_deltas(world.entries(), account)
 }
 
 /// The balance of a teller in cents: its opening, 0 where it isn't there, plus the deltas of the
@@ -20,7 +20,7 @@ pub fn account_balance(world: &World, account: u32) -> i128
 pub fn teller_balance(world: &World, teller: u32) -> i128
     ensures { result ≡ teller_balance world.now teller }
 {
-    teller_opening(world.tellers(), teller) + teller_deltas(world.entries(), teller)
+    teller_opening(world, teller) + teller_deltas(world.entries(), teller)
 }
 
 /// The balance of a branch in cents: its opening, 0 where it isn't there, plus the deltas of the
@@ -28,52 +28,52 @@ pub fn teller_balance(world: &World, teller: u32) -> i128
 pub fn branch_balance(world: &World, branch: u32) -> i128
     ensures { result ≡ branch_balance world.now branch }
 {
-    branch_opening(world.branches(), branch) + branch_deltas(world.entries(), branch)
+    branch_opening(world, branch) + branch_deltas(world.entries(), branch)
 }
 
-pub(crate) fn account_row(rows: &[Account], key: u32) -> Option<&Account>
-    ensures { option_copied result ≡ account_row key rows.now }
+pub(crate) fn account_row(world: &World, key: u32) -> Option<&Account>
+    ensures { option_copied result ≡ account_row key world.now.accounts }
 {
-    rows.iter().find(|row| row.account == key)
+    find_row(world.accounts(), key as u128)
 }
 
-pub(crate) fn teller_row(rows: &[Teller], key: u32) -> Option<&Teller>
-    ensures { option_copied result ≡ teller_row key rows.now }
+pub(crate) fn teller_row(world: &World, key: u32) -> Option<&Teller>
+    ensures { option_copied result ≡ teller_row key world.now.tellers }
 {
-    rows.iter().find(|row| row.teller == key)
+    find_row(world.tellers(), key as u128)
 }
 
-pub(crate) fn branch_row(rows: &[Branch], key: u32) -> Option<&Branch>
-    ensures { option_copied result ≡ branch_row key rows.now }
+pub(crate) fn branch_row(world: &World, key: u32) -> Option<&Branch>
+    ensures { option_copied result ≡ branch_row key world.now.branches }
 {
-    rows.iter().find(|row| row.branch == key)
+    find_row(world.branches(), key as u128)
 }
 
-pub(crate) fn account_opening(rows: &[Account], key: u32) -> i128
-    ensures value { result ≡ account_opening key rows.now }
+pub(crate) fn account_opening(world: &World, key: u32) -> i128
+    ensures value { result ≡ account_opening key world.now.accounts }
     ensures in_range { IsCents result }
 {
-    match account_row(rows, key) {
+    match account_row(world, key) {
         Some(row) => i128::from(row.opening.get()),
         None => 0,
     }
 }
 
-fn teller_opening(rows: &[Teller], key: u32) -> i128
-    ensures value { result ≡ teller_opening key rows.now }
+fn teller_opening(world: &World, key: u32) -> i128
+    ensures value { result ≡ teller_opening key world.now.tellers }
     ensures in_range { IsCents result }
 {
-    match teller_row(rows, key) {
+    match teller_row(world, key) {
         Some(row) => i128::from(row.opening.get()),
         None => 0,
     }
 }
 
-fn branch_opening(rows: &[Branch], key: u32) -> i128
-    ensures value { result ≡ branch_opening key rows.now }
+fn branch_opening(world: &World, key: u32) -> i128
+    ensures value { result ≡ branch_opening key world.now.branches }
     ensures in_range { IsCents result }
 {
-    match branch_row(rows, key) {
+    match branch_row(world, key) {
         Some(row) => i128::from(row.opening.get()),
         None => 0,
     }

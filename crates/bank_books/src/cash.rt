@@ -5,7 +5,7 @@ ghost use Rattle.money.specs.Range.{IsCents};
 ghost use Rattle.bank_books.specs.Cash.{cash_entry_total, cash_of, difference_total, drawer_total, holder_of, holder_after, is_cash_entry, is_difference, is_turnover, line_count, place_cash, vault_opening};
 
 use crate::balances::branch_row;
-use crate::rows::{Branch, CashLine, LineForm};
+use crate::rows::{CashLine, LineForm};
 use crate::world::World;
 use money::{Tally, sum_of};
 
@@ -16,7 +16,7 @@ pub fn cash_of(world: &World, branch: u32, place: u32) -> i128
     ensures { result ≡ cash_of world.now branch place }
 {
     let opening = if place == 0 {
-        vault_opening(world.branches(), branch)
+        vault_opening(world, branch)
     } else {
         0
     };
@@ -45,11 +45,11 @@ fn last_turnover(lines: &[CashLine], teller: u32) -> Option<&CashLine>
         .find(|line| line.place == teller && line.form.is_turnover())
 }
 
-fn vault_opening(rows: &[Branch], branch: u32) -> i128
-    ensures value { result ≡ vault_opening branch rows.now }
+fn vault_opening(world: &World, branch: u32) -> i128
+    ensures value { result ≡ vault_opening branch world.now.branches }
     ensures in_range { IsCents result }
 {
-    match branch_row(rows, branch) {
+    match branch_row(world, branch) {
         Some(row) => i128::from(row.cash.get()),
         None => 0,
     }

@@ -183,7 +183,7 @@ fn same_turn_count(entries: &[Entry], account: u32, turn: u32) -> u64
 fn home_of(world: &World, account: u32) -> u32
     ensures { result ≡ home_of world.now account }
 {
-    match account_row(world.accounts(), account) {
+    match account_row(world, account) {
         Some(row) => row.home,
         None => 0,
     }

@@ -21,6 +21,7 @@ pub use balances::{account_balance, branch_balance, teller_balance};
 pub use cash::{cash_of, holder_of};
 pub use check::{BooksFault, check_books};
 pub use kept::Kept;
+pub use lists::Lists;
 pub use record_of::{account_record, branch_record, teller_record};
 pub use records::{AccountRecord, BranchRecord, EntryRecord, ReleaseCount, TellerRecord};
 pub use row_write::{Plan, RowWrite};

@@ -20,7 +20,7 @@ use bank_policy::User;
 pub fn account_record(world: &World, account: u32) -> Option<AccountRecord>
     ensures { result ≡ account_record world.now account }
 {
-    let row = account_row(world.accounts(), account)?;
+    let row = account_row(world, account)?;
     Some(account_record_of(world, row))
 }
 
@@ -29,7 +29,7 @@ pub fn account_record(world: &World, account: u32) -> Option<AccountRecord>
 pub fn teller_record(world: &World, teller: u32) -> Option<TellerRecord>
     ensures { result ≡ teller_record world.now teller }
 {
-    let row = teller_row(world.tellers(), teller)?;
+    let row = teller_row(world, teller)?;
     Some(teller_record_of(world, row))
 }
 
@@ -38,7 +38,7 @@ pub fn teller_record(world: &World, teller: u32) -> Option<TellerRecord>
 pub fn branch_record(world: &World, branch: u32) -> Option<BranchRecord>
     ensures { result ≡ branch_record world.now branch }
 {
-    let row = branch_row(world.branches(), branch)?;
+    let row = branch_row(world, branch)?;
     Some(branch_record_of(world, row))
 }
 
@@ -103,7 +103,7 @@ pub(crate) fn entry_record_of(world: &World, row: &Entry) -> EntryRecord
 {
     EntryRecord {
         row: *row,
-        balance_after: account_opening(world.accounts(), row.account)
+        balance_after: account_opening(world, row.account)
             + deltas_up_to(world.entries(), row.account, row.turn),
     }
 }

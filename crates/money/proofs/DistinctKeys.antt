@@ -1,11 +1,12 @@
 -- Which keys are distinct, by their places in the list.
-use Rattle.std.proofs.Common.{◌≡◌, ◌≢◌, ◌==◌, ℕ, ◌+◌, ◌<◌, ◌≤◌, zero, suc, ◌||◌, List, [], ◌∷◌, length, get_or, map, Bool, true, false, ltb, IsTrue, refl, ap, arith, sym, ◌∙◌}
+use Rattle.std.proofs.Common.{◌≡◌, ◌≢◌, ◌==◌, ℕ, ◌+◌, ◌<◌, ◌≤◌, zero, suc, ◌||◌, List, [], ◌∷◌, length, get_or, map, Bool, true, false, leb, ltb, IsTrue, refl, ap, arith, sym, ◌∙◌}
 use Rattle.std.specs.List.{IsAllAdjacentAnswer, list_any}
 use Rattle.std.specs.List.Sorted.{IsNonDecreasingBy}
 use Rattle.std.proofs.lemmas.Bool.Decides.{nat_tests}
 use Rattle.std.proofs.lemmas.Bool.{false≢true}
 use Rattle.std.proofs.lemmas.List.Elements.{All-map}
 use Rattle.std.proofs.lemmas.List.Folds.{list_any_none}
+use Rattle.std.proofs.lemmas.List.Sorted.{IsNonDecreasingBy-from_all_adjacent}
 use Rattle.money.specs.Ordered.{AreDistinct}
 
 apart_test : (a b : ℕ) → b ≢ a → (a == b) ≡ false
@@ -61,4 +62,22 @@ distinct_by_neighbours key (x ∷ xs) false (k, below, some) order = (
       let falls = stays _ _ (some x) in
       let rises' = order k (k + 1) x (omega arith) below in
       absurd (apart-from_AreDistinct key (x ∷ xs) k (k + 1) x distinct (omega arith) below (omega (arith, falls, rises'))),
+)
+
+follows : (a b : ℕ) → true ≡ leb a b → a ≤ b
+follows a b e = grind (arith, nat_tests)
+
+exceeds : (a b : ℕ) → false ≡ leb a b → b < a
+exceeds a b e = grind (arith, nat_tests)
+
+-- what the test of each row against the next tells of the order of all
+pub in_order_by_neighbours : {X : Type 0} (key : X → ℕ) (xs : List X) (r : Bool) → IsAllAdjacentAnswer (λ x y b. b ≡ leb (key x) (key y)) xs r
+    → (IsTrue r → IsNonDecreasingBy key xs) × (IsNonDecreasingBy key xs → IsTrue r)
+in_order_by_neighbours key xs true all = (λ _. IsNonDecreasingBy-from_all_adjacent key xs (λ k d below. follows _ _ (all k d below)), λ _. refl)
+in_order_by_neighbours key [] false (k, below, some) = (λ is. absurd (false≢true is), λ order. absurd (omega arith))
+in_order_by_neighbours key (x ∷ xs) false (k, below, some) = (
+  λ is. absurd (false≢true is),
+  λ order.
+      let falls = exceeds _ _ (some x) in
+      absurd (omega (arith, falls, order k (k + 1) x (omega arith) below)),
 )

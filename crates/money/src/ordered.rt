@@ -55,6 +55,13 @@ pub fn insert_row_reserved<T: Keyed>(rows: &mut Vec<T>, row: T)
     rows.insert(place, row).unwrap();
 }
 
+/// Whether the rows stand in order of their keys.
+pub fn are_in_order<T: Keyed>(rows: &[T]) -> bool
+    ensures { IsTrue result ↔ IsNonDecreasingBy T.key rows.now }
+{
+    rows.is_sorted_by(|row, next| row.key() <= next.key())
+}
+
 /// Whether no two of the rows have one key. The rows stand in order of their keys, so each is compared to its neighbour alone.
 pub fn has_distinct_keys<T: Keyed>(rows: &[T]) -> bool
     ensures { IsNonDecreasingBy T.key rows.now → (IsTrue result ↔ AreDistinct (map T.key rows.now)) }

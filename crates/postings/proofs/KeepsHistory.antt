@@ -12,11 +12,10 @@ use Rattle.postings.proofs.GrownLists.{Contains-map, every_made}
 use Rattle.postings.proofs.NextEntry.{AreNumbered-add_row, IsNextEntry, account_there, branch_there, grown}
 
 -- the turns of an account of the World with the entry
-turns_stay : (w : WorldLists) (e : Entry) → IsNextEntry w e → ((branch : ℕ) → HistoryAgrees w (kept_of w) branch) → (row : Account) → Contains w.accounts row
-    → AreNumbered (λ x. x.account) (λ x. x.turn) (grown w e).entries row.account
-turns_stay w e next history row there =
-    AreNumbered-add_row entry_key (λ x. x.account) (λ x. x.turn) e w.entries row.account
-    ((history row.home).turns (account_record_of w row) (Contains-map (account_record_of w) w.accounts row there) refl)
+turns_stay : (w : WorldLists) (e : Entry) → IsNextEntry w e → ((branch : ℕ) → HistoryAgrees w (kept_of w) branch) → (account : ℕ)
+    → AreNumbered (λ x. x.account) (λ x. x.turn) (grown w e).entries account
+turns_stay w e next history account =
+    AreNumbered-add_row entry_key (λ x. x.account) (λ x. x.turn) e w.entries account ((history (home_of w account)).turns account refl)
     (λ of. subst (λ k. e.turn ≡ turn_count k w.entries + 1) ((account_there w e next).1 ∙ of) next.turn_is)
 
 -- the numbers of a branch's entries
@@ -41,7 +40,5 @@ keeps_history w e next history branch =
           every_made (entry_record_of new) (λ r. home_of new r.row.account ≡ branch → r.balance_after ≡ (entry_record_of new r.row).balance_after) new.entries
           (λ row there of. refl);
       numbers = numbers_stay w e next history branch;
-      turns =
-          every_made (account_record_of new) (λ a. a.row.home ≡ branch → AreNumbered (λ x. x.account) (λ x. x.turn) new.entries a.row.account) new.accounts
-          (λ row there of. turns_stay w e next history row there);
+      turns = λ account home. turns_stay w e next history account;
     }

@@ -6,7 +6,7 @@ use Rattle.std.proofs.lemmas.Bool.{and_left, and_right, cases_Bool, eq-eqb, eqb-
 use Rattle.money.specs.Ordered.{add_row}
 use Rattle.money.specs.Range.{IsCents}
 use Rattle.bank_books.specs.Balances.{account_deltas, account_opening, branch_deltas, deltas_up_to, entry_count, teller_deltas, turn_count}
-use Rattle.bank_books.specs.Conditions.{HistoryAgrees}
+use Rattle.bank_books.specs.Conditions.{HistoryAgrees, home_of}
 use Rattle.bank_books.specs.declared.rows.Account.{Account}
 use Rattle.bank_books.specs.declared.rows.Branch.{Branch}
 use Rattle.bank_books.specs.declared.rows.Entry.{Entry}
@@ -140,10 +140,7 @@ account_is_in_range w e next old row there = go (account_case w e next old.keys 
 
 -- the turns of the account that the entry names, up to now
 pub earlier_turns : (w : WorldLists) (e : Entry) (next : IsNextEntry w e) → ((branch : ℕ) → HistoryAgrees w (kept_of w) branch) → AreNumbered (λ x. x.account) (λ x. x.turn) w.entries e.account
-earlier_turns w e next history =
-    let there = account_there w e next in
-    subst (AreNumbered (λ x. x.account) (λ x. x.turn) w.entries) there.1
-    ((history next.account.home).turns (account_record_of w next.account) (Contains-map (account_record_of w) w.accounts next.account there.0) refl)
+earlier_turns w e next history = (history (home_of w e.account)).turns e.account refl
 
 pub turn_from_count : (w : WorldLists) (e : Entry) (next : IsNextEntry w e) → e.turn ≡ turn_count e.account w.entries + 1
 turn_from_count w e next = subst (λ k. e.turn ≡ turn_count k w.entries + 1) (account_there w e next).1 next.turn_is
