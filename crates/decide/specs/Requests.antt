@@ -10,7 +10,7 @@ use Rattle.bank_policy.specs.declared.procedure.Procedure.TheVariants as procedu
 use Rattle.counter_ops.specs.declared.op.Post.{Post}
 use Rattle.counter_ops.specs.declared.op.Op.{Op}
 use Rattle.counter_ops.specs.declared.op.Op.TheVariants as op
-use Rattle.bank_books.specs.Balances.{account_record}
+use Rattle.bank_books.specs.Records.{account_record}
 use Rattle.bank_books.specs.WorldLists.{WorldLists}
 use Rattle.bank_books.specs.declared.records.AccountRecord.{AccountRecord}
 use Rattle.bank_books.specs.declared.records.BranchRecord.{BranchRecord}

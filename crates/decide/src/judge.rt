@@ -1,6 +1,6 @@
 ghost use Rattle.std.specs.Prelude.{◌≡◌, Some, None, true, false, is_some, IfSome, IfOk, IfErr, OnOk};
 ghost use Rattle.money.specs.Range.{is_cents};
-ghost use Rattle.bank_books.specs.Balances.{account_record};
+ghost use Rattle.bank_books.specs.Records.{account_record};
 ghost use Rattle.bank_books.specs.Effects.{applied};
 ghost use Rattle.counter_ops.specs.Op.{procedure_of};
 ghost use Rattle.postings.specs.Post.{first_against_post, is_full, is_in_range, is_unknown, post_effect, post_rows};

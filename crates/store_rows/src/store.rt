@@ -1,5 +1,5 @@
 ghost use Rattle.std.specs.Prelude.{◌≡◌, IfOk};
-ghost use Rattle.bank_books.specs.Balances.{account_record, branch_record, teller_record};
+ghost use Rattle.bank_books.specs.Records.{account_record, branch_record, teller_record};
 ghost use Rattle.bank_books.specs.Effects.{applied};
 ghost use Rattle.store_rows.specs.Status.{Changes, Keeps, Refuses, Status, Tells, mark_of};
 
