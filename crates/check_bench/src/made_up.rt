@@ -1,0 +1,162 @@
+use bank_books::{
+    Account, Branch, CashLine, Entry, EntryForm, LineForm, Lists, Teller, World,
+};
+use bank_policy::Policy;
+use money::{Cents, Delta, Fault};
+use std::alloc::Global;
+
+/// The tellers of each branch.
+const TELLERS: u32 = 10;
+
+/// The accounts at home at each branch.
+const ACCOUNTS: u32 = 100;
+
+/// The entries of each branch.
+const ENTRIES: u32 = 1_000;
+
+/// What each account opened with, in cents.
+const OPENING: i64 = 1_000_000;
+
+/// The cash that each drawer is put on with, in cents.
+const DRAWER: i64 = 1_000_000;
+
+/// What the vault of each branch opened with, in cents.
+const VAULT: i64 = 100_000_000;
+
+/// A bank of so many branches, each with ten tellers, a hundred accounts and a thousand entries, which go to accounts of
+/// all branches. None where an amount is out of range, which none is.
+pub fn made_up_world(alloc: Global, branches: u32) -> Result<Option<World>, Fault> {
+    let mut lists = Lists::new(alloc);
+    let mut turns = Vec::new(alloc);
+    for branch in 1..=branches {
+        for _ in 0..ACCOUNTS {
+            turns.push(0)?;
+        }
+        if add_branch(&mut lists, branch)?.is_none() {
+            return Ok(None);
+        }
+    }
+    for branch in 1..=branches {
+        if add_history(&mut lists, &mut turns, branch)?.is_none() {
+            return Ok(None);
+        }
+    }
+    Ok(World::from_lists(lists, Policy::new(alloc)))
+}
+
+/// Adds a branch with its tellers and its accounts.
+fn add_branch(lists: &mut Lists, branch: u32) -> Result<Option<()>, Fault> {
+    let (Some(opening), Some(share), Some(vault), Some(floor)) = (
+        Cents::new(OPENING * ACCOUNTS as i64),
+        Cents::new(OPENING * ACCOUNTS as i64 / TELLERS as i64),
+        Cents::new(VAULT),
+        Cents::new(0),
+    ) else {
+        return Ok(None);
+    };
+    let Some(each) = Cents::new(OPENING) else {
+        return Ok(None);
+    };
+    lists.branches.push(Branch {
+        branch,
+        opening,
+        cash: vault,
+        day: 1,
+    })?;
+    for teller in 1..=TELLERS {
+        lists.tellers.push(Teller {
+            teller: place(branch, TELLERS, teller),
+            branch,
+            opening: share,
+        })?;
+    }
+    for account in 1..=ACCOUNTS {
+        lists.accounts.push(Account {
+            account: place(branch, ACCOUNTS, account),
+            home: branch,
+            opening: each,
+            floor,
+        })?;
+    }
+    Ok(Some(()))
+}
+
+/// The number of a row of a branch, where each branch has so many.
+fn place(branch: u32, count: u32, index: u32) -> u32 {
+    branch
+        .saturating_sub(1)
+        .saturating_mul(count)
+        .saturating_add(index)
+}
+
+/// Adds the lines that put the drawers of a branch on, and its entries with their lines.
+fn add_history(lists: &mut Lists, turns: &mut Vec<u32>, branch: u32) -> Result<Option<()>, Fault> {
+    let (Some(given), Some(taken)) = (Cents::new(DRAWER), Cents::new(-DRAWER)) else {
+        return Ok(None);
+    };
+    for teller in 1..=TELLERS {
+        let drawer = place(branch, TELLERS, teller);
+        lists
+            .lines
+            .push(line(branch, 2 * teller - 1, 0, taken, LineForm::On))?;
+        lists
+            .lines
+            .push(line(branch, 2 * teller, drawer, given, LineForm::On))?;
+    }
+    for number in 1..=ENTRIES {
+        let Some(delta) = Delta::new(i64::from(number % 201) - 100) else {
+            return Ok(None);
+        };
+        let entry = entry(turns, branch, number, delta);
+        let (drawer, cash) = (entry.teller, Cents::from(delta));
+        let number = 2 * TELLERS + number;
+        lists
+            .lines
+            .push(line(branch, number, drawer, cash, LineForm::CashEntry))?;
+        lists.entries.push(entry)?;
+    }
+    Ok(Some(()))
+}
+
+/// The next entry of a branch, on an account of any branch.
+fn entry(turns: &mut Vec<u32>, branch: u32, number: u32, delta: Delta) -> Entry {
+    let index = (branch as usize * 7_919 + number as usize * 104_729) % turns.len().max(1);
+    let turn = next_turn(turns, index);
+    Entry {
+        branch,
+        number,
+        account: (index as u32).saturating_add(1),
+        turn,
+        teller: place(branch, TELLERS, number % TELLERS + 1),
+        delta,
+        moment: 0,
+        day: 1,
+        user: 0,
+        form: EntryForm::Post,
+        partner: 0,
+        undoes: 0,
+    }
+}
+
+/// Counts one turn more of an account.
+fn next_turn(turns: &mut Vec<u32>, index: usize) -> u32 {
+    let Some(turn) = turns.get_mut(index) else {
+        return 0;
+    };
+    *turn = turn.saturating_add(1);
+    *turn
+}
+
+/// A line of a cash book.
+fn line(branch: u32, number: u32, place: u32, amount: Cents, form: LineForm) -> CashLine {
+    CashLine {
+        branch,
+        number,
+        place,
+        amount,
+        form,
+        moment: 0,
+        day: 1,
+        user: 1,
+    }
+}
