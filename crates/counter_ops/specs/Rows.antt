@@ -29,7 +29,7 @@ places numbers = numbers ++ replicate (8 - length numbers) (pos 0)
 abbrev pub StandsIn : {T : Type 0} → (T → Type 0) → (T → List ℤ) → List ℤ → T → Type 0
 StandsIn in_range numbers members x = in_range x × (places (numbers x) ≡ members)
 
--- no other value than this is in range and has its numbers in the places
+-- a value that is in range, and whose numbers the places hold, is the one found
 abbrev pub IsOnlyIn : {T : Type 0} → (T → Type 0) → (T → List ℤ) → List ℤ → Option T → Type 0
 IsOnlyIn {T} in_range numbers members found = (x : T) → in_range x → places (numbers x) ≡ members → found ≡ Some x
 

@@ -7,6 +7,8 @@ mod op;
 mod row_forms;
 mod row_numbers;
 mod row_places;
+#[cfg(test)]
+mod tests;
 mod to_row;
 mod touched;
 

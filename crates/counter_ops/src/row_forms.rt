@@ -95,13 +95,13 @@ pub fn move_cash(members: &[i64; 8]) -> Option<MoveCash>
     ensures some { IfSome result (StandsIn IsMoveCash move_cash_numbers members.now) }
     ensures only { IsOnlyIn IsMoveCash move_cash_numbers members.now result }
 {
-    let (source, target, branch, amount) = four(members)?;
-    if source == target {
+    let (from, to, branch, amount) = four(members)?;
+    if from == to {
         return None;
     }
     Some(MoveCash {
-        source: key_or_zero(source)?,
-        target: key_or_zero(target)?,
+        source: key_or_zero(from)?,
+        target: key_or_zero(to)?,
         branch: key(branch)?,
         amount: number(amount, 1, 999_999_999)?,
     })
