@@ -1,6 +1,7 @@
 pub mod AddRow
 pub mod Beginnings
 pub mod DistinctKeys
+pub mod GroupCounts
 pub mod LookUps
 pub mod Places
 pub mod TotalLemmas
