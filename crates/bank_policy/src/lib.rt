@@ -13,6 +13,8 @@ mod rows;
 mod rule;
 mod separation;
 mod soundness;
+#[cfg(test)]
+mod tests;
 
 pub use check::check_policy;
 pub use coverage::{best_limit, covers};
