@@ -1,7 +1,11 @@
+pub mod Execution
 pub mod Items
 pub mod Policy
 pub mod PolicyKeys
+pub mod PolicyVerdict
 pub mod Procedure
 pub mod Rule
+pub mod Separation
 pub mod SetRow
+pub mod Soundness
 pub mod Triples

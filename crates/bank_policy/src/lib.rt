@@ -1,18 +1,27 @@
 //! Who may do what: items under integrity control, sets of them, and the rows of the policy.
 #![tactic(auto)]
 
+mod check;
 mod coverage;
 mod item;
 mod operation_row;
 mod policy;
+mod policy_fault;
 mod procedure;
+mod references;
 mod rows;
 mod rule;
+mod separation;
+mod soundness;
+#[cfg(test)]
+mod tests;
 
+pub use check::check_policy;
 pub use coverage::{best_limit, covers};
 pub use item::{Cdi, Kind};
 pub use operation_row::OperationRow;
 pub use policy::Policy;
+pub use policy_fault::PolicyFault;
 pub use procedure::Procedure;
 pub use rows::{Certifier, HeldRow, ItemSet, Member, Name, Relation, Triple, User};
 pub use rule::Rule;

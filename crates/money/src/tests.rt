@@ -1,7 +1,7 @@
 use crate::{
-    Cents, Delta, Fault, Keyed, MAX_CENTS, MAX_DELTA, Tallied, Tally, WriteStopped, add, find_row,
-    has_distinct_keys, insert_row, insert_row_reserved, is_there, place_of, plus, sum_of,
-    write_cents, write_parts, write_whole,
+    Cents, Delta, Fault, Grouped, Keyed, MAX_CENTS, MAX_DELTA, Tallied, Tally, WriteStopped, add,
+    are_in_order, find_row, has_distinct_keys, has_small_groups, insert_row, insert_row_reserved,
+    is_there, place_of, plus, sum_of, write_cents, write_parts, write_whole,
 };
 use std::alloc::{AllocError, Global};
 use std::io;
@@ -161,6 +161,30 @@ fn rows_go_behind_those_of_their_key(rt: HostRuntime) -> Result<(), Fail> {
     assert!(rt; !has_distinct_keys(&rows));
     assert!(rt; has_distinct_keys(&ordered[1..3]));
     Ok(())
+}
+
+impl Grouped for Marked {
+    ghost group = { λ m. m.1 };
+
+    fn group(&self) -> u32 {
+        u32::from(self.1)
+    }
+}
+
+#[test]
+fn groups_are_counted_each(rt: HostRuntime) {
+    let rows = [
+        Marked(1, 'a'),
+        Marked(2, 'b'),
+        Marked(3, 'b'),
+        Marked(4, 'c'),
+        Marked(5, 'c'),
+    ];
+    for (most, stands) in [(0, false), (1, false), (2, true), (5, true)] {
+        assert_eq!(rt; has_small_groups(&rows, most), stands);
+    }
+    assert!(rt; has_small_groups(&rows[..2], 1));
+    assert!(rt; has_small_groups::<Marked>(&[], 0));
 }
 
 /// The amounts of one owner.
