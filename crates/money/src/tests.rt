@@ -160,6 +160,8 @@ fn rows_go_behind_those_of_their_key(rt: HostRuntime) -> Result<(), Fail> {
     }
     assert!(rt; !has_distinct_keys(&rows));
     assert!(rt; has_distinct_keys(&ordered[1..3]));
+    assert!(rt; are_in_order(&rows));
+    assert!(rt; !are_in_order(&[Marked(2, 'a'), Marked(1, 'b')]));
     Ok(())
 }
 
