@@ -1,3 +1,5 @@
+ghost use Rattle.std.specs.List.Sorted.{IsNonDecreasingBy};
+
 use crate::rows::{Certifier, ItemSet, Relation, Triple, User};
 use money::{Keyed, insert_row};
 use std::alloc::{AllocError, Global};
@@ -103,35 +105,40 @@ impl Policy {
 
     /// The users, by number.
     pub fn users(&self) -> &[User]
-        ensures { result.now ≡ self.now.users }
+        ensures value { result.now ≡ self.now.users }
+        ensures in_order { IsNonDecreasingBy user_key self.now.users }
     {
         &self.users
     }
 
     /// The sets, by number.
     pub fn sets(&self) -> &[ItemSet]
-        ensures { result.now ≡ self.now.sets }
+        ensures value { result.now ≡ self.now.sets }
+        ensures in_order { IsNonDecreasingBy set_key self.now.sets }
     {
         &self.sets
     }
 
     /// The certified relations, by procedure, then set.
     pub fn relations(&self) -> &[Relation]
-        ensures { result.now ≡ self.now.relations }
+        ensures value { result.now ≡ self.now.relations }
+        ensures in_order { IsNonDecreasingBy relation_key self.now.relations }
     {
         &self.relations
     }
 
     /// The triples, by user, then procedure, then set.
     pub fn triples(&self) -> &[Triple]
-        ensures { result.now ≡ self.now.triples }
+        ensures value { result.now ≡ self.now.triples }
+        ensures in_order { IsNonDecreasingBy triple_key self.now.triples }
     {
         &self.triples
     }
 
     /// The certifiers, by user, then procedure.
     pub fn certifiers(&self) -> &[Certifier]
-        ensures { result.now ≡ self.now.certifiers }
+        ensures value { result.now ≡ self.now.certifiers }
+        ensures in_order { IsNonDecreasingBy certifier_key self.now.certifiers }
     {
         &self.certifiers
     }
