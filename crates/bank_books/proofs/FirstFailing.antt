@@ -24,7 +24,7 @@ without_row holds branch_of rows computed i branch all k d below told = all k d 
 pub one_holds : {T : Type 0} (holds : T → T → Type 0) (branch_of : T → ℕ) (rows computed : List T) (i : ℕ) (least : Option ℕ) →
     ((d : T) → holds (get_or rows i d) (get_or computed i d)) →
     IsFirstFailing (HoldsOfBranch holds branch_of rows computed i) least → IsFirstFailing (HoldsOfBranch holds branch_of rows computed (i + 1)) least
-one_holds holds branch_of rows computed i None at before branch = with_row holds branch_of rows computed i branch (λ d told. at d) (before branch)
+one_holds holds branch_of rows computed i None at before = λ branch. with_row holds branch_of rows computed i branch (λ d told. at d) (before branch)
 one_holds holds branch_of rows computed i (Some least) at before = record {
   fails = λ all. before.fails (without_row holds branch_of rows computed i least all);
   least = λ other lower. with_row holds branch_of rows computed i other (λ d told. at d) (before.least other lower);
@@ -63,7 +63,7 @@ one_fails {T} holds branch_of rows computed i b (Some least) row is fails before
 -- the least branch of which one of two conditions fails
 pub both : (first second : ℕ → Type 0) (one other : Option ℕ) → IsFirstFailing first one → IsFirstFailing second other →
     IsFirstFailing (λ b. first b × second b) (lesser_of one other)
-both first second None None holds_one holds_other b = (holds_one b, holds_other b)
+both first second None None holds_one holds_other = λ b. (holds_one b, holds_other b)
 both first second None (Some other) holds_one fails_other = record {
   fails = λ all. fails_other.fails all.1;
   least = λ b lower. (holds_one b, fails_other.least b lower);
@@ -92,7 +92,7 @@ both first second (Some one) (Some other) fails_one fails_other = elim (cases_lt
 -- the same of a condition that says the same in other words
 pub reworded : (first second : ℕ → Type 0) (least : Option ℕ) → ((b : ℕ) → first b → second b) → ((b : ℕ) → second b → first b) →
     IsFirstFailing first least → IsFirstFailing second least
-reworded first second None there back holds b = there b (holds b)
+reworded first second None there back holds = λ b. there b (holds b)
 reworded first second (Some least) there back fails = record {
   fails = λ all. fails.fails (back least all);
   least = λ other lower. there other (fails.least other lower);

@@ -1,2 +1,6 @@
+pub mod Counting
 pub mod FirstFailing
+pub mod HistoryConditions
+pub mod KeptRows
 pub mod Mapped
+pub mod CashConditions

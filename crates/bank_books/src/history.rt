@@ -1,13 +1,77 @@
 ghost use Rattle.std.specs.Prelude.{◌≡◌, ◌↔◌, ◌≤◌, IsTrue};
 ghost use Rattle.bank_books.specs.Balances.{turn_count};
-ghost use Rattle.bank_books.specs.Conditions.{home_of};
-ghost use Rattle.bank_books.specs.RowConditions.{same_turn_count};
+ghost use Rattle.bank_books.specs.Conditions.{HistoryAgrees, home_of};
+ghost use Rattle.bank_books.specs.Least.{IsFirstFailing};
+ghost use Rattle.bank_books.specs.Range.{AreOfRows, IsInRange};
+ghost use Rattle.bank_books.specs.Records.{kept_of};
+ghost use Rattle.bank_books.specs.RowConditions.{AccountsOfHistory, BranchesOfHistory, EntriesNumbered, EntriesOfHistory, TellersOfHistory, same_turn_count};
 
 use crate::balances::{account_row, entry_count, turn_count};
+use crate::kept::Kept;
 use crate::least::{Condition, least_failing, lesser_of};
 use crate::records::{AccountRecord, BranchRecord, EntryRecord, TellerRecord};
 use crate::rows::Entry;
 use crate::world::World;
+
+/// The least branch whose history does not give what is kept of it, of its tellers, or of the
+/// accounts whose home it is, or none.
+pub(crate) fn first_of_other_history(
+    world: &World,
+    kept: &Kept,
+    computed: &Kept,
+) -> Option<u32>
+    requires in_range { IsInRange world.now kept.now }
+    requires computed { computed.now ≡ kept_of world.now }
+    ensures { IsFirstFailing (HistoryAgrees world.now kept.now) result }
+{
+    let branches = first_branch(world, kept, computed);
+    let tellers = first_teller(world, kept, computed);
+    let accounts = first_account(world, kept, computed);
+    let entries = first_entry(world, kept, computed);
+    let numbers = first_number(world);
+    lesser_of(
+        lesser_of(lesser_of(branches, tellers), lesser_of(accounts, entries)),
+        numbers,
+    )
+}
+
+fn first_branch(world: &World, kept: &Kept, computed: &Kept) -> Option<u32>
+    requires rows { AreOfRows world.now kept.now }
+    requires computed { computed.now ≡ kept_of world.now }
+    ensures { IsFirstFailing (BranchesOfHistory world.now kept.now) result }
+{
+    least_failing(&BranchHistory, kept.branches(), computed.branches())
+}
+
+fn first_teller(world: &World, kept: &Kept, computed: &Kept) -> Option<u32>
+    requires rows { AreOfRows world.now kept.now }
+    requires computed { computed.now ≡ kept_of world.now }
+    ensures { IsFirstFailing (TellersOfHistory world.now kept.now) result }
+{
+    least_failing(&TellerHistory, kept.tellers(), computed.tellers())
+}
+
+fn first_account(world: &World, kept: &Kept, computed: &Kept) -> Option<u32>
+    requires rows { AreOfRows world.now kept.now }
+    requires computed { computed.now ≡ kept_of world.now }
+    ensures { IsFirstFailing (AccountsOfHistory world.now kept.now) result }
+{
+    least_failing(&AccountHistory, kept.accounts(), computed.accounts())
+}
+
+fn first_entry(world: &World, kept: &Kept, computed: &Kept) -> Option<u32>
+    requires rows { AreOfRows world.now kept.now }
+    requires computed { computed.now ≡ kept_of world.now }
+    ensures { IsFirstFailing (EntriesOfHistory world.now kept.now) result }
+{
+    least_failing(&EntryHistory { world }, kept.entries(), computed.entries())
+}
+
+fn first_number(world: &World) -> Option<u32>
+    ensures { IsFirstFailing (EntriesNumbered world.now) result }
+{
+    least_failing(&EntryNumber { world }, world.entries(), world.entries())
+}
 
 /// That what is kept of a branch is what its history gives.
 #[derive(Clone, Copy)]

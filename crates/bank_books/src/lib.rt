@@ -1,8 +1,10 @@
 //! The books of the bank: the rows of its branches, tellers, accounts and histories, and their sums.
 #![tactic(auto)]
 
+mod amounts;
 mod balances;
 mod cash;
+mod cash_book;
 mod check;
 mod history;
 mod kept;
