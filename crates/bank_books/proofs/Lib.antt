@@ -4,3 +4,4 @@ pub mod HistoryConditions
 pub mod KeptRows
 pub mod Mapped
 pub mod CashConditions
+pub mod KeptNumbers

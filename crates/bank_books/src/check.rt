@@ -1,3 +1,20 @@
+ghost use Rattle.std.specs.Prelude.{◌≡◌, ◌↔◌, IfOk, IsOkUnless, IsTrue};
+ghost use Rattle.bank_books.specs.Books.{IsVerdict};
+ghost use Rattle.bank_books.specs.Conditions.{TellersAgree, TotalsAgree};
+ghost use Rattle.bank_books.specs.Least.{IsFirstFailing};
+ghost use Rattle.bank_books.specs.Range.{IsInRange};
+ghost use Rattle.bank_books.specs.Records.{kept_of};
+
+use crate::amounts::{teller_sum, totals_agree};
+use crate::cash_book::first_of_other_cash;
+use crate::history::first_of_other_history;
+use crate::kept::Kept;
+use crate::least::{Condition, least_failing};
+use crate::range::is_in_range;
+use crate::records::{BranchRecord, TellerRecord};
+use crate::world::World;
+use money::Fault;
+use std::alloc::Global;
 use thiserror::Error;
 
 /// Why the books of a bank do not hold.
@@ -27,4 +44,84 @@ pub enum BooksFault {
     /// A number is out of its limits, a key stands twice, or a row names one that isn't there.
     #[error("range")]
     Range,
+}
+
+/// Checks a World and the numbers that are kept beside it: whether every condition holds of them,
+/// and the kept numbers are those that the World gives, or else the first fault. The faults are
+/// looked for in this order: the range, the sums of tellers (condition B), the history (condition
+/// C), the cash, and the totals (condition A); where branches are told, the least number that fails.
+/// Only memory keeps it from an answer.
+pub fn check_books(
+    alloc: Global,
+    world: &World,
+    kept: &Kept,
+) -> Result<Result<(), BooksFault>, Fault>
+    ensures verdict { IfOk result (IsVerdict world.now kept.now) }
+    ensures memory { IsOkUnless result Fault.Memory }
+{
+    let computed = Kept::of(alloc, world)?;
+    Ok(verdict(world, kept, &computed))
+}
+
+/// The verdict, beside the numbers that the World gives.
+fn verdict(world: &World, kept: &Kept, computed: &Kept) -> Result<(), BooksFault>
+    requires { computed.now ≡ kept_of world.now }
+    ensures { IsVerdict world.now kept.now result }
+{
+    if !is_in_range(world, kept, computed) {
+        return Err(BooksFault::Range);
+    }
+    if let Some(branch) = first_of_other_tellers(world, kept) {
+        return Err(BooksFault::ConditionB { branch });
+    }
+    if let Some(branch) = first_of_other_history(world, kept, computed) {
+        return Err(BooksFault::ConditionC { branch });
+    }
+    if let Some(branch) = first_of_other_cash(world, kept, computed) {
+        return Err(BooksFault::Cash { branch });
+    }
+    if !have_equal_totals(world, kept) {
+        return Err(BooksFault::ConditionA);
+    }
+    Ok(())
+}
+
+/// The least branch whose balance is not the sum of its tellers' balances, or none.
+fn first_of_other_tellers(world: &World, kept: &Kept) -> Option<u32>
+    requires { IsInRange world.now kept.now }
+    ensures { IsFirstFailing (TellersAgree kept.now) result }
+{
+    let sums = TellerSums {
+        tellers: kept.tellers(),
+    };
+    least_failing(&sums, kept.branches(), kept.branches())
+}
+
+/// Whether the sums of account, teller and branch balances are equal.
+fn have_equal_totals(world: &World, kept: &Kept) -> bool
+    requires { IsInRange world.now kept.now }
+    ensures { IsTrue result ↔ TotalsAgree kept.now }
+{
+    totals_agree(kept)
+}
+
+/// That the balance of a branch is the sum of its tellers' balances.
+#[derive(Clone, Copy)]
+struct TellerSums<'k> {
+    tellers: &'k [TellerRecord],
+}
+
+impl<'k> Condition<BranchRecord> for TellerSums<'k> {
+    ghost use Rattle.bank_books.specs.RowConditions.{IsSumOfTellers};
+
+    ghost holds = { λ q kept _. IsSumOfTellers q.tellers.now kept };
+    ghost branch_of = { λ _ kept. kept.row.branch };
+
+    fn holds(&self, row: &BranchRecord, _: &BranchRecord) -> bool {
+        row.balance == teller_sum(self.tellers, row.row.branch)
+    }
+
+    fn branch_of(&self, row: &BranchRecord) -> u32 {
+        row.row.branch
+    }
 }

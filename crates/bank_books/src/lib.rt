@@ -10,6 +10,7 @@ mod history;
 mod kept;
 mod least;
 mod lists;
+mod range;
 mod record_of;
 mod records;
 mod row_write;
@@ -18,7 +19,7 @@ mod world;
 
 pub use balances::{account_balance, branch_balance, teller_balance};
 pub use cash::{cash_of, holder_of};
-pub use check::BooksFault;
+pub use check::{BooksFault, check_books};
 pub use kept::Kept;
 pub use record_of::{account_record, branch_record, teller_record};
 pub use records::{AccountRecord, BranchRecord, EntryRecord, ReleaseCount, TellerRecord};

@@ -7,7 +7,7 @@ use Rattle.money.specs.Ordered.{add_row}
 use Rattle.bank_policy.specs.declared.rule.Rule.{Rule}
 use Rattle.bank_policy.specs.declared.rule.Rule.TheVariants as rule
 use Rattle.counter_ops.specs.declared.op.Post.{Post}
-use Rattle.bank_books.specs.Balances.{account_record, teller_record, branch_record}
+use Rattle.bank_books.specs.Records.{account_record, branch_record, teller_record}
 use Rattle.bank_books.specs.declared.records.AccountRecord.{AccountRecord}
 use Rattle.bank_books.specs.declared.records.BranchRecord.{BranchRecord}
 use Rattle.bank_books.specs.Keys.{entry_key}
@@ -34,12 +34,12 @@ is_of_branch rows post = option_map_or (λ t. t.row.branch == post.branch) rows.
 abbrev pub keeps_floor : PostRows → Post → Bool
 keeps_floor rows post = option_map_or (λ a. not (int_lt (a.balance +ℤ post.delta) a.row.floor)) rows.account true
 
--- the balances of account, teller and branch stay in the range of money
+-- the balances of account, teller and branch and the branch's sum of deltas stay in the range of money
 abbrev pub is_in_range : PostRows → Post → Bool
 is_in_range rows post =
     option_map_or (λ a. is_cents (a.balance +ℤ post.delta)) rows.account true
     && option_map_or (λ t. is_cents (t.balance +ℤ post.delta)) rows.teller true
-    && option_map_or (λ b. is_cents (b.balance +ℤ post.delta)) rows.branch true
+    && option_map_or (λ b. is_cents (b.balance +ℤ post.delta) && is_cents (b.history +ℤ post.delta)) rows.branch true
 
 -- the history of the branch or the account has the greatest number of entries already
 abbrev pub is_full : PostRows → Bool

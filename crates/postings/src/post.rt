@@ -172,9 +172,9 @@ fn is_all_in_range(rows: &PostRows, post: &Post) -> bool
     let teller = rows
         .teller
         .is_none_or(|row| is_in_range(row.balance, post.delta));
-    let branch = rows
-        .branch
-        .is_none_or(|row| is_in_range(row.balance, post.delta));
+    let branch = rows.branch.is_none_or(|row| {
+        is_in_range(row.balance, post.delta) && is_in_range(row.history, post.delta)
+    });
     account && teller && branch
 }
 
