@@ -1,5 +1,6 @@
 pub mod Counting
 pub mod FirstFailing
+pub mod FoundRows
 pub mod HistoryConditions
 pub mod KeptRows
 pub mod Mapped

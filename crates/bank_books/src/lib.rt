@@ -11,6 +11,7 @@ mod kept;
 mod least;
 mod lists;
 mod range;
+mod range_rows;
 mod record_of;
 mod records;
 mod row_write;
