@@ -5,9 +5,11 @@ ghost use Rattle.money.specs.Range.{IsCents};
 ghost use Rattle.counter_ops.specs.Ranges.{IsKey, IsKeyOrZero, IsWithin};
 ghost use Rattle.bank_books.specs.Keys.{proof_key, teller_key};
 ghost use Rattle.bank_books.specs.Range.{HoldsReleasable, IsAccount, IsAccountInRange, IsBranch, IsBranchInRange, IsCash, IsDay, IsEntryInRange, IsLineInRange, IsProofInRange, IsTellerInRange, IsTellerOf, IsUser, IsUserNumber};
+ghost use Rattle.bank_books.specs.RangeParts.{IsReleaseAlone};
 
+use crate::numbering::has_numbered_days;
 use crate::records::{AccountRecord, BranchRecord, EntryRecord, TellerRecord};
-use crate::rows::{Account, CashLine, Entry, Proof, Release};
+use crate::rows::{Account, Branch, CashLine, Entry, Proof, Release};
 use crate::world::World;
 use counter_ops::Releasable;
 use money::{MAX_CENTS, find_row, is_there};
@@ -17,6 +19,43 @@ const MAX_KEY: u32 = 999_999_999;
 
 /// The greatest moment, in seconds.
 const MAX_MOMENT: u64 = 99_999_999_999;
+
+/// Whether what is kept of a branch is within its limits, and its proofs are those of the days
+/// before its present one.
+pub(crate) fn is_branch_in_range(world: &World, branch: &BranchRecord) -> bool
+    requires { AreDistinct (map proof_key world.now.proofs) }
+    ensures { IsTrue result ↔ IsBranchInRange world.now branch.now }
+{
+    is_branch_row_in_range(&branch.row)
+        && are_balances_in_range(branch)
+        && are_totals_in_range(branch)
+        && are_counts_in_range(branch)
+        && has_numbered_days(world, &branch.row)
+}
+
+fn is_branch_row_in_range(row: &Branch) -> bool
+    ensures { IsTrue result ↔ (IsKey row.now.branch × IsDay row.now.day × IsCash row.now.cash) }
+{
+    is_key(row.branch) && is_day(row.day) && is_cash(i128::from(row.cash.get()))
+}
+
+fn are_balances_in_range(branch: &BranchRecord) -> bool
+    ensures { IsTrue result ↔ (IsCents branch.now.balance × IsCash branch.now.vault × IsCents branch.now.history) }
+{
+    is_cents(branch.balance) && is_cash(branch.vault) && is_cents(branch.history)
+}
+
+fn are_totals_in_range(branch: &BranchRecord) -> bool
+    ensures { IsTrue result ↔ (IsCents branch.now.drawers × IsCents branch.now.cash_entries × IsCents branch.now.differences) }
+{
+    is_cents(branch.drawers) && is_cents(branch.cash_entries) && is_cents(branch.differences)
+}
+
+fn are_counts_in_range(branch: &BranchRecord) -> bool
+    ensures { IsTrue result ↔ ((branch.now.entries ≤ 999999999) × (branch.now.lines ≤ 999999999) × (branch.now.accounts ≤ 100000)) }
+{
+    branch.entries <= MAX_KEY as u64 && branch.lines <= MAX_KEY as u64 && branch.accounts <= 100_000
+}
 
 /// Whether what is kept of a teller is within its limits, and its branch is there.
 pub(crate) fn is_teller_in_range(world: &World, teller: &TellerRecord) -> bool
@@ -95,6 +134,19 @@ pub(crate) fn is_proof_in_range(world: &World, proof: &Proof) -> bool
     ensures { IsTrue result ↔ IsProofInRange world.now proof.now }
 {
     is_branch(world, proof.branch) && is_day(proof.day) && proof.entries <= MAX_KEY
+}
+
+/// Whether a release is within its limits, its users and branch are there, and its row holds an
+/// operation that may be released.
+pub(crate) fn is_release_alone(world: &World, release: &Release) -> bool
+    ensures { IsTrue result ↔ IsReleaseAlone world.now release.now }
+{
+    is_user(world, release.user)
+        && is_within(release.number, 1, 100_000)
+        && is_user(world, release.giver)
+        && is_branch(world, release.branch)
+        && is_day(release.day)
+        && holds_releasable(release)
 }
 
 /// Whether the row of a release holds an operation that may be released, at its branch.

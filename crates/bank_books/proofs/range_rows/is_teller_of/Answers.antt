@@ -14,4 +14,4 @@ pub returns-in-None : goal.returns-in-None
 returns-in-None c =
     let w = c.args.world.now in
     false_is_not (IsTellerOf w c.args.branch c.args.key) (teller_not_found w c.args.branch c.args.key c.requires
-      (found_in teller_key (λ r. teller_key r == c.args.key) c.tellers.result.now w.tellers None c.tellers.ensures.value c.in-None.ensures c.tellers.ensures.in_order))
+    (found_in teller_key (λ r. teller_key r == c.args.key) c.tellers.result.now w.tellers None c.tellers.ensures.value c.in-None.ensures c.tellers.ensures.in_order))
