@@ -1,7 +1,13 @@
+pub mod BesideRows
 pub mod Counting
 pub mod FirstFailing
+pub mod FoundRows
 pub mod HistoryConditions
 pub mod KeptRows
 pub mod Mapped
+pub mod Numbered
+pub mod RangeJoined
+pub mod SameCounts
 pub mod CashConditions
+pub mod Judged
 pub mod KeptNumbers

@@ -3,6 +3,7 @@
 
 mod amounts;
 mod balances;
+mod beside;
 mod cash;
 mod cash_book;
 mod check;
@@ -10,7 +11,9 @@ mod history;
 mod kept;
 mod least;
 mod lists;
+mod numbering;
 mod range;
+mod range_rows;
 mod record_of;
 mod records;
 mod row_write;

@@ -1,0 +1,55 @@
+-- What is asked of a bank's books, in the parts in which it is judged.
+use Rattle.std.specs.Prelude.{◌≤◌, Contains}
+use Rattle.bank_policy.specs.declared.rows.User.{User}
+use Rattle.counter_ops.specs.Ranges.{IsWithin}
+use Rattle.bank_books.specs.declared.records.AccountRecord.{AccountRecord}
+use Rattle.bank_books.specs.declared.records.BranchRecord.{BranchRecord}
+use Rattle.bank_books.specs.declared.records.EntryRecord.{EntryRecord}
+use Rattle.bank_books.specs.declared.records.TellerRecord.{TellerRecord}
+use Rattle.bank_books.specs.declared.rows.CashLine.{CashLine}
+use Rattle.bank_books.specs.declared.rows.Proof.{Proof}
+use Rattle.bank_books.specs.declared.rows.Release.{Release}
+use Rattle.bank_books.specs.Numbering.{AreNumbered}
+use Rattle.bank_books.specs.Range.{HoldsReleasable, IsAccountInRange, IsBranch, IsBranchInRange, IsDay, IsEntryInRange, IsLineInRange, IsProofInRange, IsReleaseInRange, IsTellerInRange, IsUser}
+use Rattle.bank_books.specs.Records.{KeptLists}
+use Rattle.bank_books.specs.WorldLists.{WorldLists}
+
+-- what is asked of a release beside the others of its user
+pub record IsReleaseAlone (w : WorldLists) (r : Release) : Type 0 where
+  pub user : IsUser w r.user
+  pub number : IsWithin 1 100000 r.number
+  pub giver : IsUser w r.giver
+  pub branch : IsBranch w r.branch
+  pub day : IsDay r.day
+  pub operation : HoldsReleasable r
+
+-- the releases of each user bear the numbers 1, 2, 3 and so on
+abbrev pub AreReleasesNumbered : WorldLists → Type 0
+AreReleasesNumbered w = (r : Release) → Contains w.releases r → AreNumbered (λ o. o.user) (λ o. o.number) w.releases r.user
+
+-- of the places where money is: branches and tellers
+pub record ArePlacesInRange (w : WorldLists) (kept : KeptLists) : Type 0 where
+  pub branches : (b : BranchRecord) → Contains kept.branches b → IsBranchInRange w b
+  pub tellers : (t : TellerRecord) → Contains kept.tellers t → IsTellerInRange w t
+
+-- of accounts, and the entries that name them
+pub record AreLedgersInRange (w : WorldLists) (kept : KeptLists) : Type 0 where
+  pub accounts : (a : AccountRecord) → Contains kept.accounts a → IsAccountInRange w a
+  pub entries : (e : EntryRecord) → Contains kept.entries e → IsEntryInRange w e
+
+-- of the lines and proofs of branches
+pub record AreCashBooksInRange (w : WorldLists) : Type 0 where
+  pub lines : (l : CashLine) → Contains w.lines l → IsLineInRange w l
+  pub proofs : (p : Proof) → Contains w.proofs p → IsProofInRange w p
+
+-- of users, and the releases that they were given
+pub record AreUsersInRange (w : WorldLists) : Type 0 where
+  pub releases : (r : Release) → Contains w.releases r → IsReleaseInRange w r
+  pub users : (u : User) → Contains w.policy.users u → u.session ≤ 999999999
+
+-- of all of them
+pub record AreAllInRange (w : WorldLists) (kept : KeptLists) : Type 0 where
+  pub places : ArePlacesInRange w kept
+  pub ledgers : AreLedgersInRange w kept
+  pub cash_books : AreCashBooksInRange w
+  pub users : AreUsersInRange w
