@@ -1,4 +1,5 @@
--- The limits of the books' numbers, and what their rows may name.
+-- The limits of the books' numbers, and what their rows may name. Openings, deltas, and the amounts of lines and proofs are
+-- of types that hold no others.
 use Rattle.std.specs.Prelude.{ℕ, ℤ, pos, negsuc, ◌≡◌, ◌+◌, ◌≤◌, ◌≤ℤ◌, ◌⊎◌, ◌==◌, map, Contains, count_by, IfSome}
 use Rattle.money.specs.Ordered.{AreDistinct, HasRow}
 use Rattle.money.specs.Range.{IsCents}
@@ -16,6 +17,7 @@ use Rattle.bank_books.specs.declared.rows.CashLine.{CashLine}
 use Rattle.bank_books.specs.declared.rows.Proof.{Proof}
 use Rattle.bank_books.specs.declared.rows.Release.{Release}
 use Rattle.bank_books.specs.declared.rows.Teller.{Teller}
+use Rattle.bank_books.specs.Balances.{account_count}
 use Rattle.bank_books.specs.Keys.{account_key, branch_key, entry_key, line_key, proof_key, release_key, teller_key}
 use Rattle.bank_books.specs.Numbering.{AreNumbered}
 use Rattle.bank_books.specs.Records.{KeptLists, release_count_of}
@@ -58,6 +60,7 @@ pub record IsBranchInRange (w : WorldLists) (b : BranchRecord) : Type 0 where
   pub entries : b.entries ≤ 999999999
   pub lines : b.lines ≤ 999999999
   pub accounts : b.accounts ≤ 100000
+  pub homes : account_count b.row.branch w.accounts ≤ 100000
   -- its proofs are those of the days before its present one
   pub days : AreNumbered (λ p. p.branch) (λ p. p.day) w.proofs b.row.branch
   pub last_day : count_by (λ p. p.branch == b.row.branch) w.proofs + 1 ≡ b.row.day

@@ -3,10 +3,12 @@ ghost use Rattle.std.specs.List.{count_by};
 ghost use Rattle.money.specs.Ordered.{AreDistinct};
 ghost use Rattle.money.specs.Range.{IsCents};
 ghost use Rattle.counter_ops.specs.Ranges.{IsKey, IsKeyOrZero, IsWithin};
+ghost use Rattle.bank_books.specs.Balances.{account_count};
 ghost use Rattle.bank_books.specs.Keys.{proof_key, teller_key};
 ghost use Rattle.bank_books.specs.Range.{HoldsReleasable, IsAccount, IsAccountInRange, IsBranch, IsBranchInRange, IsCash, IsDay, IsEntryInRange, IsLineInRange, IsProofInRange, IsTellerInRange, IsTellerOf, IsUser, IsUserNumber};
 ghost use Rattle.bank_books.specs.RangeParts.{IsReleaseAlone};
 
+use crate::balances::account_count;
 use crate::numbering::has_numbered_days;
 use crate::records::{AccountRecord, BranchRecord, EntryRecord, TellerRecord};
 use crate::rows::{Account, Branch, CashLine, Entry, Proof, Release};
@@ -31,6 +33,7 @@ pub(crate) fn is_branch_in_range(world: &World, branch: &BranchRecord) -> bool
         && are_totals_in_range(branch)
         && are_counts_in_range(branch)
         && has_numbered_days(world, &branch.row)
+        && has_few_accounts(world, branch.row.branch)
 }
 
 fn is_branch_row_in_range(row: &Branch) -> bool
@@ -55,6 +58,13 @@ fn are_counts_in_range(branch: &BranchRecord) -> bool
     ensures { IsTrue result ↔ ((branch.now.entries ≤ 999999999) × (branch.now.lines ≤ 999999999) × (branch.now.accounts ≤ 100000)) }
 {
     branch.entries <= MAX_KEY as u64 && branch.lines <= MAX_KEY as u64 && branch.accounts <= 100_000
+}
+
+/// Whether no more accounts have a branch as their home than may.
+fn has_few_accounts(world: &World, branch: u32) -> bool
+    ensures { IsTrue result ↔ (account_count branch world.now.accounts ≤ 100000) }
+{
+    account_count(world.accounts(), branch) <= 100_000
 }
 
 /// Whether what is kept of a teller is within its limits, and its branch is there.

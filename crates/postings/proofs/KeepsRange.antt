@@ -57,6 +57,7 @@ branch_is_in_range w e next old row there = go (branch_case w e next old.keys ro
           (count_named entry_key (λ x. x.branch == row.branch) e w.entries named);
       lines = was.lines;
       accounts = was.accounts;
+      homes = was.homes;
       days = was.days;
       last_day = was.last_day;
     }
@@ -76,6 +77,7 @@ branch_is_in_range w e next old row there = go (branch_case w e next old.keys ro
           (count_other entry_key (λ x. x.branch == row.branch) e w.entries other) was.entries;
       lines = was.lines;
       accounts = was.accounts;
+      homes = was.homes;
       days = was.days;
       last_day = was.last_day;
     }
@@ -296,6 +298,7 @@ keeps_range w e next old history = record {
     giver = was.giver;
     branch = was.branch;
     day = was.day;
+    operation = was.operation;
   };
   users = old.users;
 }
