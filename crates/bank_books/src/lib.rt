@@ -15,6 +15,7 @@ mod record_of;
 mod records;
 mod row_write;
 mod rows;
+mod shares;
 mod world;
 
 pub use balances::{account_balance, branch_balance, teller_balance};
