@@ -8,11 +8,11 @@ use Rattle.std.proofs.lemmas.List.Sums.{sum_by-cons}
 use Rattle.money.specs.Totals.{total}
 
 -- how far a number is above 0, and how far below
-above : ℤ → ℕ
+abbrev above : ℤ → ℕ
 above (pos n) = n
 above (negsuc n) = 0
 
-below : ℤ → ℕ
+abbrev below : ℤ → ℕ
 below (pos n) = 0
 below (negsuc n) = suc n
 
