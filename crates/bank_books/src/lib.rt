@@ -7,6 +7,7 @@ mod cash;
 mod cash_book;
 mod check;
 mod history;
+mod holders;
 mod kept;
 mod least;
 mod lists;
