@@ -5,3 +5,6 @@ pub mod KeptRows
 pub mod Mapped
 pub mod CashConditions
 pub mod KeptNumbers
+pub mod SharesBetween
+pub mod SharesCalls
+pub mod SharesLemmas

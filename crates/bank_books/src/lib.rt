@@ -7,6 +7,7 @@ mod cash;
 mod cash_book;
 mod check;
 mod history;
+mod holders;
 mod kept;
 mod least;
 mod lists;
@@ -15,6 +16,7 @@ mod record_of;
 mod records;
 mod row_write;
 mod rows;
+mod shares;
 mod world;
 
 pub use balances::{account_balance, branch_balance, teller_balance};
