@@ -1,5 +1,5 @@
 -- The places of a release, behind the first two of which those of the operation stand that it is for.
-use Rattle.std.proofs.Common.{◌≡◌, List, [], ◌∷◌, ℤ, pos}
+use Rattle.std.proofs.Common.{◌≡◌, [], ◌∷◌, ℤ, pos}
 use Rattle.bank_policy.specs.Procedure.{number_of}
 use Rattle.bank_policy.specs.declared.procedure.Procedure.{Procedure}
 use Rattle.counter_ops.specs.Op.{procedure_of}

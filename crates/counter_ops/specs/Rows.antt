@@ -1,8 +1,6 @@
 -- An operation as a row of the books holds it: the numbers of its members in the order in which its form names them,
 -- with 0 behind the last. A release holds the row of the operation that it is for behind whom it is for.
 use Rattle.std.specs.Prelude.{◌≡◌, ℕ, ℤ, pos, ◌-◌, List, [], ◌∷◌, ◌++◌, length, replicate, Option, Some}
-use Rattle.bank_policy.specs.declared.procedure.Procedure.{Procedure}
-use Rattle.bank_policy.specs.declared.procedure.Procedure.TheVariants as procedure
 use Rattle.bank_policy.specs.declared.operation_row.OperationRow.{OperationRow}
 use Rattle.bank_policy.specs.Procedure.{number_of}
 use Rattle.counter_ops.specs.Op.{procedure_of}
