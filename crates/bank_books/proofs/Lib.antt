@@ -8,3 +8,4 @@ pub mod KeptNumbers
 pub mod SharesBetween
 pub mod SharesCalls
 pub mod SharesLemmas
+pub mod SumsLemmas

@@ -7,7 +7,7 @@ use Rattle.std.proofs.lemmas.Int.{ints}
 use Rattle.std.proofs.lemmas.List.{get_or_append_left, get_or_push, length-take-le, length_push, take-take, take_all}
 use Rattle.money.specs.Totals.{total}
 use Rattle.bank_books.specs.declared.shares.Part.{Part}
-use Rattle.bank_books.specs.Shares.{AreRunningSums, AreShares, IsPart, count_at, count_between, group_count, group_total, is_between, total_between, total_up_to}
+use Rattle.bank_books.specs.Shares.{AreRunningSums, AreShares, IsPart, count_at, count_between, group_count, group_total, is_between, total_at, total_between, total_up_to}
 use Rattle.bank_books.proofs.SharesBetween.{EndsAt, EndsBelow, between_places, count_by-PassBetween, total-PassBetween, within_amounts, count_of_tests, greatest, is_at, is_of_group, is_up_to, total_of_tests}
 
 pub group_added : (group first last : ℕ) (parts : List Part) → first ≡ 2 ^ 32 * group + 0 → last ≡ 2 ^ 32 * group + greatest → All IsPart parts →
@@ -27,6 +27,12 @@ pub added_up_to : (group number first last : ℕ) (parts : List Part) → number
 added_up_to group number first last parts small first_is last_is all =
     ap (λ k. total_between k last parts) first_is ∙ ap (λ k. total_between (2 ^ 32 * group + 0) k parts) last_is
     ∙ total_of_tests IsPart (is_between (2 ^ 32 * group + 0) (2 ^ 32 * group + number)) (λ p. p.group == group && nat_le p.number number) (λ p. p.amount) parts (is_up_to group number small) all
+
+pub added_at : (group number first last : ℕ) (parts : List Part) → number < 2 ^ 32 → first ≡ 2 ^ 32 * group + number → last ≡ 2 ^ 32 * group + number → All IsPart parts →
+    total_between first last parts ≡ total_at group number parts
+added_at group number first last parts small first_is last_is all =
+    ap (λ k. total_between k last parts) first_is ∙ ap (λ k. total_between (2 ^ 32 * group + number) k parts) last_is
+    ∙ total_of_tests IsPart (is_between (2 ^ 32 * group + number) (2 ^ 32 * group + number)) (λ p. p.group == group && p.number == number) (λ p. p.amount) parts (is_at group number small) all
 
 pub counted_at : (group number first last : ℕ) (parts : List Part) → number < 2 ^ 32 → first ≡ 2 ^ 32 * group + number → last ≡ 2 ^ 32 * group + number → All IsPart parts →
     count_between first last parts ≡ count_at group number parts

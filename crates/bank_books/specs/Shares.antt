@@ -21,6 +21,10 @@ group_count group parts = count_by (λ p. p.group == group) parts
 abbrev pub total_up_to : ℕ → ℕ → List Part → ℤ
 total_up_to group number parts = total (map (λ p. if p.group == group && nat_le p.number number then p.amount else pos 0) parts)
 
+-- what the parts of a group come to that have this number
+abbrev pub total_at : ℕ → ℕ → List Part → ℤ
+total_at group number parts = total (map (λ p. if p.group == group && p.number == number then p.amount else pos 0) parts)
+
 -- how many parts of a group have this number
 abbrev pub count_at : ℕ → ℕ → List Part → ℕ
 count_at group number parts = count_by (λ p. p.group == group && p.number == number) parts

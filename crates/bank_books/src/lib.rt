@@ -11,12 +11,14 @@ mod holders;
 mod kept;
 mod least;
 mod lists;
+mod parts;
 mod range;
 mod record_of;
 mod records;
 mod row_write;
 mod rows;
 mod shares;
+mod sums;
 mod world;
 
 pub use balances::{account_balance, branch_balance, teller_balance};

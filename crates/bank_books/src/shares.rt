@@ -69,7 +69,7 @@ impl Model for Shares {
 impl Shares {
     ghost use Rattle.std.specs.Prelude.{◌≡◌, ◌≤ℤ◌, ◌^◌, IfOk, map, neg_ℤ, pos};
     ghost use Rattle.std.specs.List.Sorted.{IsPermutation};
-    ghost use Rattle.bank_books.specs.Shares.{count_at, count_between, group_count, group_total, total_between, total_up_to};
+    ghost use Rattle.bank_books.specs.Shares.{count_at, count_between, group_count, group_total, total_at, total_between, total_up_to};
 
     /// The parts of these rows.
     pub(crate) fn of<T, Q: Parts<T>>(
@@ -108,6 +108,15 @@ impl Shares {
         ensures high { result ≤ℤ pos (2 ^ 126) }
     {
         self.total_between(key_of(group, 0), key_of(group, number))
+    }
+
+    /// What the parts of the group come to that have this number.
+    pub(crate) fn total_at(&self, group: u32, number: u32) -> i128
+        ensures value { result ≡ total_at group number self.now }
+        ensures low { neg_ℤ (pos (2 ^ 126)) ≤ℤ result }
+        ensures high { result ≤ℤ pos (2 ^ 126) }
+    {
+        self.total_between(key_of(group, number), key_of(group, number))
     }
 
     /// How many parts of the group have this number.
