@@ -20,17 +20,17 @@ made_of_sources : {T R : Type 0} (row : T → R) (record_of : R → T) (kept : L
     ((x : T) → Contains kept x → x ≡ record_of (row x)) → kept ≡ map record_of rows
 made_of_sources row record_of kept rows same each = each_made row record_of kept each ∙ ap (map record_of) same
 
-branch_same : (b c : BranchRecord) → b.row ≡ c.row → IsBranchOfHistory b c → IsBranchOfLines b c → b ≡ c
+pub branch_same : (b c : BranchRecord) → b.row ≡ c.row → IsBranchOfHistory b c → IsBranchOfLines b c → b ≡ c
 branch_same b c row history lines =
     search (rules, row, history.balance, history.entries, history.history, history.accounts, lines.vault, lines.lines, lines.drawers, lines.cash_entries, lines.differences)
 
-teller_same : (t u : TellerRecord) → t.row ≡ u.row → t.balance ≡ u.balance → IsTellerOfLines t u → t ≡ u
+pub teller_same : (t u : TellerRecord) → t.row ≡ u.row → t.balance ≡ u.balance → IsTellerOfLines t u → t ≡ u
 teller_same t u row balance lines = search (rules, row, balance, lines.cash, lines.holder)
 
-account_same : (a b : AccountRecord) → a.row ≡ b.row → IsAccountOfHistory a b → a ≡ b
+pub account_same : (a b : AccountRecord) → a.row ≡ b.row → IsAccountOfHistory a b → a ≡ b
 account_same a b row history = search (rules, row, history.balance, history.turns)
 
-entry_same : (e f : EntryRecord) → e.row ≡ f.row → e.balance_after ≡ f.balance_after → e ≡ f
+pub entry_same : (e f : EntryRecord) → e.row ≡ f.row → e.balance_after ≡ f.balance_after → e ≡ f
 entry_same e f row balance = search (rules, row, balance)
 
 lists_same : (k l : KeptLists) → k.branches ≡ l.branches → k.tellers ≡ l.tellers → k.accounts ≡ l.accounts → k.entries ≡ l.entries → k.users ≡ l.users → k ≡ l

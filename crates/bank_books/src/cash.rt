@@ -66,7 +66,7 @@ impl LineForm {
         }
     }
 
-    fn is_cash_entry(self) -> bool
+    pub(crate) fn is_cash_entry(self) -> bool
         ensures { result ≡ is_cash_entry self }
     {
         match self {
@@ -75,7 +75,7 @@ impl LineForm {
         }
     }
 
-    fn is_difference(self) -> bool
+    pub(crate) fn is_difference(self) -> bool
         ensures { result ≡ is_difference self }
     {
         match self {

@@ -1,7 +1,6 @@
-use crate::record_of::{
-    account_record_of, branch_record_of, entry_record_of, release_count_of, teller_record_of,
-};
+use crate::holders::holders;
 use crate::records::{AccountRecord, BranchRecord, EntryRecord, ReleaseCount, TellerRecord};
+use crate::sums::Sums;
 use crate::world::World;
 use money::Fault;
 use std::alloc::Global;
@@ -35,6 +34,7 @@ impl Model for Kept {
 impl Kept {
     ghost use Rattle.std.specs.Prelude.{◌≡◌, IfOk, IsOkUnless};
     ghost use Rattle.bank_books.specs.Records.{kept_of};
+    ghost use Rattle.bank_books.specs.Sums.{AreSumsOf};
 
     /// The numbers that a store kept, in the order of the rows.
     pub fn new(
@@ -60,12 +60,22 @@ impl Kept {
         ensures value { IfOk result (λ kept. kept ≡ kept_of world.now) }
         ensures memory { IsOkUnless result Fault.Memory }
     {
+        let sums = Sums::of(alloc, world)?;
+        Kept::from_sums(alloc, world, &sums)
+    }
+
+    /// The same, from the sums of the World.
+    pub(crate) fn from_sums(alloc: Global, world: &World, sums: &Sums) -> Result<Kept, Fault>
+        requires { AreSumsOf world.now sums.now }
+        ensures value { IfOk result (λ kept. kept ≡ kept_of world.now) }
+        ensures memory { IsOkUnless result Fault.Memory }
+    {
         Ok(Kept {
-            branches: branch_records(alloc, world)?,
-            tellers: teller_records(alloc, world)?,
-            accounts: account_records(alloc, world)?,
-            entries: entry_records(alloc, world)?,
-            users: release_counts(alloc, world)?,
+            branches: branch_records(alloc, world, sums)?,
+            tellers: teller_records(alloc, world, sums)?,
+            accounts: account_records(alloc, world, sums)?,
+            entries: entry_records(alloc, world, sums)?,
+            users: release_counts(alloc, world, sums)?,
         })
     }
 
@@ -107,58 +117,86 @@ impl Kept {
 
 ghost use Rattle.std.specs.Prelude.{◌≡◌, IfOk, IsOkUnless, map};
 ghost use Rattle.bank_books.specs.Records.{account_record_of, branch_record_of, entry_record_of, release_count_of, teller_record_of};
+ghost use Rattle.bank_books.specs.Sums.{AreSumsOf};
 
-fn branch_records(alloc: Global, world: &World) -> Result<Vec<BranchRecord>, Fault>
+fn branch_records(
+    alloc: Global,
+    world: &World,
+    sums: &Sums,
+) -> Result<Vec<BranchRecord>, Fault>
+    requires { AreSumsOf world.now sums.now }
     ensures value { IfOk result (λ records. records.items ≡ map (branch_record_of world.now) world.now.branches) }
     ensures memory { IsOkUnless result Fault.Memory }
 {
     let mut records = Vec::new(alloc);
     for row in world.branches() {
-        records.push(branch_record_of(world, row))?;
+        records.push(sums.branch_record(row))?;
     }
     Ok(records)
 }
 
-fn teller_records(alloc: Global, world: &World) -> Result<Vec<TellerRecord>, Fault>
-    ensures value { IfOk result (λ records. records.items ≡ map (teller_record_of world.now) world.now.tellers) }
-    ensures memory { IsOkUnless result Fault.Memory }
-{
-    let mut records = Vec::new(alloc);
-    for row in world.tellers() {
-        records.push(teller_record_of(world, row))?;
-    }
-    Ok(records)
-}
-
-fn account_records(alloc: Global, world: &World) -> Result<Vec<AccountRecord>, Fault>
+fn account_records(
+    alloc: Global,
+    world: &World,
+    sums: &Sums,
+) -> Result<Vec<AccountRecord>, Fault>
+    requires { AreSumsOf world.now sums.now }
     ensures value { IfOk result (λ records. records.items ≡ map (account_record_of world.now) world.now.accounts) }
     ensures memory { IsOkUnless result Fault.Memory }
 {
     let mut records = Vec::new(alloc);
     for row in world.accounts() {
-        records.push(account_record_of(world, row))?;
+        records.push(sums.account_record(row))?;
     }
     Ok(records)
 }
 
-fn entry_records(alloc: Global, world: &World) -> Result<Vec<EntryRecord>, Fault>
+fn entry_records(
+    alloc: Global,
+    world: &World,
+    sums: &Sums,
+) -> Result<Vec<EntryRecord>, Fault>
+    requires { AreSumsOf world.now sums.now }
     ensures value { IfOk result (λ records. records.items ≡ map (entry_record_of world.now) world.now.entries) }
     ensures memory { IsOkUnless result Fault.Memory }
 {
     let mut records = Vec::new(alloc);
     for row in world.entries() {
-        records.push(entry_record_of(world, row))?;
+        records.push(sums.entry_record(world, row))?;
     }
     Ok(records)
 }
 
-fn release_counts(alloc: Global, world: &World) -> Result<Vec<ReleaseCount>, Fault>
+fn release_counts(
+    alloc: Global,
+    world: &World,
+    sums: &Sums,
+) -> Result<Vec<ReleaseCount>, Fault>
+    requires { AreSumsOf world.now sums.now }
     ensures value { IfOk result (λ records. records.items ≡ map (release_count_of world.now) world.now.policy.users) }
     ensures memory { IsOkUnless result Fault.Memory }
 {
     let mut records = Vec::new(alloc);
     for row in world.policy().users() {
-        records.push(release_count_of(world, row))?;
+        records.push(sums.release_count(row))?;
+    }
+    Ok(records)
+}
+
+fn teller_records(
+    alloc: Global,
+    world: &World,
+    sums: &Sums,
+) -> Result<Vec<TellerRecord>, Fault>
+    requires { AreSumsOf world.now sums.now }
+    ensures value { IfOk result (λ records. records.items ≡ map (teller_record_of world.now) world.now.tellers) }
+    ensures memory { IsOkUnless result Fault.Memory }
+{
+    let tellers = world.tellers();
+    let holders = holders(alloc, tellers, world.lines())?;
+    let mut records = Vec::new(alloc);
+    for index in 0..tellers.len() {
+        records.push(sums.teller_record(&tellers[index], holders[index]))?;
     }
     Ok(records)
 }

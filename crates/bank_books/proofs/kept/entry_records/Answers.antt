@@ -1,8 +1,11 @@
+use Rattle.std.proofs.Common.{◌∙◌}
 use Rattle.bank_books.specs.Records.{entry_record_of}
 use Rattle.bank_books.proofs.Mapped.{mapped_more}
+use Rattle.bank_books.proofs.SumsLemmas.{entry_from_sums}
 use Rattle.bank_books.proofs.kept.entry_records.Goals as goal
 
 pub loop-row-preserved : goal.loop-row-preserved
 loop-row-preserved c =
-    mapped_more (entry_record_of c.args.world.now) c.entries-row-items.result.now c.args.world.now.entries c.loop-row.row-index c.row-item.result _ _ c.entry_record_of.result
-    c.entries-row-items.ensures.value c.loop-row-test.true c.row-item.is c.entry_record_of.ensures c.loop-row.invariant c.in_ok-push.ensures.items
+    let w = c.args.world.now in
+    mapped_more (entry_record_of w) c.entries-row-items.result.now w.entries c.loop-row.row-index c.row-item.result _ _ c.entry_record.result
+    c.entries-row-items.ensures.value c.loop-row-test.true c.row-item.is (c.entry_record.ensures ∙ entry_from_sums w c.args.sums.now c.row-item.result c.requires) c.loop-row.invariant c.in_ok-push.ensures.items
