@@ -27,16 +27,13 @@ nested : (a b : Bool) (x : ℤ) → (if a then (if b then x else pos 0) else pos
 nested true b x = refl
 nested false b x = refl
 
-
-
-
 -- parts that are nothing for the rows that a second test passes over
 of_tested : {T : Type 0} (branch_of : T → ℕ) (test : T → Bool) (amount : T → ℤ) (key : ℕ) (rows : List T) (shares : List Part) (part : T → Part) →
     group_total key shares ≡ total (map (λ l. if branch_of l == key then (if test l then amount l else pos 0) else pos 0) rows) →
     group_total key shares ≡ total (map (λ l. if branch_of l == key && test l then amount l else pos 0) rows)
 of_tested branch_of test amount key rows shares part is =
     is ∙ same_totals (λ l. if branch_of l == key then (if test l then amount l else pos 0) else pos 0) (λ l. if branch_of l == key && test l then amount l else pos 0) rows
-        (λ l there. nested (branch_of l == key) (test l) (amount l))
+    (λ l there. nested (branch_of l == key) (test l) (amount l))
 
 pub branch_from_sums : (w : WorldLists) (s : Sums) (row : Branch) → AreSumsOf w s → branch_record_from s row ≡ branch_record_of w row
 branch_from_sums w s row sums =
@@ -46,14 +43,14 @@ branch_from_sums w s row sums =
     let lines = count_of_rows (λ (p : Part). p.group == row.branch) place_part w.lines s.by_place sums.by_place in
     let accounts = count_of_rows (λ (p : Part). p.group == row.branch) home_part w.accounts s.by_home sums.by_home in
     let drawers = of_tested (λ (l : CashLine). l.branch) (λ l. not (l.place == 0)) (λ l. l.amount) row.branch w.lines s.drawers drawer_part
-        (of_rows (λ (p : Part). if p.group == row.branch then p.amount else pos 0) drawer_part w.lines s.drawers sums.drawers) in
+    (of_rows (λ (p : Part). if p.group == row.branch then p.amount else pos 0) drawer_part w.lines s.drawers sums.drawers) in
     let cash_entries = of_tested (λ (l : CashLine). l.branch) (λ l. is_cash_entry l.form) (λ l. l.amount) row.branch w.lines s.cash_entries cash_entry_part
-        (of_rows (λ (p : Part). if p.group == row.branch then p.amount else pos 0) cash_entry_part w.lines s.cash_entries sums.cash_entries) in
+    (of_rows (λ (p : Part). if p.group == row.branch then p.amount else pos 0) cash_entry_part w.lines s.cash_entries sums.cash_entries) in
     let differences = of_tested (λ (l : CashLine). l.branch) (λ l. is_difference l.form) (λ l. l.amount) row.branch w.lines s.differences difference_part
-        (of_rows (λ (p : Part). if p.group == row.branch then p.amount else pos 0) difference_part w.lines s.differences sums.differences) in
+    (of_rows (λ (p : Part). if p.group == row.branch then p.amount else pos 0) difference_part w.lines s.differences sums.differences) in
     branch_same (branch_record_from s row) (branch_record_of w row) refl
-        (record { balance = ap (λ z. row.opening +ℤ z) history; entries = entries; history = history; accounts = accounts })
-        (record { vault = ap (λ z. row.cash +ℤ z) vault; lines = lines; drawers = drawers; cash_entries = cash_entries; differences = differences })
+    (record { balance = ap (λ z. row.opening +ℤ z) history; entries = entries; history = history; accounts = accounts })
+    (record { vault = ap (λ z. row.cash +ℤ z) vault; lines = lines; drawers = drawers; cash_entries = cash_entries; differences = differences })
 
 pub teller_from_sums : (w : WorldLists) (s : Sums) (row : Teller) (holder : Option ℕ) → holder ≡ holder_of w.lines row.teller → AreSumsOf w s → teller_record_from s row holder ≡ teller_record_of w row
 teller_from_sums w s row holder held sums =

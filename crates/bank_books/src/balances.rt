@@ -1,7 +1,7 @@
 ghost use Rattle.std.specs.Prelude.{◌≡◌, ◌==◌, ◌*◌, ◌^◌, ◌≤ℤ◌, pos, neg_ℤ, length, count_by};
 ghost use Rattle.std.specs.Option.{option_copied};
 ghost use Rattle.money.specs.Range.{IsCents};
-ghost use Rattle.bank_books.specs.Balances.{account_balance, account_count, account_deltas, deltas_up_to, account_opening, account_row, branch_balance, branch_deltas, branch_opening, branch_row, entry_count, teller_balance, teller_deltas, teller_opening, teller_row, turn_count};
+ghost use Rattle.bank_books.specs.Balances.{account_balance, account_count, account_deltas, account_opening, account_row, branch_balance, branch_deltas, branch_opening, branch_row, entry_count, teller_balance, teller_deltas, teller_opening, teller_row, turn_count};
 
 use crate::rows::{Account, Branch, Entry, Teller};
 use crate::world::World;
@@ -97,27 +97,6 @@ impl Tally<Entry> for OfAccount {
     }
 }
 
-/// The entries of one account up to one of its turns.
-#[derive(Clone, Copy)]
-struct UpToTurn {
-    account: u32,
-    turn: u32,
-}
-
-impl Tally<Entry> for UpToTurn {
-    ghost use Rattle.std.specs.Prelude.{◌==◌, ◌&&◌, nat_le, pos, if◌then◌else◌};
-
-    ghost share = { λ q e. if e.account == q.account && nat_le e.turn q.turn then e.delta else pos 0 };
-
-    fn share(&self, row: &Entry) -> i64 {
-        if row.account == self.account && row.turn <= self.turn {
-            row.delta.get()
-        } else {
-            0
-        }
-    }
-}
-
 /// The entries of one teller.
 #[derive(Clone, Copy)]
 struct OfTeller(u32);
@@ -188,14 +167,6 @@ pub(crate) fn account_count(accounts: &[Account], key: u32) -> u64
     ensures { result ≡ account_count key accounts.now }
 {
     accounts.iter().filter(|a| a.home == key).count() as u64
-}
-
-pub(crate) fn deltas_up_to(entries: &[Entry], key: u32, turn: u32) -> i128
-    ensures value { result ≡ deltas_up_to key turn entries.now }
-    ensures low { neg_ℤ (pos (2 ^ 63 * length entries.now)) ≤ℤ result }
-    ensures high { result ≤ℤ pos (2 ^ 63 * length entries.now) }
-{
-    sum_of(&UpToTurn { account: key, turn }, entries)
 }
 
 pub(crate) fn entry_count(entries: &[Entry], key: u32) -> u64

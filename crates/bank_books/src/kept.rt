@@ -119,11 +119,7 @@ ghost use Rattle.std.specs.Prelude.{◌≡◌, IfOk, IsOkUnless, map};
 ghost use Rattle.bank_books.specs.Records.{account_record_of, branch_record_of, entry_record_of, release_count_of, teller_record_of};
 ghost use Rattle.bank_books.specs.Sums.{AreSumsOf};
 
-fn branch_records(
-    alloc: Global,
-    world: &World,
-    sums: &Sums,
-) -> Result<Vec<BranchRecord>, Fault>
+fn branch_records(alloc: Global, world: &World, sums: &Sums) -> Result<Vec<BranchRecord>, Fault>
     requires { AreSumsOf world.now sums.now }
     ensures value { IfOk result (λ records. records.items ≡ map (branch_record_of world.now) world.now.branches) }
     ensures memory { IsOkUnless result Fault.Memory }
@@ -135,11 +131,7 @@ fn branch_records(
     Ok(records)
 }
 
-fn account_records(
-    alloc: Global,
-    world: &World,
-    sums: &Sums,
-) -> Result<Vec<AccountRecord>, Fault>
+fn account_records(alloc: Global, world: &World, sums: &Sums) -> Result<Vec<AccountRecord>, Fault>
     requires { AreSumsOf world.now sums.now }
     ensures value { IfOk result (λ records. records.items ≡ map (account_record_of world.now) world.now.accounts) }
     ensures memory { IsOkUnless result Fault.Memory }
@@ -151,11 +143,7 @@ fn account_records(
     Ok(records)
 }
 
-fn entry_records(
-    alloc: Global,
-    world: &World,
-    sums: &Sums,
-) -> Result<Vec<EntryRecord>, Fault>
+fn entry_records(alloc: Global, world: &World, sums: &Sums) -> Result<Vec<EntryRecord>, Fault>
     requires { AreSumsOf world.now sums.now }
     ensures value { IfOk result (λ records. records.items ≡ map (entry_record_of world.now) world.now.entries) }
     ensures memory { IsOkUnless result Fault.Memory }
@@ -167,11 +155,7 @@ fn entry_records(
     Ok(records)
 }
 
-fn release_counts(
-    alloc: Global,
-    world: &World,
-    sums: &Sums,
-) -> Result<Vec<ReleaseCount>, Fault>
+fn release_counts(alloc: Global, world: &World, sums: &Sums) -> Result<Vec<ReleaseCount>, Fault>
     requires { AreSumsOf world.now sums.now }
     ensures value { IfOk result (λ records. records.items ≡ map (release_count_of world.now) world.now.policy.users) }
     ensures memory { IsOkUnless result Fault.Memory }
@@ -183,11 +167,7 @@ fn release_counts(
     Ok(records)
 }
 
-fn teller_records(
-    alloc: Global,
-    world: &World,
-    sums: &Sums,
-) -> Result<Vec<TellerRecord>, Fault>
+fn teller_records(alloc: Global, world: &World, sums: &Sums) -> Result<Vec<TellerRecord>, Fault>
     requires { AreSumsOf world.now sums.now }
     ensures value { IfOk result (λ records. records.items ≡ map (teller_record_of world.now) world.now.tellers) }
     ensures memory { IsOkUnless result Fault.Memory }
