@@ -1,6 +1,6 @@
 -- What is asked of the rows that are told of a branch is what its cash, and what the sums of tellers, ask of the branch.
-use Rattle.std.proofs.Common.{◌≡◌, ℕ, ℤ, pos, negsuc, ◌+◌, ◌+ℤ◌, ◌<◌, ◌≤◌, ◌*◌, ◌^◌, List, [], ◌∷◌, map, Bool, true, false, ◌==◌, ◌&&◌, cond, Contains, refl, ap, arith, sym, ◌∙◌, subst, suc}
-use Rattle.std.specs.Prelude.{not, int_lt, if◌then◌else◌}
+use Rattle.std.proofs.Common.{◌≡◌, ℕ, ℤ, pos, negsuc, ◌+◌, ◌+ℤ◌, ◌≤◌, ◌*◌, ◌^◌, List, [], ◌∷◌, map, true, ◌==◌, ◌&&◌, Contains, refl, ap, arith, sym, ◌∙◌, subst, suc}
+use Rattle.std.specs.Prelude.{if◌then◌else◌}
 use Rattle.std.proofs.lemmas.Int.{ints}
 use Rattle.std.proofs.lemmas.Bool.Decides.{nat_tests}
 use Rattle.std.proofs.lemmas.Bool.{eqb-true}
@@ -11,12 +11,12 @@ use Rattle.bank_books.specs.declared.records.AccountRecord.{AccountRecord}
 use Rattle.bank_books.specs.declared.records.BranchRecord.{BranchRecord}
 use Rattle.bank_books.specs.declared.records.TellerRecord.{TellerRecord}
 use Rattle.bank_books.specs.Cash.{line_count}
-use Rattle.bank_books.specs.Conditions.{CashAgrees, TellersAgree, TotalsAgree}
+use Rattle.bank_books.specs.Conditions.{CashAgrees, TotalsAgree}
 use Rattle.bank_books.specs.Keys.{line_key}
 use Rattle.bank_books.specs.Numbering.{AreNumbered}
 use Rattle.bank_books.specs.Range.{IsBranchInRange, IsCash, IsInRange}
 use Rattle.bank_books.specs.Records.{KeptLists}
-use Rattle.bank_books.specs.RowConditions.{AmountsAgree, BranchesOfCash, LinesNumbered, TellersOfLines, IsSumOfTellers, amount_of, teller_sum}
+use Rattle.bank_books.specs.RowConditions.{AmountsAgree, BranchesOfCash, LinesNumbered, TellersOfLines, amount_of, teller_sum}
 use Rattle.bank_books.specs.WorldLists.{WorldLists}
 use Rattle.bank_books.proofs.Counting.{both_true, one_of_key}
 

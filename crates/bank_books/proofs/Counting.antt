@@ -1,8 +1,7 @@
 -- Rows that are counted, rows with distinct keys, and the rows that a list is made of.
-use Rattle.std.proofs.Common.{◌≡◌, ℕ, ◌+◌, ◌<◌, ◌≤◌, suc, zero, List, [], ◌∷◌, map, length, get_or, Bool, true, false, cond, ◌==◌, ◌||◌, ◌&&◌, Contains, refl, ap, arith, sym, ◌∙◌, subst}
+use Rattle.std.proofs.Common.{◌≡◌, ℕ, ◌+◌, ◌<◌, ◌≤◌, suc, List, [], ◌∷◌, map, length, get_or, Bool, true, false, cond, ◌==◌, ◌||◌, ◌&&◌, Contains, refl, ap, arith, sym, ◌∙◌, subst}
 use Rattle.std.specs.List.{count_by, list_any}
 use Rattle.std.proofs.lemmas.Bool.Decides.{nat_tests}
-use Rattle.std.proofs.lemmas.Bool.{eqb-true, eq-eqb}
 use Rattle.std.proofs.lemmas.List.{get_or-map, get_or_default, length-map}
 use Rattle.std.proofs.lemmas.List.Sums.{sum_by-cons}
 use Rattle.money.specs.Ordered.{AreDistinct}

@@ -1,5 +1,5 @@
 -- The least branch of which a condition fails: one row more, two conditions at once, and another wording.
-use Rattle.std.proofs.Common.{◌≡◌, ℕ, ◌+◌, ◌<◌, ◌≤◌, ◌↔◌, min, List, get_or, Option, Some, None, refl, ap, arith, sym, ◌∙◌, subst, inl, inr, ◌⊎◌}
+use Rattle.std.proofs.Common.{◌≡◌, ℕ, ◌+◌, ◌<◌, min, List, get_or, Option, Some, None, arith, sym, ◌∙◌, subst, inl, inr, ◌⊎◌}
 use Rattle.std.proofs.lemmas.Bool.{cases_lt}
 use Rattle.bank_books.specs.Least.{HoldsOfBranch, IsFirstFailing, IsLeastFailing, lesser_of}
 

@@ -1,6 +1,5 @@
 -- What is asked of the rows that are told of a branch is what the history asks of the branch.
-use Rattle.std.proofs.Common.{◌≡◌, ℕ, ◌+◌, ◌<◌, ◌≤◌, ◌*◌, ◌^◌, List, map, Bool, true, ◌==◌, ◌&&◌, Contains, refl, ap, arith, sym, ◌∙◌, subst, inl, inr}
-use Rattle.std.specs.List.{count_by}
+use Rattle.std.proofs.Common.{◌≡◌, ℕ, ◌+◌, ◌≤◌, ◌*◌, ◌^◌, true, ◌==◌, ◌&&◌, Contains, refl, ap, arith, sym, ◌∙◌, subst, inl, inr}
 use Rattle.std.proofs.lemmas.Bool.{cases_lt, eqb-true}
 use Rattle.bank_books.specs.declared.rows.Entry.{Entry}
 use Rattle.bank_books.specs.declared.records.EntryRecord.{EntryRecord}

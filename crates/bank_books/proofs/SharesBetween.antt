@@ -1,16 +1,16 @@
 -- What the parts between two places of an ordered list come to, and how the two places are found.
-use Rattle.std.proofs.Common.{◌≡◌, ℕ, ◌+◌, ◌-◌, ◌*◌, ◌^◌, ◌<◌, ◌≤◌, suc, zero, ℤ, pos, neg_ℤ, ◌+ℤ◌, ◌≤ℤ◌, List, [], ◌∷◌, map, take, length, get_or, Bool, true, false, leb, ltb, cond, ◌&&◌, ◌==◌, refl, ap, arith, sym, ◌∙◌, inl, inr}
+use Rattle.std.proofs.Common.{◌≡◌, ℕ, ◌+◌, ◌*◌, ◌^◌, ◌<◌, ◌≤◌, suc, zero, ℤ, pos, neg_ℤ, ◌+ℤ◌, ◌≤ℤ◌, List, [], ◌∷◌, map, take, length, get_or, Bool, true, false, leb, ltb, cond, ◌&&◌, ◌==◌, refl, ap, arith, sym, ◌∙◌, inl, inr}
 use Rattle.std.specs.Prelude.{nat_le}
 use Rattle.std.specs.List.{All, count_by}
 use Rattle.std.specs.List.Sorted.{IsPartitionPoint}
-use Rattle.std.proofs.lemmas.Bool.{and_from, and_left, and_parts, and_right, cases_lt, eq-eqb, eqb-true, false_from_ne_true, le-leb, leb-false, leb-true, lt-leb, ltb-false, ltb-true}
+use Rattle.std.proofs.lemmas.Bool.{and_from, and_left, and_parts, and_right, cases_lt, eq-eqb, eqb-true, le-leb, leb-false, leb-true, lt-leb, ltb-false, ltb-true}
 use Rattle.std.proofs.lemmas.Int.{ints}
 use Rattle.std.proofs.lemmas.List.Elements.{All-head, All-tail}
 use Rattle.std.proofs.lemmas.List.Sums.{sum_by-cons}
 use Rattle.money.specs.Totals.{total}
 use Rattle.bank_books.specs.declared.shares.Part.{Part}
 use Rattle.bank_books.proofs.Counting.{one_if}
-use Rattle.bank_books.specs.Shares.{IsPart, group_count, group_total, is_between, part_key, total_between, total_up_to, count_at, count_between}
+use Rattle.bank_books.specs.Shares.{IsPart, is_between, part_key}
 
 -- what a row adds where it passes a test
 abbrev pub where_passes : {X : Type 0} → (X → Bool) → (X → ℤ) → X → ℤ

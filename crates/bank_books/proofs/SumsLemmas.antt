@@ -1,16 +1,13 @@
 -- What sums by group give a row is what the World gives it.
-use Rattle.std.proofs.Common.{◌≡◌, ℕ, ℤ, pos, ◌+ℤ◌, List, map, Bool, true, false, ◌==◌, ◌&&◌, Option, refl, ap, sym, ◌∙◌, rules}
+use Rattle.std.proofs.Common.{◌≡◌, ℕ, ℤ, pos, ◌+ℤ◌, List, map, Bool, true, false, ◌==◌, ◌&&◌, Option, refl, ap, ◌∙◌}
 use Rattle.std.specs.Prelude.{nat_le, not, if◌then◌else◌}
 use Rattle.money.specs.Totals.{total}
 use Rattle.bank_policy.specs.declared.rows.User.{User}
 use Rattle.bank_books.specs.Cash.{holder_of, is_cash_entry, is_difference}
 use Rattle.bank_books.specs.Records.{account_record_of, branch_record_of, entry_record_of, release_count_of, teller_record_of}
-use Rattle.bank_books.specs.Shares.{group_count, group_total, total_at, total_up_to}
+use Rattle.bank_books.specs.Shares.{group_total}
 use Rattle.bank_books.specs.Sums.{AreSumsOf, account_record_from, branch_part, branch_record_from, cash_entry_part, difference_part, drawer_part, entry_record_from, home_part, place_part, release_count_from, teller_part, teller_record_from, turn_part, user_part}
 use Rattle.bank_books.specs.WorldLists.{WorldLists}
-use Rattle.bank_books.specs.declared.records.AccountRecord.{AccountRecord}
-use Rattle.bank_books.specs.declared.records.BranchRecord.{BranchRecord}
-use Rattle.bank_books.specs.declared.records.TellerRecord.{TellerRecord}
 use Rattle.bank_books.specs.declared.rows.Account.{Account}
 use Rattle.bank_books.specs.declared.rows.Branch.{Branch}
 use Rattle.bank_books.specs.declared.rows.CashLine.{CashLine}

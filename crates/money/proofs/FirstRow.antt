@@ -1,5 +1,5 @@
 -- The first row of a key, found at the point where the keys below it end.
-use Rattle.std.proofs.Common.{◌≡◌, ◌==◌, ℕ, ◌<◌, ◌≤◌, zero, suc, List, [], ◌∷◌, length, get_or, Bool, true, false, cond, Option, Some, None, ltb, refl, ap, arith, sym, ◌∙◌, inl, inr}
+use Rattle.std.proofs.Common.{◌≡◌, ◌==◌, ℕ, ◌<◌, ◌≤◌, zero, suc, List, [], ◌∷◌, length, get_or, Bool, true, false, cond, Some, None, ltb, refl, ap, arith, sym, ◌∙◌, inl, inr}
 use Rattle.std.specs.List.{find, All}
 use Rattle.std.specs.List.Sorted.{IsNonDecreasingBy, IsPartitionPoint}
 use Rattle.std.proofs.lemmas.Bool.{cases_lt}

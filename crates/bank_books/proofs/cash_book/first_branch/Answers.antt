@@ -1,6 +1,5 @@
 use Rattle.std.proofs.Common.{◌≡◌, List, Contains, map, subst, ap, ◌∙◌}
 use Rattle.bank_books.specs.declared.records.BranchRecord.{BranchRecord}
-use Rattle.bank_books.specs.Conditions.{IsTellerOfLines}
 use Rattle.bank_books.specs.Least.{IsFirstFailing}
 use Rattle.bank_books.specs.Records.{branch_record_of}
 use Rattle.bank_books.specs.RowConditions.{IsBranchOfCash}

@@ -3,7 +3,6 @@ use Rattle.bank_books.specs.declared.records.TellerRecord.{TellerRecord}
 use Rattle.bank_books.specs.Conditions.{IsTellerOfLines}
 use Rattle.bank_books.specs.Least.{IsFirstFailing}
 use Rattle.bank_books.specs.Records.{teller_record_of}
-use Rattle.bank_books.specs.RowConditions.{IsBranchOfCash}
 use Rattle.bank_books.proofs.KeptRows.{by_rows}
 use Rattle.bank_books.proofs.cash_book.first_teller.Goals as goal
 

@@ -1,4 +1,4 @@
-use Rattle.std.proofs.Common.{◌≡◌, List, Contains, map, pos, ◌==◌, subst, sym, ◌∙◌}
+use Rattle.std.proofs.Common.{◌≡◌, List, Contains, subst, sym, ◌∙◌}
 use Rattle.bank_books.specs.declared.records.BranchRecord.{BranchRecord}
 use Rattle.bank_books.specs.declared.records.TellerRecord.{TellerRecord}
 use Rattle.bank_books.specs.Conditions.{TellersAgree}

@@ -1,9 +1,8 @@
 use Rattle.std.proofs.Common.{◌≡◌, List, Contains, map, subst, ap, ◌∙◌}
 use Rattle.bank_books.specs.declared.records.BranchRecord.{BranchRecord}
-use Rattle.bank_books.specs.Conditions.{IsAccountOfHistory, IsBranchOfHistory, home_of}
+use Rattle.bank_books.specs.Conditions.{IsBranchOfHistory}
 use Rattle.bank_books.specs.Least.{IsFirstFailing}
 use Rattle.bank_books.specs.Records.{branch_record_of}
-use Rattle.bank_books.specs.RowConditions.{IsEntryOfHistory}
 use Rattle.bank_books.proofs.KeptRows.{by_rows}
 use Rattle.bank_books.proofs.history.first_branch.Goals as goal
 

@@ -1,6 +1,6 @@
 use Rattle.std.proofs.Common.{◌≡◌, List, Contains, map, subst, ap, ◌∙◌}
 use Rattle.bank_books.specs.declared.records.EntryRecord.{EntryRecord}
-use Rattle.bank_books.specs.Conditions.{IsAccountOfHistory, IsBranchOfHistory, home_of}
+use Rattle.bank_books.specs.Conditions.{home_of}
 use Rattle.bank_books.specs.Least.{IsFirstFailing}
 use Rattle.bank_books.specs.Records.{entry_record_of}
 use Rattle.bank_books.specs.RowConditions.{IsEntryOfHistory}

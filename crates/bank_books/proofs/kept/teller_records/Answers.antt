@@ -1,5 +1,5 @@
 -- One teller more, with the holder of its drawer.
-use Rattle.std.proofs.Common.{◌≡◌, ℕ, Option, List, map, get_or, refl, ap, sym, ◌∙◌}
+use Rattle.std.proofs.Common.{◌≡◌, ℕ, Option, get_or, refl, ap, sym, ◌∙◌}
 use Rattle.std.proofs.lemmas.List.{get_or-map}
 use Rattle.bank_books.specs.Cash.{holder_of}
 use Rattle.bank_books.specs.Records.{teller_record_of}

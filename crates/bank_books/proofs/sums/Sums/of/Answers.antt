@@ -1,10 +1,6 @@
 use Rattle.std.proofs.Common.{◌≡◌, List, map, subst}
 use Rattle.std.specs.List.Sorted.{IsPermutation}
 use Rattle.bank_books.specs.Sums.{branch_part, teller_part, turn_part, place_part, drawer_part, cash_entry_part, difference_part, home_part, user_part}
-use Rattle.bank_books.specs.declared.rows.Account.{Account}
-use Rattle.bank_books.specs.declared.rows.CashLine.{CashLine}
-use Rattle.bank_books.specs.declared.rows.Entry.{Entry}
-use Rattle.bank_books.specs.declared.rows.Release.{Release}
 use Rattle.bank_books.specs.declared.shares.Part.{Part}
 use Rattle.bank_books.proofs.sums.Sums.of.Goals as goal
 
