@@ -7,4 +7,5 @@ pub mod CashConditions
 pub mod KeptNumbers
 pub mod SharesBetween
 pub mod SharesCalls
+pub mod SharesGroups
 pub mod SharesLemmas

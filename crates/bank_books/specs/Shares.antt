@@ -1,5 +1,5 @@
 -- Parts of sums by group: what a group comes to, how many parts it has, and the running sums by which both are found.
-use Rattle.std.specs.Prelude.{◌≡◌, ℕ, ◌+◌, ◌*◌, ◌^◌, ◌<◌, ◌≤◌, nat_le, ℤ, pos, ◌+ℤ◌, neg_ℤ, ◌<ℤ◌, ◌≤ℤ◌, List, length, map, take, slice_index_or, ◌==◌, ◌&&◌, count_by, if◌then◌else◌, Bool}
+use Rattle.std.specs.Prelude.{◌≡◌, ℕ, ◌+◌, ◌*◌, ◌^◌, ◌<◌, ◌≤◌, nat_le, ℤ, pos, neg_ℤ, ◌<ℤ◌, ◌≤ℤ◌, List, length, map, take, slice_index_or, ◌==◌, ◌&&◌, count_by, if◌then◌else◌, Bool}
 use Rattle.std.specs.List.{All}
 use Rattle.std.specs.List.Sorted.{IsNonDecreasingBy}
 use Rattle.money.specs.Totals.{total}

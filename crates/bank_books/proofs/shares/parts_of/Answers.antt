@@ -1,4 +1,4 @@
-use Rattle.std.proofs.Common.{◌<◌, ◌^◌, ◌≤ℤ◌, neg_ℤ, pos, arith, rules, refl}
+use Rattle.std.proofs.Common.{rules, refl}
 use Rattle.std.proofs.lemmas.List.Elements.{All-push, All-same}
 use Rattle.bank_books.specs.Shares.{IsPart}
 use Rattle.bank_books.proofs.Mapped.{mapped_more}

@@ -1,4 +1,4 @@
-use Rattle.std.proofs.Common.{◌≡◌, ◌+◌, ◌*◌, ◌^◌, take, pos, neg_ℤ, ◌≤ℤ◌, map}
+use Rattle.std.proofs.Common.{◌≡◌, ◌*◌, ◌^◌, take, pos, neg_ℤ, ◌≤ℤ◌, map}
 use Rattle.money.specs.Totals.{total}
 use Rattle.bank_books.specs.Shares.{AreRunningSums}
 use Rattle.bank_books.proofs.shares.running_sums.Given as goal

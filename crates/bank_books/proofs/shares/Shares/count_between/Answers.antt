@@ -1,4 +1,4 @@
-use Rattle.std.proofs.Common.{arith, ◌≡◌, ◌-◌, ◌≤◌}
+use Rattle.std.proofs.Common.{arith}
 use Rattle.bank_books.proofs.SharesCalls.{counted_between}
 use Rattle.bank_books.proofs.shares.Shares.count_between.Goals as goal
 
