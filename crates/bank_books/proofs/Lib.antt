@@ -13,5 +13,6 @@ pub mod RangeJoined
 pub mod SameCounts
 pub mod SharesBetween
 pub mod SharesCalls
+pub mod SharesGroups
 pub mod SharesLemmas
 pub mod SumsLemmas

@@ -8,7 +8,8 @@ use Rattle.std.proofs.lemmas.List.{get_or_append_left, get_or_push, length-take-
 use Rattle.money.specs.Totals.{total}
 use Rattle.bank_books.specs.declared.shares.Part.{Part}
 use Rattle.bank_books.specs.Shares.{AreRunningSums, AreShares, IsPart, count_at, count_between, group_count, group_total, is_between, total_at, total_between, total_up_to}
-use Rattle.bank_books.proofs.SharesBetween.{EndsAt, EndsBelow, between_places, count_by-PassBetween, total-PassBetween, within_amounts, count_of_tests, greatest, is_at, is_of_group, is_up_to, total_of_tests}
+use Rattle.bank_books.proofs.SharesBetween.{EndsAt, EndsBelow, between_places, count_by-PassBetween, total-PassBetween, within_amounts}
+use Rattle.bank_books.proofs.SharesGroups.{count_of_tests, greatest, is_at, is_of_group, is_up_to, total_of_tests}
 
 pub group_added : (group first last : ℕ) (parts : List Part) → first ≡ 2 ^ 32 * group + 0 → last ≡ 2 ^ 32 * group + greatest → All IsPart parts →
     total_between first last parts ≡ group_total group parts

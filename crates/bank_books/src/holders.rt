@@ -8,7 +8,7 @@ use std::alloc::{AllocError, Global};
 use std::collections::BTreeMap;
 
 /// Who holds the drawer of each teller, in the order of the tellers: the user who put it on, or
-/// none. It goes over the lines once.
+/// none. It goes over the lines once, and fails only where memory is refused.
 pub(crate) fn holders(
     alloc: Global,
     tellers: &[Teller],

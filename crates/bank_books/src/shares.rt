@@ -1,7 +1,6 @@
-ghost use Rattle.std.specs.Prelude.{◌≡◌, ◌+◌, ◌*◌, ◌^◌, ◌<◌, ◌≤◌, ◌≤ℤ◌, ◌+ℤ◌, IfOk, length, map, neg_ℤ, pos, slice_index_or, take};
+ghost use Rattle.std.specs.Prelude.{◌≡◌, ◌+◌, ◌*◌, ◌^◌, ◌<◌, ◌≤◌, ◌≤ℤ◌, IfOk, length, map, neg_ℤ, pos};
 ghost use Rattle.std.specs.List.{All};
 ghost use Rattle.std.specs.List.Sorted.{IsNonDecreasingBy, IsPartitionPoint, IsPermutation};
-ghost use Rattle.money.specs.Totals.{total};
 ghost use Rattle.bank_books.specs.Shares.{AreRunningSums, IsPart, part_key};
 
 use std::alloc::{AllocError, Global};
@@ -71,7 +70,8 @@ impl Shares {
     ghost use Rattle.std.specs.List.Sorted.{IsPermutation};
     ghost use Rattle.bank_books.specs.Shares.{count_at, count_between, group_count, group_total, total_at, total_between, total_up_to};
 
-    /// The parts of these rows.
+    /// The parts of these rows. It takes the time of one sort, and fails only where memory is
+    /// refused.
     pub(crate) fn of<T, Q: Parts<T>>(
         alloc: Global,
         query: &Q,
