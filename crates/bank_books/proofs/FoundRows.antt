@@ -1,5 +1,5 @@
 -- Rows that are found by a key which stands once.
-use Rattle.std.proofs.Common.{◌≡◌, ◌≢◌, ◌==◌, ℕ, ◌<◌, zero, suc, List, [], ◌∷◌, length, get_or, map, Bool, true, false, cond, Contains, Option, Some, None, IsTrue, refl, ap, arith, sym, subst, ◌∙◌}
+use Rattle.std.proofs.Common.{◌≡◌, ◌≢◌, ◌==◌, ℕ, zero, suc, List, [], ◌∷◌, map, Bool, true, false, cond, Contains, Option, Some, None, IsTrue, refl, ap, arith, sym, subst, ◌∙◌}
 use Rattle.std.specs.List.{find}
 use Rattle.std.specs.List.Sorted.{IsNonDecreasingBy}
 use Rattle.std.proofs.lemmas.Bool.{false≢true}

@@ -1,5 +1,5 @@
 -- Rows that are numbered within their groups, where no key stands twice.
-use Rattle.std.proofs.Common.{refl, ◌≡◌, ◌==◌, ℕ, ◌+◌, ◌*◌, ◌^◌, ◌≤◌, ◌&&◌, List, map, Bool, true, Contains, IsTrue, ap, arith, sym, subst, ◌∙◌}
+use Rattle.std.proofs.Common.{refl, ◌≡◌, ◌==◌, ℕ, ◌+◌, ◌*◌, ◌^◌, ◌≤◌, ◌&&◌, List, map, Contains, ap, arith, subst, ◌∙◌}
 use Rattle.std.specs.List.{count_by}
 use Rattle.std.proofs.lemmas.Bool.{eqb-true}
 use Rattle.money.specs.Ordered.{AreDistinct}

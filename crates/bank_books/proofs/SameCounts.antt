@@ -1,5 +1,5 @@
 -- When two counts of releases are equal.
-use Rattle.std.proofs.Common.{◌≡◌, ℕ, ◌==◌, ◌&&◌, Bool, true, Decides, refl, ap, rules, ◌∙◌}
+use Rattle.std.proofs.Common.{◌≡◌, ◌==◌, ◌&&◌, true, Decides, ap, rules, ◌∙◌}
 use Rattle.std.proofs.lemmas.Bool.{eq-eqb, eqb-true}
 use Rattle.bank_books.specs.declared.records.ReleaseCount.{ReleaseCount}
 use Rattle.bank_books.proofs.Counting.{both_true}

@@ -1,4 +1,4 @@
-use Rattle.std.proofs.Common.{arith, rules, ◌≡◌, length}
+use Rattle.std.proofs.Common.{arith, rules}
 use Rattle.bank_books.proofs.BesideRows.{one_beside}
 use Rattle.bank_books.proofs.beside.stand_beside.Goals as goal
 
