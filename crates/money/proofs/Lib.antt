@@ -4,4 +4,5 @@ pub mod DistinctKeys
 pub mod FirstRow
 pub mod LookUps
 pub mod Places
+pub mod RowsBetween
 pub mod TotalLemmas

@@ -15,6 +15,7 @@ pub use cents::{Cents, Delta, MAX_CENTS, MAX_DELTA, add, plus};
 pub use fault::Fault;
 pub use ordered::{
     Keyed, find_row, has_distinct_keys, insert_row, insert_row_reserved, is_there, place_of,
+    rows_between,
 };
 pub use sending::{WriteStopped, write_parts, write_whole};
 pub use sums::{Tally, sum_of};
