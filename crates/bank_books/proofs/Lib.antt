@@ -2,6 +2,7 @@ pub mod BesideRows
 pub mod Counting
 pub mod FirstFailing
 pub mod FoundRows
+pub mod GroupRows
 pub mod HistoryConditions
 pub mod KeptRows
 pub mod Mapped
