@@ -3,6 +3,7 @@ pub mod CashConditions
 pub mod Counting
 pub mod FirstFailing
 pub mod FoundRows
+pub mod GroupRows
 pub mod HistoryConditions
 pub mod Judged
 pub mod KeptNumbers

@@ -23,6 +23,10 @@ pub record IsReleaseAlone (w : WorldLists) (r : Release) : Type 0 where
   pub day : IsDay r.day
   pub operation : HoldsReleasable r
 
+-- of all of them
+pub record AreReleasesAlone (w : WorldLists) : Type 0 where
+  pub each : (r : Release) → Contains w.releases r → IsReleaseAlone w r
+
 -- the releases of each user bear the numbers 1, 2, 3 and so on
 abbrev pub AreReleasesNumbered : WorldLists → Type 0
 AreReleasesNumbered w = (r : Release) → Contains w.releases r → AreNumbered (λ o. o.user) (λ o. o.number) w.releases r.user
@@ -47,7 +51,7 @@ pub record AreUsersInRange (w : WorldLists) : Type 0 where
   pub releases : (r : Release) → Contains w.releases r → IsReleaseInRange w r
   pub users : (u : User) → Contains w.policy.users u → u.session ≤ 999999999
 
--- of all of them
+-- of all rows
 pub record AreAllInRange (w : WorldLists) (kept : KeptLists) : Type 0 where
   pub places : ArePlacesInRange w kept
   pub ledgers : AreLedgersInRange w kept

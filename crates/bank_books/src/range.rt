@@ -3,7 +3,7 @@ ghost use Rattle.money.specs.Ordered.{AreDistinct};
 ghost use Rattle.bank_policy.specs.declared.rows.User.{User as AUser};
 ghost use Rattle.bank_books.specs.Keys.{account_key, branch_key, entry_key, line_key, proof_key, release_key, teller_key};
 ghost use Rattle.bank_books.specs.Range.{AreOfRows, HasDistinctKeys, IsAccountInRange, IsBranchInRange, IsEntryInRange, IsInRange, IsLineInRange, IsProofInRange, IsReleaseInRange, IsTellerInRange};
-ghost use Rattle.bank_books.specs.RangeParts.{AreAllInRange, AreCashBooksInRange, AreLedgersInRange, ArePlacesInRange, AreUsersInRange, IsReleaseAlone};
+ghost use Rattle.bank_books.specs.RangeParts.{AreAllInRange, AreCashBooksInRange, AreLedgersInRange, ArePlacesInRange, AreReleasesAlone, AreUsersInRange};
 ghost use Rattle.bank_books.specs.Records.{kept_of};
 ghost use Rattle.bank_books.specs.declared.records.AccountRecord.{AccountRecord as AnAccount};
 ghost use Rattle.bank_books.specs.declared.records.BranchRecord.{BranchRecord as ABranch};
@@ -42,14 +42,15 @@ fn are_all_in_range(world: &World, kept: &Kept) -> bool
     requires { HasDistinctKeys world.now }
     ensures { IsTrue result ↔ AreAllInRange world.now kept.now }
 {
-    are_places_in_range(world, kept)
+    are_cash_books_in_range(world)
+        && are_places_in_range(world, kept)
         && are_ledgers_in_range(world, kept)
-        && are_cash_books_in_range(world)
         && are_users_in_range(world)
 }
 
 fn are_places_in_range(world: &World, kept: &Kept) -> bool
-    requires { HasDistinctKeys world.now }
+    requires distinct { HasDistinctKeys world.now }
+    requires days { AreCashBooksInRange world.now }
     ensures { IsTrue result ↔ ArePlacesInRange world.now kept.now }
 {
     are_branches_in_range(world, kept.branches()) && are_tellers_in_range(world, kept.tellers())
@@ -101,7 +102,8 @@ fn has_distinct_history(world: &World) -> bool
 }
 
 fn are_branches_in_range(world: &World, branches: &[BranchRecord]) -> bool
-    requires { HasDistinctKeys world.now }
+    requires distinct { HasDistinctKeys world.now }
+    requires days { AreCashBooksInRange world.now }
     ensures { IsTrue result ↔ ((b : ABranch) → Contains branches.now b → IsBranchInRange world.now b) }
 {
     branches
@@ -149,14 +151,15 @@ fn are_releases_in_range(world: &World) -> bool
     requires { HasDistinctKeys world.now }
     ensures { IsTrue result ↔ ((r : ARelease) → Contains world.now.releases r → IsReleaseInRange world.now r) }
 {
-    are_releases_sound(world, world.releases()) && are_releases_numbered(world)
+    are_releases_alone(world) && are_releases_numbered(world)
 }
 
 /// The same but for how they are numbered.
-fn are_releases_sound(world: &World, releases: &[Release]) -> bool
-    ensures { IsTrue result ↔ ((r : ARelease) → Contains releases.now r → IsReleaseAlone world.now r) }
+fn are_releases_alone(world: &World) -> bool
+    ensures { IsTrue result ↔ AreReleasesAlone world.now }
 {
-    releases
+    world
+        .releases()
         .iter()
         .all(|release| is_release_alone(world, release))
 }

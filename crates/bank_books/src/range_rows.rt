@@ -1,12 +1,11 @@
-ghost use Rattle.std.specs.Prelude.{◌≡◌, ◌↔◌, ◌+◌, ◌≤◌, ◌≤ℤ◌, ◌⊎◌, ◌==◌, IfSome, IsTrue, map, negsuc, pos};
-ghost use Rattle.std.specs.List.{count_by};
+ghost use Rattle.std.specs.Prelude.{◌≡◌, ◌↔◌, ◌≤◌, ◌≤ℤ◌, ◌⊎◌, IfSome, IsTrue, map, negsuc, pos};
 ghost use Rattle.money.specs.Ordered.{AreDistinct};
 ghost use Rattle.money.specs.Range.{IsCents};
 ghost use Rattle.counter_ops.specs.Ranges.{IsKey, IsKeyOrZero, IsWithin};
 ghost use Rattle.bank_books.specs.Balances.{account_count};
-ghost use Rattle.bank_books.specs.Keys.{proof_key, teller_key};
-ghost use Rattle.bank_books.specs.Range.{HoldsReleasable, IsAccount, IsAccountInRange, IsBranch, IsBranchInRange, IsCash, IsDay, IsEntryInRange, IsLineInRange, IsProofInRange, IsTellerInRange, IsTellerOf, IsUser, IsUserNumber};
-ghost use Rattle.bank_books.specs.RangeParts.{IsReleaseAlone};
+ghost use Rattle.bank_books.specs.Keys.{teller_key};
+ghost use Rattle.bank_books.specs.Range.{HasDistinctKeys, HoldsReleasable, IsAccount, IsAccountInRange, IsBranch, IsBranchInRange, IsCash, IsDay, IsEntryInRange, IsLineInRange, IsProofInRange, IsTellerInRange, IsTellerOf, IsUser, IsUserNumber};
+ghost use Rattle.bank_books.specs.RangeParts.{AreCashBooksInRange, IsReleaseAlone};
 
 use crate::balances::account_count;
 use crate::numbering::has_numbered_days;
@@ -25,7 +24,8 @@ const MAX_MOMENT: u64 = 99_999_999_999;
 /// Whether what is kept of a branch is within its limits, and its proofs are those of the days
 /// before its present one.
 pub(crate) fn is_branch_in_range(world: &World, branch: &BranchRecord) -> bool
-    requires { AreDistinct (map proof_key world.now.proofs) }
+    requires distinct { HasDistinctKeys world.now }
+    requires days { AreCashBooksInRange world.now }
     ensures { IsTrue result ↔ IsBranchInRange world.now branch.now }
 {
     is_branch_row_in_range(&branch.row)

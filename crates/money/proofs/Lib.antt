@@ -5,4 +5,5 @@ pub mod FirstRow
 pub mod GroupCounts
 pub mod LookUps
 pub mod Places
+pub mod RowsBetween
 pub mod TotalLemmas

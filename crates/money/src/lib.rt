@@ -17,7 +17,7 @@ pub use fault::Fault;
 pub use groups::{Grouped, has_small_groups};
 pub use ordered::{
     Keyed, are_in_order, find_row, has_distinct_keys, insert_row, insert_row_reserved, is_there,
-    place_of,
+    place_of, rows_between,
 };
 pub use sending::{WriteStopped, write_parts, write_whole};
 pub use sums::{Tally, sum_of};

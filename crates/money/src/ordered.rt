@@ -1,5 +1,5 @@
-ghost use Rattle.std.specs.Prelude.{◌≡◌, ◌==◌, ◌+◌, ◌<◌, ◌≤◌, ◌↔◌, ℕ, nat_le, length, map, IsTrue, vec_len, vec_capacity, OnOk, OnErr};
-ghost use Rattle.std.specs.List.{find, prefix_len};
+ghost use Rattle.std.specs.Prelude.{◌≡◌, ◌==◌, ◌&&◌, ◌+◌, ◌<◌, ◌≤◌, ◌↔◌, ℕ, nat_le, nat_lt, length, map, IsTrue, vec_len, vec_capacity, OnOk, OnErr};
+ghost use Rattle.std.specs.List.{filter, find, prefix_len};
 ghost use Rattle.std.specs.Option.{option_copied};
 ghost use Rattle.std.specs.List.Sorted.{IsNonDecreasingBy, IsPartitionPoint};
 ghost use Rattle.money.specs.Ordered.{AreDistinct, HasRow, add_row};
@@ -85,9 +85,19 @@ pub fn find_row<T: Keyed>(rows: &[T], key: u128) -> Option<&T>
     if row.key() == key { Some(row) } else { None }
 }
 
+/// The rows whose keys are from one key to below another. The rows stand in order of their keys, so each look halves those that are
+/// left. It takes no memory.
+pub fn rows_between<T: Keyed>(rows: &[T], low: u128, high: u128) -> &[T]
+    ensures { IsNonDecreasingBy T.key rows.now → result.now ≡ filter (λ row. nat_le low (T.key row) && nat_lt (T.key row) high) rows.now }
+{
+    let from_low = &rows[end_below(rows, low)..];
+    &from_low[..end_below(from_low, high)]
+}
+
 /// The place behind the rows whose keys are below this one.
 fn end_below<T: Keyed>(rows: &[T], key: u128) -> usize
-    ensures { IsNonDecreasingBy T.key rows.now → IsPartitionPoint (λ row. T.key row < key) (λ row. key ≤ T.key row) rows.now result }
+    ensures place { IsNonDecreasingBy T.key rows.now → IsPartitionPoint (λ row. T.key row < key) (λ row. key ≤ T.key row) rows.now result }
+    ensures within { result ≤ length rows.now }
 {
     rows.partition_point(|row| row.key() < key)
 }

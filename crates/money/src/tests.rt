@@ -1,7 +1,7 @@
 use crate::{
     Cents, Delta, Fault, Grouped, Keyed, MAX_CENTS, MAX_DELTA, Tallied, Tally, WriteStopped, add,
     are_in_order, find_row, has_distinct_keys, has_small_groups, insert_row, insert_row_reserved,
-    is_there, place_of, plus, sum_of, write_cents, write_parts, write_whole,
+    is_there, place_of, plus, rows_between, sum_of, write_cents, write_parts, write_whole,
 };
 use std::alloc::{AllocError, Global};
 use std::io;
@@ -158,6 +158,7 @@ fn rows_go_behind_those_of_their_key(rt: HostRuntime) -> Result<(), Fail> {
         assert_eq!(rt; is_there(&rows, key), first.is_some());
         assert_eq!(rt; find_row(&rows, key).map(|row| row.1), first);
     }
+    assert_eq!(rt; rows_between(&rows, 2, u128::MAX), &ordered[2..4]);
     assert!(rt; !has_distinct_keys(&rows));
     assert!(rt; has_distinct_keys(&ordered[1..3]));
     assert!(rt; are_in_order(&rows));

@@ -10,4 +10,4 @@ returns c =
     let seen = c.releases.result.now in
     let each = told (IsNumberedRelease w) seen w.releases c.all.result c.releases.ensures.value
     (judged (IsNumberedRelease w) seen c.all.result (cases_from_all _ _ c.all.result (IsNumberedRelease w) (λ x. IsNumberedRelease w x → ⊥) c.all.ensures.ran (YieldsList-from_slice seen cc) (λ x q k. search rules) (λ x q k. search rules))) in
-    (λ is. releases_numbered w c.requires (each.0 is), λ numbered. each.1 (releases_from_numbered w numbered))
+    (λ is. releases_numbered w c.requires.distinct.releases (each.0 is), λ numbered. each.1 (releases_from_numbered w numbered))

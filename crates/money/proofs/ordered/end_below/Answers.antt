@@ -3,8 +3,8 @@ use Rattle.std.proofs.lemmas.List.Sorted.{IsPartitionPoint-from_clause, IsPartit
 use Rattle.money.proofs.FirstRow.{EndsBelow-from_test}
 use Rattle.money.proofs.ordered.end_below.Goals as goal
 
-pub returns : goal.returns
-returns g c order =
+pub returns-clause-place : goal.returns-clause-place
+returns-clause-place g c order =
     let key = g.T.Keyed.key in
     EndsBelow-from_test key c.args.rows.now c.args.key c.partition_point.result
     (IsPartitionPoint-from_clause (λ y. ltb (key y) c.args.key) c.args.rows.now c.partition_point.result c.partition_point.ensures.partitioned
