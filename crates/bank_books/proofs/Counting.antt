@@ -51,8 +51,12 @@ differ a b e same = grind (arith, nat_tests)
 none_counted : {X : Type 0} (key : X → ℕ) (p : X → Bool) (k : ℕ) → ((x : X) → p x ≡ true → key x ≡ k) → (xs : List X) → list_any (λ j. j == k) (map key xs) ≡ false → count_by p xs ≡ 0
 none_counted key p k one_key [] none = refl
 none_counted {X} key p k one_key (x ∷ xs) none =
-    omega (arith, count_cons p x xs, go (p x) refl (or_left (key x == k) (list_any (λ j. j == k) (map key xs)) none),
-      none_counted key p k one_key xs (or_right (key x == k) (list_any (λ j. j == k) (map key xs)) none))
+    omega (
+      arith,
+      count_cons p x xs,
+      go (p x) refl (or_left (key x == k) (list_any (λ j. j == k) (map key xs)) none),
+      none_counted key p k one_key xs (or_right (key x == k) (list_any (λ j. j == k) (map key xs)) none),
+    )
   where
     go : (b : Bool) → p x ≡ b → (key x == k) ≡ false → one_if (p x) ≡ 0
     go true passes other = absurd (differ (key x) k other (one_key x passes))

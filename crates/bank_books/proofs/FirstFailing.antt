@@ -11,11 +11,11 @@ with_row : {T : Type 0} (holds : T → T → Type 0) (branch_of : T → ℕ) (ro
     ((d : T) → branch_of (get_or rows i d) ≡ branch → holds (get_or rows i d) (get_or computed i d)) →
     HoldsOfBranch holds branch_of rows computed i branch → HoldsOfBranch holds branch_of rows computed (i + 1) branch
 with_row {T} holds branch_of rows computed i branch at before k d below told = elim (before_or_at k i below) [
-    | inl earlier ↦ before k d earlier told
-    | inr here ↦
-        let P : ℕ → Type 0 = λ j. branch_of (get_or rows j d) ≡ branch → holds (get_or rows j d) (get_or computed j d) in
-        subst P (sym here) (at d) told
-  ]
+  | inl earlier ↦ before k d earlier told
+  | inr here ↦
+      let P : ℕ → Type 0 = λ j. branch_of (get_or rows j d) ≡ branch → holds (get_or rows j d) (get_or computed j d) in
+      subst P (sym here) (at d) told
+]
 
 without_row : {T : Type 0} (holds : T → T → Type 0) (branch_of : T → ℕ) (rows computed : List T) (i branch : ℕ) →
     HoldsOfBranch holds branch_of rows computed (i + 1) branch → HoldsOfBranch holds branch_of rows computed i branch
@@ -44,21 +44,21 @@ one_fails holds branch_of rows computed i b None row is fails before = record {
   least = λ other lower. not_told holds branch_of rows computed i b other is (λ same. omega (arith, same)) (before other);
 }
 one_fails {T} holds branch_of rows computed i b (Some least) row is fails before = elim (cases_lt b least) [
-    | inl lower ↦
-        let is_b : min least b ≡ b = omega arith in
-        let P : ℕ → Type 0 = λ m. IsLeastFailing (HoldsOfBranch holds branch_of rows computed (i + 1)) m in
-        subst P (sym is_b) (record {
-          fails = λ all. fails (all i row (omega arith) (is row));
-          least = λ other less. not_told holds branch_of rows computed i b other is (λ same. omega (arith, same)) (before.least other (omega arith));
-        })
-    | inr higher ↦
-        let is_least : min least b ≡ least = omega arith in
-        let P : ℕ → Type 0 = λ m. IsLeastFailing (HoldsOfBranch holds branch_of rows computed (i + 1)) m in
-        subst P (sym is_least) (record {
-          fails = λ all. before.fails (without_row holds branch_of rows computed i least all);
-          least = λ other less. not_told holds branch_of rows computed i b other is (λ same. omega (arith, same)) (before.least other less);
-        })
-  ]
+  | inl lower ↦
+      let is_b : min least b ≡ b = omega arith in
+      let P : ℕ → Type 0 = λ m. IsLeastFailing (HoldsOfBranch holds branch_of rows computed (i + 1)) m in
+      subst P (sym is_b) (record {
+        fails = λ all. fails (all i row (omega arith) (is row));
+        least = λ other less. not_told holds branch_of rows computed i b other is (λ same. omega (arith, same)) (before.least other (omega arith));
+      })
+  | inr higher ↦
+      let is_least : min least b ≡ least = omega arith in
+      let P : ℕ → Type 0 = λ m. IsLeastFailing (HoldsOfBranch holds branch_of rows computed (i + 1)) m in
+      subst P (sym is_least) (record {
+        fails = λ all. before.fails (without_row holds branch_of rows computed i least all);
+        least = λ other less. not_told holds branch_of rows computed i b other is (λ same. omega (arith, same)) (before.least other less);
+      })
+]
 
 -- the least branch of which one of two conditions fails
 pub both : (first second : ℕ → Type 0) (one other : Option ℕ) → IsFirstFailing first one → IsFirstFailing second other →
@@ -73,21 +73,21 @@ both first second (Some one) None fails_one holds_other = record {
   least = λ b lower. (fails_one.least b lower, holds_other b);
 }
 both first second (Some one) (Some other) fails_one fails_other = elim (cases_lt other one) [
-    | inl lower ↦
-        let is_other : min one other ≡ other = omega arith in
-        let P : ℕ → Type 0 = λ m. IsLeastFailing (λ b. first b × second b) m in
-        subst P (sym is_other) (record {
-          fails = λ all. fails_other.fails all.1;
-          least = λ b less. (fails_one.least b (omega arith), fails_other.least b less);
-        })
-    | inr higher ↦
-        let is_one : min one other ≡ one = omega arith in
-        let P : ℕ → Type 0 = λ m. IsLeastFailing (λ b. first b × second b) m in
-        subst P (sym is_one) (record {
-          fails = λ all. fails_one.fails all.0;
-          least = λ b less. (fails_one.least b less, fails_other.least b (omega arith));
-        })
-  ]
+  | inl lower ↦
+      let is_other : min one other ≡ other = omega arith in
+      let P : ℕ → Type 0 = λ m. IsLeastFailing (λ b. first b × second b) m in
+      subst P (sym is_other) (record {
+        fails = λ all. fails_other.fails all.1;
+        least = λ b less. (fails_one.least b (omega arith), fails_other.least b less);
+      })
+  | inr higher ↦
+      let is_one : min one other ≡ one = omega arith in
+      let P : ℕ → Type 0 = λ m. IsLeastFailing (λ b. first b × second b) m in
+      subst P (sym is_one) (record {
+        fails = λ all. fails_one.fails all.0;
+        least = λ b less. (fails_one.least b less, fails_other.least b (omega arith));
+      })
+]
 
 -- the same of a condition that says the same in other words
 pub reworded : (first second : ℕ → Type 0) (least : Option ℕ) → ((b : ℕ) → first b → second b) → ((b : ℕ) → second b → first b) →

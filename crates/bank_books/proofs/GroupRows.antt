@@ -34,17 +34,17 @@ filter_same {X} p q (x ∷ xs) agree =
 -- a group by a key that is made of it and a number
 group_test : (g of n : ℕ) → n < 2 ^ 32 → (leb (2 ^ 32 * of) (2 ^ 32 * g + n) && ltb (2 ^ 32 * g + n) (2 ^ 32 * (of + 1))) ≡ (g == of)
 group_test g of n small = elim (cases_lt g of) [
-    | inl below ↦ ap (λ b. b && ltb (2 ^ 32 * g + n) (2 ^ 32 * (of + 1))) (lt-leb (2 ^ 32 * of) (2 ^ 32 * g + n) (omega (arith, small, below))) ∙ sym (ne_eqb g of (λ same. omega (arith, below, same)))
-    | inr from ↦ elim (cases_lt of g) [
-        | inl above ↦
-            ap (λ b. leb (2 ^ 32 * of) (2 ^ 32 * g + n) && b) (le-ltb (2 ^ 32 * g + n) (2 ^ 32 * (of + 1)) (omega (arith, above))) ∙ and_false (leb (2 ^ 32 * of) (2 ^ 32 * g + n))
-            ∙ sym (ne_eqb g of (λ same. omega (arith, above, same)))
-        | inr to ↦
-            let same : g ≡ of = omega (arith, from, to) in
-            ap (λ b. b && ltb (2 ^ 32 * g + n) (2 ^ 32 * (of + 1))) (le-leb (2 ^ 32 * of) (2 ^ 32 * g + n) (omega (arith, same)))
-            ∙ lt-ltb (2 ^ 32 * g + n) (2 ^ 32 * (of + 1)) (omega (arith, small, same)) ∙ sym (eq-eqb g of same)
-      ]
+  | inl below ↦ ap (λ b. b && ltb (2 ^ 32 * g + n) (2 ^ 32 * (of + 1))) (lt-leb (2 ^ 32 * of) (2 ^ 32 * g + n) (omega (arith, small, below))) ∙ sym (ne_eqb g of (λ same. omega (arith, below, same)))
+  | inr from ↦ elim (cases_lt of g) [
+    | inl above ↦
+        ap (λ b. leb (2 ^ 32 * of) (2 ^ 32 * g + n) && b) (le-ltb (2 ^ 32 * g + n) (2 ^ 32 * (of + 1)) (omega (arith, above))) ∙ and_false (leb (2 ^ 32 * of) (2 ^ 32 * g + n))
+        ∙ sym (ne_eqb g of (λ same. omega (arith, above, same)))
+    | inr to ↦
+        let same : g ≡ of = omega (arith, from, to) in
+        ap (λ b. b && ltb (2 ^ 32 * g + n) (2 ^ 32 * (of + 1))) (le-leb (2 ^ 32 * of) (2 ^ 32 * g + n) (omega (arith, same)))
+        ∙ lt-ltb (2 ^ 32 * g + n) (2 ^ 32 * (of + 1)) (omega (arith, small, same)) ∙ sym (eq-eqb g of same)
   ]
+]
   where
     and_false : (b : Bool) → (b && false) ≡ false
     and_false true = refl

@@ -81,15 +81,18 @@ pub rows_by_agreement : (w : WorldLists) (kept : KeptLists) (branch : ℕ) → I
 rows_by_agreement w kept branch in_range agrees = (
   (
     (agrees.branches, agrees.tellers),
-    (agrees.accounts, λ e there told.
-      let turns = agrees.turns e.row.account told in
-      let in_world = made_of (λ (r : EntryRecord). r.row) kept.entries w.entries e in_range.rows.entries there in
-      record {
-        balance_after = agrees.entries e there told;
-        low = turns.low e.row in_world refl;
-        high = turns.high e.row in_world refl;
-        once = turns.once e.row.turn;
-      }),
+    (
+      agrees.accounts,
+      λ e there told.
+          let turns = agrees.turns e.row.account told in
+          let in_world = made_of (λ (r : EntryRecord). r.row) kept.entries w.entries e in_range.rows.entries there in
+          record {
+            balance_after = agrees.entries e there told;
+            low = turns.low e.row in_world refl;
+            high = turns.high e.row in_world refl;
+            once = turns.once e.row.turn;
+          },
+    ),
   ),
   λ e there of_branch.
       let P : ℕ → Type 0 = λ b. e.number ≤ entry_count b w.entries in

@@ -25,14 +25,14 @@ pub by_rows : {T R : Type 0} (holds : T → T → Type 0) (branch_of : T → ℕ
 by_rows {T} holds branch_of row record_of kept computed rows least same given =
     reworded (HoldsOfBranch holds branch_of kept computed (length kept)) (λ branch. (x : T) → Contains kept x → branch_of x ≡ branch → holds x (record_of (row x))) least
     (λ branch all x in_kept told.
-      let at : get_or kept in_kept.0 x ≡ x = in_kept.2 in
-      let there = all in_kept.0 x in_kept.1 (ap branch_of at ∙ told) in
-      let P : T → Type 0 = λ y. holds y (record_of (row y)) in
-      let Q : T → Type 0 = λ y. holds (get_or kept in_kept.0 x) y in
-      subst P at (subst Q (computed_at row record_of kept computed rows in_kept.0 x same given in_kept.1) there))
+    let at : get_or kept in_kept.0 x ≡ x = in_kept.2 in
+    let there = all in_kept.0 x in_kept.1 (ap branch_of at ∙ told) in
+    let P : T → Type 0 = λ y. holds y (record_of (row y)) in
+    let Q : T → Type 0 = λ y. holds (get_or kept in_kept.0 x) y in
+    subst P at (subst Q (computed_at row record_of kept computed rows in_kept.0 x same given in_kept.1) there))
     (λ branch each k d below told.
-      let Q : T → Type 0 = λ y. holds (get_or kept k d) y in
-      subst Q (sym (computed_at row record_of kept computed rows k d same given below)) (each (get_or kept k d) (Contains-get_or kept k d below) told))
+    let Q : T → Type 0 = λ y. holds (get_or kept k d) y in
+    subst Q (sym (computed_at row record_of kept computed rows k d same given below)) (each (get_or kept k d) (Contains-get_or kept k d below) told))
 
 -- the same of rows that are judged beside themselves
 pub by_themselves : {T : Type 0} (holds : T → Type 0) (branch_of : T → ℕ) (rows : List T) (least : Option ℕ) →

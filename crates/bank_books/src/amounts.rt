@@ -1,7 +1,5 @@
 ghost use Rattle.std.specs.Prelude.{◌≡◌, ◌↔◌, IsTrue};
 ghost use Rattle.money.specs.Range.{IsCents};
-
-
 ghost use Rattle.bank_books.specs.RowConditions.{AmountsAgree, amount_of, teller_sum};
 
 use crate::kept::Kept;

@@ -55,6 +55,7 @@ impl Condition<BranchRecord> for BranchCash {
     ghost use Rattle.bank_books.specs.RowConditions.{IsBranchOfCash};
 
     ghost holds = { λ _ kept computed. IsBranchOfCash kept computed };
+
     ghost branch_of = { λ _ kept. kept.row.branch };
 
     fn holds(&self, row: &BranchRecord, computed: &BranchRecord) -> bool {
@@ -108,6 +109,7 @@ impl Condition<TellerRecord> for TellerCash {
     ghost use Rattle.bank_books.specs.Conditions.{IsTellerOfLines};
 
     ghost holds = { λ _ kept computed. IsTellerOfLines kept computed };
+
     ghost branch_of = { λ _ kept. kept.row.branch };
 
     fn holds(&self, row: &TellerRecord, computed: &TellerRecord) -> bool {
@@ -129,6 +131,7 @@ impl<'w> Condition<CashLine> for LineNumber<'w> {
     ghost use Rattle.bank_books.specs.RowConditions.{IsNumberedLine};
 
     ghost holds = { λ q line _. IsNumberedLine q.world.now line };
+
     ghost branch_of = { λ _ line. line.branch };
 
     fn holds(&self, row: &CashLine, _: &CashLine) -> bool {

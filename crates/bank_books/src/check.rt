@@ -115,6 +115,7 @@ impl<'k> Condition<BranchRecord> for TellerSums<'k> {
     ghost use Rattle.bank_books.specs.RowConditions.{IsSumOfTellers};
 
     ghost holds = { λ q kept _. IsSumOfTellers q.tellers.now kept };
+
     ghost branch_of = { λ _ kept. kept.row.branch };
 
     fn holds(&self, row: &BranchRecord, _: &BranchRecord) -> bool {

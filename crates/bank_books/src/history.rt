@@ -15,11 +15,7 @@ use crate::world::World;
 
 /// The least branch whose history does not give what is kept of it, of its tellers, or of the
 /// accounts whose home it is, or none.
-pub(crate) fn first_of_other_history(
-    world: &World,
-    kept: &Kept,
-    computed: &Kept,
-) -> Option<u32>
+pub(crate) fn first_of_other_history(world: &World, kept: &Kept, computed: &Kept) -> Option<u32>
     requires in_range { IsInRange world.now kept.now }
     requires computed { computed.now ≡ kept_of world.now }
     ensures { IsFirstFailing (HistoryAgrees world.now kept.now) result }
@@ -81,6 +77,7 @@ impl Condition<BranchRecord> for BranchHistory {
     ghost use Rattle.bank_books.specs.Conditions.{IsBranchOfHistory};
 
     ghost holds = { λ _ kept computed. IsBranchOfHistory kept computed };
+
     ghost branch_of = { λ _ kept. kept.row.branch };
 
     fn holds(&self, row: &BranchRecord, computed: &BranchRecord) -> bool {
@@ -103,6 +100,7 @@ impl Condition<TellerRecord> for TellerHistory {
     ghost use Rattle.std.specs.Prelude.{◌≡◌};
 
     ghost holds = { λ _ kept computed. kept.balance ≡ computed.balance };
+
     ghost branch_of = { λ _ kept. kept.row.branch };
 
     fn holds(&self, row: &TellerRecord, computed: &TellerRecord) -> bool {
@@ -122,6 +120,7 @@ impl Condition<AccountRecord> for AccountHistory {
     ghost use Rattle.bank_books.specs.Conditions.{IsAccountOfHistory};
 
     ghost holds = { λ _ kept computed. IsAccountOfHistory kept computed };
+
     ghost branch_of = { λ _ kept. kept.row.home };
 
     fn holds(&self, row: &AccountRecord, computed: &AccountRecord) -> bool {
@@ -145,6 +144,7 @@ impl<'w> Condition<EntryRecord> for EntryHistory<'w> {
     ghost use Rattle.bank_books.specs.RowConditions.{IsEntryOfHistory};
 
     ghost holds = { λ q kept computed. IsEntryOfHistory q.world.now kept computed };
+
     ghost branch_of = { λ q kept. home_of q.world.now kept.row.account };
 
     fn holds(&self, row: &EntryRecord, computed: &EntryRecord) -> bool {
@@ -199,6 +199,7 @@ impl<'w> Condition<Entry> for EntryNumber<'w> {
     ghost use Rattle.bank_books.specs.RowConditions.{IsNumberedEntry};
 
     ghost holds = { λ q entry _. IsNumberedEntry q.world.now entry };
+
     ghost branch_of = { λ _ entry. entry.branch };
 
     fn holds(&self, row: &Entry, _: &Entry) -> bool {

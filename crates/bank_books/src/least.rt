@@ -5,6 +5,7 @@ ghost use Rattle.bank_books.specs.Least.{HoldsOfBranch, IsFirstFailing, lesser_o
 /// that is told where it fails.
 pub(crate) trait Condition<T> {
     ghost holds: { Self → T → T → Type 0 };
+
     ghost branch_of: { Self → T → ℕ };
 
     /// Whether it holds of the row.

@@ -1,6 +1,4 @@
-use bank_books::{
-    Account, Branch, CashLine, Entry, EntryForm, LineForm, Lists, Teller, World,
-};
+use bank_books::{Account, Branch, CashLine, Entry, EntryForm, LineForm, Lists, Teller, World};
 use bank_policy::Policy;
 use money::{Cents, Delta, Fault};
 use std::alloc::Global;

@@ -19,5 +19,5 @@ returns c =
     let joined : c.lesser_of-2.result ≡ lesser_of (lesser_of branches tellers) numbers = c.lesser_of-2.ensures ∙ ap (λ o. lesser_of o numbers) c.lesser_of.ensures in
     let P : Option ℕ → Type 0 = λ o. IsFirstFailing (CashAgrees w kept) o in
     subst P (sym joined)
-        (reworded (RowsOfCash w kept) (CashAgrees w kept) (lesser_of (lesser_of branches tellers) numbers)
-            (λ b. cash_by_rows w kept b c.requires.in_range) (λ b. rows_by_cash w kept b c.requires.in_range) all)
+    (reworded (RowsOfCash w kept) (CashAgrees w kept) (lesser_of (lesser_of branches tellers) numbers)
+    (λ b. cash_by_rows w kept b c.requires.in_range) (λ b. rows_by_cash w kept b c.requires.in_range) all)

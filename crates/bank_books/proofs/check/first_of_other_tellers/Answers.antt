@@ -17,6 +17,6 @@ returns c =
     let P : List BranchRecord → Type 0 = λ xs. IsFirstFailing (λ branch. (b : BranchRecord) → Contains xs b → b.row.branch ≡ branch → IsSumOfTellers c.tellers.result.now b) c.least_failing.result in
     let Q : List TellerRecord → Type 0 = λ ts. IsFirstFailing (λ branch. (b : BranchRecord) → Contains kept.branches b → b.row.branch ≡ branch → IsSumOfTellers ts b) c.least_failing.result in
     reworded (λ branch. (b : BranchRecord) → Contains kept.branches b → b.row.branch ≡ branch → IsSumOfTellers kept.tellers b) (TellersAgree kept) c.least_failing.result
-        (λ branch each b there told. each b there told ∙ whole_teller_sum w kept b.row.branch c.requires)
-        (λ branch each b there told. each b there told ∙ sym (whole_teller_sum w kept b.row.branch c.requires))
-        (subst Q c.tellers.ensures (subst P c.branches.ensures judged))
+    (λ branch each b there told. each b there told ∙ whole_teller_sum w kept b.row.branch c.requires)
+    (λ branch each b there told. each b there told ∙ sym (whole_teller_sum w kept b.row.branch c.requires))
+    (subst Q c.tellers.ensures (subst P c.branches.ensures judged))

@@ -21,8 +21,7 @@ returns c =
     let in_range : IsInRange c.args.world.now c.args.kept.now = search rules in
     let agree : TotalsAgree c.args.kept.now = search rules in
     let history = c.in_default-first_of_other_history.ensures in
-    let cash = c.in_default-first_of_other_cash.ensures in
-    (
+    let cash = c.in_default-first_of_other_cash.ensures in (
       record { in_range = in_range; tellers_agree = c.in_default.ensures; history_agrees = history; cash_agrees = cash; totals_agree = agree },
       kept_is_computed c.args.world.now c.args.kept.now in_range history cash,
     )

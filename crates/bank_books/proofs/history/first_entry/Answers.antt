@@ -12,6 +12,6 @@ returns c =
     let w = c.args.world.now in
     let row : EntryRecord → _ = λ x. x.row in
     let judged = by_rows (λ (kept computed : EntryRecord). IsEntryOfHistory c.args.world.now kept computed) (λ (kept : EntryRecord). home_of c.args.world.now kept.row.account) row (entry_record_of w) c.entries.result.now c.entries-2.result.now w.entries c.least_failing.result
-        (ap (map row) c.entries.ensures ∙ c.requires.rows.entries) (c.entries-2.ensures ∙ ap (λ k. k.entries) c.requires.computed) c.least_failing.ensures in
+    (ap (map row) c.entries.ensures ∙ c.requires.rows.entries) (c.entries-2.ensures ∙ ap (λ k. k.entries) c.requires.computed) c.least_failing.ensures in
     let P : List EntryRecord → Type 0 = λ xs. IsFirstFailing (λ branch. (x : EntryRecord) → Contains xs x → (λ (kept : EntryRecord). home_of c.args.world.now kept.row.account) x ≡ branch → (λ (kept computed : EntryRecord). IsEntryOfHistory c.args.world.now kept computed) x (entry_record_of w x.row)) c.least_failing.result in
     subst P c.entries.ensures judged

@@ -20,11 +20,11 @@ returns c =
     let two = both (AccountsOfHistory w kept) (EntriesOfHistory w kept) accounts entries c.first_account-accounts.ensures c.first_entry-entries.ensures in
     let three = both (λ b. BranchesOfHistory w kept b × TellersOfHistory w kept b) (λ b. AccountsOfHistory w kept b × EntriesOfHistory w kept b) (lesser_of branches tellers) (lesser_of accounts entries) one two in
     let all = both (λ b. (BranchesOfHistory w kept b × TellersOfHistory w kept b) × (AccountsOfHistory w kept b × EntriesOfHistory w kept b)) (EntriesNumbered w)
-        (lesser_of (lesser_of branches tellers) (lesser_of accounts entries)) numbers three c.first_number-numbers.ensures in
+    (lesser_of (lesser_of branches tellers) (lesser_of accounts entries)) numbers three c.first_number-numbers.ensures in
     let joined : c.lesser_of-4.result ≡ lesser_of (lesser_of (lesser_of branches tellers) (lesser_of accounts entries)) numbers =
-        c.lesser_of-4.ensures
-        ∙ ap (λ o. lesser_of o numbers) (c.lesser_of-3.ensures ∙ ap (λ o. lesser_of o c.lesser_of-2.result) c.lesser_of.ensures ∙ ap (lesser_of (lesser_of branches tellers)) c.lesser_of-2.ensures) in
+    c.lesser_of-4.ensures
+    ∙ ap (λ o. lesser_of o numbers) (c.lesser_of-3.ensures ∙ ap (λ o. lesser_of o c.lesser_of-2.result) c.lesser_of.ensures ∙ ap (lesser_of (lesser_of branches tellers)) c.lesser_of-2.ensures) in
     let P : Option ℕ → Type 0 = λ o. IsFirstFailing (HistoryAgrees w kept) o in
     subst P (sym joined)
-        (reworded (RowsAgree w kept) (HistoryAgrees w kept) (lesser_of (lesser_of (lesser_of branches tellers) (lesser_of accounts entries)) numbers)
-            (λ b. agrees_by_rows w kept b c.requires.in_range) (λ b. rows_by_agreement w kept b c.requires.in_range) all)
+    (reworded (RowsAgree w kept) (HistoryAgrees w kept) (lesser_of (lesser_of (lesser_of branches tellers) (lesser_of accounts entries)) numbers)
+    (λ b. agrees_by_rows w kept b c.requires.in_range) (λ b. rows_by_agreement w kept b c.requires.in_range) all)

@@ -7,8 +7,7 @@ returns-then-count-branch c =
     let w = c.args.world.now in
     let found = c.proofs_of-proofs.result.now in
     let branch = c.args.branch.now.branch in
-    let same = c.proofs_of-proofs.ensures in
-    (
+    let same = c.proofs_of-proofs.ensures in (
       λ is. (days_numbered w.proofs found branch c.requires.distinct.proofs same (c.are_days_up_to.ensures.0 is), ap (λ n. n + 1) (sym (proofs_counted w found branch same)) ∙ c.if-count-branch.true),
       λ numbered. c.are_days_up_to.ensures.1 (days_from_numbered w.proofs found branch same numbered.0),
     )
