@@ -68,14 +68,14 @@ TellersOfLines w kept branch = (t : TellerRecord) → Contains kept.tellers t �
 abbrev pub LinesNumbered : WorldLists → ℕ → Type 0
 LinesNumbered w branch = (l : CashLine) → Contains w.lines l → l.branch ≡ branch → IsNumberedLine w l
 
--- the sum of the balances that are kept of a branch's tellers
+-- the sum of the balances that are kept of a branch's tellers, where a number that is no amount counts as 0
 abbrev pub teller_sum : ℕ → List TellerRecord → ℤ
 teller_sum branch tellers = total (map (λ t. if t.row.branch == branch then amount_of t.balance else pos 0) tellers)
 
 abbrev pub IsSumOfTellers : List TellerRecord → BranchRecord → Type 0
 IsSumOfTellers tellers b = b.balance ≡ teller_sum b.row.branch tellers
 
--- the sums of account, teller and branch balances are equal
+-- the sums of account, teller and branch balances are equal, where a number that is no amount counts as 0
 pub record AmountsAgree (kept : KeptLists) : Type 0 where
   pub tellers : total (map (λ t. amount_of t.balance) kept.tellers) ≡ total (map (λ a. amount_of a.balance) kept.accounts)
   pub branches : total (map (λ b. amount_of b.balance) kept.branches) ≡ total (map (λ a. amount_of a.balance) kept.accounts)

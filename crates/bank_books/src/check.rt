@@ -29,19 +29,23 @@ pub enum BooksFault {
         /// The branch, by number.
         branch: u32,
     },
-    /// The history of a branch does not give its balance, or that of a teller or an account of it.
+    /// The history of a branch does not give its balance or its counts, or those of a teller or an
+    /// account of it, or its entries or the turns of its accounts are not numbered 1, 2, 3 and so on.
     #[error("condition C, branch {branch}")]
     ConditionC {
         /// The branch, by number.
         branch: u32,
     },
-    /// The cash book of a branch does not give its cash.
+    /// The cash book of a branch does not give its cash or who holds its drawers, its lines are not
+    /// numbered 1, 2, 3 and so on, or its cash does not add up.
     #[error("cash, branch {branch}")]
     Cash {
         /// The branch, by number.
         branch: u32,
     },
-    /// A number is out of its limits, a key stands twice, or a row names one that isn't there.
+    /// A number is out of its limits, below a floor, or cash below zero; a key stands twice; a row
+    /// names one that isn't there or a teller of another branch; or releases or proofs are not
+    /// numbered as they have to be.
     #[error("range")]
     Range,
 }

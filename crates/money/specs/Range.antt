@@ -5,7 +5,7 @@ use Rattle.std.specs.Prelude.{ℤ, pos, negsuc, ◌≤ℤ◌, Bool, ◌&&◌, no
 abbrev pub IsCents : ℤ → Type 0
 IsCents z = (negsuc 999999999998 ≤ℤ z) × (z ≤ℤ pos 999999999999)
 
--- what one entry adds, as the benchmark's Delta: from -999,999 to 999,999
+-- what one entry adds, the benchmark's Delta within this bank's limits: from -999,999 to 999,999
 abbrev pub IsDelta : ℤ → Type 0
 IsDelta z = (negsuc 999998 ≤ℤ z) × (z ≤ℤ pos 999999)
 
