@@ -118,12 +118,12 @@ fn add_history(lists: &mut Lists, turns: &mut Vec<u32>, branch: u32) -> Result<O
 
 /// The next entry of a branch, on an account of any branch.
 fn entry(turns: &mut Vec<u32>, branch: u32, number: u32, delta: Delta) -> Entry {
-    let index = (branch as usize * 7_919 + number as usize * 104_729) % turns.len().max(1);
-    let turn = next_turn(turns, index);
+    let account = some_account(turns.len() as u64, branch, number);
+    let turn = next_turn(turns, account);
     Entry {
         branch,
         number,
-        account: (index as u32).saturating_add(1),
+        account,
         turn,
         teller: place(branch, TELLERS, number % TELLERS + 1),
         delta,
@@ -136,9 +136,16 @@ fn entry(turns: &mut Vec<u32>, branch: u32, number: u32, delta: Delta) -> Entry 
     }
 }
 
+/// One of so many accounts, spread over all of them.
+fn some_account(accounts: u64, branch: u32, number: u32) -> u32 {
+    let spread = branch as u64 * 7_919 + number as u64 * 104_729;
+    let index = u32::try_from(spread % accounts.max(1)).unwrap_or(0);
+    index.saturating_add(1)
+}
+
 /// Counts one turn more of an account.
-fn next_turn(turns: &mut Vec<u32>, index: usize) -> u32 {
-    let Some(turn) = turns.get_mut(index) else {
+fn next_turn(turns: &mut Vec<u32>, account: u32) -> u32 {
+    let Some(turn) = turns.get_mut(account.saturating_sub(1) as usize) else {
         return 0;
     };
     *turn = turn.saturating_add(1);

@@ -108,7 +108,7 @@ fn sums_of_the_sample_are_those_worked_out_by_hand(rt: HostRuntime) {
     }
     let kept = Kept::of(alloc, &world).expect(&rt, "memory");
     assert!(rt; kept.entries().is_empty() && kept.users().is_empty());
-    let first = kept.branches()[0];
+    let first = kept.branches().first().copied().expect(&rt, "branch 1");
     assert_eq!(rt;
         (first.balance, first.vault, first.drawers),
         (60_000, 55_000, 45_000)
