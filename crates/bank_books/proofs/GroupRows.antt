@@ -1,5 +1,5 @@
 -- The rows of a group, among rows whose keys are made of a group and a number.
-use Rattle.std.proofs.Common.{◌≡◌, ◌==◌, ℕ, ◌+◌, ◌*◌, ◌^◌, ◌<◌, ◌≤◌, ◌&&◌, zero, suc, List, [], ◌∷◌, length, Bool, true, false, cond, Contains, leb, ltb, refl, ap, arith, sym, subst, ◌∙◌, inl, inr}
+use Rattle.std.proofs.Common.{◌≡◌, ◌==◌, ℕ, ◌+◌, ◌*◌, ◌^◌, ◌<◌, ◌&&◌, zero, suc, List, [], ◌∷◌, Bool, true, false, cond, Contains, leb, ltb, refl, ap, arith, sym, subst, ◌∙◌, inl, inr}
 use Rattle.std.specs.List.{filter}
 use Rattle.std.specs.List.Sorted.{IsNonDecreasingBy}
 use Rattle.std.proofs.lemmas.Bool.{cases_lt, eq-eqb, le-leb, le-ltb, lt-leb, lt-ltb, ne_eqb}

@@ -16,4 +16,5 @@ pub mod SharesBetween
 pub mod SharesCalls
 pub mod SharesGroups
 pub mod SharesLemmas
+pub mod SumConditions
 pub mod SumsLemmas

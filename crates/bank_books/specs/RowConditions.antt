@@ -8,6 +8,7 @@ use Rattle.bank_books.specs.declared.records.EntryRecord.{EntryRecord}
 use Rattle.bank_books.specs.declared.records.TellerRecord.{TellerRecord}
 use Rattle.bank_books.specs.declared.rows.CashLine.{CashLine}
 use Rattle.bank_books.specs.declared.rows.Entry.{Entry}
+use Rattle.bank_books.specs.declared.shares.Part.{Part}
 use Rattle.bank_books.specs.Balances.{entry_count, turn_count}
 use Rattle.bank_books.specs.Cash.{line_count}
 use Rattle.bank_books.specs.Conditions.{IsAccountOfHistory, IsBranchOfHistory, IsBranchOfLines, IsTellerOfLines, home_of}
@@ -71,6 +72,10 @@ LinesNumbered w branch = (l : CashLine) → Contains w.lines l → l.branch ≡ 
 -- the sum of the balances that are kept of a branch's tellers, where a number that is no amount counts as 0
 abbrev pub teller_sum : ℕ → List TellerRecord → ℤ
 teller_sum branch tellers = total (map (λ t. if t.row.branch == branch then amount_of t.balance else pos 0) tellers)
+
+-- a teller's part in the sum of its branch
+abbrev pub balance_part : TellerRecord → Part
+balance_part t = record { group = t.row.branch; number = 0; amount = amount_of t.balance }
 
 abbrev pub IsSumOfTellers : List TellerRecord → BranchRecord → Type 0
 IsSumOfTellers tellers b = b.balance ≡ teller_sum b.row.branch tellers

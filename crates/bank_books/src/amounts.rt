@@ -1,9 +1,10 @@
 ghost use Rattle.std.specs.Prelude.{◌≡◌, ◌↔◌, IsTrue};
 ghost use Rattle.money.specs.Range.{IsCents};
-ghost use Rattle.bank_books.specs.RowConditions.{AmountsAgree, amount_of, teller_sum};
+ghost use Rattle.bank_books.specs.RowConditions.{AmountsAgree, amount_of};
 
 use crate::kept::Kept;
 use crate::records::{AccountRecord, BranchRecord, TellerRecord};
+use crate::shares::{Part, Parts};
 use money::{MAX_CENTS, Tally, sum_of};
 
 /// A kept number as an amount, and 0 for one that is none.
@@ -18,30 +19,22 @@ pub(crate) fn amount_of(number: i128) -> i64
     }
 }
 
-/// The balances of the tellers of one branch.
+/// The balances that are kept of tellers, in the sums of their branches.
 #[derive(Clone, Copy)]
-struct TellersOf(u32);
+pub(crate) struct TellerBalances;
 
-impl Tally<TellerRecord> for TellersOf {
-    ghost use Rattle.std.specs.Prelude.{◌==◌, pos, if◌then◌else◌};
-    ghost use Rattle.bank_books.specs.RowConditions.{amount_of};
+impl Parts<TellerRecord> for TellerBalances {
+    ghost use Rattle.bank_books.specs.RowConditions.{balance_part};
 
-    ghost share = { λ q t. if t.row.branch == q.0 then amount_of t.balance else pos 0 };
+    ghost part = { λ _ t. balance_part t };
 
-    fn share(&self, row: &TellerRecord) -> i64 {
-        if row.row.branch == self.0 {
-            amount_of(row.balance)
-        } else {
-            0
+    fn part(&self, row: &TellerRecord) -> Part {
+        Part {
+            group: row.row.branch,
+            number: 0,
+            amount: amount_of(row.balance),
         }
     }
-}
-
-/// The sum of the balances that are kept of a branch's tellers.
-pub(crate) fn teller_sum(tellers: &[TellerRecord], branch: u32) -> i128
-    ensures { result ≡ teller_sum branch tellers.now }
-{
-    sum_of(&TellersOf(branch), tellers)
 }
 
 /// All balances.

@@ -4,24 +4,31 @@ ghost use Rattle.bank_books.specs.Least.{IsFirstFailing};
 ghost use Rattle.bank_books.specs.Range.{AreOfRows, IsInRange};
 ghost use Rattle.bank_books.specs.Records.{kept_of};
 ghost use Rattle.bank_books.specs.RowConditions.{BranchesOfCash, LinesNumbered, TellersOfLines, amount_of};
+ghost use Rattle.bank_books.specs.Sums.{AreSumsOf};
 
 use crate::amounts::amount_of;
-use crate::cash::line_count;
 use crate::kept::Kept;
 use crate::least::{Condition, least_failing, lesser_of};
 use crate::records::{BranchRecord, TellerRecord};
 use crate::rows::CashLine;
+use crate::sums::Sums;
 use crate::world::World;
 
 /// The least branch whose cash book does not give what is kept of its cash, or none.
-pub(crate) fn first_of_other_cash(world: &World, kept: &Kept, computed: &Kept) -> Option<u32>
+pub(crate) fn first_of_other_cash(
+    world: &World,
+    kept: &Kept,
+    computed: &Kept,
+    sums: &Sums,
+) -> Option<u32>
     requires in_range { IsInRange world.now kept.now }
     requires computed { computed.now ≡ kept_of world.now }
+    requires sums { AreSumsOf world.now sums.now }
     ensures { IsFirstFailing (CashAgrees world.now kept.now) result }
 {
     let branches = first_branch(world, kept, computed);
     let tellers = first_teller(world, kept, computed);
-    let numbers = first_number(world);
+    let numbers = first_number(world, sums);
     lesser_of(lesser_of(branches, tellers), numbers)
 }
 
@@ -41,10 +48,11 @@ fn first_teller(world: &World, kept: &Kept, computed: &Kept) -> Option<u32>
     least_failing(&TellerCash, kept.tellers(), computed.tellers())
 }
 
-fn first_number(world: &World) -> Option<u32>
+fn first_number(world: &World, sums: &Sums) -> Option<u32>
+    requires { AreSumsOf world.now sums.now }
     ensures { IsFirstFailing (LinesNumbered world.now) result }
 {
-    least_failing(&LineNumber { world }, world.lines(), world.lines())
+    least_failing(&LineNumber { sums }, world.lines(), world.lines())
 }
 
 /// That what is kept of a branch's cash is what its lines give, and adds up.
@@ -123,19 +131,19 @@ impl Condition<TellerRecord> for TellerCash {
 
 /// That the number of a line is one of its branch's.
 #[derive(Clone, Copy)]
-struct LineNumber<'w> {
-    world: &'w World,
+struct LineNumber<'s> {
+    sums: &'s Sums,
 }
 
-impl<'w> Condition<CashLine> for LineNumber<'w> {
-    ghost use Rattle.bank_books.specs.RowConditions.{IsNumberedLine};
+impl<'s> Condition<CashLine> for LineNumber<'s> {
+    ghost use Rattle.bank_books.specs.SumConditions.{IsLineInSums};
 
-    ghost holds = { λ q line _. IsNumberedLine q.world.now line };
+    ghost holds = { λ q line _. IsLineInSums q.sums.now line };
 
     ghost branch_of = { λ _ line. line.branch };
 
     fn holds(&self, row: &CashLine, _: &CashLine) -> bool {
-        1 <= row.number && row.number as u64 <= line_count(self.world.lines(), row.branch)
+        1 <= row.number && row.number as u64 <= self.sums.by_place.count_of(row.branch)
     }
 
     fn branch_of(&self, row: &CashLine) -> u32 {

@@ -1,17 +1,22 @@
-ghost use Rattle.std.specs.Prelude.{◌≡◌, ◌↔◌, IfOk, IsOkUnless, IsTrue};
+ghost use Rattle.std.specs.Prelude.{◌≡◌, ◌↔◌, IfOk, IsOkUnless, IsTrue, map};
+ghost use Rattle.std.specs.List.Sorted.{IsPermutation};
 ghost use Rattle.bank_books.specs.Books.{IsVerdict};
 ghost use Rattle.bank_books.specs.Conditions.{TellersAgree, TotalsAgree};
 ghost use Rattle.bank_books.specs.Least.{IsFirstFailing};
 ghost use Rattle.bank_books.specs.Range.{IsInRange};
 ghost use Rattle.bank_books.specs.Records.{kept_of};
+ghost use Rattle.bank_books.specs.RowConditions.{balance_part};
+ghost use Rattle.bank_books.specs.Sums.{AreSumsOf};
 
-use crate::amounts::{teller_sum, totals_agree};
+use crate::amounts::{TellerBalances, totals_agree};
 use crate::cash_book::first_of_other_cash;
 use crate::history::first_of_other_history;
 use crate::kept::Kept;
 use crate::least::{Condition, least_failing};
 use crate::range::is_in_range;
-use crate::records::{BranchRecord, TellerRecord};
+use crate::records::BranchRecord;
+use crate::shares::Shares;
+use crate::sums::Sums;
 use crate::world::World;
 use money::Fault;
 use std::alloc::Global;
@@ -63,25 +68,35 @@ pub fn check_books(
     ensures verdict { IfOk result (IsVerdict world.now kept.now) }
     ensures memory { IsOkUnless result Fault.Memory }
 {
-    let computed = Kept::of(alloc, world)?;
-    Ok(verdict(world, kept, &computed))
+    let sums = Sums::of(alloc, world)?;
+    let computed = Kept::from_sums(alloc, world, &sums)?;
+    let tellers = Shares::of(alloc, &TellerBalances, kept.tellers())?;
+    Ok(verdict(world, kept, &computed, &sums, &tellers))
 }
 
 /// The verdict, beside the numbers that the World gives.
-fn verdict(world: &World, kept: &Kept, computed: &Kept) -> Result<(), BooksFault>
-    requires { computed.now ≡ kept_of world.now }
+fn verdict(
+    world: &World,
+    kept: &Kept,
+    computed: &Kept,
+    sums: &Sums,
+    tellers: &Shares,
+) -> Result<(), BooksFault>
+    requires computed { computed.now ≡ kept_of world.now }
+    requires sums { AreSumsOf world.now sums.now }
+    requires tellers { IsPermutation (map balance_part kept.now.tellers) tellers.now }
     ensures { IsVerdict world.now kept.now result }
 {
     if !is_in_range(world, kept, computed) {
         return Err(BooksFault::Range);
     }
-    if let Some(branch) = first_of_other_tellers(world, kept) {
+    if let Some(branch) = first_of_other_tellers(world, kept, tellers) {
         return Err(BooksFault::ConditionB { branch });
     }
-    if let Some(branch) = first_of_other_history(world, kept, computed) {
+    if let Some(branch) = first_of_other_history(world, kept, computed, sums) {
         return Err(BooksFault::ConditionC { branch });
     }
-    if let Some(branch) = first_of_other_cash(world, kept, computed) {
+    if let Some(branch) = first_of_other_cash(world, kept, computed, sums) {
         return Err(BooksFault::Cash { branch });
     }
     if !have_equal_totals(world, kept) {
@@ -91,14 +106,12 @@ fn verdict(world: &World, kept: &Kept, computed: &Kept) -> Result<(), BooksFault
 }
 
 /// The least branch whose balance is not the sum of its tellers' balances, or none.
-fn first_of_other_tellers(world: &World, kept: &Kept) -> Option<u32>
-    requires { IsInRange world.now kept.now }
+fn first_of_other_tellers(world: &World, kept: &Kept, tellers: &Shares) -> Option<u32>
+    requires in_range { IsInRange world.now kept.now }
+    requires tellers { IsPermutation (map balance_part kept.now.tellers) tellers.now }
     ensures { IsFirstFailing (TellersAgree kept.now) result }
 {
-    let sums = TellerSums {
-        tellers: kept.tellers(),
-    };
-    least_failing(&sums, kept.branches(), kept.branches())
+    least_failing(&TellerSums { tellers }, kept.branches(), kept.branches())
 }
 
 /// Whether the sums of account, teller and branch balances are equal.
@@ -111,19 +124,19 @@ fn have_equal_totals(world: &World, kept: &Kept) -> bool
 
 /// That the balance of a branch is the sum of its tellers' balances.
 #[derive(Clone, Copy)]
-struct TellerSums<'k> {
-    tellers: &'k [TellerRecord],
+struct TellerSums<'t> {
+    tellers: &'t Shares,
 }
 
-impl<'k> Condition<BranchRecord> for TellerSums<'k> {
-    ghost use Rattle.bank_books.specs.RowConditions.{IsSumOfTellers};
+impl<'t> Condition<BranchRecord> for TellerSums<'t> {
+    ghost use Rattle.bank_books.specs.SumConditions.{IsSumOfParts};
 
-    ghost holds = { λ q kept _. IsSumOfTellers q.tellers.now kept };
+    ghost holds = { λ q kept _. IsSumOfParts q.tellers.now kept };
 
     ghost branch_of = { λ _ kept. kept.row.branch };
 
     fn holds(&self, row: &BranchRecord, _: &BranchRecord) -> bool {
-        row.balance == teller_sum(self.tellers, row.row.branch)
+        row.balance == self.tellers.total_of(row.row.branch)
     }
 
     fn branch_of(&self, row: &BranchRecord) -> u32 {

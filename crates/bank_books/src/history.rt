@@ -1,30 +1,38 @@
 ghost use Rattle.std.specs.Prelude.{◌≡◌, ◌↔◌, ◌≤◌, IsTrue};
-ghost use Rattle.bank_books.specs.Balances.{turn_count};
 ghost use Rattle.bank_books.specs.Conditions.{HistoryAgrees, home_of};
 ghost use Rattle.bank_books.specs.Least.{IsFirstFailing};
 ghost use Rattle.bank_books.specs.Range.{AreOfRows, IsInRange};
 ghost use Rattle.bank_books.specs.Records.{kept_of};
-ghost use Rattle.bank_books.specs.RowConditions.{AccountsOfHistory, BranchesOfHistory, EntriesNumbered, EntriesOfHistory, TellersOfHistory, same_turn_count};
+ghost use Rattle.bank_books.specs.RowConditions.{AccountsOfHistory, BranchesOfHistory, EntriesNumbered, EntriesOfHistory, TellersOfHistory};
+ghost use Rattle.bank_books.specs.Shares.{count_at, group_count};
+ghost use Rattle.bank_books.specs.Sums.{AreSumsOf};
 
-use crate::balances::{account_row, entry_count, turn_count};
+use crate::balances::account_row;
 use crate::kept::Kept;
 use crate::least::{Condition, least_failing, lesser_of};
 use crate::records::{AccountRecord, BranchRecord, EntryRecord, TellerRecord};
 use crate::rows::Entry;
+use crate::sums::Sums;
 use crate::world::World;
 
 /// The least branch whose history does not give what is kept of it, of its tellers, or of the
 /// accounts whose home it is, or none.
-pub(crate) fn first_of_other_history(world: &World, kept: &Kept, computed: &Kept) -> Option<u32>
+pub(crate) fn first_of_other_history(
+    world: &World,
+    kept: &Kept,
+    computed: &Kept,
+    sums: &Sums,
+) -> Option<u32>
     requires in_range { IsInRange world.now kept.now }
     requires computed { computed.now ≡ kept_of world.now }
+    requires sums { AreSumsOf world.now sums.now }
     ensures { IsFirstFailing (HistoryAgrees world.now kept.now) result }
 {
     let branches = first_branch(world, kept, computed);
     let tellers = first_teller(world, kept, computed);
     let accounts = first_account(world, kept, computed);
-    let entries = first_entry(world, kept, computed);
-    let numbers = first_number(world);
+    let entries = first_entry(world, kept, computed, sums);
+    let numbers = first_number(world, sums);
     lesser_of(
         lesser_of(lesser_of(branches, tellers), lesser_of(accounts, entries)),
         numbers,
@@ -55,18 +63,21 @@ fn first_account(world: &World, kept: &Kept, computed: &Kept) -> Option<u32>
     least_failing(&AccountHistory, kept.accounts(), computed.accounts())
 }
 
-fn first_entry(world: &World, kept: &Kept, computed: &Kept) -> Option<u32>
+fn first_entry(world: &World, kept: &Kept, computed: &Kept, sums: &Sums) -> Option<u32>
     requires rows { AreOfRows world.now kept.now }
     requires computed { computed.now ≡ kept_of world.now }
+    requires sums { AreSumsOf world.now sums.now }
     ensures { IsFirstFailing (EntriesOfHistory world.now kept.now) result }
 {
-    least_failing(&EntryHistory { world }, kept.entries(), computed.entries())
+    let history = EntryHistory { world, sums };
+    least_failing(&history, kept.entries(), computed.entries())
 }
 
-fn first_number(world: &World) -> Option<u32>
+fn first_number(world: &World, sums: &Sums) -> Option<u32>
+    requires { AreSumsOf world.now sums.now }
     ensures { IsFirstFailing (EntriesNumbered world.now) result }
 {
-    least_failing(&EntryNumber { world }, world.entries(), world.entries())
+    least_failing(&EntryNumber { sums }, world.entries(), world.entries())
 }
 
 /// That what is kept of a branch is what its history gives.
@@ -135,22 +146,23 @@ impl Condition<AccountRecord> for AccountHistory {
 /// That the balance kept beside an entry is what the history gives, and that its turn is one of its
 /// account's, and no other's. It is told of the account's home.
 #[derive(Clone, Copy)]
-struct EntryHistory<'w> {
+struct EntryHistory<'w, 's> {
     world: &'w World,
+    sums: &'s Sums,
 }
 
-impl<'w> Condition<EntryRecord> for EntryHistory<'w> {
+impl<'w, 's> Condition<EntryRecord> for EntryHistory<'w, 's> {
     ghost use Rattle.bank_books.specs.Conditions.{home_of};
-    ghost use Rattle.bank_books.specs.RowConditions.{IsEntryOfHistory};
+    ghost use Rattle.bank_books.specs.SumConditions.{IsEntryOfSums};
 
-    ghost holds = { λ q kept computed. IsEntryOfHistory q.world.now kept computed };
+    ghost holds = { λ q kept computed. IsEntryOfSums q.sums.now kept computed };
 
     ghost branch_of = { λ q kept. home_of q.world.now kept.row.account };
 
     fn holds(&self, row: &EntryRecord, computed: &EntryRecord) -> bool {
         row.balance_after == computed.balance_after
-            && is_turn(self.world, &row.row)
-            && has_own_turn(self.world, &row.row)
+            && is_turn(self.sums, &row.row)
+            && has_own_turn(self.sums, &row.row)
     }
 
     fn branch_of(&self, row: &EntryRecord) -> u32 {
@@ -159,24 +171,17 @@ impl<'w> Condition<EntryRecord> for EntryHistory<'w> {
 }
 
 /// Whether the turn of an entry is from 1 to how many entries its account has.
-fn is_turn(world: &World, entry: &Entry) -> bool
-    ensures { IsTrue result ↔ ((1 ≤ entry.now.turn) × (entry.now.turn ≤ turn_count entry.now.account world.now.entries)) }
+fn is_turn(sums: &Sums, entry: &Entry) -> bool
+    ensures { IsTrue result ↔ ((1 ≤ entry.now.turn) × (entry.now.turn ≤ group_count entry.now.account sums.now.by_turn)) }
 {
-    1 <= entry.turn && entry.turn as u64 <= turn_count(world.entries(), entry.account)
+    1 <= entry.turn && entry.turn as u64 <= sums.by_turn.count_of(entry.account)
 }
 
 /// Whether no other entry of its account bears the turn of an entry.
-fn has_own_turn(world: &World, entry: &Entry) -> bool
-    ensures { IsTrue result ↔ (same_turn_count entry.now.account entry.now.turn world.now.entries ≤ 1) }
+fn has_own_turn(sums: &Sums, entry: &Entry) -> bool
+    ensures { IsTrue result ↔ (count_at entry.now.account entry.now.turn sums.now.by_turn ≤ 1) }
 {
-    same_turn_count(world.entries(), entry.account, entry.turn) <= 1
-}
-
-fn same_turn_count(entries: &[Entry], account: u32, turn: u32) -> u64
-    ensures { result ≡ same_turn_count account turn entries.now }
-{
-    let alike = |entry: &&Entry| entry.account == account && entry.turn == turn;
-    entries.iter().filter(alike).count() as u64
+    sums.by_turn.count_at(entry.account, entry.turn) <= 1
 }
 
 /// The home of an account, 0 where there is no account.
@@ -191,19 +196,19 @@ fn home_of(world: &World, account: u32) -> u32
 
 /// That the number of an entry is one of its branch's.
 #[derive(Clone, Copy)]
-struct EntryNumber<'w> {
-    world: &'w World,
+struct EntryNumber<'s> {
+    sums: &'s Sums,
 }
 
-impl<'w> Condition<Entry> for EntryNumber<'w> {
-    ghost use Rattle.bank_books.specs.RowConditions.{IsNumberedEntry};
+impl<'s> Condition<Entry> for EntryNumber<'s> {
+    ghost use Rattle.bank_books.specs.SumConditions.{IsEntryInSums};
 
-    ghost holds = { λ q entry _. IsNumberedEntry q.world.now entry };
+    ghost holds = { λ q entry _. IsEntryInSums q.sums.now entry };
 
     ghost branch_of = { λ _ entry. entry.branch };
 
     fn holds(&self, row: &Entry, _: &Entry) -> bool {
-        1 <= row.number && row.number as u64 <= entry_count(self.world.entries(), row.branch)
+        1 <= row.number && row.number as u64 <= self.sums.by_branch.count_of(row.branch)
     }
 
     fn branch_of(&self, row: &Entry) -> u32 {
