@@ -77,9 +77,6 @@ teller_sum branch tellers = total (map (λ t. if t.row.branch == branch then amo
 abbrev pub balance_part : TellerRecord → Part
 balance_part t = record { group = t.row.branch; number = 0; amount = amount_of t.balance }
 
-abbrev pub IsSumOfTellers : List TellerRecord → BranchRecord → Type 0
-IsSumOfTellers tellers b = b.balance ≡ teller_sum b.row.branch tellers
-
 -- the sums of account, teller and branch balances are equal, where a number that is no amount counts as 0
 pub record AmountsAgree (kept : KeptLists) : Type 0 where
   pub tellers : total (map (λ t. amount_of t.balance) kept.tellers) ≡ total (map (λ a. amount_of a.balance) kept.accounts)
