@@ -31,7 +31,8 @@ pub fn branch_balance(world: &World, branch: u32) -> i128
     branch_opening(world, branch) + branch_deltas(world.entries(), branch)
 }
 
-pub(crate) fn account_row(world: &World, key: u32) -> Option<&Account>
+/// The account of that number, or none where it isn't there. It takes no memory.
+pub fn account_row(world: &World, key: u32) -> Option<&Account>
     ensures { option_copied result ≡ account_row key world.now.accounts }
 {
     find_row(world.accounts(), key as u128)
@@ -49,7 +50,8 @@ pub(crate) fn branch_row(world: &World, key: u32) -> Option<&Branch>
     find_row(world.branches(), key as u128)
 }
 
-pub(crate) fn account_opening(world: &World, key: u32) -> i128
+/// What an account opened with in cents, 0 where it isn't there. It takes no memory.
+pub fn account_opening(world: &World, key: u32) -> i128
     ensures value { result ≡ account_opening key world.now.accounts }
     ensures in_range { IsCents result }
 {

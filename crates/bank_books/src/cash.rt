@@ -66,7 +66,8 @@ impl LineForm {
         }
     }
 
-    pub(crate) fn is_cash_entry(self) -> bool
+    /// Whether such a line came with an entry.
+    pub fn is_cash_entry(self) -> bool
         ensures { result ≡ is_cash_entry self }
     {
         match self {
@@ -75,7 +76,8 @@ impl LineForm {
         }
     }
 
-    pub(crate) fn is_difference(self) -> bool
+    /// Whether such a line tells what a count differed by.
+    pub fn is_difference(self) -> bool
         ensures { result ≡ is_difference self }
     {
         match self {

@@ -1,33 +1,18 @@
-//! The books of the bank: the rows of its branches, tellers, accounts and histories, and their sums.
+//! The books of the bank: the rows of its branches, tellers, accounts and histories, their sums, and
+//! what it means that they hold.
 #![tactic(auto)]
 
-mod amounts;
 mod balances;
-mod beside;
 mod cash;
-mod cash_book;
-mod check;
-mod history;
-mod holders;
-mod kept;
-mod least;
 mod lists;
-mod numbering;
-mod parts;
-mod range;
-mod range_rows;
 mod record_of;
 mod records;
 mod row_write;
 mod rows;
-mod shares;
-mod sums;
 mod world;
 
-pub use balances::{account_balance, branch_balance, teller_balance};
+pub use balances::{account_balance, account_opening, account_row, branch_balance, teller_balance};
 pub use cash::{cash_of, holder_of};
-pub use check::{BooksFault, check_books};
-pub use kept::Kept;
 pub use lists::Lists;
 pub use record_of::{account_record, branch_record, teller_record};
 pub use records::{AccountRecord, BranchRecord, EntryRecord, ReleaseCount, TellerRecord};

@@ -4,7 +4,9 @@
 mod made_up;
 
 use crate::made_up::made_up_world;
-use bank_books::{BooksFault, Kept, World, check_books};
+use bank_books::World;
+use book_check::{BooksFault, check_books};
+use book_sums::Kept;
 use money::Fault;
 use std::alloc::Global;
 use std::env;

@@ -2,9 +2,11 @@
 //! check says of one number that was changed.
 
 use bank_books::{
-    AccountRecord, BooksFault, BranchRecord, CashLine, Kept, LineForm, RowWrite, TellerRecord,
-    World, cash_of, check_books, holder_of,
+    AccountRecord, BranchRecord, CashLine, LineForm, RowWrite, TellerRecord, World, cash_of,
+    holder_of,
 };
+use book_check::{BooksFault, check_books};
+use book_sums::Kept;
 use money::Cents;
 use sample_bank::sample_world;
 use std::alloc::Global;

@@ -1,6 +1,0 @@
-use Rattle.std.proofs.Common.{◌≡◌, map, take}
-use Rattle.bank_books.specs.Records.{teller_record_of}
-use Rattle.bank_books.proofs.kept.teller_records.Given as goal
-
-abbrev pub invariant-loop-index : goal.invariant-loop-index
-invariant-loop-index l = l.records.items ≡ map (teller_record_of l.world) (take l.index l.tellers)

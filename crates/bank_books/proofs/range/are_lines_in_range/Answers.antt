@@ -1,8 +1,0 @@
-use Rattle.std.proofs.Common.{rules}
-use Rattle.std.proofs.lemmas.Iterator.{YieldsList-from_slice, cases_from_all}
-use Rattle.bank_books.specs.Range.{IsLineInRange}
-use Rattle.bank_books.proofs.Judged.{judged}
-use Rattle.bank_books.proofs.range.are_lines_in_range.Goals as goal
-
-pub returns : goal.returns
-returns c = judged (IsLineInRange c.args.world.now) c.args.lines.now c.all.result (cases_from_all _ _ _ (IsLineInRange c.args.world.now) (λ x. (IsLineInRange c.args.world.now) x → ⊥) c.all.ensures.ran (YieldsList-from_slice c.args.lines.now cc) (λ x q k. search rules) (λ x q k. search rules))

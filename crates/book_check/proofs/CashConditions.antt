@@ -1,0 +1,121 @@
+-- What is asked of the rows that are told of a branch is what its cash, and what the sums of tellers, ask of the branch.
+use Rattle.std.proofs.Common.{◌≡◌, ℕ, ℤ, pos, negsuc, ◌+◌, ◌+ℤ◌, ◌≤◌, ◌*◌, ◌^◌, map, true, ◌==◌, ◌&&◌, ap, arith, sym, ◌∙◌, subst}
+use Rattle.std.specs.Prelude.{if◌then◌else◌}
+use Rattle.std.proofs.lemmas.Int.{ints}
+use Rattle.std.proofs.lemmas.Bool.Decides.{nat_tests}
+use Rattle.std.proofs.lemmas.Bool.{eqb-true}
+use Rattle.money.specs.Range.{IsCents, is_cents}
+use Rattle.money.specs.Totals.{total}
+use Rattle.bank_books.specs.declared.rows.CashLine.{CashLine}
+use Rattle.bank_books.specs.declared.records.AccountRecord.{AccountRecord}
+use Rattle.bank_books.specs.declared.records.BranchRecord.{BranchRecord}
+use Rattle.bank_books.specs.declared.records.TellerRecord.{TellerRecord}
+use Rattle.bank_books.specs.Cash.{line_count}
+use Rattle.bank_books.specs.Conditions.{CashAgrees, TotalsAgree}
+use Rattle.bank_books.specs.Keys.{line_key}
+use Rattle.bank_books.specs.Numbering.{AreNumbered}
+use Rattle.bank_books.specs.Range.{IsBranchInRange, IsCash, IsInRange}
+use Rattle.bank_books.specs.Records.{KeptLists}
+use Rattle.book_check.specs.RowConditions.{AmountsAgree, BranchesOfCash, LinesNumbered, TellersOfLines, amount_of, teller_sum}
+use Rattle.bank_books.specs.WorldLists.{WorldLists}
+use Rattle.book_sums.proofs.Counting.{both_true, one_of_key}
+use Rattle.book_sums.proofs.SharesLemmas.{same_totals}
+
+is_amount : (z : ℤ) → IsCents z → is_cents z ≡ true
+is_amount (pos n) in_range = grind (arith, nat_tests, in_range.0, in_range.1)
+is_amount (negsuc n) in_range = grind (arith, nat_tests, in_range.0, in_range.1)
+
+pub amount_in_range : (z : ℤ) → IsCents z → amount_of z ≡ z
+amount_in_range z in_range = ap (λ b. if b then z else pos 0) (is_amount z in_range)
+
+pub cash_is_amount : (z : ℤ) → IsCash z → IsCents z
+cash_is_amount z in_range = (omega (arith, ints, in_range.0), in_range.1)
+
+-- what is asked of all rows that are told of a branch
+abbrev pub RowsOfCash : WorldLists → KeptLists → ℕ → Type 0
+RowsOfCash w kept branch = (BranchesOfCash w kept branch × TellersOfLines w kept branch) × LinesNumbered w branch
+
+-- the four sums of the equation are amounts
+abbrev Cut : BranchRecord → Type 0
+Cut b = amount_of b.vault +ℤ amount_of b.drawers ≡ b.row.cash +ℤ (amount_of b.cash_entries +ℤ amount_of b.differences)
+
+abbrev Whole : BranchRecord → Type 0
+Whole b = b.vault +ℤ b.drawers ≡ b.row.cash +ℤ (b.cash_entries +ℤ b.differences)
+
+same_equation : (v v' d d' c e e' f f' : ℤ) → v' ≡ v → d' ≡ d → e' ≡ e → f' ≡ f → v' +ℤ d' ≡ c +ℤ (e' +ℤ f') → v +ℤ d ≡ c +ℤ (e +ℤ f)
+same_equation v v' d d' c e e' f f' same_v same_d same_e same_f sum =
+    ap (λ x. x +ℤ d) (sym same_v) ∙ ap (λ x. v' +ℤ x) (sym same_d) ∙ sum ∙ ap (λ x. c +ℤ (x +ℤ f')) same_e ∙ ap (λ x. c +ℤ (e +ℤ x)) same_f
+
+whole_from_cut : (w : WorldLists) (b : BranchRecord) → IsBranchInRange w b → Cut b → Whole b
+whole_from_cut w b in_range =
+    same_equation _ _ _ _ _ _ _ _ _ (amount_in_range b.vault (cash_is_amount b.vault in_range.vault)) (amount_in_range b.drawers in_range.drawers)
+    (amount_in_range b.cash_entries in_range.cash_entries) (amount_in_range b.differences in_range.differences)
+
+cut_from_whole : (w : WorldLists) (b : BranchRecord) → IsBranchInRange w b → Whole b → Cut b
+cut_from_whole w b in_range =
+    same_equation _ _ _ _ _ _ _ _ _ (sym (amount_in_range b.vault (cash_is_amount b.vault in_range.vault))) (sym (amount_in_range b.drawers in_range.drawers))
+    (sym (amount_in_range b.cash_entries in_range.cash_entries)) (sym (amount_in_range b.differences in_range.differences))
+
+key_of_number : (b n : ℕ) (l : CashLine) → (l.branch == b && l.number == n) ≡ true → line_key l ≡ 2 ^ 32 * b + n
+key_of_number b n l passes =
+    let tests = both_true (l.branch == b) (l.number == n) passes in
+    ap (λ k. 2 ^ 32 * k + l.number) (eqb-true l.branch b tests.0) ∙ ap (λ k. 2 ^ 32 * b + k) (eqb-true l.number n tests.1)
+
+numbers_agree : (w : WorldLists) (kept : KeptLists) (branch : ℕ) → IsInRange w kept → LinesNumbered w branch → AreNumbered (λ l. l.branch) (λ l. l.number) w.lines branch
+numbers_agree w kept branch in_range each = record {
+  low = λ l there of_branch. (each l there of_branch).0;
+  high = λ l there of_branch.
+      let P : ℕ → Type 0 = λ b. l.number ≤ line_count b w.lines in
+      subst P of_branch (each l there of_branch).1;
+  once = λ n. one_of_key line_key (λ l. l.branch == branch && l.number == n) (2 ^ 32 * branch + n) (key_of_number branch n) w.lines in_range.keys.lines;
+}
+
+pub cash_by_rows : (w : WorldLists) (kept : KeptLists) (branch : ℕ) → IsInRange w kept → RowsOfCash w kept branch → CashAgrees w kept branch
+cash_by_rows w kept branch in_range rows = record {
+  branches = λ b there told. (rows.0.0 b there told).lines;
+  tellers = rows.0.1;
+  numbers = numbers_agree w kept branch in_range rows.1;
+  equation = λ b there told. whole_from_cut w b (in_range.branches b there) (rows.0.0 b there told).equation;
+}
+
+pub rows_by_cash : (w : WorldLists) (kept : KeptLists) (branch : ℕ) → IsInRange w kept → CashAgrees w kept branch → RowsOfCash w kept branch
+rows_by_cash w kept branch in_range agrees = (
+  (
+    λ b there told. record { lines = agrees.branches b there told; equation = cut_from_whole w b (in_range.branches b there) (agrees.equation b there told) },
+    agrees.tellers,
+  ),
+  λ l there of_branch.
+      let P : ℕ → Type 0 = λ b. l.number ≤ line_count b w.lines in
+      (agrees.numbers.low l there of_branch, subst P (sym of_branch) (agrees.numbers.high l there of_branch)),
+)
+
+pub whole_teller_sum : (w : WorldLists) (kept : KeptLists) (branch : ℕ) → IsInRange w kept →
+    teller_sum branch kept.tellers ≡ total (map (λ t. if t.row.branch == branch then t.balance else pos 0) kept.tellers)
+whole_teller_sum w kept branch in_range =
+    same_totals (λ (t : TellerRecord). if t.row.branch == branch then amount_of t.balance else pos 0) (λ t. if t.row.branch == branch then t.balance else pos 0) kept.tellers
+    (λ t there. ap (λ z. if t.row.branch == branch then z else pos 0) (amount_in_range t.balance (in_range.tellers t there).balance))
+
+-- the sums of all balances
+tellers_whole : (w : WorldLists) (kept : KeptLists) → IsInRange w kept → total (map (λ t. amount_of t.balance) kept.tellers) ≡ total (map (λ t. t.balance) kept.tellers)
+tellers_whole w kept in_range =
+    same_totals (λ (t : TellerRecord). amount_of t.balance) (λ t. t.balance) kept.tellers (λ t there. amount_in_range t.balance (in_range.tellers t there).balance)
+
+accounts_whole : (w : WorldLists) (kept : KeptLists) → IsInRange w kept → total (map (λ a. amount_of a.balance) kept.accounts) ≡ total (map (λ a. a.balance) kept.accounts)
+accounts_whole w kept in_range =
+    same_totals (λ (a : AccountRecord). amount_of a.balance) (λ a. a.balance) kept.accounts (λ a there. amount_in_range a.balance (in_range.accounts a there).balance)
+
+branches_whole : (w : WorldLists) (kept : KeptLists) → IsInRange w kept → total (map (λ b. amount_of b.balance) kept.branches) ≡ total (map (λ b. b.balance) kept.branches)
+branches_whole w kept in_range =
+    same_totals (λ (b : BranchRecord). amount_of b.balance) (λ b. b.balance) kept.branches (λ b there. amount_in_range b.balance (in_range.branches b there).balance)
+
+pub totals_from_amounts : (w : WorldLists) (kept : KeptLists) → IsInRange w kept → AmountsAgree kept → TotalsAgree kept
+totals_from_amounts w kept in_range agree = record {
+  tellers = sym (tellers_whole w kept in_range) ∙ agree.tellers ∙ accounts_whole w kept in_range;
+  branches = sym (branches_whole w kept in_range) ∙ agree.branches ∙ accounts_whole w kept in_range;
+}
+
+pub amounts_from_totals : (w : WorldLists) (kept : KeptLists) → IsInRange w kept → TotalsAgree kept → AmountsAgree kept
+amounts_from_totals w kept in_range agree = record {
+  tellers = tellers_whole w kept in_range ∙ agree.tellers ∙ sym (accounts_whole w kept in_range);
+  branches = branches_whole w kept in_range ∙ agree.branches ∙ sym (accounts_whole w kept in_range);
+}

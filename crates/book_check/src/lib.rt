@@ -1,0 +1,14 @@
+//! The check of a bank's books: whether its rows, and the numbers kept beside them, hold.
+#![tactic(auto)]
+
+mod amounts;
+mod beside;
+mod cash_book;
+mod check;
+mod history;
+mod least;
+mod numbering;
+mod range;
+mod range_rows;
+
+pub use check::{BooksFault, check_books};

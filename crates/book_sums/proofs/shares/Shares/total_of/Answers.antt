@@ -1,0 +1,13 @@
+use Rattle.std.proofs.Common.{arith}
+use Rattle.std.proofs.lemmas.Int.{ints}
+use Rattle.book_sums.proofs.SharesCalls.{group_added}
+use Rattle.book_sums.proofs.shares.Shares.total_of.Goals as goal
+
+pub returns-clause-value : goal.returns-clause-value
+returns-clause-value c =
+    omega (
+      arith,
+      ints,
+      c.total_between.ensures.value,
+      group_added c.args.group c.key_of.result c.key_of-2.result c.args.self.now c.key_of.ensures c.key_of-2.ensures c.total_between.ensures.parts,
+    )

@@ -1,0 +1,13 @@
+//! The sums of a bank's books by branch, teller, account, place and user, each from one sort, and
+//! the numbers that a store keeps beside the rows.
+#![tactic(auto)]
+
+mod holders;
+mod kept;
+mod parts;
+mod shares;
+mod sums;
+
+pub use kept::Kept;
+pub use shares::{Part, Parts, Shares};
+pub use sums::Sums;

@@ -1,0 +1,172 @@
+use crate::shares::{Part, Parts};
+use bank_books::{Account, CashLine, Entry, Release};
+
+/// Entries in the sums of their branches.
+#[derive(Clone, Copy)]
+pub(crate) struct ByBranch;
+
+impl Parts<Entry> for ByBranch {
+    ghost use Rattle.book_sums.specs.Sums.{branch_part};
+
+    ghost part = { λ _ e. branch_part e };
+
+    fn part(&self, row: &Entry) -> Part {
+        Part {
+            group: row.branch,
+            number: 0,
+            amount: row.delta.get(),
+        }
+    }
+}
+
+/// Entries in the sums of their tellers.
+#[derive(Clone, Copy)]
+pub(crate) struct ByTeller;
+
+impl Parts<Entry> for ByTeller {
+    ghost use Rattle.book_sums.specs.Sums.{teller_part};
+
+    ghost part = { λ _ e. teller_part e };
+
+    fn part(&self, row: &Entry) -> Part {
+        Part {
+            group: row.teller,
+            number: 0,
+            amount: row.delta.get(),
+        }
+    }
+}
+
+/// Entries in the sums of their accounts, by turn.
+#[derive(Clone, Copy)]
+pub(crate) struct ByTurn;
+
+impl Parts<Entry> for ByTurn {
+    ghost use Rattle.book_sums.specs.Sums.{turn_part};
+
+    ghost part = { λ _ e. turn_part e };
+
+    fn part(&self, row: &Entry) -> Part {
+        Part {
+            group: row.account,
+            number: row.turn,
+            amount: row.delta.get(),
+        }
+    }
+}
+
+/// Cash lines in the sums of their branches, by place.
+#[derive(Clone, Copy)]
+pub(crate) struct ByPlace;
+
+impl Parts<CashLine> for ByPlace {
+    ghost use Rattle.book_sums.specs.Sums.{place_part};
+
+    ghost part = { λ _ l. place_part l };
+
+    fn part(&self, row: &CashLine) -> Part {
+        Part {
+            group: row.branch,
+            number: row.place,
+            amount: row.amount.get(),
+        }
+    }
+}
+
+/// Cash lines at drawers, in the sums of their branches.
+#[derive(Clone, Copy)]
+pub(crate) struct AtDrawers;
+
+impl Parts<CashLine> for AtDrawers {
+    ghost use Rattle.book_sums.specs.Sums.{drawer_part};
+
+    ghost part = { λ _ l. drawer_part l };
+
+    fn part(&self, row: &CashLine) -> Part {
+        Part {
+            group: row.branch,
+            number: 0,
+            amount: if row.place != 0 { row.amount.get() } else { 0 },
+        }
+    }
+}
+
+/// Cash lines that came with entries, in the sums of their branches.
+#[derive(Clone, Copy)]
+pub(crate) struct CashEntries;
+
+impl Parts<CashLine> for CashEntries {
+    ghost use Rattle.book_sums.specs.Sums.{cash_entry_part};
+
+    ghost part = { λ _ l. cash_entry_part l };
+
+    fn part(&self, row: &CashLine) -> Part {
+        Part {
+            group: row.branch,
+            number: 0,
+            amount: if row.form.is_cash_entry() {
+                row.amount.get()
+            } else {
+                0
+            },
+        }
+    }
+}
+
+/// Cash lines that tell what counts of drawers differed by, in the sums of their branches.
+#[derive(Clone, Copy)]
+pub(crate) struct Differences;
+
+impl Parts<CashLine> for Differences {
+    ghost use Rattle.book_sums.specs.Sums.{difference_part};
+
+    ghost part = { λ _ l. difference_part l };
+
+    fn part(&self, row: &CashLine) -> Part {
+        Part {
+            group: row.branch,
+            number: 0,
+            amount: if row.form.is_difference() {
+                row.amount.get()
+            } else {
+                0
+            },
+        }
+    }
+}
+
+/// Accounts in the counts of their homes.
+#[derive(Clone, Copy)]
+pub(crate) struct ByHome;
+
+impl Parts<Account> for ByHome {
+    ghost use Rattle.book_sums.specs.Sums.{home_part};
+
+    ghost part = { λ _ a. home_part a };
+
+    fn part(&self, row: &Account) -> Part {
+        Part {
+            group: row.home,
+            number: 0,
+            amount: 0,
+        }
+    }
+}
+
+/// Releases in the counts of their users.
+#[derive(Clone, Copy)]
+pub(crate) struct ByUser;
+
+impl Parts<Release> for ByUser {
+    ghost use Rattle.book_sums.specs.Sums.{user_part};
+
+    ghost part = { λ _ r. user_part r };
+
+    fn part(&self, row: &Release) -> Part {
+        Part {
+            group: row.user,
+            number: 0,
+            amount: 0,
+        }
+    }
+}

@@ -1,0 +1,196 @@
+ghost use Rattle.std.specs.Prelude.{◌≡◌, ◌+◌, ◌*◌, ◌^◌, ◌<◌, ◌≤◌, ◌≤ℤ◌, IfOk, length, map, neg_ℤ, pos};
+ghost use Rattle.std.specs.List.{All};
+ghost use Rattle.std.specs.List.Sorted.{IsNonDecreasingBy, IsPartitionPoint, IsPermutation};
+ghost use Rattle.book_sums.specs.Shares.{AreRunningSums, IsPart, part_key};
+
+use std::alloc::{AllocError, Global};
+use std::marker::Model;
+
+/// One row's part in sums by group, such as an entry's delta in the sum of its account.
+#[derive(Clone, Copy, Debug, PartialEq, Eq)]
+pub struct Part {
+    /// The number of the group, such as that of an account.
+    pub group: u32,
+    /// The number of the part in its group, such as the turn of an entry.
+    pub number: u32,
+    /// What it adds to the sum of its group.
+    pub amount: i64,
+}
+
+impl Part {
+    /// The number by which parts stand in order: by group, then by number.
+    fn key(&self) -> u64
+        ensures { result ≡ part_key self.now }
+    {
+        key_of(self.group, self.number)
+    }
+}
+
+fn key_of(group: u32, number: u32) -> u64
+    ensures { result ≡ 2 ^ 32 * group + number }
+{
+    group as u64 * (1 << 32) + number as u64
+}
+
+/// How a row is taken as a part.
+pub trait Parts<T> {
+    ghost use Rattle.std.specs.Prelude.{◌≡◌};
+    ghost use Rattle.book_sums.specs.declared.shares.Part.{Part};
+
+    ghost part: { Self → T → Part };
+
+    /// The part of the row.
+    fn part(&self, row: &T) -> Part
+        ensures { result ≡ part self.now row.now };
+}
+
+/// Parts in order of group, then number, with their running sums: what a group comes to is found
+/// by two searches, each of which halves the parts that are left.
+#[derive(Drop)]
+pub struct Shares {
+    parts: Vec<Part>,
+    /// What the parts in front come to, of none of them, then of one, up to all.
+    sums: Vec<i128>,
+}
+
+impl Model for Shares {
+    ghost use Rattle.std.specs.Prelude.{List};
+    ghost use Rattle.book_sums.specs.declared.shares.Part.{Part};
+    ghost use Rattle.book_sums.specs.Shares.{AreShares};
+
+    ghost Value = { List Part };
+
+    ghost view = { λ s. s.parts.items };
+
+    ghost invariant = { λ s. AreShares s.parts.items s.sums.items };
+}
+
+impl Shares {
+    ghost use Rattle.std.specs.Prelude.{◌≡◌, ◌≤ℤ◌, ◌^◌, IfOk, map, neg_ℤ, pos};
+    ghost use Rattle.std.specs.List.Sorted.{IsPermutation};
+    ghost use Rattle.book_sums.specs.Shares.{count_at, count_between, group_count, group_total, total_at, total_between, total_up_to};
+
+    /// The parts of these rows. It takes the time of one sort, and fails only where memory is
+    /// refused.
+    pub fn of<T, Q: Parts<T>>(alloc: Global, query: &Q, rows: &[T]) -> Result<Shares, AllocError>
+        ensures { IfOk result (λ shares. IsPermutation (map (Q.part query.now) rows.now) shares) }
+    {
+        let mut parts = parts_of(alloc, query, rows)?;
+        put_in_order(&mut parts);
+        let sums = running_sums(alloc, &parts)?;
+        Ok(Shares { parts, sums })
+    }
+
+    /// What the parts of the group come to.
+    pub fn total_of(&self, group: u32) -> i128
+        ensures value { result ≡ group_total group self.now }
+        ensures low { neg_ℤ (pos (2 ^ 126)) ≤ℤ result }
+        ensures high { result ≤ℤ pos (2 ^ 126) }
+    {
+        self.total_between(key_of(group, 0), key_of(group, u32::MAX))
+    }
+
+    /// How many parts the group has.
+    pub fn count_of(&self, group: u32) -> u64
+        ensures { result ≡ group_count group self.now }
+    {
+        self.count_between(key_of(group, 0), key_of(group, u32::MAX))
+    }
+
+    /// What the parts of the group come to that are numbered up to this number.
+    pub fn total_up_to(&self, group: u32, number: u32) -> i128
+        ensures value { result ≡ total_up_to group number self.now }
+        ensures low { neg_ℤ (pos (2 ^ 126)) ≤ℤ result }
+        ensures high { result ≤ℤ pos (2 ^ 126) }
+    {
+        self.total_between(key_of(group, 0), key_of(group, number))
+    }
+
+    /// What the parts of the group come to that have this number.
+    pub fn total_at(&self, group: u32, number: u32) -> i128
+        ensures value { result ≡ total_at group number self.now }
+        ensures low { neg_ℤ (pos (2 ^ 126)) ≤ℤ result }
+        ensures high { result ≤ℤ pos (2 ^ 126) }
+    {
+        self.total_between(key_of(group, number), key_of(group, number))
+    }
+
+    /// How many parts of the group have this number.
+    pub fn count_at(&self, group: u32, number: u32) -> u64
+        ensures { result ≡ count_at group number self.now }
+    {
+        self.count_between(key_of(group, number), key_of(group, number))
+    }
+
+    /// What the parts come to whose keys lie from the first to the last.
+    fn total_between(&self, first: u64, last: u64) -> i128
+        requires { first ≤ last }
+        ensures value { result ≡ total_between first last self.now }
+        ensures parts { All IsPart self.now }
+        ensures low { neg_ℤ (pos (2 ^ 126)) ≤ℤ result }
+        ensures high { result ≤ℤ pos (2 ^ 126) }
+    {
+        self.sums[end_at(&self.parts, last)] - self.sums[end_below(&self.parts, first)]
+    }
+
+    /// How many parts have keys from the first to the last.
+    fn count_between(&self, first: u64, last: u64) -> u64
+        requires { first ≤ last }
+        ensures value { result ≡ count_between first last self.now }
+        ensures parts { All IsPart self.now }
+    {
+        (end_at(&self.parts, last) - end_below(&self.parts, first)) as u64
+    }
+}
+
+/// The place behind the parts whose keys are below this one.
+fn end_below(parts: &[Part], key: u64) -> usize
+    requires { IsNonDecreasingBy part_key parts.now }
+    ensures bound { result ≤ length parts.now }
+    ensures place { IsPartitionPoint (λ p. part_key p < key) (λ p. key ≤ part_key p) parts.now result }
+{
+    parts.partition_point(|part| part.key() < key)
+}
+
+/// The place behind the parts whose keys are not above this one.
+fn end_at(parts: &[Part], key: u64) -> usize
+    requires { IsNonDecreasingBy part_key parts.now }
+    ensures bound { result ≤ length parts.now }
+    ensures place { IsPartitionPoint (λ p. part_key p ≤ key) (λ p. key < part_key p) parts.now result }
+{
+    parts.partition_point(|part| part.key() <= key)
+}
+
+/// The parts of the rows, in the order of the rows.
+fn parts_of<T, Q: Parts<T>>(alloc: Global, query: &Q, rows: &[T]) -> Result<Vec<Part>, AllocError>
+    ensures value { IfOk result (λ parts. parts.items ≡ map (Q.part query.now) rows.now) }
+    ensures in_range { IfOk result (λ parts. All IsPart parts.items) }
+{
+    let mut parts = Vec::new(alloc);
+    for row in rows {
+        parts.push(query.part(row))?;
+    }
+    Ok(parts)
+}
+
+fn put_in_order(parts: &mut Vec<Part>)
+    ensures same { IsPermutation parts.old.items parts.new.items }
+    ensures in_order { IsNonDecreasingBy part_key parts.new.items }
+{
+    parts.sort_unstable_by_key(|part| part.key());
+}
+
+/// What the parts in front come to, of none of them, then of one, up to all.
+fn running_sums(alloc: Global, parts: &[Part]) -> Result<Vec<i128>, AllocError>
+    requires { All IsPart parts.now }
+    ensures { IfOk result (λ sums. AreRunningSums parts.now sums.items) }
+{
+    let mut sum: i128 = 0;
+    let mut sums = Vec::new(alloc);
+    sums.push(sum)?;
+    for part in parts {
+        sum += i128::from(part.amount);
+        sums.push(sum)?;
+    }
+    Ok(sums)
+}
