@@ -1,10 +1,11 @@
 -- What the parts between two places of an ordered list come to, and how the two places are found.
-use Rattle.std.proofs.Common.{◌≡◌, ℕ, ◌+◌, ◌*◌, ◌^◌, ◌<◌, ◌≤◌, suc, zero, ℤ, pos, neg_ℤ, ◌+ℤ◌, ◌≤ℤ◌, List, [], ◌∷◌, map, take, length, get_or, Bool, true, false, leb, ltb, cond, refl, arith, inl, inr}
+use Rattle.std.proofs.Common.{◌≡◌, ℕ, ◌+◌, ◌*◌, ◌^◌, ◌<◌, ◌≤◌, suc, zero, ap, ℤ, pos, neg_ℤ, ◌+ℤ◌, ◌≤ℤ◌, List, [], ◌∷◌, map, take, length, get_or, Bool, true, false, leb, ltb, cond, refl, arith, inl, inr}
 use Rattle.std.specs.Prelude.{nat_le}
 use Rattle.std.specs.List.{All, count_by}
-use Rattle.std.specs.List.Sorted.{IsPartitionPoint}
+use Rattle.std.specs.List.Sorted.{IsNonDecreasingBy, IsPartitionPoint}
 use Rattle.std.proofs.lemmas.Bool.{and_from, and_left, and_right, cases_lt, le-leb, leb-false, leb-true, lt-leb, ltb-false, ltb-true}
 use Rattle.std.proofs.lemmas.Int.{ints}
+use Rattle.std.proofs.lemmas.List.{get_or_default}
 use Rattle.std.proofs.lemmas.List.Elements.{All-head, All-tail}
 use Rattle.std.proofs.lemmas.List.Sums.{sum_by-cons}
 use Rattle.money.specs.Totals.{total}
@@ -164,3 +165,16 @@ within_amounts p (x ∷ xs) all = go (p x) (All-head IsPart x xs all) (within_am
         × ((cond b x.amount (pos 0) +ℤ total (map (where_passes p (λ x. x.amount)) xs)) ≤ℤ pos (2 ^ 63 * length (x ∷ xs)))
     go true fits rest = (omega (arith, ints, fits.low, rest.0), omega (arith, ints, fits.high, rest.1))
     go false fits rest = (omega (arith, ints, rest.0), omega (arith, ints, rest.1))
+
+-- parts in order stand above a key from where one does, and are not above it up to where one isn't
+pub above_from : (parts : List Part) (place key found k : ℕ) (e d : Part) → IsNonDecreasingBy part_key parts → found ≡ part_key (get_or parts place e) → key < found →
+    place ≤ k → k < length parts → key < part_key (get_or parts k d)
+above_from parts place key found k e d order found_is more from till =
+    let same : part_key (get_or parts place e) ≡ part_key (get_or parts place d) = ap part_key (get_or_default parts place e d (omega arith)) in
+    omega (arith, order place k d from till, same, found_is)
+
+pub up_to_here : (parts : List Part) (place key found k : ℕ) (e d : Part) → IsNonDecreasingBy part_key parts → found ≡ part_key (get_or parts place e) → found ≤ key →
+    place < length parts → k ≤ place → part_key (get_or parts k d) ≤ key
+up_to_here parts place key found k e d order found_is less inside till =
+    let same : part_key (get_or parts place e) ≡ part_key (get_or parts place d) = ap part_key (get_or_default parts place e d inside) in
+    omega (arith, order k place d till inside, same, found_is)

@@ -1,6 +1,7 @@
-ghost use Rattle.std.specs.Prelude.{◌≡◌, ◌+◌, ◌*◌, ◌^◌, ◌<◌, ◌≤◌, ◌≤ℤ◌, IfOk, length, map, neg_ℤ, pos};
+ghost use Rattle.std.specs.Prelude.{◌≡◌, ◌+◌, ◌*◌, ◌^◌, ◌<◌, ◌≤◌, ◌≤ℤ◌, IfOk, length, map, neg_ℤ, pos, slice_index_or, IsTrue, ℕ};
 ghost use Rattle.std.specs.List.{All};
 ghost use Rattle.std.specs.List.Sorted.{IsNonDecreasingBy, IsPartitionPoint, IsPermutation};
+ghost use Rattle.book_sums.specs.declared.shares.Part.{Part as APart};
 ghost use Rattle.book_sums.specs.Shares.{AreRunningSums, IsPart, part_key};
 
 use std::alloc::{AllocError, Global};
@@ -130,7 +131,10 @@ impl Shares {
         ensures low { neg_ℤ (pos (2 ^ 126)) ≤ℤ result }
         ensures high { result ≤ℤ pos (2 ^ 126) }
     {
-        self.sums[end_at(&self.parts, last)] - self.sums[end_below(&self.parts, first)]
+        let start = end_below(&self.parts, first);
+        let guess = (start as u64).saturating_add(last - first);
+        let end = end_near(&self.parts, guess, last);
+        self.sums[end] - self.sums[start]
     }
 
     /// How many parts have keys from the first to the last.
@@ -159,6 +163,46 @@ fn end_at(parts: &[Part], key: u64) -> usize
     ensures place { IsPartitionPoint (λ p. part_key p ≤ key) (λ p. key < part_key p) parts.now result }
 {
     parts.partition_point(|part| part.key() <= key)
+}
+
+/// The same, which is found at once where the guess is right: a group that is numbered 1, 2, 3 and
+/// so on has so many parts up to a number.
+fn end_near(parts: &[Part], guess: u64, key: u64) -> usize
+    requires { IsNonDecreasingBy part_key parts.now }
+    ensures bound { result ≤ length parts.now }
+    ensures place { IsPartitionPoint (λ p. part_key p ≤ key) (λ p. key < part_key p) parts.now result }
+{
+    match usize::try_from(guess) {
+        Ok(place) if is_end_at(parts, place, key) => place,
+        _ => end_at(parts, key),
+    }
+}
+
+/// Whether this is the place behind the parts whose keys are not above this one.
+fn is_end_at(parts: &[Part], place: usize, key: u64) -> bool
+    requires { IsNonDecreasingBy part_key parts.now }
+    ensures bound { IsTrue result → place ≤ length parts.now }
+    ensures place { IsTrue result → IsPartitionPoint (λ p. part_key p ≤ key) (λ p. key < part_key p) parts.now place }
+{
+    place <= parts.len() && are_up_to(parts, place, key) && are_above(parts, place, key)
+}
+
+/// Whether the keys of the parts before a place are not above this one.
+fn are_up_to(parts: &[Part], place: usize, key: u64) -> bool
+    requires in_order { IsNonDecreasingBy part_key parts.now }
+    requires bound { place ≤ length parts.now }
+    ensures { IsTrue result → (k : ℕ) (d : APart) → k < place → part_key (slice_index_or parts.now k d) ≤ key }
+{
+    place == 0 || parts[place - 1].key() <= key
+}
+
+/// Whether the keys of the parts from a place on are above this one.
+fn are_above(parts: &[Part], place: usize, key: u64) -> bool
+    requires in_order { IsNonDecreasingBy part_key parts.now }
+    requires bound { place ≤ length parts.now }
+    ensures { IsTrue result → (k : ℕ) (d : APart) → place ≤ k → k < length parts.now → key < part_key (slice_index_or parts.now k d) }
+{
+    place == parts.len() || key < parts[place].key()
 }
 
 /// The parts of the rows, in the order of the rows.

@@ -5,28 +5,28 @@ use Rattle.book_sums.proofs.shares.Shares.total_between.Goals as goal
 
 pub overflow_sub-result : goal.overflow_sub-result
 overflow_sub-result c =
-    let added = added_between c.args.first c.args.last c.end_below.result c.end_at.result c.deref-2.result.now c.deref.result.now c.self.inside.parts.items c.args.self.now
-    c.requires c.deref-2.ensures.value c.deref.ensures.value c.self.view_is c.end_below.ensures.bound c.end_at.ensures.bound c.end_below.ensures.place c.end_at.ensures.place
+    let added = added_between c.args.first c.args.last c.end_below-start.result c.end_near-end.result c.deref.result.now c.deref-2.result.now c.self.inside.parts.items c.args.self.now
+    c.requires c.deref.ensures.value c.deref-2.ensures.value c.self.view_is c.end_below-start.ensures.bound c.end_near-end.ensures.bound c.end_below-start.ensures.place c.end_near-end.ensures.place
     c.self.inside.sums.items c.self.invariant c.index-2.result.now c.index.result.now c.index-2.ensures c.index.ensures (omega arith) in
     omega (arith, ints, added.is, added.low, added.high)
 
 pub returns-clause-value : goal.returns-clause-value
 returns-clause-value c =
-    let added = added_between c.args.first c.args.last c.end_below.result c.end_at.result c.deref-2.result.now c.deref.result.now c.self.inside.parts.items c.args.self.now
-    c.requires c.deref-2.ensures.value c.deref.ensures.value c.self.view_is c.end_below.ensures.bound c.end_at.ensures.bound c.end_below.ensures.place c.end_at.ensures.place
+    let added = added_between c.args.first c.args.last c.end_below-start.result c.end_near-end.result c.deref.result.now c.deref-2.result.now c.self.inside.parts.items c.args.self.now
+    c.requires c.deref.ensures.value c.deref-2.ensures.value c.self.view_is c.end_below-start.ensures.bound c.end_near-end.ensures.bound c.end_below-start.ensures.place c.end_near-end.ensures.place
     c.self.inside.sums.items c.self.invariant c.index-2.result.now c.index.result.now c.index-2.ensures c.index.ensures (omega arith) in
     omega (arith, ints, added.is, added.low, added.high)
 
 pub returns-clause-low : goal.returns-clause-low
 returns-clause-low c =
-    let added = added_between c.args.first c.args.last c.end_below.result c.end_at.result c.deref-2.result.now c.deref.result.now c.self.inside.parts.items c.args.self.now
-    c.requires c.deref-2.ensures.value c.deref.ensures.value c.self.view_is c.end_below.ensures.bound c.end_at.ensures.bound c.end_below.ensures.place c.end_at.ensures.place
+    let added = added_between c.args.first c.args.last c.end_below-start.result c.end_near-end.result c.deref.result.now c.deref-2.result.now c.self.inside.parts.items c.args.self.now
+    c.requires c.deref.ensures.value c.deref-2.ensures.value c.self.view_is c.end_below-start.ensures.bound c.end_near-end.ensures.bound c.end_below-start.ensures.place c.end_near-end.ensures.place
     c.self.inside.sums.items c.self.invariant c.index-2.result.now c.index.result.now c.index-2.ensures c.index.ensures (omega arith) in
     omega (arith, ints, added.is, added.low, added.high)
 
 pub returns-clause-high : goal.returns-clause-high
 returns-clause-high c =
-    let added = added_between c.args.first c.args.last c.end_below.result c.end_at.result c.deref-2.result.now c.deref.result.now c.self.inside.parts.items c.args.self.now
-    c.requires c.deref-2.ensures.value c.deref.ensures.value c.self.view_is c.end_below.ensures.bound c.end_at.ensures.bound c.end_below.ensures.place c.end_at.ensures.place
+    let added = added_between c.args.first c.args.last c.end_below-start.result c.end_near-end.result c.deref.result.now c.deref-2.result.now c.self.inside.parts.items c.args.self.now
+    c.requires c.deref.ensures.value c.deref-2.ensures.value c.self.view_is c.end_below-start.ensures.bound c.end_near-end.ensures.bound c.end_below-start.ensures.place c.end_near-end.ensures.place
     c.self.inside.sums.items c.self.invariant c.index-2.result.now c.index.result.now c.index-2.ensures c.index.ensures (omega arith) in
     omega (arith, ints, added.is, added.low, added.high)
