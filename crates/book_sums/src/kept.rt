@@ -123,8 +123,9 @@ fn branch_records(alloc: Global, world: &World, sums: &Sums) -> Result<Vec<Branc
     ensures value { IfOk result (λ records. records.items ≡ map (branch_record_of world.now) world.now.branches) }
     ensures memory { IsOkUnless result Fault.Memory }
 {
-    let mut records = Vec::new(alloc);
-    for row in world.branches() {
+    let rows = world.branches();
+    let mut records = Vec::with_capacity(alloc, rows.len())?;
+    for row in rows {
         records.push(sums.branch_record(row))?;
     }
     Ok(records)
@@ -135,8 +136,9 @@ fn account_records(alloc: Global, world: &World, sums: &Sums) -> Result<Vec<Acco
     ensures value { IfOk result (λ records. records.items ≡ map (account_record_of world.now) world.now.accounts) }
     ensures memory { IsOkUnless result Fault.Memory }
 {
-    let mut records = Vec::new(alloc);
-    for row in world.accounts() {
+    let rows = world.accounts();
+    let mut records = Vec::with_capacity(alloc, rows.len())?;
+    for row in rows {
         records.push(sums.account_record(row))?;
     }
     Ok(records)
@@ -147,8 +149,9 @@ fn entry_records(alloc: Global, world: &World, sums: &Sums) -> Result<Vec<EntryR
     ensures value { IfOk result (λ records. records.items ≡ map (entry_record_of world.now) world.now.entries) }
     ensures memory { IsOkUnless result Fault.Memory }
 {
-    let mut records = Vec::new(alloc);
-    for row in world.entries() {
+    let rows = world.entries();
+    let mut records = Vec::with_capacity(alloc, rows.len())?;
+    for row in rows {
         records.push(sums.entry_record(world, row))?;
     }
     Ok(records)
@@ -159,8 +162,9 @@ fn release_counts(alloc: Global, world: &World, sums: &Sums) -> Result<Vec<Relea
     ensures value { IfOk result (λ records. records.items ≡ map (release_count_of world.now) world.now.policy.users) }
     ensures memory { IsOkUnless result Fault.Memory }
 {
-    let mut records = Vec::new(alloc);
-    for row in world.policy().users() {
+    let rows = world.policy().users();
+    let mut records = Vec::with_capacity(alloc, rows.len())?;
+    for row in rows {
         records.push(sums.release_count(row))?;
     }
     Ok(records)
@@ -173,7 +177,7 @@ fn teller_records(alloc: Global, world: &World, sums: &Sums) -> Result<Vec<Telle
 {
     let tellers = world.tellers();
     let holders = holders(alloc, tellers, world.lines())?;
-    let mut records = Vec::new(alloc);
+    let mut records = Vec::with_capacity(alloc, tellers.len())?;
     for index in 0..tellers.len() {
         records.push(sums.teller_record(&tellers[index], holders[index]))?;
     }

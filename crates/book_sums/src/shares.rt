@@ -210,7 +210,7 @@ fn parts_of<T, Q: Parts<T>>(alloc: Global, query: &Q, rows: &[T]) -> Result<Vec<
     ensures value { IfOk result (λ parts. parts.items ≡ map (Q.part query.now) rows.now) }
     ensures in_range { IfOk result (λ parts. All IsPart parts.items) }
 {
-    let mut parts = Vec::new(alloc);
+    let mut parts = Vec::with_capacity(alloc, rows.len())?;
     for row in rows {
         parts.push(query.part(row))?;
     }
@@ -230,7 +230,7 @@ fn running_sums(alloc: Global, parts: &[Part]) -> Result<Vec<i128>, AllocError>
     ensures { IfOk result (λ sums. AreRunningSums parts.now sums.items) }
 {
     let mut sum: i128 = 0;
-    let mut sums = Vec::new(alloc);
+    let mut sums = Vec::with_capacity(alloc, parts.len() + 1)?;
     sums.push(sum)?;
     for part in parts {
         sum += i128::from(part.amount);

@@ -7,6 +7,6 @@ use Rattle.book_sums.proofs.kept.release_counts.Goals as goal
 pub loop-row-preserved : goal.loop-row-preserved
 loop-row-preserved c =
     let w = c.args.world.now in
-    mapped_more (release_count_of w) c.users-row-items.result.now w.policy.users c.loop-row.row-index c.row-item.result _ _ c.release_count.result
-    (c.users-row-items.ensures.value ∙ ap (λ p. p.users) c.policy.ensures) c.loop-row-test.true c.row-item.is
+    mapped_more (release_count_of w) c.users-rows.result.now w.policy.users c.loop-row.row-index c.row-item.result _ _ c.release_count.result
+    (c.users-rows.ensures.value ∙ ap (λ p. p.users) c.policy.ensures) c.loop-row-test.true c.row-item.is
     (c.release_count.ensures ∙ releases_from_sums w c.args.sums.now c.row-item.result c.requires) c.loop-row.invariant c.in_ok-push.ensures.items
