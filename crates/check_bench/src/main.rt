@@ -69,8 +69,15 @@ fn run(rt: &HostRuntime, branches: u32, times: u32) -> u8 {
     }
 }
 
-/// Checks the books as often as asked, or until they don't hold.
-fn check_often(alloc: Global, world: &World, times: u32) -> Result<Result<(), BooksFault>, Fault> {
+ghost use Rattle.std.specs.Prelude.{◌≡◌, ◌<◌, Ok, IfOk, IsOkUnless};
+ghost use Rattle.bank_books.specs.Books.{Books};
+
+/// Checks the books as often as asked, or until they don't hold. Where it was asked at all it says
+/// that they hold only where they do.
+fn check_often(alloc: Global, world: &World, times: u32) -> Result<Result<(), BooksFault>, Fault>
+    ensures hold { IfOk result (λ verdict. verdict ≡ Ok record {} → 0 < times → Books world.now) }
+    ensures memory { IsOkUnless result Fault.Memory }
+{
     let kept = Kept::of(alloc, world)?;
     for _ in 0..times {
         if let Err(fault) = check_books(alloc, world, &kept)? {
