@@ -1,5 +1,7 @@
 pub mod Execution
+pub mod HeldRows
 pub mod Items
+pub mod Laws
 pub mod Policy
 pub mod PolicyKeys
 pub mod PolicyVerdict

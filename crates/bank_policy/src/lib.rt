@@ -3,11 +3,14 @@
 
 mod check;
 mod coverage;
+mod held_rows;
 mod item;
+pub mod laws;
 mod operation_row;
 mod policy;
 mod policy_fault;
 mod procedure;
+mod reading;
 mod references;
 mod rows;
 mod rule;
@@ -17,11 +20,13 @@ mod soundness;
 mod tests;
 
 pub use check::check_policy;
-pub use coverage::{best_limit, covers};
+pub use coverage::{best_limit, covers, is_certified};
+pub use held_rows::{CertifiedRow, HeldRow};
 pub use item::{Cdi, Kind};
 pub use operation_row::OperationRow;
 pub use policy::Policy;
 pub use policy_fault::PolicyFault;
 pub use procedure::Procedure;
-pub use rows::{Certifier, HeldRow, ItemSet, Member, Name, Relation, Triple, User};
+pub use reading::{relations_of, triples_of, user_row};
+pub use rows::{Certifier, ItemSet, Member, Name, Relation, Triple, User};
 pub use rule::Rule;

@@ -136,12 +136,3 @@ pub struct Certifier {
     /// What he may certify.
     pub procedure: Procedure,
 }
-
-/// A triple with the members of its set.
-#[derive(Debug, Drop)]
-pub struct HeldRow {
-    /// The triple.
-    pub triple: Triple,
-    /// The members of its set, in order.
-    pub members: Vec<Member>,
-}

@@ -123,15 +123,16 @@ fn held(
         low: 1,
         high: 1,
     };
-    HeldRow {
-        triple: Triple {
-            user,
-            procedure: Procedure::Transfer,
-            set,
-            limit,
-        },
-        members: vec![in alloc; accounts, branch].expect(rt, "memory"),
-    }
+    let triple = Triple {
+        user,
+        procedure: Procedure::Transfer,
+        set,
+        limit,
+    };
+    HeldRow::new(
+        triple,
+        vec![in alloc; accounts, branch].expect(rt, "memory"),
+    )
 }
 
 #[test]
