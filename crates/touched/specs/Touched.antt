@@ -114,11 +114,3 @@ amount (op.Statement _) = 0
 amount (op.Accounts _) = 0
 amount (op.Proof _) = 0
 amount (op.CloseDay _) = 0
-
--- the branch of an operation that a release may be for
-abbrev pub branch_of : Releasable → ℕ
-branch_of (releasable.Post post) = post.branch
-branch_of (releasable.Transfer transfer) = transfer.branch
-branch_of (releasable.Correct correct) = correct.branch
-branch_of (releasable.DrawerOn drawer_on) = drawer_on.branch
-branch_of (releasable.MoveCash move_cash) = move_cash.branch

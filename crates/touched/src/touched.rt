@@ -1,9 +1,9 @@
 ghost use Rattle.std.specs.Prelude.{◌≡◌, ◌≤◌, ◌++◌, length, unsigned_abs};
-ghost use Rattle.counter_ops.specs.Touched.{account_item, teller_item, branch_item, history_item, drawer_item, vault_item, touched, touched_by_post, touched_by_transfer, touched_by_correct, touched_by_move_cash, touched_by_drawer, touched_by_books, touched_by_releasable, touched_at, touched_place, amount as amount_of, amount_of_releasable, branch_of};
+ghost use Rattle.touched.specs.Touched.{account_item, teller_item, branch_item, history_item, drawer_item, vault_item, touched, touched_by_post, touched_by_transfer, touched_by_correct, touched_by_move_cash, touched_by_drawer, touched_by_books, touched_by_releasable, touched_at, touched_place, amount as amount_of, amount_of_releasable};
 
 use crate::item_list::ItemList;
-use crate::op::{Correct, MoveCash, Op, Post, Releasable, Transfer};
 use bank_policy::{Cdi, Kind};
+use counter_ops::{Correct, MoveCash, Op, Post, Releasable, Transfer};
 use money::Delta;
 
 /// The items that the operation touches, as its form names them: of the operation alone, whatever
@@ -50,21 +50,6 @@ pub fn amount(op: &Op) -> u32
         | Op::Accounts(_)
         | Op::Proof(_)
         | Op::CloseDay(_) => 0,
-    }
-}
-
-impl Releasable {
-    /// Its branch, whose day a release for it bears.
-    pub fn branch(&self) -> u32
-        ensures { result ≡ branch_of self.now }
-    {
-        match self {
-            Releasable::Post(post) => post.branch,
-            Releasable::Transfer(transfer) => transfer.branch,
-            Releasable::Correct(correct) => correct.branch,
-            Releasable::DrawerOn(drawer_on) => drawer_on.branch,
-            Releasable::MoveCash(move_cash) => move_cash.branch,
-        }
     }
 }
 
