@@ -1,4 +1,4 @@
-//! HTTP/1.1 messages on a stream: the messages, reply bytes, and a loop that has an engine answer them.
+//! HTTP/1.1 messages on a stream: what an engine is handed, reply bytes, and a loop that has an engine answer them.
 #![tactic(auto)]
 
 mod blank;
