@@ -7,7 +7,7 @@ use Rattle.bank_policy.specs.PolicyKeys.{user_key}
 use Rattle.bank_policy.specs.declared.rows.User.{User}
 use Rattle.counter_ops.specs.Ranges.{IsKey, IsKeyOrZero, IsReleasable, IsWithin}
 use Rattle.counter_ops.specs.Rows.{op_of, row_of}
-use Rattle.counter_ops.specs.Touched.{branch_of}
+use Rattle.counter_ops.specs.Op.{branch_of}
 use Rattle.counter_ops.specs.declared.op.Releasable.{Releasable}
 use Rattle.bank_books.specs.declared.records.AccountRecord.{AccountRecord}
 use Rattle.bank_books.specs.declared.records.BranchRecord.{BranchRecord}

@@ -9,7 +9,8 @@ use crate::routes::Routes;
 use bank_policy::Procedure;
 use bodies::read_op;
 use decide::{Decision, Op, Reply, Who, carry_out, decide, is_brought};
-use messages::{AnswerFault, Engine, Found, Message, MessageFault};
+use heads::{Found, MessageFault};
+use messages::{AnswerFault, Engine, Message};
 use money::Tallied;
 use std::alloc::Global;
 use std::io::Write;
@@ -90,7 +91,7 @@ fn carried_out<S: Store>(
 
 impl<'b, 'g, 'c, S: Store, G: Gate, C: Clock> Engine for Counter<'b, 'g, 'c, S, G, C> {
     ghost use Rattle.std.specs.Prelude.{◌≡◌, ℕ, List, codes};
-    ghost use Rattle.messages.specs.Framing.{asks_head, closes};
+    ghost use Rattle.heads.specs.Framing.{asks_head, closes};
     ghost use Rattle.messages.specs.Reply.{reply_bytes};
 
     // One reply in JSON, framed as the message asks for it.

@@ -2,8 +2,8 @@ ghost use Rattle.std.specs.Prelude.{◌≡◌};
 ghost use Rattle.counter_api.specs.Fault.{fault_text};
 
 use decide::{Rule, denial_text};
+use heads::MessageFault;
 use http::StatusCode;
-use messages::MessageFault;
 use money::Fault;
 use std::alloc::Global;
 

@@ -1,4 +1,3 @@
 pub mod Op
 pub mod Ranges
 pub mod Rows
-pub mod Touched

@@ -1,5 +1,5 @@
 ghost use Rattle.std.specs.Prelude.{◌≡◌};
-ghost use Rattle.counter_ops.specs.Op.{procedure_of};
+ghost use Rattle.counter_ops.specs.Op.{procedure_of, branch_of};
 
 use bank_policy::Procedure;
 use money::{Cents, Delta};
@@ -210,6 +210,21 @@ impl Op {
             Op::Accounts(_) => Procedure::Accounts,
             Op::Proof(_) => Procedure::Proof,
             Op::CloseDay(_) => Procedure::CloseDay,
+        }
+    }
+}
+
+impl Releasable {
+    /// Its branch, whose day a release for it bears.
+    pub fn branch(&self) -> u32
+        ensures { result ≡ branch_of self.now }
+    {
+        match self {
+            Releasable::Post(post) => post.branch,
+            Releasable::Transfer(transfer) => transfer.branch,
+            Releasable::Correct(correct) => correct.branch,
+            Releasable::DrawerOn(drawer_on) => drawer_on.branch,
+            Releasable::MoveCash(move_cash) => move_cash.branch,
         }
     }
 }

@@ -1,8 +1,8 @@
 use crate::{
     Accounts, Balance, CloseDay, Correct, DrawerOff, DrawerOn, MoveCash, NewAccount, Op, Post,
-    Proof, Releasable, Release, Statement, Transfer, amount, touches,
+    Proof, Releasable, Release, Statement, Transfer,
 };
-use bank_policy::{Cdi, Kind, OperationRow, Procedure};
+use bank_policy::{OperationRow, Procedure};
 use money::{Cents, Delta};
 use std::process::Abort;
 use std::test::Fail;
@@ -21,10 +21,6 @@ const MOVE_CASH: MoveCash = MoveCash {
     branch: 1,
     amount: 5_000,
 };
-
-fn item(kind: Kind, key: u32) -> Cdi {
-    Cdi { kind, key }
-}
 
 /// A withdrawal of 25.00 at teller 11 of branch 1.
 fn withdrawal() -> Result<Post, Fail> {
@@ -48,197 +44,11 @@ fn correction(other: u32) -> Result<Correct, Fail> {
     })
 }
 
-/// The operation touches these items and comes to this amount.
-fn comes_to(rt: &impl Abort, op: Op, cents: u32, items: &[Cdi]) {
-    assert_eq!(rt; touches(&op).as_slice(), items);
-    assert_eq!(rt; amount(&op), cents);
-}
-
 /// The operation's row is of this form with these members, and is read as that operation.
 fn stands_as(rt: &impl Abort, op: Op, form: Procedure, members: [i64; 8]) {
     let row = OperationRow { form, members };
     assert_eq!(rt; op.to_row(), row);
     assert_eq!(rt; Op::from_row(&row), Some(op));
-}
-
-#[test]
-fn items_and_amounts_of_postings(rt: HostRuntime) -> Result<(), Fail> {
-    comes_to(
-        &rt,
-        Op::Post(withdrawal()?),
-        2_500,
-        &[
-            item(Kind::Account, 101),
-            item(Kind::Teller, 11),
-            item(Kind::Branch, 1),
-            item(Kind::History, 1),
-            item(Kind::Drawer, 11),
-        ],
-    );
-    comes_to(
-        &rt,
-        Op::Transfer(TRANSFER),
-        20_000,
-        &[
-            item(Kind::Account, 101),
-            item(Kind::Account, 201),
-            item(Kind::Teller, 11),
-            item(Kind::Branch, 1),
-            item(Kind::History, 1),
-            item(Kind::Drawer, 11),
-        ],
-    );
-    Ok(())
-}
-
-#[test]
-fn items_and_amounts_of_corrections_and_releases(rt: HostRuntime) -> Result<(), Fail> {
-    comes_to(
-        &rt,
-        Op::Correct(correction(0)?),
-        2_500,
-        &[
-            item(Kind::Account, 101),
-            item(Kind::Teller, 12),
-            item(Kind::Branch, 1),
-            item(Kind::History, 1),
-            item(Kind::Drawer, 12),
-        ],
-    );
-    comes_to(
-        &rt,
-        Op::Correct(correction(201)?),
-        2_500,
-        &[
-            item(Kind::Account, 101),
-            item(Kind::Account, 201),
-            item(Kind::Teller, 12),
-            item(Kind::Branch, 1),
-            item(Kind::History, 1),
-            item(Kind::Drawer, 12),
-        ],
-    );
-    comes_to(
-        &rt,
-        Op::Release(Release {
-            beneficiary: 8,
-            operation: Releasable::Transfer(TRANSFER),
-        }),
-        20_000,
-        &[
-            item(Kind::Account, 101),
-            item(Kind::Account, 201),
-            item(Kind::Teller, 11),
-            item(Kind::Branch, 1),
-            item(Kind::History, 1),
-            item(Kind::Drawer, 11),
-        ],
-    );
-    Ok(())
-}
-
-#[test]
-fn items_and_amounts_of_moves_of_cash(rt: HostRuntime) -> Result<(), Fail> {
-    comes_to(
-        &rt,
-        Op::MoveCash(MOVE_CASH),
-        5_000,
-        &[
-            item(Kind::Branch, 1),
-            item(Kind::Teller, 11),
-            item(Kind::Drawer, 11),
-            item(Kind::Teller, 12),
-            item(Kind::Drawer, 12),
-        ],
-    );
-    comes_to(
-        &rt,
-        Op::MoveCash(MoveCash {
-            target: 0,
-            ..MOVE_CASH
-        }),
-        5_000,
-        &[
-            item(Kind::Branch, 1),
-            item(Kind::Teller, 11),
-            item(Kind::Drawer, 11),
-            item(Kind::Vault, 1),
-        ],
-    );
-    comes_to(
-        &rt,
-        Op::MoveCash(MoveCash {
-            source: 0,
-            ..MOVE_CASH
-        }),
-        5_000,
-        &[
-            item(Kind::Branch, 1),
-            item(Kind::Teller, 12),
-            item(Kind::Drawer, 12),
-            item(Kind::Vault, 1),
-        ],
-    );
-    comes_to(
-        &rt,
-        Op::DrawerOn(DrawerOn {
-            teller: 11,
-            branch: 1,
-            cash: 40_000,
-        }),
-        40_000,
-        &[
-            item(Kind::Teller, 11),
-            item(Kind::Branch, 1),
-            item(Kind::Drawer, 11),
-            item(Kind::Vault, 1),
-        ],
-    );
-    Ok(())
-}
-
-#[test]
-fn items_and_amounts_of_other_operations(rt: HostRuntime) -> Result<(), Fail> {
-    comes_to(
-        &rt,
-        Op::NewAccount(NewAccount {
-            account: 103,
-            branch: 1,
-            floor: -1,
-        }),
-        1,
-        &[item(Kind::Account, 103), item(Kind::Branch, 1)],
-    );
-    comes_to(
-        &rt,
-        Op::Accounts(Accounts {
-            after: 0,
-            count: 10,
-        }),
-        0,
-        &[],
-    );
-    comes_to(
-        &rt,
-        Op::Statement(Statement {
-            account: 102,
-            start: 1,
-            count: 10,
-        }),
-        0,
-        &[item(Kind::Account, 102)],
-    );
-    comes_to(
-        &rt,
-        Op::CloseDay(CloseDay { branch: 2 }),
-        0,
-        &[
-            item(Kind::Branch, 2),
-            item(Kind::History, 2),
-            item(Kind::Vault, 2),
-        ],
-    );
-    Ok(())
 }
 
 #[test]

@@ -1,9 +1,5 @@
 pub mod BlankLemmas
-pub mod FieldLemmas
-pub mod JudgeLemmas
-pub mod LineLemmas
 pub mod ReadingLemmas
 pub mod RoomLemmas
 pub mod RunLemmas
 pub mod TurnLemmas
-pub mod WordLemmas

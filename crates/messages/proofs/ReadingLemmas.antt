@@ -4,8 +4,8 @@ use Rattle.std.proofs.lemmas.List.Elements.{All-head, All-tail}
 use Rattle.std.proofs.Math.Seq.{drop-append_seam, take-append_seam}
 use Rattle.httparse.specs.Grammar.{print_request, ReadsRequest}
 use Rattle.httparse.proofs.GrammarLemmas.{request_unique}
-use Rattle.messages.specs.Framing.{body_len}
-use Rattle.messages.specs.Parts.{parts_of}
+use Rattle.heads.specs.Framing.{body_len}
+use Rattle.heads.specs.Parts.{parts_of}
 use Rattle.messages.specs.Whole.{WholeMessage, print_message, IsMessage, Splits}
 
 -- two lists of one length begin the same list

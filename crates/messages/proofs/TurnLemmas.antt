@@ -7,15 +7,16 @@ use Rattle.money.specs.Counted.{AppendsBeginning}
 use Rattle.httparse.specs.declared.spans.HeaderSpan.{HeaderSpan}
 use Rattle.httparse.specs.declared.spans.RequestSpans.{RequestSpans}
 use Rattle.httparse.specs.Grammar.{RequestHead, print_request}
-use Rattle.messages.specs.declared.fault.MessageFault.{MessageFault}
+use Rattle.heads.specs.declared.fault.MessageFault.{MessageFault}
 use Rattle.messages.specs.declared.serving.Turn.{Turn}
 use Rattle.messages.specs.declared.serving.Turn.TheVariants.{Answered, Closed, Ended}
 use Rattle.messages.specs.declared.serving.ServeFault.{ServeFault}
 use Rattle.messages.specs.declared.serving.ServeFault.TheVariants.{Read, Write, Cut, Memory, Report}
 use Rattle.messages.specs.Answered.{IsTurnOf}
-use Rattle.messages.specs.Framing.{asks_head}
+use Rattle.heads.specs.Framing.{asks_head}
 use Rattle.messages.specs.Next.{BeginsMessage, BeginsFaulty}
-use Rattle.messages.specs.Parts.{MessageParts, HeadParts, parts_of}
+use Rattle.heads.specs.Parts.{HeadParts, parts_of}
+use Rattle.messages.specs.Parts.{MessageParts}
 use Rattle.messages.specs.Received.{Takes}
 use Rattle.messages.specs.Turn.{At, Handles, IsRefused, refusal_bytes, IsTurn}
 

@@ -8,7 +8,7 @@ use Rattle.messages.specs.declared.serving.Turn.{Turn}
 use Rattle.messages.specs.declared.serving.Turn.TheVariants.{Answered, Closed, Ended}
 use Rattle.messages.specs.declared.serving.ServeFault.{ServeFault}
 use Rattle.messages.specs.declared.serving.ServeFault.TheVariants.{Read, Write, Cut, Memory, Report}
-use Rattle.messages.specs.Framing.{closes}
+use Rattle.heads.specs.Framing.{closes}
 use Rattle.messages.specs.Parts.{MessageParts}
 
 module _ {S : Type 0} (answers breaks : S → MessageParts → List ℕ → S → Type 0) where

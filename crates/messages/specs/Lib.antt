@@ -1,16 +1,9 @@
 pub mod Answered
 pub mod Blank
-pub mod Fault
-pub mod Fields
-pub mod Found
-pub mod Framing
-pub mod Judged
 pub mod Next
 pub mod Parts
 pub mod Received
 pub mod Reply
 pub mod Run
-pub mod Stream
 pub mod Turn
 pub mod Whole
-pub mod Words

@@ -5,8 +5,9 @@ use Rattle.messages.specs.declared.serving.Served.{Served}
 use Rattle.messages.specs.declared.serving.ServeFault.{ServeFault}
 use Rattle.messages.specs.declared.serving.ServeFault.TheVariants.{Write, Memory}
 use Rattle.messages.specs.declared.serving.Turn.TheVariants.{Closed, Ended}
-use Rattle.messages.specs.Framing.{closes}
-use Rattle.messages.specs.Parts.{MessageParts, parts_of}
+use Rattle.heads.specs.Framing.{closes}
+use Rattle.heads.specs.Parts.{parts_of}
+use Rattle.messages.specs.Parts.{MessageParts}
 use Rattle.messages.specs.Whole.{WholeMessage, message_parts, Splits}
 use Rattle.messages.specs.Turn.{At, IsTurn}
 

@@ -3,18 +3,19 @@ use Rattle.std.specs.Prelude.{◌≡◌, ◌⊎◌, ℕ, Bool, List, ◌++◌, O
 use Rattle.std.specs.Io.KnownBytes.{Consumes, Appends, Keeps, IsAtEnd}
 use Rattle.money.specs.Counted.{AppendsBeginning}
 use Rattle.httparse.specs.Grammar.{RequestHead}
-use Rattle.messages.specs.declared.fault.MessageFault.{MessageFault}
+use Rattle.heads.specs.declared.fault.MessageFault.{MessageFault}
 use Rattle.messages.specs.declared.serving.Turn.{Turn}
 use Rattle.messages.specs.declared.serving.Turn.TheVariants.{Answered, Closed, Ended}
 use Rattle.messages.specs.declared.serving.ServeFault.{ServeFault}
 use Rattle.messages.specs.declared.serving.ServeFault.TheVariants.{Read, Write, Cut, Memory, Report}
 use Rattle.messages.specs.Blank.{AreLineEnds}
-use Rattle.messages.specs.Fault.{fault_status, fault_text}
-use Rattle.messages.specs.Framing.{head_fault, asks_head, closes}
+use Rattle.heads.specs.Fault.{fault_status, fault_text}
+use Rattle.heads.specs.Framing.{head_fault, asks_head, closes}
 use Rattle.messages.specs.Next.{HasFault, IsPartial}
-use Rattle.messages.specs.Parts.{MessageParts, parts_of}
+use Rattle.heads.specs.Parts.{parts_of}
+use Rattle.messages.specs.Parts.{MessageParts}
 use Rattle.messages.specs.Reply.{reply_bytes}
-use Rattle.messages.specs.Stream.{BeginsHead}
+use Rattle.heads.specs.Stream.{BeginsHead}
 use Rattle.messages.specs.Whole.{WholeMessage, print_message, message_parts, IsMessage}
 
 -- the reply to a fault that ends the connection

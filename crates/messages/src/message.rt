@@ -1,14 +1,13 @@
 ghost use Rattle.std.specs.Prelude.{◌≡◌, ◌≤◌, OnOk, OnErr};
 ghost use Rattle.std.specs.Io.KnownBytes.{Appends};
 ghost use Rattle.money.specs.Counted.{stream_of, failure_count, CountsFailure, AppendsBeginning};
-ghost use Rattle.messages.specs.Fields.{values_named};
-ghost use Rattle.messages.specs.Found.{IsFound};
-ghost use Rattle.messages.specs.Framing.{closes, asks_head};
+ghost use Rattle.heads.specs.Fields.{values_named};
+ghost use Rattle.heads.specs.Found.{IsFound};
+ghost use Rattle.heads.specs.Framing.{closes, asks_head};
 ghost use Rattle.messages.specs.Reply.{reply_bytes};
 
-use crate::fields::Found;
-use crate::head::Head;
 use crate::reply::write_reply;
+use heads::{Found, Head};
 use http::StatusCode;
 use money::{Tallied, WriteStopped};
 use std::io::Write;

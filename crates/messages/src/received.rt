@@ -3,8 +3,7 @@ ghost use Rattle.std.specs.Io.KnownBytes.{Keeps, IsAtEnd};
 ghost use Rattle.money.specs.Counted.{stream_of, failure_count, CountsFailure};
 ghost use Rattle.messages.specs.Received.{max_message_len, Takes};
 
-use crate::head::MAX_BODY_LEN;
-use crate::judging::MAX_HEAD_LEN;
+use heads::{MAX_BODY_LEN, MAX_HEAD_LEN};
 use money::Tallied;
 use std::alloc::{AllocError, Global};
 use std::io::Read;

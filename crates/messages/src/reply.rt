@@ -3,19 +3,11 @@ ghost use Rattle.std.specs.Io.KnownBytes.{Appends};
 ghost use Rattle.money.specs.Counted.{stream_of, failure_count, CountsFailure, AppendsBeginning};
 ghost use Rattle.messages.specs.Reply.{reply_texts, reply_bytes, phrase_of, connection_field};
 
+use heads::Framing;
 use http::StatusCode;
 use itoa::Buffer;
 use money::{Tallied, WriteStopped, write_parts};
 use std::io::Write;
-
-/// What a reply owes to the message that it answers.
-#[derive(Clone, Copy, Debug, PartialEq, Eq)]
-pub struct Framing {
-    /// The connection ends after it, and it says so.
-    pub close: bool,
-    /// It has the length of its body, and no body: it answers a HEAD.
-    pub head_only: bool,
-}
 
 /// Writes a reply, and takes no memory. After an error a beginning of it was written.
 pub fn write_reply<W: Write>(

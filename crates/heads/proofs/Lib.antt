@@ -1,0 +1,4 @@
+pub mod FieldLemmas
+pub mod JudgeLemmas
+pub mod LineLemmas
+pub mod WordLemmas
