@@ -82,7 +82,10 @@ fn is_named(world: &World, named: Named, part: &Part) -> bool
         Named::Teller => {
             is_branch(world, part.number) && is_teller_of(world, part.number, part.group)
         }
-        Named::Place => is_branch(world, part.group) && is_place_of(world, part.group, part.number),
+        Named::Place => {
+            is_branch(world, part.group)
+                && (part.number == 0 || is_teller_of(world, part.group, part.number))
+        }
     }
 }
 
@@ -98,14 +101,6 @@ pub(crate) fn is_user(world: &World, key: u32) -> bool
     ensures { IsTrue result ↔ IsUser world.now key }
 {
     is_there(world.policy().users(), key as u128)
-}
-
-/// Whether a place is the vault, or the drawer of a teller of that branch.
-fn is_place_of(world: &World, branch: u32, place: u32) -> bool
-    requires { AreDistinct (map teller_key world.now.tellers) }
-    ensures { IsTrue result ↔ ((place ≡ 0) ⊎ IsTellerOf world.now branch place) }
-{
-    place == 0 || is_teller_of(world, branch, place)
 }
 
 /// Whether a teller of that number is there, and of that branch.

@@ -14,7 +14,7 @@ use crate::beside::stand_beside;
 use crate::named::{are_entries_named, are_lines_named};
 use crate::numbering::are_releases_numbered;
 use crate::range_rows::{Limited, is_branch_in_range};
-use bank_books::{BranchRecord, ReleaseCount, World};
+use bank_books::{BranchRecord, World};
 use book_sums::{Kept, Sums};
 use money::has_distinct_keys;
 
@@ -80,21 +80,10 @@ fn are_users_in_range(world: &World) -> bool
 fn has_distinct_world_keys(world: &World) -> bool
     ensures { IsTrue result ↔ HasDistinctKeys world.now }
 {
-    has_distinct_places(world) && has_distinct_history(world)
-}
-
-fn has_distinct_places(world: &World) -> bool
-    ensures { IsTrue result ↔ (AreDistinct (map branch_key world.now.branches) × AreDistinct (map teller_key world.now.tellers) × AreDistinct (map account_key world.now.accounts)) }
-{
     has_distinct_keys(world.branches())
         && has_distinct_keys(world.tellers())
         && has_distinct_keys(world.accounts())
-}
-
-fn has_distinct_history(world: &World) -> bool
-    ensures { IsTrue result ↔ (AreDistinct (map entry_key world.now.entries) × AreDistinct (map line_key world.now.lines) × AreDistinct (map proof_key world.now.proofs) × AreDistinct (map release_key world.now.releases)) }
-{
-    has_distinct_keys(world.entries())
+        && has_distinct_keys(world.entries())
         && has_distinct_keys(world.lines())
         && has_distinct_keys(world.proofs())
         && has_distinct_keys(world.releases())
@@ -150,11 +139,5 @@ fn are_of_rows(world: &World, kept: &Kept, computed: &Kept) -> bool
         && stand_beside(kept.tellers(), world.tellers())
         && stand_beside(kept.accounts(), world.accounts())
         && stand_beside(kept.entries(), world.entries())
-        && are_same_counts(kept.users(), computed.users())
-}
-
-fn are_same_counts(kept: &[ReleaseCount], computed: &[ReleaseCount]) -> bool
-    ensures { IsTrue result ↔ (kept.now ≡ computed.now) }
-{
-    kept == computed
+        && kept.users() == computed.users()
 }

@@ -36,7 +36,7 @@ pub(crate) fn is_branch_in_range(world: &World, sums: &Sums, branch: &BranchReco
         && are_totals_in_range(branch)
         && are_counts_in_range(branch)
         && has_numbered_days(world, &branch.row)
-        && has_few_accounts(sums, branch.row.branch)
+        && sums.by_home.count_of(branch.row.branch) <= 100_000
 }
 
 fn is_branch_row_in_range(row: &Branch) -> bool
@@ -61,13 +61,6 @@ fn are_counts_in_range(branch: &BranchRecord) -> bool
     ensures { IsTrue result ↔ ((branch.now.entries ≤ 999999999) × (branch.now.lines ≤ 999999999) × (branch.now.accounts ≤ 100000)) }
 {
     branch.entries <= MAX_KEY as u64 && branch.lines <= MAX_KEY as u64 && branch.accounts <= 100_000
-}
-
-/// Whether no more accounts have a branch as their home than may.
-fn has_few_accounts(sums: &Sums, branch: u32) -> bool
-    ensures { IsTrue result ↔ (group_count branch sums.now.by_home ≤ 100000) }
-{
-    sums.by_home.count_of(branch) <= 100_000
 }
 
 /// What is kept of a row, or a row, that has limits.
@@ -100,16 +93,10 @@ impl Limited for AccountRecord {
         is_key(self.row.account)
             && is_branch(world, self.row.home)
             && is_floor(&self.row)
-            && is_account_history(self)
+            && is_cents(self.balance)
+            && i128::from(self.row.floor.get()) <= self.balance
+            && self.turns <= MAX_KEY as u64
     }
-}
-
-fn is_account_history(account: &AccountRecord) -> bool
-    ensures { IsTrue result ↔ (IsCents account.now.balance × (account.now.row.floor ≤ℤ account.now.balance) × (account.now.turns ≤ 999999999)) }
-{
-    is_cents(account.balance)
-        && i128::from(account.row.floor.get()) <= account.balance
-        && account.turns <= MAX_KEY as u64
 }
 
 /// What an entry names is looked up beside.
