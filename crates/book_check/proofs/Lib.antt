@@ -7,6 +7,7 @@ pub mod HistoryConditions
 pub mod Judged
 pub mod KeptNumbers
 pub mod KeptRows
+pub mod NamedParts
 pub mod Numbered
 pub mod RangeJoined
 pub mod SameCounts

@@ -1,4 +1,5 @@
 pub mod Least
+pub mod Named
 pub mod RangeParts
 pub mod RowConditions
 pub mod SumConditions

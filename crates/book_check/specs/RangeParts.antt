@@ -1,7 +1,8 @@
 -- What is asked of a bank's books, in the parts in which it is judged.
 use Rattle.std.specs.Prelude.{◌≤◌, Contains}
 use Rattle.bank_policy.specs.declared.rows.User.{User}
-use Rattle.counter_ops.specs.Ranges.{IsWithin}
+use Rattle.money.specs.Range.{IsCents}
+use Rattle.counter_ops.specs.Ranges.{IsKey, IsKeyOrZero, IsWithin}
 use Rattle.bank_books.specs.declared.records.AccountRecord.{AccountRecord}
 use Rattle.bank_books.specs.declared.records.BranchRecord.{BranchRecord}
 use Rattle.bank_books.specs.declared.records.EntryRecord.{EntryRecord}
@@ -13,6 +14,22 @@ use Rattle.bank_books.specs.Numbering.{AreNumbered}
 use Rattle.bank_books.specs.Range.{HoldsReleasable, IsAccountInRange, IsBranch, IsBranchInRange, IsDay, IsEntryInRange, IsLineInRange, IsProofInRange, IsReleaseInRange, IsTellerInRange, IsUser}
 use Rattle.bank_books.specs.Records.{KeptLists}
 use Rattle.bank_books.specs.WorldLists.{WorldLists}
+
+-- the numbers of an entry are within their limits
+pub record IsEntryLimited (e : EntryRecord) : Type 0 where
+  pub number : IsKey e.row.number
+  pub turn : IsKey e.row.turn
+  pub moment : e.row.moment ≤ 99999999999
+  pub day : IsDay e.row.day
+  pub partner : IsKeyOrZero e.row.partner
+  pub undoes : IsKeyOrZero e.row.undoes
+  pub balance_after : IsCents e.balance_after
+
+-- and those of a line
+pub record IsLineLimited (l : CashLine) : Type 0 where
+  pub number : IsKey l.number
+  pub moment : l.moment ≤ 99999999999
+  pub day : IsDay l.day
 
 -- what is asked of a release beside the others of its user
 pub record IsReleaseAlone (w : WorldLists) (r : Release) : Type 0 where

@@ -7,6 +7,7 @@ mod cash_book;
 mod check;
 mod history;
 mod least;
+mod named;
 mod numbering;
 mod range;
 mod range_rows;

@@ -1,21 +1,21 @@
-ghost use Rattle.std.specs.Prelude.{◌≡◌, ◌↔◌, ◌≤◌, ◌≤ℤ◌, ◌⊎◌, IfSome, IsTrue, map, negsuc, pos};
-ghost use Rattle.money.specs.Ordered.{AreDistinct};
+ghost use Rattle.std.specs.Prelude.{◌≡◌, ◌↔◌, ◌≤◌, ◌≤ℤ◌, IfSome, IsTrue, negsuc, pos};
 ghost use Rattle.money.specs.Range.{IsCents};
-ghost use Rattle.counter_ops.specs.Ranges.{IsKey, IsKeyOrZero, IsWithin};
-ghost use Rattle.bank_books.specs.Keys.{teller_key};
+ghost use Rattle.counter_ops.specs.Ranges.{IsKey, IsWithin};
 ghost use Rattle.book_sums.specs.Shares.{group_count};
 ghost use Rattle.book_sums.specs.Sums.{AreSumsOf};
-ghost use Rattle.bank_books.specs.Range.{HasDistinctKeys, HoldsReleasable, IsAccount, IsAccountInRange, IsBranch, IsBranchInRange, IsCash, IsDay, IsEntryInRange, IsLineInRange, IsProofInRange, IsTellerInRange, IsTellerOf, IsUser, IsUserNumber};
-ghost use Rattle.book_check.specs.RangeParts.{AreCashBooksInRange, IsReleaseAlone};
+ghost use Rattle.bank_books.specs.Range.{HasDistinctKeys, HoldsReleasable, IsAccountInRange, IsBranchInRange, IsCash, IsDay, IsProofInRange, IsTellerInRange, IsUserNumber};
+ghost use Rattle.book_check.specs.RangeParts.{AreCashBooksInRange, IsEntryLimited, IsLineLimited, IsReleaseAlone};
 
+use crate::named::{is_branch, is_user};
 use crate::numbering::has_numbered_days;
 use bank_books::{
-    Account, AccountRecord, Branch, BranchRecord, CashLine, Entry, EntryRecord, Proof, Release,
+    Account, AccountRecord, Branch, BranchRecord, CashLine, EntryRecord, Proof, Release,
     TellerRecord, World,
 };
+use bank_policy::User;
 use book_sums::Sums;
 use counter_ops::Releasable;
-use money::{MAX_CENTS, find_row, is_there};
+use money::MAX_CENTS;
 
 /// The greatest key of an account, a teller, a branch, an entry or a turn.
 const MAX_KEY: u32 = 999_999_999;
@@ -36,7 +36,7 @@ pub(crate) fn is_branch_in_range(world: &World, sums: &Sums, branch: &BranchReco
         && are_totals_in_range(branch)
         && are_counts_in_range(branch)
         && has_numbered_days(world, &branch.row)
-        && has_few_accounts(sums, branch.row.branch)
+        && sums.by_home.count_of(branch.row.branch) <= 100_000
 }
 
 fn is_branch_row_in_range(row: &Branch) -> bool
@@ -63,103 +63,94 @@ fn are_counts_in_range(branch: &BranchRecord) -> bool
     branch.entries <= MAX_KEY as u64 && branch.lines <= MAX_KEY as u64 && branch.accounts <= 100_000
 }
 
-/// Whether no more accounts have a branch as their home than may.
-fn has_few_accounts(sums: &Sums, branch: u32) -> bool
-    ensures { IsTrue result ↔ (group_count branch sums.now.by_home ≤ 100000) }
-{
-    sums.by_home.count_of(branch) <= 100_000
+/// What is kept of a row, or a row, that has limits.
+pub(crate) trait Limited {
+    ghost use Rattle.bank_books.specs.WorldLists.{WorldLists};
+
+    ghost has_limits: { WorldLists → Self → Type 0 };
+
+    /// Whether it is within its limits, and the rows that it names are there.
+    fn is_within_limits(&self, world: &World) -> bool
+        ensures { IsTrue result ↔ has_limits world.now self.now };
 }
 
-/// Whether what is kept of a teller is within its limits, and its branch is there.
-pub(crate) fn is_teller_in_range(world: &World, teller: &TellerRecord) -> bool
-    ensures { IsTrue result ↔ IsTellerInRange world.now teller.now }
-{
-    is_key(teller.row.teller)
-        && is_branch(world, teller.row.branch)
-        && is_cents(teller.balance)
-        && is_cash(teller.cash)
-        && is_holder(teller.holder)
+impl Limited for TellerRecord {
+    ghost has_limits = { IsTellerInRange };
+
+    fn is_within_limits(&self, world: &World) -> bool {
+        is_key(self.row.teller)
+            && is_branch(world, self.row.branch)
+            && is_cents(self.balance)
+            && is_cash(self.cash)
+            && is_holder(self.holder)
+    }
 }
 
-/// Whether what is kept of an account is within its limits, and its home is there.
-pub(crate) fn is_account_in_range(world: &World, account: &AccountRecord) -> bool
-    ensures { IsTrue result ↔ IsAccountInRange world.now account.now }
-{
-    is_key(account.row.account)
-        && is_branch(world, account.row.home)
-        && is_floor(&account.row)
-        && is_account_history(account)
+impl Limited for AccountRecord {
+    ghost has_limits = { IsAccountInRange };
+
+    fn is_within_limits(&self, world: &World) -> bool {
+        is_key(self.row.account)
+            && is_branch(world, self.row.home)
+            && is_floor(&self.row)
+            && is_cents(self.balance)
+            && i128::from(self.row.floor.get()) <= self.balance
+            && self.turns <= MAX_KEY as u64
+    }
 }
 
-fn is_account_history(account: &AccountRecord) -> bool
-    ensures { IsTrue result ↔ (IsCents account.now.balance × (account.now.row.floor ≤ℤ account.now.balance) × (account.now.turns ≤ 999999999)) }
-{
-    is_cents(account.balance)
-        && i128::from(account.row.floor.get()) <= account.balance
-        && account.turns <= MAX_KEY as u64
+/// What an entry names is looked up beside.
+impl Limited for EntryRecord {
+    ghost has_limits = { λ _ e. IsEntryLimited e };
+
+    fn is_within_limits(&self, _: &World) -> bool {
+        is_key(self.row.number)
+            && is_key(self.row.turn)
+            && self.row.moment <= MAX_MOMENT
+            && is_day(self.row.day)
+            && self.row.partner <= MAX_KEY
+            && self.row.undoes <= MAX_KEY
+            && is_cents(self.balance_after)
+    }
 }
 
-/// Whether what is kept of an entry is within its limits, and its branch, account and teller are
-/// there.
-pub(crate) fn is_entry_in_range(world: &World, entry: &EntryRecord) -> bool
-    requires { AreDistinct (map teller_key world.now.tellers) }
-    ensures { IsTrue result ↔ IsEntryInRange world.now entry.now }
-{
-    is_place_of_entry(world, &entry.row)
-        && are_numbers_of_entry(&entry.row)
-        && is_cents(entry.balance_after)
+/// What a line names is looked up beside.
+impl Limited for CashLine {
+    ghost has_limits = { λ _ l. IsLineLimited l };
+
+    fn is_within_limits(&self, _: &World) -> bool {
+        is_key(self.number) && self.moment <= MAX_MOMENT && is_day(self.day)
+    }
 }
 
-fn is_place_of_entry(world: &World, entry: &Entry) -> bool
-    requires { AreDistinct (map teller_key world.now.tellers) }
-    ensures { IsTrue result ↔ (IsBranch world.now entry.now.branch × IsAccount world.now entry.now.account × IsTellerOf world.now entry.now.branch entry.now.teller) }
-{
-    is_branch(world, entry.branch)
-        && is_account(world, entry.account)
-        && is_teller_of(world, entry.branch, entry.teller)
+impl Limited for Proof {
+    ghost has_limits = { IsProofInRange };
+
+    fn is_within_limits(&self, world: &World) -> bool {
+        is_branch(world, self.branch) && is_day(self.day) && self.entries <= MAX_KEY
+    }
 }
 
-fn are_numbers_of_entry(entry: &Entry) -> bool
-    ensures { IsTrue result ↔ (IsKey entry.now.number × IsKey entry.now.turn × (entry.now.moment ≤ 99999999999) × IsDay entry.now.day × IsKeyOrZero entry.now.partner × IsKeyOrZero entry.now.undoes) }
-{
-    is_key(entry.number)
-        && is_key(entry.turn)
-        && entry.moment <= MAX_MOMENT
-        && is_day(entry.day)
-        && entry.partner <= MAX_KEY
-        && entry.undoes <= MAX_KEY
+/// How releases are numbered is looked up beside.
+impl Limited for Release {
+    ghost has_limits = { IsReleaseAlone };
+
+    fn is_within_limits(&self, world: &World) -> bool {
+        is_user(world, self.user)
+            && is_within(self.number, 1, 100_000)
+            && is_user(world, self.giver)
+            && is_branch(world, self.branch)
+            && is_day(self.day)
+            && holds_releasable(self)
+    }
 }
 
-/// Whether a line is within its limits, and its branch and place are there.
-pub(crate) fn is_line_in_range(world: &World, line: &CashLine) -> bool
-    requires { AreDistinct (map teller_key world.now.tellers) }
-    ensures { IsTrue result ↔ IsLineInRange world.now line.now }
-{
-    is_branch(world, line.branch)
-        && is_key(line.number)
-        && is_place_of(world, line.branch, line.place)
-        && line.moment <= MAX_MOMENT
-        && is_day(line.day)
-}
+impl Limited for User {
+    ghost has_limits = { λ _ u. u.session ≤ 999999999 };
 
-/// Whether a proof is within its limits, and its branch is there.
-pub(crate) fn is_proof_in_range(world: &World, proof: &Proof) -> bool
-    ensures { IsTrue result ↔ IsProofInRange world.now proof.now }
-{
-    is_branch(world, proof.branch) && is_day(proof.day) && proof.entries <= MAX_KEY
-}
-
-/// Whether a release is within its limits, its users and branch are there, and its row holds an
-/// operation that may be released.
-pub(crate) fn is_release_alone(world: &World, release: &Release) -> bool
-    ensures { IsTrue result ↔ IsReleaseAlone world.now release.now }
-{
-    is_user(world, release.user)
-        && is_within(release.number, 1, 100_000)
-        && is_user(world, release.giver)
-        && is_branch(world, release.branch)
-        && is_day(release.day)
-        && holds_releasable(release)
+    fn is_within_limits(&self, _: &World) -> bool {
+        self.session <= MAX_KEY
+    }
 }
 
 /// Whether the row of a release holds an operation that may be released, at its branch.
@@ -170,43 +161,6 @@ fn holds_releasable(release: &Release) -> bool
         Some(operation) => operation.branch() == release.branch,
         None => false,
     }
-}
-
-fn is_branch(world: &World, key: u32) -> bool
-    ensures { IsTrue result ↔ IsBranch world.now key }
-{
-    is_there(world.branches(), key as u128)
-}
-
-fn is_account(world: &World, key: u32) -> bool
-    ensures { IsTrue result ↔ IsAccount world.now key }
-{
-    is_there(world.accounts(), key as u128)
-}
-
-fn is_user(world: &World, key: u32) -> bool
-    ensures { IsTrue result ↔ IsUser world.now key }
-{
-    is_there(world.policy().users(), key as u128)
-}
-
-/// Whether a teller of that branch is there.
-fn is_teller_of(world: &World, branch: u32, key: u32) -> bool
-    requires { AreDistinct (map teller_key world.now.tellers) }
-    ensures { IsTrue result ↔ IsTellerOf world.now branch key }
-{
-    match find_row(world.tellers(), key as u128) {
-        Some(row) => row.branch == branch,
-        None => false,
-    }
-}
-
-/// Whether a place is the vault, or the drawer of a teller of that branch.
-fn is_place_of(world: &World, branch: u32, place: u32) -> bool
-    requires { AreDistinct (map teller_key world.now.tellers) }
-    ensures { IsTrue result ↔ ((place ≡ 0) ⊎ IsTellerOf world.now branch place) }
-{
-    place == 0 || is_teller_of(world, branch, place)
 }
 
 /// Whether the floor of an account is within its limits, and not above its opening.

@@ -20,12 +20,12 @@ use Rattle.bank_books.specs.declared.rows.Teller.{Teller}
 use Rattle.book_sums.specs.declared.shares.Part.{Part}
 use Rattle.book_sums.specs.declared.sums.Sums.{Sums}
 
--- an entry in the sums of its branch, of its teller, and of its account by turn
+-- an entry in the sums of its branch, of its teller by branch, and of its account by turn
 abbrev pub branch_part : Entry → Part
 branch_part e = record { group = e.branch; number = 0; amount = e.delta }
 
 abbrev pub teller_part : Entry → Part
-teller_part e = record { group = e.teller; number = 0; amount = e.delta }
+teller_part e = record { group = e.teller; number = e.branch; amount = e.delta }
 
 abbrev pub turn_part : Entry → Part
 turn_part e = record { group = e.account; number = e.turn; amount = e.delta }

@@ -19,7 +19,7 @@ impl Parts<Entry> for ByBranch {
     }
 }
 
-/// Entries in the sums of their tellers.
+/// Entries in the sums of their tellers, by branch.
 #[derive(Clone, Copy)]
 pub(crate) struct ByTeller;
 
@@ -31,7 +31,7 @@ impl Parts<Entry> for ByTeller {
     fn part(&self, row: &Entry) -> Part {
         Part {
             group: row.teller,
-            number: 0,
+            number: row.branch,
             amount: row.delta.get(),
         }
     }

@@ -82,6 +82,13 @@ impl Shares {
         Ok(Shares { parts, sums })
     }
 
+    /// The parts, in order of group, then number.
+    pub fn parts(&self) -> &[Part]
+        ensures { result.now ≡ self.now }
+    {
+        &self.parts
+    }
+
     /// What the parts of the group come to.
     pub fn total_of(&self, group: u32) -> i128
         ensures value { result ≡ group_total group self.now }

@@ -19,7 +19,7 @@ use std::alloc::{AllocError, Global};
 pub struct Sums {
     /// The entries by branch.
     pub by_branch: Shares,
-    /// The entries by teller.
+    /// The entries by teller, numbered by branch.
     pub by_teller: Shares,
     /// The entries by account, numbered by turn.
     pub by_turn: Shares,

@@ -1,8 +1,16 @@
-use Rattle.std.proofs.Common.{rules}
-use Rattle.std.proofs.lemmas.Iterator.{YieldsList-from_slice, cases_from_all}
-use Rattle.bank_books.specs.Range.{IsLineInRange}
-use Rattle.book_check.proofs.Judged.{judged}
+use Rattle.book_check.specs.RangeParts.{IsLineLimited}
+use Rattle.book_check.proofs.Judged.{not_passed, then_tested, told}
+use Rattle.book_check.proofs.RangeJoined.{line_joined}
 use Rattle.book_check.proofs.range.are_lines_in_range.Goals as goal
 
-pub returns : goal.returns
-returns c = judged (IsLineInRange c.args.world.now) c.args.lines.now c.all.result (cases_from_all _ _ _ (IsLineInRange c.args.world.now) (λ x. (IsLineInRange c.args.world.now) x → ⊥) c.all.ensures.ran (YieldsList-from_slice c.args.lines.now cc) (λ x q k. search rules) (λ x q k. search rules))
+pub returns-then-are_lines_named : goal.returns-then-are_lines_named
+returns-then-are_lines_named c =
+    let w = c.args.world.now in
+    then_tested c.if-are_lines_named.true c.are_lines_named.ensures
+    (told IsLineLimited c.lines.result.now w.lines c.are_within_limits.result c.lines.ensures.value c.are_within_limits.ensures)
+    (λ named limited l there. line_joined w l (named l there) (limited l there))
+    (λ all l there. record { number = (all l there).number; moment = (all l there).moment; day = (all l there).day })
+
+pub returns-else-are_lines_named : goal.returns-else-are_lines_named
+returns-else-are_lines_named c =
+    not_passed c.if-are_lines_named.false c.are_lines_named.ensures (λ all l there. record { branch = (all l there).branch; place = (all l there).place })

@@ -6,7 +6,7 @@ pub returns-then-are_branches_in_range : goal.returns-then-are_branches_in_range
 returns-then-are_branches_in_range c =
     then_tested c.if-are_branches_in_range.true
     (told (IsBranchInRange c.args.world.now) c.branches.result.now c.args.kept.now.branches c.are_branches_in_range.result c.branches.ensures c.are_branches_in_range.ensures)
-    (told (IsTellerInRange c.args.world.now) c.tellers.result.now c.args.kept.now.tellers c.are_tellers_in_range.result c.tellers.ensures c.are_tellers_in_range.ensures)
+    (told (IsTellerInRange c.args.world.now) c.tellers.result.now c.args.kept.now.tellers c.are_within_limits.result c.tellers.ensures c.are_within_limits.ensures)
     (λ first second. record { branches = first; tellers = second }) (λ both. both.tellers)
 
 pub returns-else-are_branches_in_range : goal.returns-else-are_branches_in_range

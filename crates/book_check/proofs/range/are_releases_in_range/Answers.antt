@@ -1,10 +1,19 @@
 use Rattle.book_check.proofs.Judged.{not_passed, then_tested}
 use Rattle.book_check.proofs.Numbered.{releases_alone, releases_joined}
+use Rattle.book_check.proofs.RangeJoined.{releases_told}
 use Rattle.book_check.proofs.range.are_releases_in_range.Goals as goal
 
-pub returns-then-are_releases_alone : goal.returns-then-are_releases_alone
-returns-then-are_releases_alone c =
-    then_tested c.if-are_releases_alone.true c.are_releases_alone.ensures c.are_releases_numbered.ensures (releases_joined c.args.world.now) (λ all r there. (all r there).numbered)
+pub are_releases_numbered-requires-clause-numbers : goal.are_releases_numbered-requires-clause-numbers
+are_releases_numbered-requires-clause-numbers c =
+    (releases_told c.args.world.now c.releases.result.now c.are_within_limits.result c.releases.ensures.value c.are_within_limits.ensures).0 c.if-are_within_limits.true
 
-pub returns-else-are_releases_alone : goal.returns-else-are_releases_alone
-returns-else-are_releases_alone c = not_passed c.if-are_releases_alone.false c.are_releases_alone.ensures (releases_alone c.args.world.now)
+pub returns-then-are_within_limits : goal.returns-then-are_within_limits
+returns-then-are_within_limits c =
+    let w = c.args.world.now in
+    then_tested c.if-are_within_limits.true (releases_told w c.releases.result.now c.are_within_limits.result c.releases.ensures.value c.are_within_limits.ensures)
+    c.are_releases_numbered.ensures (releases_joined w) (λ all r there. (all r there).numbered)
+
+pub returns-else-are_within_limits : goal.returns-else-are_within_limits
+returns-else-are_within_limits c =
+    let w = c.args.world.now in
+    not_passed c.if-are_within_limits.false (releases_told w c.releases.result.now c.are_within_limits.result c.releases.ensures.value c.are_within_limits.ensures) (releases_alone w)

@@ -2,7 +2,7 @@ use Rattle.std.proofs.Common.{Some, None, ◌==◌}
 use Rattle.bank_books.specs.Keys.{teller_key}
 use Rattle.bank_books.specs.Range.{IsTellerOf}
 use Rattle.book_check.proofs.FoundRows.{false_is_not, found_in, teller_found, teller_not_found}
-use Rattle.book_check.proofs.range_rows.is_teller_of.Goals as goal
+use Rattle.book_check.proofs.named.is_teller_of.Goals as goal
 
 pub returns-in-Some : goal.returns-in-Some
 returns-in-Some c =
