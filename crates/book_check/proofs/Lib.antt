@@ -2,7 +2,6 @@ pub mod BesideRows
 pub mod CashConditions
 pub mod FirstFailing
 pub mod FoundRows
-pub mod GroupRows
 pub mod HistoryConditions
 pub mod Judged
 pub mod KeptNumbers
@@ -10,4 +9,3 @@ pub mod KeptRows
 pub mod Numbered
 pub mod RangeJoined
 pub mod SameCounts
-pub mod SumConditions

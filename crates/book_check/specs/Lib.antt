@@ -1,5 +1,5 @@
 pub mod Least
+pub mod Numbers
 pub mod RangeParts
 pub mod RowConditions
-pub mod SumConditions
 pub mod Verdict
