@@ -6,8 +6,8 @@ ghost use Rattle.bank_books.specs.Records.{kept_of};
 ghost use Rattle.book_check.specs.RowConditions.{BranchesOfCash, TellersOfLines, amount_of};
 
 use crate::amounts::amount_of;
+use crate::branch_numbers::first_of_other_numbers;
 use crate::least::{Condition, least_failing, lesser_of};
-use crate::numbering::first_of_other_numbers;
 use bank_books::{BranchRecord, TellerRecord, World};
 use book_sums::Kept;
 

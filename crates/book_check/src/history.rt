@@ -6,8 +6,9 @@ ghost use Rattle.book_check.specs.Least.{IsFirstFailing};
 ghost use Rattle.book_check.specs.RowConditions.{AccountsOfHistory, BranchesOfHistory, EntriesOfHistory, TellersOfHistory, TurnsOfHistory};
 ghost use Rattle.book_sums.specs.Sums.{AreSumsOf};
 
+use crate::branch_numbers::first_of_other_numbers;
 use crate::least::{Condition, least_failing, lesser_of};
-use crate::numbering::{first_of_other_numbers, has_numbered_parts};
+use crate::numbering::has_numbered_parts;
 use bank_books::{AccountRecord, BranchRecord, EntryRecord, TellerRecord, World, account_row};
 use book_sums::{Kept, Sums};
 

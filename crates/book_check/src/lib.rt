@@ -3,11 +3,13 @@
 
 mod amounts;
 mod beside;
+mod branch_numbers;
 mod cash_book;
 mod check;
 mod history;
 mod least;
 mod numbering;
+mod numbers;
 mod range;
 mod range_rows;
 

@@ -4,7 +4,7 @@ use Rattle.book_check.specs.Least.{IsFirstFailing}
 use Rattle.book_check.specs.Numbers.{BearNumbers}
 use Rattle.book_sums.specs.Groups.{rows_of_group}
 use Rattle.book_check.proofs.KeptRows.{by_themselves}
-use Rattle.book_check.proofs.numbering.first_of_other_numbers.Goals as goal
+use Rattle.book_check.proofs.branch_numbers.first_of_other_numbers.Goals as goal
 
 pub returns : goal.returns
 returns g c =

@@ -1,7 +1,7 @@
 use Rattle.std.proofs.Common.{rules, length, ◌≤◌}
 use Rattle.std.proofs.lemmas.Iterator.{YieldsList-from_slice, cases_from_all}
 use Rattle.book_check.proofs.Judged.{judged}
-use Rattle.book_check.proofs.numbering.bear_numbers.Goals as goal
+use Rattle.book_check.proofs.numbers.bear_numbers.Goals as goal
 
 pub returns : goal.returns
 returns g c =
