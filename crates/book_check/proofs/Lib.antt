@@ -2,6 +2,7 @@ pub mod BesideRows
 pub mod CashConditions
 pub mod FirstFailing
 pub mod FoundRows
+pub mod GroupKeys
 pub mod HistoryConditions
 pub mod Judged
 pub mod KeptNumbers
@@ -9,3 +10,4 @@ pub mod KeptRows
 pub mod Numbered
 pub mod RangeJoined
 pub mod SameCounts
+pub mod Turns

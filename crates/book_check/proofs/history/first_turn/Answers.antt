@@ -4,7 +4,7 @@ use Rattle.bank_books.specs.Numbering.{AreNumbered}
 use Rattle.book_check.specs.Least.{IsFirstFailing}
 use Rattle.book_check.specs.RowConditions.{TurnsOfHistory}
 use Rattle.book_check.proofs.FirstFailing.{reworded}
-use Rattle.book_check.proofs.HistoryConditions.{parts_from_turns, turns_from_parts}
+use Rattle.book_check.proofs.Turns.{parts_from_turns, turns_from_parts}
 use Rattle.book_check.proofs.KeptRows.{by_themselves}
 use Rattle.book_check.proofs.history.first_turn.Goals as goal
 

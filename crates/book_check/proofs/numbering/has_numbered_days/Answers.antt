@@ -1,6 +1,7 @@
 use Rattle.std.proofs.Common.{◌+◌, length, refl, ap, sym, ◌∙◌}
 use Rattle.bank_books.specs.Keys.{proof_key}
-use Rattle.book_check.proofs.Numbered.{from_numbered, numbered, once, other_last_day, proofs_counted}
+use Rattle.book_check.proofs.GroupKeys.{once}
+use Rattle.book_check.proofs.Numbered.{from_numbered, numbered, other_last_day, proofs_counted}
 use Rattle.book_check.proofs.numbering.has_numbered_days.Goals as goal
 
 pub returns-then-proofs-branch : goal.returns-then-proofs-branch

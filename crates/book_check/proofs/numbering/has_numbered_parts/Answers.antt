@@ -3,7 +3,8 @@ use Rattle.money.specs.Ordered.{AreDistinct}
 use Rattle.book_sums.specs.declared.shares.Part.{Part}
 use Rattle.book_sums.specs.Shares.{part_key}
 use Rattle.book_check.proofs.Judged.{not_passed, then_tested}
-use Rattle.book_check.proofs.Numbered.{distinct_from_once, from_numbered, numbered, once_from_distinct}
+use Rattle.book_check.proofs.GroupKeys.{distinct_from_once, once_from_distinct}
+use Rattle.book_check.proofs.Numbered.{from_numbered, numbered}
 use Rattle.book_check.proofs.numbering.has_numbered_parts.Goals as goal
 
 abbrev AreApart : List Part → Type 0
