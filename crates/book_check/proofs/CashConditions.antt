@@ -1,25 +1,25 @@
 -- What is asked of the rows that are told of a branch is what its cash, and what the sums of tellers, ask of the branch.
-use Rattle.std.proofs.Common.{◌≡◌, ℕ, ℤ, pos, negsuc, ◌+◌, ◌+ℤ◌, ◌≤◌, ◌*◌, ◌^◌, map, true, ◌==◌, ◌&&◌, ap, arith, sym, ◌∙◌, subst}
+use Rattle.std.proofs.Common.{◌≡◌, List, refl, ℕ, ℤ, pos, negsuc, ◌+ℤ◌, map, true, ◌==◌, ap, arith, sym, ◌∙◌}
 use Rattle.std.specs.Prelude.{if◌then◌else◌}
 use Rattle.std.proofs.lemmas.Int.{ints}
 use Rattle.std.proofs.lemmas.Bool.Decides.{nat_tests}
-use Rattle.std.proofs.lemmas.Bool.{eqb-true}
 use Rattle.money.specs.Range.{IsCents, is_cents}
 use Rattle.money.specs.Totals.{total}
-use Rattle.bank_books.specs.declared.rows.CashLine.{CashLine}
 use Rattle.bank_books.specs.declared.records.AccountRecord.{AccountRecord}
 use Rattle.bank_books.specs.declared.records.BranchRecord.{BranchRecord}
 use Rattle.bank_books.specs.declared.records.TellerRecord.{TellerRecord}
-use Rattle.bank_books.specs.Cash.{line_count}
 use Rattle.bank_books.specs.Conditions.{CashAgrees, TotalsAgree}
 use Rattle.bank_books.specs.Keys.{line_key}
-use Rattle.bank_books.specs.Numbering.{AreNumbered}
 use Rattle.bank_books.specs.Range.{IsBranchInRange, IsCash, IsInRange}
 use Rattle.bank_books.specs.Records.{KeptLists}
-use Rattle.book_check.specs.RowConditions.{AmountsAgree, BranchesOfCash, LinesNumbered, TellersOfLines, amount_of, teller_sum}
+use Rattle.book_check.specs.Numbers.{BranchesBearNumbers}
+use Rattle.book_check.specs.RowConditions.{AmountsAgree, BranchesOfCash, TellersOfLines, amount_of, balance_part, teller_sum}
 use Rattle.bank_books.specs.WorldLists.{WorldLists}
-use Rattle.book_sums.proofs.Counting.{both_true, one_of_key}
-use Rattle.book_sums.proofs.SharesLemmas.{same_totals}
+use Rattle.book_sums.specs.Shares.{group_total}
+use Rattle.book_sums.specs.declared.shares.Part.{Part}
+use Rattle.book_sums.proofs.SharesLemmas.{of_rows, same_totals}
+use Rattle.book_check.proofs.Numbered.{AreNamed, branches_from_numbered, branches_numbered}
+use Rattle.std.specs.List.Sorted.{IsPermutation}
 
 is_amount : (z : ℤ) → IsCents z → is_cents z ≡ true
 is_amount (pos n) in_range = grind (arith, nat_tests, in_range.0, in_range.1)
@@ -33,7 +33,7 @@ cash_is_amount z in_range = (omega (arith, ints, in_range.0), in_range.1)
 
 -- what is asked of all rows that are told of a branch
 abbrev pub RowsOfCash : WorldLists → KeptLists → ℕ → Type 0
-RowsOfCash w kept branch = (BranchesOfCash w kept branch × TellersOfLines w kept branch) × LinesNumbered w branch
+RowsOfCash w kept branch = (BranchesOfCash w kept branch × TellersOfLines w kept branch) × BranchesBearNumbers line_key (λ l. l.number) w.lines kept branch
 
 -- the four sums of the equation are amounts
 abbrev Cut : BranchRecord → Type 0
@@ -56,25 +56,14 @@ cut_from_whole w b in_range =
     same_equation _ _ _ _ _ _ _ _ _ (sym (amount_in_range b.vault (cash_is_amount b.vault in_range.vault))) (sym (amount_in_range b.drawers in_range.drawers))
     (sym (amount_in_range b.cash_entries in_range.cash_entries)) (sym (amount_in_range b.differences in_range.differences))
 
-key_of_number : (b n : ℕ) (l : CashLine) → (l.branch == b && l.number == n) ≡ true → line_key l ≡ 2 ^ 32 * b + n
-key_of_number b n l passes =
-    let tests = both_true (l.branch == b) (l.number == n) passes in
-    ap (λ k. 2 ^ 32 * k + l.number) (eqb-true l.branch b tests.0) ∙ ap (λ k. 2 ^ 32 * b + k) (eqb-true l.number n tests.1)
-
-numbers_agree : (w : WorldLists) (kept : KeptLists) (branch : ℕ) → IsInRange w kept → LinesNumbered w branch → AreNumbered (λ l. l.branch) (λ l. l.number) w.lines branch
-numbers_agree w kept branch in_range each = record {
-  low = λ l there of_branch. (each l there of_branch).0;
-  high = λ l there of_branch.
-      let P : ℕ → Type 0 = λ b. l.number ≤ line_count b w.lines in
-      subst P of_branch (each l there of_branch).1;
-  once = λ n. one_of_key line_key (λ l. l.branch == branch && l.number == n) (2 ^ 32 * branch + n) (key_of_number branch n) w.lines in_range.keys.lines;
-}
+lines_named : (w : WorldLists) (kept : KeptLists) → IsInRange w kept → AreNamed w (λ l. l.branch) (λ l. l.number) w.lines
+lines_named w kept in_range l there = let line = in_range.lines l there in (line.branch, omega (arith, line.number.1))
 
 pub cash_by_rows : (w : WorldLists) (kept : KeptLists) (branch : ℕ) → IsInRange w kept → RowsOfCash w kept branch → CashAgrees w kept branch
 cash_by_rows w kept branch in_range rows = record {
   branches = λ b there told. (rows.0.0 b there told).lines;
   tellers = rows.0.1;
-  numbers = numbers_agree w kept branch in_range rows.1;
+  numbers = branches_numbered w kept line_key (λ l. l.branch) (λ l. l.number) (λ _. refl) w.lines branch in_range.rows in_range.keys.lines (lines_named w kept in_range) rows.1;
   equation = λ b there told. whole_from_cut w b (in_range.branches b there) (rows.0.0 b there told).equation;
 }
 
@@ -84,10 +73,11 @@ rows_by_cash w kept branch in_range agrees = (
     λ b there told. record { lines = agrees.branches b there told; equation = cut_from_whole w b (in_range.branches b there) (agrees.equation b there told) },
     agrees.tellers,
   ),
-  λ l there of_branch.
-      let P : ℕ → Type 0 = λ b. l.number ≤ line_count b w.lines in
-      (agrees.numbers.low l there of_branch, subst P (sym of_branch) (agrees.numbers.high l there of_branch)),
+  branches_from_numbered w kept line_key (λ l. l.branch) (λ l. l.number) (λ _. refl) w.lines branch (lines_named w kept in_range) agrees.numbers,
 )
+
+pub teller_sum_of_parts : (tellers : List TellerRecord) (shares : List Part) (branch : ℕ) → IsPermutation (map balance_part tellers) shares → group_total branch shares ≡ teller_sum branch tellers
+teller_sum_of_parts tellers shares branch moved = of_rows (λ (p : Part). if p.group == branch then p.amount else pos 0) balance_part tellers shares moved
 
 pub whole_teller_sum : (w : WorldLists) (kept : KeptLists) (branch : ℕ) → IsInRange w kept →
     teller_sum branch kept.tellers ≡ total (map (λ t. if t.row.branch == branch then t.balance else pos 0) kept.tellers)

@@ -13,11 +13,6 @@ computed_at {T} {R} row record_of kept computed rows k d same given within =
     ∙ get_or-map record_of (map row kept) k (row d) d (omega (arith, length-map kept row))
     ∙ ap record_of (get_or-map row kept k d (row d) within)
 
-pub same_lengths : {T R : Type 0} (row : T → R) (record_of : R → T) (kept computed : List T) (rows : List R) →
-    map row kept ≡ rows → computed ≡ map record_of rows → length kept ≡ length computed
-same_lengths row record_of kept computed rows same given =
-    omega (arith, length-map kept row, ap length same, length-map rows record_of, ap length given)
-
 -- for every kept row that is told of the branch
 pub by_rows : {T R : Type 0} (holds : T → T → Type 0) (branch_of : T → ℕ) (row : T → R) (record_of : R → T) (kept computed : List T) (rows : List R) (least : Option ℕ) →
     map row kept ≡ rows → computed ≡ map record_of rows → IsFirstFailing (HoldsOfBranch holds branch_of kept computed (length kept)) least →

@@ -2,7 +2,7 @@ pub mod BesideRows
 pub mod CashConditions
 pub mod FirstFailing
 pub mod FoundRows
-pub mod GroupRows
+pub mod GroupKeys
 pub mod HistoryConditions
 pub mod Judged
 pub mod KeptNumbers
@@ -11,4 +11,4 @@ pub mod NamedParts
 pub mod Numbered
 pub mod RangeJoined
 pub mod SameCounts
-pub mod SumConditions
+pub mod Turns

@@ -1,5 +1,5 @@
 -- Rows that are numbered within their groups, where no key stands twice.
-use Rattle.std.proofs.Common.{refl, ◌≡◌, ◌==◌, ℕ, ◌+◌, ◌*◌, ◌^◌, ◌≤◌, ◌&&◌, leb, ltb, List, length, map, Contains, IsTrue, ap, arith, subst, ◌∙◌}
+use Rattle.std.proofs.Common.{refl, ◌≡◌, ◌==◌, ℕ, ◌+◌, ◌*◌, ◌^◌, ◌<◌, ◌≤◌, ◌&&◌, List, length, map, Contains, IsTrue, ap, arith, subst, sym, ◌∙◌}
 use Rattle.std.specs.List.{count_by, filter}
 use Rattle.std.specs.List.Sorted.{IsNonDecreasingBy}
 use Rattle.std.proofs.lemmas.Bool.{eq-eqb, eqb-true}
@@ -9,44 +9,67 @@ use Rattle.bank_books.specs.declared.rows.Proof.{Proof}
 use Rattle.bank_books.specs.declared.rows.Release.{Release}
 use Rattle.bank_books.specs.Keys.{proof_key, release_key}
 use Rattle.bank_books.specs.Numbering.{AreNumbered}
-use Rattle.bank_books.specs.Range.{IsReleaseInRange}
+use Rattle.bank_books.specs.Range.{AreOfRows, IsBranch, IsReleaseInRange}
 use Rattle.book_check.specs.RangeParts.{AreCashBooksInRange, AreReleasesAlone, AreReleasesNumbered, IsReleaseAlone}
-use Rattle.bank_books.specs.Records.{release_count}
+use Rattle.bank_books.specs.Records.{KeptLists, release_count}
 use Rattle.bank_books.specs.WorldLists.{WorldLists}
-use Rattle.book_sums.proofs.Counting.{both_true, one_of_key}
-use Rattle.book_check.proofs.GroupRows.{from_filter, group_found, in_filter}
+use Rattle.bank_books.specs.declared.records.BranchRecord.{BranchRecord}
+use Rattle.book_check.specs.Numbers.{BearNumbers, BranchesBearNumbers}
+use Rattle.book_sums.specs.Groups.{rows_of_group}
+use Rattle.book_sums.proofs.Counting.{source_of}
+use Rattle.book_sums.proofs.GroupRows.{from_filter, group_found, group_rows, in_filter}
+use Rattle.book_check.proofs.GroupKeys.{once}
 
--- each number of a group stands once, where the key is made of both
-once : {X : Type 0} (key group number : X → ℕ) → ((x : X) → key x ≡ 2 ^ 32 * group x + number x) → (rows : List X) (of n : ℕ) → AreDistinct (map key rows) →
-    count_by (λ x. group x == of && number x == n) rows ≤ 1
-once key group number made rows of n distinct =
-    one_of_key key (λ x. group x == of && number x == n) (2 ^ 32 * of + n)
-    (λ x passes.
-    let both = both_true (group x == of) (number x == n) passes in
-    made x ∙ ap (λ g. 2 ^ 32 * g + number x) (eqb-true _ _ both.0) ∙ ap (λ m. 2 ^ 32 * of + m) (eqb-true _ _ both.1))
-    rows distinct
-
--- the proofs of a branch, and what is asked of each
-pub days_numbered : (proofs of_branch : List Proof) (branch : ℕ) → AreDistinct (map proof_key proofs) → of_branch ≡ filter (λ p. p.branch == branch) proofs →
-    ((p : Proof) → Contains of_branch p → (1 ≤ p.day) × (p.day ≤ length of_branch)) → AreNumbered (λ p. p.branch) (λ p. p.day) proofs branch
-days_numbered proofs of_branch branch distinct same each =
-    let P : List Proof → Type 0 = λ xs. (p : Proof) → Contains xs p → (1 ≤ p.day) × (p.day ≤ length xs) in
-    let all = subst P same each in
-    let counted = length-filter (λ p. p.branch == branch) proofs in
-    let here : (p : Proof) → Contains proofs p → p.branch ≡ branch → Contains (filter (λ q. q.branch == branch) proofs) p = λ p there of. in_filter (λ q. q.branch == branch) proofs p there (eq-eqb _ _ of) in
+-- the rows of a group are numbered where each bears a number up to their count, and none stands twice
+pub numbered : {X : Type 0} (group number : X → ℕ) (rows found : List X) (of : ℕ) → found ≡ filter (λ x. group x == of) rows →
+    ((n : ℕ) → count_by (λ x. group x == of && number x == n) rows ≤ 1) → BearNumbers number found → AreNumbered group number rows of
+numbered {X} group number rows found of same few bear =
+    let P : List X → Type 0 = λ xs. BearNumbers number xs in
+    let all = subst P same bear in
+    let here : (x : X) → Contains rows x → group x ≡ of → Contains (filter (λ y. group y == of) rows) x = λ x there is. in_filter (λ y. group y == of) rows x there (eq-eqb _ _ is) in
     record {
-      low = λ p there of. (all p (here p there of)).0;
-      high = λ p there of. omega (arith, (all p (here p there of)).1, counted);
-      once = λ n. once proof_key (λ p. p.branch) (λ p. p.day) (λ _. refl) proofs branch n distinct;
+      low = λ x there is. (all x (here x there is)).0;
+      high = λ x there is. omega (arith, (all x (here x there is)).1, length-filter (λ y. group y == of) rows);
+      once = few;
     }
 
-pub days_from_numbered : (proofs of_branch : List Proof) (branch : ℕ) → of_branch ≡ filter (λ p. p.branch == branch) proofs →
-    AreNumbered (λ p. p.branch) (λ p. p.day) proofs branch → (p : Proof) → Contains of_branch p → (1 ≤ p.day) × (p.day ≤ length of_branch)
-days_from_numbered proofs of_branch branch same numbered p there =
-    let P : List Proof → Type 0 = λ xs. Contains xs p in
-    let within = from_filter (λ q. q.branch == branch) proofs p (subst P same there) in
-    let of : p.branch ≡ branch = eqb-true _ _ within.1 in
-    (numbered.low p within.0 of, omega (arith, numbered.high p within.0 of, length-filter (λ q. q.branch == branch) proofs, ap length same))
+pub from_numbered : {X : Type 0} (group number : X → ℕ) (rows found : List X) (of : ℕ) → found ≡ filter (λ x. group x == of) rows →
+    AreNumbered group number rows of → BearNumbers number found
+from_numbered {X} group number rows found of same is x there =
+    let P : List X → Type 0 = λ xs. Contains xs x in
+    let within = from_filter (λ y. group y == of) rows x (subst P same there) in
+    let of_group : group x ≡ of = eqb-true _ _ within.1 in
+    (is.low x within.0 of_group, omega (arith, is.high x within.0 of_group, length-filter (λ y. group y == of) rows, ap length same))
+
+-- each row names a branch that is there, and its number fits the key
+abbrev pub AreNamed : {X : Type 0} → WorldLists → (X → ℕ) → (X → ℕ) → List X → Type 0
+AreNamed {X} w group number rows = (x : X) → Contains rows x → IsBranch w (group x) × (number x < 2 ^ 32)
+
+-- the rows of each branch are numbered where those of each kept branch bear numbers
+pub branches_numbered : {X : Type 0} (w : WorldLists) (kept : KeptLists) (key group number : X → ℕ) → ((x : X) → key x ≡ 2 ^ 32 * group x + number x) → (rows : List X) (branch : ℕ) →
+    AreOfRows w kept → AreDistinct (map key rows) → AreNamed w group number rows → BranchesBearNumbers key number rows kept branch → AreNumbered group number rows branch
+branches_numbered {X} w kept key group number made rows branch of_rows distinct named each = record {
+  low = λ x there is. (here x there is).low x there is;
+  high = λ x there is. (here x there is).high x there is;
+  once = λ n. once key group number made rows branch n distinct;
+}
+  where
+    here : (x : X) → Contains rows x → group x ≡ branch → AreNumbered group number rows branch
+    here x there is =
+        let row = (named x there).0 in
+        let source = source_of (λ (b : BranchRecord). b.row) kept.branches w.branches row.0 of_rows.branches row.1.0 in
+        let told : source.0.row.branch ≡ branch = ap (λ b. b.branch) source.1.1 ∙ row.1.1 ∙ is in
+        let bear = each source.0 source.1.0 told in
+        let P : ℕ → Type 0 = λ b. BearNumbers number (rows_of_group key b rows) in
+        numbered group number rows (rows_of_group key branch rows) branch (group_rows key group number made rows branch (λ y in_rows. (named y in_rows).1))
+        (λ n. once key group number made rows branch n distinct) (subst P told bear)
+
+pub branches_from_numbered : {X : Type 0} (w : WorldLists) (kept : KeptLists) (key group number : X → ℕ) → ((x : X) → key x ≡ 2 ^ 32 * group x + number x) → (rows : List X) (branch : ℕ) →
+    AreNamed w group number rows → AreNumbered group number rows branch → BranchesBearNumbers key number rows kept branch
+branches_from_numbered {X} w kept key group number made rows branch named is b there told =
+    let P : ℕ → Type 0 = λ k. BearNumbers number (rows_of_group key k rows) in
+    subst P (sym told)
+    (from_numbered group number rows (rows_of_group key branch rows) branch (group_rows key group number made rows branch (λ y in_rows. (named y in_rows).1)) is)
 
 -- what is asked of each release by itself
 abbrev pub IsNumberedRelease : WorldLists → Release → Type 0
@@ -74,13 +97,13 @@ releases_alone w all = record { each = λ r there. one (all r there) }
     one a = record { user = a.user; number = a.number; giver = a.giver; branch = a.branch; day = a.day; operation = a.operation }
 
 pub proofs_found : (w : WorldLists) (seen found : List Proof) (branch : ℕ) → AreCashBooksInRange w → seen ≡ w.proofs →
-    (IsNonDecreasingBy proof_key seen → found ≡ filter (λ p. leb (2 ^ 32 * branch) (proof_key p) && ltb (proof_key p) (2 ^ 32 * (branch + 1))) seen) → IsNonDecreasingBy proof_key w.proofs →
+    (IsNonDecreasingBy proof_key seen → found ≡ rows_of_group proof_key branch seen) → IsNonDecreasingBy proof_key w.proofs →
     found ≡ filter (λ p. p.branch == branch) w.proofs
 proofs_found w seen found branch books same says order =
     group_found proof_key (λ p. p.branch) (λ p. p.day) (λ _. refl) seen w.proofs branch found same says order (λ p there. let high = (books.proofs p there).day.1 in omega (arith, high))
 
 pub releases_found : (w : WorldLists) (seen found : List Release) (user : ℕ) → AreReleasesAlone w → seen ≡ w.releases →
-    (IsNonDecreasingBy release_key seen → found ≡ filter (λ r. leb (2 ^ 32 * user) (release_key r) && ltb (release_key r) (2 ^ 32 * (user + 1))) seen) → IsNonDecreasingBy release_key w.releases →
+    (IsNonDecreasingBy release_key seen → found ≡ rows_of_group release_key user seen) → IsNonDecreasingBy release_key w.releases →
     length found ≡ release_count user w.releases
 releases_found w seen found user alone same says order =
     ap length (group_found release_key (λ r. r.user) (λ r. r.number) (λ _. refl) seen w.releases user found same says order (λ r there. let high = (alone.each r there).number.1 in omega (arith, high)))

@@ -1,6 +1,6 @@
 pub mod Least
 pub mod Named
+pub mod Numbers
 pub mod RangeParts
 pub mod RowConditions
-pub mod SumConditions
 pub mod Verdict

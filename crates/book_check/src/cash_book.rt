@@ -3,29 +3,23 @@ ghost use Rattle.bank_books.specs.Conditions.{CashAgrees, IsBranchOfLines};
 ghost use Rattle.book_check.specs.Least.{IsFirstFailing};
 ghost use Rattle.bank_books.specs.Range.{AreOfRows, IsInRange};
 ghost use Rattle.bank_books.specs.Records.{kept_of};
-ghost use Rattle.book_check.specs.RowConditions.{BranchesOfCash, LinesNumbered, TellersOfLines, amount_of};
-ghost use Rattle.book_sums.specs.Sums.{AreSumsOf};
+ghost use Rattle.book_check.specs.RowConditions.{BranchesOfCash, TellersOfLines, amount_of};
 
 use crate::amounts::amount_of;
+use crate::branch_numbers::first_of_other_numbers;
 use crate::least::{Condition, least_failing, lesser_of};
-use bank_books::{BranchRecord, CashLine, TellerRecord, World};
-use book_sums::{Kept, Sums};
+use bank_books::{BranchRecord, TellerRecord, World};
+use book_sums::Kept;
 
 /// The least branch whose cash book does not give what is kept of its cash, or none.
-pub(crate) fn first_of_other_cash(
-    world: &World,
-    kept: &Kept,
-    computed: &Kept,
-    sums: &Sums,
-) -> Option<u32>
+pub(crate) fn first_of_other_cash(world: &World, kept: &Kept, computed: &Kept) -> Option<u32>
     requires in_range { IsInRange world.now kept.now }
     requires computed { computed.now ≡ kept_of world.now }
-    requires sums { AreSumsOf world.now sums.now }
     ensures { IsFirstFailing (CashAgrees world.now kept.now) result }
 {
     let branches = first_branch(world, kept, computed);
     let tellers = first_teller(world, kept, computed);
-    let numbers = first_number(world, sums);
+    let numbers = first_of_other_numbers(kept, world.lines());
     lesser_of(lesser_of(branches, tellers), numbers)
 }
 
@@ -43,13 +37,6 @@ fn first_teller(world: &World, kept: &Kept, computed: &Kept) -> Option<u32>
     ensures { IsFirstFailing (TellersOfLines world.now kept.now) result }
 {
     least_failing(&TellerCash, kept.tellers(), computed.tellers())
-}
-
-fn first_number(world: &World, sums: &Sums) -> Option<u32>
-    requires { AreSumsOf world.now sums.now }
-    ensures { IsFirstFailing (LinesNumbered world.now) result }
-{
-    least_failing(&LineNumber { sums }, world.lines(), world.lines())
 }
 
 /// That what is kept of a branch's cash is what its lines give, and adds up.
@@ -123,27 +110,5 @@ impl Condition<TellerRecord> for TellerCash {
 
     fn branch_of(&self, row: &TellerRecord) -> u32 {
         row.row.branch
-    }
-}
-
-/// That the number of a line is one of its branch's.
-#[derive(Clone, Copy)]
-struct LineNumber<'s> {
-    sums: &'s Sums,
-}
-
-impl<'s> Condition<CashLine> for LineNumber<'s> {
-    ghost use Rattle.book_check.specs.SumConditions.{IsLineInSums};
-
-    ghost holds = { λ q line _. IsLineInSums q.sums.now line };
-
-    ghost branch_of = { λ _ line. line.branch };
-
-    fn holds(&self, row: &CashLine, _: &CashLine) -> bool {
-        1 <= row.number && row.number as u64 <= self.sums.by_place.count_of(row.branch)
-    }
-
-    fn branch_of(&self, row: &CashLine) -> u32 {
-        row.branch
     }
 }

@@ -93,7 +93,7 @@ fn verdict(
     if let Some(branch) = first_of_other_history(world, kept, computed, sums) {
         return Err(BooksFault::ConditionC { branch });
     }
-    if let Some(branch) = first_of_other_cash(world, kept, computed, sums) {
+    if let Some(branch) = first_of_other_cash(world, kept, computed) {
         return Err(BooksFault::Cash { branch });
     }
     if !have_equal_totals(world, kept) {
@@ -126,7 +126,7 @@ struct TellerSums<'t> {
 }
 
 impl<'t> Condition<BranchRecord> for TellerSums<'t> {
-    ghost use Rattle.book_check.specs.SumConditions.{IsSumOfParts};
+    ghost use Rattle.book_check.specs.RowConditions.{IsSumOfParts};
 
     ghost holds = { λ q kept _. IsSumOfParts q.tellers.now kept };
 

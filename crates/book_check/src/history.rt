@@ -1,16 +1,15 @@
-ghost use Rattle.std.specs.Prelude.{◌≡◌, ◌↔◌, ◌≤◌, IsTrue};
+ghost use Rattle.std.specs.Prelude.{◌≡◌};
 ghost use Rattle.bank_books.specs.Conditions.{HistoryAgrees, home_of};
-ghost use Rattle.book_check.specs.Least.{IsFirstFailing};
 ghost use Rattle.bank_books.specs.Range.{AreOfRows, IsInRange};
 ghost use Rattle.bank_books.specs.Records.{kept_of};
-ghost use Rattle.book_check.specs.RowConditions.{AccountsOfHistory, BranchesOfHistory, EntriesNumbered, EntriesOfHistory, TellersOfHistory};
-ghost use Rattle.book_sums.specs.Shares.{count_at, group_count};
+ghost use Rattle.book_check.specs.Least.{IsFirstFailing};
+ghost use Rattle.book_check.specs.RowConditions.{AccountsOfHistory, BranchesOfHistory, EntriesOfHistory, TellersOfHistory, TurnsOfHistory};
 ghost use Rattle.book_sums.specs.Sums.{AreSumsOf};
 
+use crate::branch_numbers::first_of_other_numbers;
 use crate::least::{Condition, least_failing, lesser_of};
-use bank_books::{
-    AccountRecord, BranchRecord, Entry, EntryRecord, TellerRecord, World, account_row,
-};
+use crate::numbering::has_numbered_parts;
+use bank_books::{AccountRecord, BranchRecord, EntryRecord, TellerRecord, World, account_row};
 use book_sums::{Kept, Sums};
 
 /// The least branch whose history does not give what is kept of it, of its tellers, or of the
@@ -29,11 +28,12 @@ pub(crate) fn first_of_other_history(
     let branches = first_branch(world, kept, computed);
     let tellers = first_teller(world, kept, computed);
     let accounts = first_account(world, kept, computed);
-    let entries = first_entry(world, kept, computed, sums);
-    let numbers = first_number(world, sums);
+    let entries = first_entry(world, kept, computed);
+    let numbers = first_of_other_numbers(kept, world.entries());
+    let turns = first_turn(world, kept, sums);
     lesser_of(
         lesser_of(lesser_of(branches, tellers), lesser_of(accounts, entries)),
-        numbers,
+        lesser_of(numbers, turns),
     )
 }
 
@@ -61,21 +61,19 @@ fn first_account(world: &World, kept: &Kept, computed: &Kept) -> Option<u32>
     least_failing(&AccountHistory, kept.accounts(), computed.accounts())
 }
 
-fn first_entry(world: &World, kept: &Kept, computed: &Kept, sums: &Sums) -> Option<u32>
+fn first_entry(world: &World, kept: &Kept, computed: &Kept) -> Option<u32>
     requires rows { AreOfRows world.now kept.now }
     requires computed { computed.now ≡ kept_of world.now }
-    requires sums { AreSumsOf world.now sums.now }
     ensures { IsFirstFailing (EntriesOfHistory world.now kept.now) result }
 {
-    let history = EntryHistory { world, sums };
-    least_failing(&history, kept.entries(), computed.entries())
+    least_failing(&EntryHistory { world }, kept.entries(), computed.entries())
 }
 
-fn first_number(world: &World, sums: &Sums) -> Option<u32>
+fn first_turn(world: &World, kept: &Kept, sums: &Sums) -> Option<u32>
     requires { AreSumsOf world.now sums.now }
-    ensures { IsFirstFailing (EntriesNumbered world.now) result }
+    ensures { IsFirstFailing (TurnsOfHistory world.now kept.now) result }
 {
-    least_failing(&EntryNumber { sums }, world.entries(), world.entries())
+    least_failing(&AccountTurns { sums }, kept.accounts(), kept.accounts())
 }
 
 /// That what is kept of a branch is what its history gives.
@@ -141,45 +139,27 @@ impl Condition<AccountRecord> for AccountHistory {
     }
 }
 
-/// That the balance kept beside an entry is what the history gives, and that its turn is one of its
-/// account's, and no other's. It is told of the account's home.
+/// That the balance kept beside an entry is what the history gives. It is told of the account's home.
 #[derive(Clone, Copy)]
-struct EntryHistory<'w, 's> {
+struct EntryHistory<'w> {
     world: &'w World,
-    sums: &'s Sums,
 }
 
-impl<'w, 's> Condition<EntryRecord> for EntryHistory<'w, 's> {
+impl<'w> Condition<EntryRecord> for EntryHistory<'w> {
+    ghost use Rattle.std.specs.Prelude.{◌≡◌};
     ghost use Rattle.bank_books.specs.Conditions.{home_of};
-    ghost use Rattle.book_check.specs.SumConditions.{IsEntryOfSums};
 
-    ghost holds = { λ q kept computed. IsEntryOfSums q.sums.now kept computed };
+    ghost holds = { λ _ kept computed. kept.balance_after ≡ computed.balance_after };
 
     ghost branch_of = { λ q kept. home_of q.world.now kept.row.account };
 
     fn holds(&self, row: &EntryRecord, computed: &EntryRecord) -> bool {
         row.balance_after == computed.balance_after
-            && is_turn(self.sums, &row.row)
-            && has_own_turn(self.sums, &row.row)
     }
 
     fn branch_of(&self, row: &EntryRecord) -> u32 {
         home_of(self.world, row.row.account)
     }
-}
-
-/// Whether the turn of an entry is from 1 to how many entries its account has.
-fn is_turn(sums: &Sums, entry: &Entry) -> bool
-    ensures { IsTrue result ↔ ((1 ≤ entry.now.turn) × (entry.now.turn ≤ group_count entry.now.account sums.now.by_turn)) }
-{
-    1 <= entry.turn && entry.turn as u64 <= sums.by_turn.count_of(entry.account)
-}
-
-/// Whether no other entry of its account bears the turn of an entry.
-fn has_own_turn(sums: &Sums, entry: &Entry) -> bool
-    ensures { IsTrue result ↔ (count_at entry.now.account entry.now.turn sums.now.by_turn ≤ 1) }
-{
-    sums.by_turn.count_at(entry.account, entry.turn) <= 1
 }
 
 /// The home of an account, 0 where there is no account.
@@ -192,24 +172,25 @@ fn home_of(world: &World, account: u32) -> u32
     }
 }
 
-/// That the number of an entry is one of its branch's.
+/// That the turns of an account's entries are 1, 2, 3 and so on, each once. It is told of the
+/// account's home.
 #[derive(Clone, Copy)]
-struct EntryNumber<'s> {
+struct AccountTurns<'s> {
     sums: &'s Sums,
 }
 
-impl<'s> Condition<Entry> for EntryNumber<'s> {
-    ghost use Rattle.book_check.specs.SumConditions.{IsEntryInSums};
+impl<'s> Condition<AccountRecord> for AccountTurns<'s> {
+    ghost use Rattle.bank_books.specs.Numbering.{AreNumbered};
 
-    ghost holds = { λ q entry _. IsEntryInSums q.sums.now entry };
+    ghost holds = { λ q kept _. AreNumbered (λ p. p.group) (λ p. p.number) q.sums.now.by_turn kept.row.account };
 
-    ghost branch_of = { λ _ entry. entry.branch };
+    ghost branch_of = { λ _ kept. kept.row.home };
 
-    fn holds(&self, row: &Entry, _: &Entry) -> bool {
-        1 <= row.number && row.number as u64 <= self.sums.by_branch.count_of(row.branch)
+    fn holds(&self, row: &AccountRecord, _: &AccountRecord) -> bool {
+        has_numbered_parts(&self.sums.by_turn, row.row.account)
     }
 
-    fn branch_of(&self, row: &Entry) -> u32 {
-        row.branch
+    fn branch_of(&self, row: &AccountRecord) -> u32 {
+        row.row.home
     }
 }

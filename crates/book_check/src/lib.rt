@@ -3,12 +3,14 @@
 
 mod amounts;
 mod beside;
+mod branch_numbers;
 mod cash_book;
 mod check;
 mod history;
 mod least;
 mod named;
 mod numbering;
+mod numbers;
 mod range;
 mod range_rows;
 

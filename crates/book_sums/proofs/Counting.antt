@@ -17,7 +17,7 @@ contains_later x y xs there = (suc there.0, omega (arith, there.1), there.2)
 abbrev pub one_if : Bool → ℕ
 one_if b = cond b 1 0
 
-count_cons : {X : Type 0} (p : X → Bool) (x : X) (xs : List X) → count_by p (x ∷ xs) ≡ one_if (p x) + count_by p xs
+pub count_cons : {X : Type 0} (p : X → Bool) (x : X) (xs : List X) → count_by p (x ∷ xs) ≡ one_if (p x) + count_by p xs
 count_cons p x xs = sum_by-cons (λ y. cond (p y) 1 0) x xs
 
 -- where some are counted, there is one

@@ -1,4 +1,5 @@
 pub mod Counting
+pub mod GroupRows
 pub mod Mapped
 pub mod SameRecords
 pub mod SharesBetween

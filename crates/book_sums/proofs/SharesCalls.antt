@@ -7,7 +7,7 @@ use Rattle.std.proofs.lemmas.Int.{ints}
 use Rattle.std.proofs.lemmas.List.{get_or_append_left, get_or_push, length-take-le, length_push, take-take, take_all}
 use Rattle.money.specs.Totals.{total}
 use Rattle.book_sums.specs.declared.shares.Part.{Part}
-use Rattle.book_sums.specs.Shares.{AreRunningSums, AreShares, IsPart, count_at, count_between, group_count, group_total, is_between, total_at, total_between, total_up_to}
+use Rattle.book_sums.specs.Shares.{AreRunningSums, AreShares, IsPart, count_between, group_count, group_total, is_between, total_at, total_between, total_up_to}
 use Rattle.book_sums.proofs.SharesBetween.{EndsAt, EndsBelow, between_places, count_by-PassBetween, total-PassBetween, within_amounts}
 use Rattle.book_sums.proofs.SharesGroups.{count_of_tests, greatest, is_at, is_of_group, is_up_to, total_of_tests}
 
@@ -34,12 +34,6 @@ pub added_at : (group number first last : ℕ) (parts : List Part) → number < 
 added_at group number first last parts small first_is last_is all =
     ap (λ k. total_between k last parts) first_is ∙ ap (λ k. total_between (2 ^ 32 * group + number) k parts) last_is
     ∙ total_of_tests IsPart (is_between (2 ^ 32 * group + number) (2 ^ 32 * group + number)) (λ p. p.group == group && p.number == number) (λ p. p.amount) parts (is_at group number small) all
-
-pub counted_at : (group number first last : ℕ) (parts : List Part) → number < 2 ^ 32 → first ≡ 2 ^ 32 * group + number → last ≡ 2 ^ 32 * group + number → All IsPart parts →
-    count_between first last parts ≡ count_at group number parts
-counted_at group number first last parts small first_is last_is all =
-    ap (λ k. count_between k last parts) first_is ∙ ap (λ k. count_between (2 ^ 32 * group + number) k parts) last_is
-    ∙ count_of_tests IsPart (is_between (2 ^ 32 * group + number) (2 ^ 32 * group + number)) (λ p. p.group == group && p.number == number) parts (is_at group number small) all
 
 -- the two places are found in copies of the parts, which the value is the view of
 pub counted_between : (first last i j : ℕ) (seen other parts view : List Part) → first ≤ last → seen ≡ parts → other ≡ parts → parts ≡ view →

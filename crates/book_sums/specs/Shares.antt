@@ -25,10 +25,6 @@ total_up_to group number parts = total (map (λ p. if p.group == group && nat_le
 abbrev pub total_at : ℕ → ℕ → List Part → ℤ
 total_at group number parts = total (map (λ p. if p.group == group && p.number == number then p.amount else pos 0) parts)
 
--- how many parts of a group have this number
-abbrev pub count_at : ℕ → ℕ → List Part → ℕ
-count_at group number parts = count_by (λ p. p.group == group && p.number == number) parts
-
 -- the key of the part lies from the first to the last
 abbrev pub is_between : ℕ → ℕ → Part → Bool
 is_between first last p = nat_le first (part_key p) && nat_le (part_key p) last

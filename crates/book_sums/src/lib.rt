@@ -2,12 +2,14 @@
 //! the numbers that a store keeps beside the rows.
 #![tactic(auto)]
 
+mod groups;
 mod holders;
 mod kept;
 mod parts;
 mod shares;
 mod sums;
 
+pub use groups::rows_of_group;
 pub use kept::Kept;
 pub use shares::{Part, Parts, Shares};
 pub use sums::Sums;

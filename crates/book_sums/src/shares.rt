@@ -4,6 +4,8 @@ ghost use Rattle.std.specs.List.Sorted.{IsNonDecreasingBy, IsPartitionPoint, IsP
 ghost use Rattle.book_sums.specs.declared.shares.Part.{Part as APart};
 ghost use Rattle.book_sums.specs.Shares.{AreRunningSums, IsPart, part_key};
 
+use crate::groups::rows_of_group;
+use money::Keyed;
 use std::alloc::{AllocError, Global};
 use std::marker::Model;
 
@@ -24,6 +26,16 @@ impl Part {
         ensures { result ≡ part_key self.now }
     {
         key_of(self.group, self.number)
+    }
+}
+
+impl Keyed for Part {
+    ghost use Rattle.book_sums.specs.Shares.{part_key};
+
+    ghost key = { part_key };
+
+    fn key(&self) -> u128 {
+        key_of(self.group, self.number) as u128
     }
 }
 
@@ -67,9 +79,9 @@ impl Model for Shares {
 }
 
 impl Shares {
-    ghost use Rattle.std.specs.Prelude.{◌≡◌, ◌≤ℤ◌, ◌^◌, IfOk, map, neg_ℤ, pos};
-    ghost use Rattle.std.specs.List.Sorted.{IsPermutation};
-    ghost use Rattle.book_sums.specs.Shares.{count_at, count_between, group_count, group_total, total_at, total_between, total_up_to};
+    ghost use Rattle.std.specs.Prelude.{◌≡◌, ◌==◌, ◌≤ℤ◌, ◌^◌, IfOk, filter, map, neg_ℤ, pos};
+    ghost use Rattle.std.specs.List.Sorted.{IsNonDecreasingBy, IsPermutation};
+    ghost use Rattle.book_sums.specs.Shares.{count_between, group_count, group_total, part_key, total_at, total_between, total_up_to};
 
     /// The parts of these rows. It takes the time of one sort, and fails only where memory is
     /// refused.
@@ -123,11 +135,12 @@ impl Shares {
         self.total_between(key_of(group, number), key_of(group, number))
     }
 
-    /// How many parts of the group have this number.
-    pub fn count_at(&self, group: u32, number: u32) -> u64
-        ensures { result ≡ count_at group number self.now }
+    /// The parts of the group, by number.
+    pub fn parts_of(&self, group: u32) -> &[Part]
+        ensures value { result.now ≡ filter (λ p. p.group == group) self.now }
+        ensures in_order { IsNonDecreasingBy part_key result.now }
     {
-        self.count_between(key_of(group, number), key_of(group, number))
+        rows_of_group(&self.parts, group)
     }
 
     /// What the parts come to whose keys lie from the first to the last.

@@ -2,11 +2,10 @@ use Rattle.std.proofs.Common.{◌≡◌, List, Contains, subst, sym, ◌∙◌}
 use Rattle.bank_books.specs.declared.records.BranchRecord.{BranchRecord}
 use Rattle.bank_books.specs.Conditions.{TellersAgree}
 use Rattle.book_check.specs.Least.{IsFirstFailing}
-use Rattle.book_check.specs.SumConditions.{IsSumOfParts}
-use Rattle.book_check.proofs.CashConditions.{whole_teller_sum}
+use Rattle.book_check.specs.RowConditions.{IsSumOfParts}
+use Rattle.book_check.proofs.CashConditions.{teller_sum_of_parts, whole_teller_sum}
 use Rattle.book_check.proofs.FirstFailing.{reworded}
 use Rattle.book_check.proofs.KeptRows.{by_themselves}
-use Rattle.book_check.proofs.SumConditions.{teller_sum_of_parts}
 use Rattle.book_check.proofs.check.first_of_other_tellers.Goals as goal
 
 pub returns : goal.returns

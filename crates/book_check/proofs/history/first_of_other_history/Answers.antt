@@ -1,8 +1,11 @@
 -- The least branch that is told of a row is the least whose history does not agree.
-use Rattle.std.proofs.Common.{◌≡◌, ℕ, Option, subst, sym, ap, ◌∙◌}
+use Rattle.std.proofs.Common.{◌≡◌, ℕ, List, Option, subst, sym}
+use Rattle.bank_books.specs.declared.rows.Entry.{Entry}
 use Rattle.bank_books.specs.Conditions.{HistoryAgrees}
+use Rattle.bank_books.specs.Keys.{entry_key}
 use Rattle.book_check.specs.Least.{IsFirstFailing, lesser_of}
-use Rattle.book_check.specs.RowConditions.{AccountsOfHistory, BranchesOfHistory, EntriesNumbered, EntriesOfHistory, TellersOfHistory}
+use Rattle.book_check.specs.Numbers.{BranchesBearNumbers}
+use Rattle.book_check.specs.RowConditions.{AccountsOfHistory, BranchesOfHistory, EntriesOfHistory, TellersOfHistory, TurnsOfHistory}
 use Rattle.book_check.proofs.FirstFailing.{both, reworded}
 use Rattle.book_check.proofs.HistoryConditions.{RowsAgree, agrees_by_rows, rows_by_agreement}
 use Rattle.book_check.proofs.history.first_of_other_history.Goals as goal
@@ -15,16 +18,16 @@ returns c =
     let tellers = c.first_teller-tellers.result in
     let accounts = c.first_account-accounts.result in
     let entries = c.first_entry-entries.result in
-    let numbers = c.first_number-numbers.result in
+    let numbers = c.first_of_other_numbers-numbers.result in
+    let turns = c.first_turn-turns.result in
+    let N : List Entry → Type 0 = λ rows. IsFirstFailing (BranchesBearNumbers entry_key (λ e. e.number) rows kept) numbers in
     let one = both (BranchesOfHistory w kept) (TellersOfHistory w kept) branches tellers c.first_branch-branches.ensures c.first_teller-tellers.ensures in
     let two = both (AccountsOfHistory w kept) (EntriesOfHistory w kept) accounts entries c.first_account-accounts.ensures c.first_entry-entries.ensures in
     let three = both (λ b. BranchesOfHistory w kept b × TellersOfHistory w kept b) (λ b. AccountsOfHistory w kept b × EntriesOfHistory w kept b) (lesser_of branches tellers) (lesser_of accounts entries) one two in
-    let all = both (λ b. (BranchesOfHistory w kept b × TellersOfHistory w kept b) × (AccountsOfHistory w kept b × EntriesOfHistory w kept b)) (EntriesNumbered w)
-    (lesser_of (lesser_of branches tellers) (lesser_of accounts entries)) numbers three c.first_number-numbers.ensures in
-    let joined : c.lesser_of-4.result ≡ lesser_of (lesser_of (lesser_of branches tellers) (lesser_of accounts entries)) numbers =
-    c.lesser_of-4.ensures
-    ∙ ap (λ o. lesser_of o numbers) (c.lesser_of-3.ensures ∙ ap (λ o. lesser_of o c.lesser_of-2.result) c.lesser_of.ensures ∙ ap (lesser_of (lesser_of branches tellers)) c.lesser_of-2.ensures) in
+    let four = both (BranchesBearNumbers entry_key (λ e. e.number) w.entries kept) (TurnsOfHistory w kept) numbers turns (subst N c.entries.ensures.value c.first_of_other_numbers-numbers.ensures) c.first_turn-turns.ensures in
+    let all = both (λ b. (BranchesOfHistory w kept b × TellersOfHistory w kept b) × (AccountsOfHistory w kept b × EntriesOfHistory w kept b))
+    (λ b. BranchesBearNumbers entry_key (λ e. e.number) w.entries kept b × TurnsOfHistory w kept b) (lesser_of (lesser_of branches tellers) (lesser_of accounts entries)) (lesser_of numbers turns) three four in
+    let least = lesser_of (lesser_of (lesser_of branches tellers) (lesser_of accounts entries)) (lesser_of numbers turns) in
+    let joined : c.lesser_of-5.result ≡ least = cc in
     let P : Option ℕ → Type 0 = λ o. IsFirstFailing (HistoryAgrees w kept) o in
-    subst P (sym joined)
-    (reworded (RowsAgree w kept) (HistoryAgrees w kept) (lesser_of (lesser_of (lesser_of branches tellers) (lesser_of accounts entries)) numbers)
-    (λ b. agrees_by_rows w kept b c.requires.in_range) (λ b. rows_by_agreement w kept b c.requires.in_range) all)
+    subst P (sym joined) (reworded (RowsAgree w kept) (HistoryAgrees w kept) least (λ b. agrees_by_rows w kept b c.requires.in_range) (λ b. rows_by_agreement w kept b c.requires.in_range) all)

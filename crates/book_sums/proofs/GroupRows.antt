@@ -2,6 +2,7 @@
 use Rattle.std.proofs.Common.{◌≡◌, ◌==◌, ℕ, ◌+◌, ◌*◌, ◌^◌, ◌<◌, ◌&&◌, zero, suc, List, [], ◌∷◌, Bool, true, false, cond, Contains, leb, ltb, refl, ap, arith, sym, subst, ◌∙◌, inl, inr}
 use Rattle.std.specs.List.{filter}
 use Rattle.std.specs.List.Sorted.{IsNonDecreasingBy}
+use Rattle.book_sums.specs.Groups.{rows_of_group}
 use Rattle.std.proofs.lemmas.Bool.{cases_lt, eq-eqb, le-leb, le-ltb, lt-leb, lt-ltb, ne_eqb}
 use Rattle.std.proofs.lemmas.List.Elements.{All-contains, All-contains_itself, All-filter, filter_passes}
 
@@ -52,15 +53,15 @@ group_test g of n small = elim (cases_lt g of) [
 
 -- the rows whose keys lie between two multiples are those of a group
 pub group_rows : {X : Type 0} (key group number : X → ℕ) → ((x : X) → key x ≡ 2 ^ 32 * group x + number x) → (rows : List X) (of : ℕ) → ((x : X) → Contains rows x → number x < 2 ^ 32) →
-    filter (λ x. leb (2 ^ 32 * of) (key x) && ltb (key x) (2 ^ 32 * (of + 1))) rows ≡ filter (λ x. group x == of) rows
+    rows_of_group key of rows ≡ filter (λ x. group x == of) rows
 group_rows {X} key group number made rows of small =
     filter_same (λ x. leb (2 ^ 32 * of) (key x) && ltb (key x) (2 ^ 32 * (of + 1))) (λ x. group x == of) rows
     (λ x there. ap (λ k. leb (2 ^ 32 * of) k && ltb k (2 ^ 32 * (of + 1))) (made x) ∙ group_test (group x) of (number x) (small x there))
 
 -- the same of rows that were looked for in a list that equals them
 pub group_found : {X : Type 0} (key group number : X → ℕ) → ((x : X) → key x ≡ 2 ^ 32 * group x + number x) → (seen rows : List X) (of : ℕ) (found : List X) → seen ≡ rows →
-    (IsNonDecreasingBy key seen → found ≡ filter (λ x. leb (2 ^ 32 * of) (key x) && ltb (key x) (2 ^ 32 * (of + 1))) seen) → IsNonDecreasingBy key rows →
+    (IsNonDecreasingBy key seen → found ≡ rows_of_group key of seen) → IsNonDecreasingBy key rows →
     ((x : X) → Contains rows x → number x < 2 ^ 32) → found ≡ filter (λ x. group x == of) rows
 group_found {X} key group number made seen rows of found same says order small =
-    let P : List X → Type 0 = λ xs. IsNonDecreasingBy key xs → found ≡ filter (λ x. leb (2 ^ 32 * of) (key x) && ltb (key x) (2 ^ 32 * (of + 1))) xs in
+    let P : List X → Type 0 = λ xs. IsNonDecreasingBy key xs → found ≡ rows_of_group key of xs in
     subst P same says order ∙ group_rows key group number made rows of small
