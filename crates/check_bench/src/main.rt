@@ -1,4 +1,5 @@
-//! Makes up a bank of a size and checks its books as often as asked, so that a script can take the time.
+//! Makes up a bank of a size, checks its books once, and tells on request how long that took, so that
+//! a script can compare sizes.
 #![tactic(auto)]
 
 mod made_up;
@@ -12,6 +13,7 @@ use std::alloc::Global;
 use std::env;
 use std::io::Write;
 use std::process::ExitCode;
+use std::time::Instant;
 
 /// The status of a program that did what it was asked for.
 const DONE: u8 = 0;
@@ -22,67 +24,73 @@ const REFUSED_BOOKS: u8 = 1;
 /// The status of a program whose words are refused.
 const REFUSED_WORDS: u8 = 2;
 
-/// The status of a program that was refused memory.
-const NO_MEMORY: u8 = 3;
+/// The status of a program that was refused memory or the clock.
+const REFUSED_MEANS: u8 = 3;
 
 /// How many branches a bank may have here.
 const MOST_BRANCHES: u32 = 1_000;
 
+/// What the words ask for.
+#[derive(Clone, Copy)]
+struct Task {
+    /// How many branches the bank has, each with 1,000 entries.
+    branches: u32,
+    /// Whether the time is told.
+    timed: bool,
+}
+
 fn main(rt: HostRuntime) -> ExitCode {
     let status = match words(&rt) {
-        Some((branches, times)) => run(&rt, branches, times),
+        Some(task) => run(&rt, task).unwrap_or(REFUSED_MEANS),
         None => REFUSED_WORDS,
     };
     ExitCode::from(status)
 }
 
-/// The words: how many branches the bank has, each with 1,000 entries, and how often it is checked.
-fn words(rt: &HostRuntime) -> Option<(u32, u32)> {
+/// The words: how many branches, and `timed` where the time is to be told.
+fn words(rt: &HostRuntime) -> Option<Task> {
     let given: Vec<String> = env::args(rt).ok()?.collect(rt.alloc()).ok()?;
-    if given.len() != 3 {
+    if given.len() < 2 || 3 < given.len() {
         return None;
     }
     let branches = given[1].as_str().parse::<u32>().ok()?;
-    let times = given[2].as_str().parse::<u32>().ok()?;
-    if branches < 1 || MOST_BRANCHES < branches {
+    let timed = given.len() == 3;
+    if branches < 1 || MOST_BRANCHES < branches || (timed && given[2].as_str() != "timed") {
         return None;
     }
-    Some((branches, times))
+    Some(Task { branches, timed })
 }
 
-/// Makes the bank up, checks it, and answers the status.
-fn run(rt: &HostRuntime, branches: u32, times: u32) -> u8 {
+/// Makes the bank up, checks it, and answers the status; none where memory or the clock is refused.
+fn run(rt: &HostRuntime, task: Task) -> Option<u8> {
     let alloc = rt.alloc();
-    let Ok(Some(world)) = made_up_world(alloc, branches) else {
-        return NO_MEMORY;
-    };
-    match check_often(alloc, &world, times) {
-        Ok(Ok(())) => {
+    let world = made_up_world(alloc, task.branches).ok()??;
+    let kept = Kept::of(alloc, &world).ok()?;
+    let start = Instant::now(rt).ok()?;
+    let verdict = check(alloc, &world, &kept).ok()?;
+    let nanoseconds = start.elapsed(rt).ok()?.as_nanos();
+    if task.timed {
+        let _ = writeln!(rt.stdout(), "{nanoseconds}");
+    }
+    match verdict {
+        Ok(()) => {
             let _ = writeln!(rt.stdout(), "books hold");
-            DONE
+            Some(DONE)
         }
-        Ok(Err(fault)) => {
+        Err(fault) => {
             let _ = writeln!(rt.stdout(), "books: {fault}");
-            REFUSED_BOOKS
+            Some(REFUSED_BOOKS)
         }
-        Err(_) => NO_MEMORY,
     }
 }
 
-ghost use Rattle.std.specs.Prelude.{◌≡◌, ◌<◌, Ok, IfOk, IsOkUnless};
-ghost use Rattle.bank_books.specs.Books.{Books};
+ghost use Rattle.std.specs.Prelude.{IfOk, IsOkUnless};
+ghost use Rattle.book_check.specs.Verdict.{IsVerdict};
 
-/// Checks the books as often as asked, or until they don't hold. Where it was asked at all it says
-/// that they hold only where they do.
-fn check_often(alloc: Global, world: &World, times: u32) -> Result<Result<(), BooksFault>, Fault>
-    ensures hold { IfOk result (λ verdict. verdict ≡ Ok record {} → 0 < times → Books world.now) }
+/// Checks the books.
+fn check(alloc: Global, world: &World, kept: &Kept) -> Result<Result<(), BooksFault>, Fault>
+    ensures verdict { IfOk result (IsVerdict world.now kept.now) }
     ensures memory { IsOkUnless result Fault.Memory }
 {
-    let kept = Kept::of(alloc, world)?;
-    for _ in 0..times {
-        if let Err(fault) = check_books(alloc, world, &kept)? {
-            return Ok(Err(fault));
-        }
-    }
-    Ok(Ok(()))
+    check_books(alloc, world, kept)
 }
