@@ -27,6 +27,6 @@ pub use operation_row::OperationRow;
 pub use policy::Policy;
 pub use policy_fault::PolicyFault;
 pub use procedure::Procedure;
-pub use reading::{relations_of, triples_of, user_row};
-pub use rows::{Certifier, ItemSet, Member, Name, Relation, Triple, User};
+pub use reading::{relations_of, standing, triples_of, user_row};
+pub use rows::{Certifier, ItemSet, Member, Name, Relation, Standing, Triple, User};
 pub use rule::Rule;

@@ -7,6 +7,7 @@ use bank_books::{
     AccountRecord, BranchRecord, RowWrite, TellerRecord, World, account_record, branch_record,
     teller_record,
 };
+use bank_policy::{CertifiedRow, HeldRow, Procedure, Standing, relations_of, standing, triples_of};
 use money::Fault;
 use std::alloc::Global;
 
@@ -41,6 +42,27 @@ impl Store for ListStore {
 
     fn branch(&mut self, _alloc: Global, branch: u32) -> Result<Option<BranchRecord>, Fault> {
         Ok(branch_record(&self.world, branch))
+    }
+
+    fn user(&mut self, _alloc: Global, user: u32) -> Result<Option<Standing>, Fault> {
+        Ok(standing(self.world.policy(), user))
+    }
+
+    fn triples_of(
+        &mut self,
+        alloc: Global,
+        user: u32,
+        procedure: Procedure,
+    ) -> Result<Vec<HeldRow>, Fault> {
+        Ok(triples_of(alloc, self.world.policy(), user, procedure)?)
+    }
+
+    fn relations_of(
+        &mut self,
+        alloc: Global,
+        procedure: Procedure,
+    ) -> Result<Vec<CertifiedRow>, Fault> {
+        Ok(relations_of(alloc, self.world.policy(), procedure)?)
     }
 
     fn apply(&mut self, _alloc: Global, plan: &[RowWrite]) -> Result<(), Fault> {

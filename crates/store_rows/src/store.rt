@@ -1,9 +1,11 @@
 ghost use Rattle.std.specs.Prelude.{◌≡◌, IfOk};
 ghost use Rattle.bank_books.specs.Records.{account_record, branch_record, teller_record};
 ghost use Rattle.bank_books.specs.Effects.{applied};
+ghost use Rattle.bank_policy.specs.HeldRows.{relations_of, standing, triples_of};
 ghost use Rattle.store_rows.specs.Status.{Changes, Keeps, Refuses, Status, Tells, mark_of};
 
 use bank_books::{AccountRecord, BranchRecord, RowWrite, TellerRecord};
+use bank_policy::{CertifiedRow, HeldRow, Procedure, Standing};
 use money::Fault;
 use std::alloc::Global;
 
@@ -29,6 +31,33 @@ pub trait Store {
     /// isn't there.
     fn branch(&mut self, alloc: Global, branch: u32) -> Result<Option<BranchRecord>, Fault>
         ensures value { Tells (status self.old) (status self.new) (λ w. IfOk result (λ row. row ≡ branch_record w branch)) }
+        ensures kept { Keeps (status self.old) (status self.new) (mark_of result) }
+        ensures refused { Refuses (status self.old) (mark_of result) };
+
+    /// What the row of this user says of whether he may ask, or none where there is no such user.
+    fn user(&mut self, alloc: Global, user: u32) -> Result<Option<Standing>, Fault>
+        ensures value { Tells (status self.old) (status self.new) (λ w. IfOk result (λ row. row ≡ standing w.policy user)) }
+        ensures kept { Keeps (status self.old) (status self.new) (mark_of result) }
+        ensures refused { Refuses (status self.old) (mark_of result) };
+
+    /// The triples of this user for this procedure, each with the members of its set.
+    fn triples_of(
+        &mut self,
+        alloc: Global,
+        user: u32,
+        procedure: Procedure,
+    ) -> Result<Vec<HeldRow>, Fault>
+        ensures value { Tells (status self.old) (status self.new) (λ w. IfOk result (λ rows. rows.items ≡ triples_of w.policy user procedure)) }
+        ensures kept { Keeps (status self.old) (status self.new) (mark_of result) }
+        ensures refused { Refuses (status self.old) (mark_of result) };
+
+    /// The relations of this procedure, each with the members of its set.
+    fn relations_of(
+        &mut self,
+        alloc: Global,
+        procedure: Procedure,
+    ) -> Result<Vec<CertifiedRow>, Fault>
+        ensures value { Tells (status self.old) (status self.new) (λ w. IfOk result (λ rows. rows.items ≡ relations_of w.policy procedure)) }
         ensures kept { Keeps (status self.old) (status self.new) (mark_of result) }
         ensures refused { Refuses (status self.old) (mark_of result) };
 
