@@ -10,4 +10,5 @@ pub mod Rule
 pub mod Separation
 pub mod SetRow
 pub mod Soundness
+pub mod Tests
 pub mod Triples
