@@ -1,2 +1,3 @@
 pub mod Badges
 pub mod Opening
+pub mod SamplePolicy

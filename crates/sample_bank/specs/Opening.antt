@@ -1,10 +1,10 @@
 -- The books of the sample bank as they are opened. Amounts are whole cents.
 use Rattle.std.specs.Prelude.{pos, List, [], ◌∷◌}
-use Rattle.bank_policy.specs.Policy.{PolicyLists}
 use Rattle.bank_books.specs.WorldLists.{WorldLists}
 use Rattle.bank_books.specs.declared.rows.Branch.{Branch}
 use Rattle.bank_books.specs.declared.rows.Teller.{Teller}
 use Rattle.bank_books.specs.declared.rows.Account.{Account}
+use Rattle.sample_bank.specs.SamplePolicy.{sample_policy}
 
 -- two branches, both on their first day
 abbrev pub branches : List Branch
@@ -29,9 +29,6 @@ accounts =
     ∷ record { account = 201; home = 2; opening = pos 30000; floor = pos 0 }
     ∷ []
 
-abbrev pub no_policy : PolicyLists
-no_policy = record { users = []; sets = []; relations = []; triples = []; certifiers = [] }
-
 -- nothing has happened yet: no entry, no line of cash, no proof and no release
 abbrev pub sample_opening : WorldLists
 sample_opening = record {
@@ -42,5 +39,5 @@ sample_opening = record {
   lines = [];
   proofs = [];
   releases = [];
-  policy = no_policy;
+  policy = sample_policy;
 }

@@ -3,6 +3,7 @@
 
 mod badges;
 mod opening;
+mod policy;
 #[cfg(test)]
 mod tests;
 

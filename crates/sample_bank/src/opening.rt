@@ -2,17 +2,17 @@ ghost use Rattle.std.specs.Prelude.{◌≡◌, [], pos, OnOk, IfOk};
 ghost use Rattle.money.specs.Range.{IsCents};
 ghost use Rattle.sample_bank.specs.Opening.{accounts, branches, sample_opening, tellers};
 
+use crate::policy::sample_policy;
 use bank_books::{Account, Branch, Teller, World};
-use bank_policy::Policy;
 use money::Cents;
 use std::alloc::{AllocError, Global};
 
-/// The sample bank as its books are opened: two branches on their first day, three tellers and three accounts, with
-/// nothing entered yet and no rows of policy. The only error is that memory is refused.
+/// The sample bank as its books are opened: its policy, two branches on their first day, three tellers and three
+/// accounts, with nothing entered yet. The only error is that memory is refused.
 pub fn sample_world(alloc: Global) -> Result<World, AllocError>
     ensures { IfOk result (λ world. world ≡ sample_opening) }
 {
-    let mut world = World::new(alloc, Policy::new(alloc));
+    let mut world = World::new(alloc, sample_policy(alloc)?);
     add_branches(&mut world)?;
     add_tellers(&mut world)?;
     add_accounts(&mut world)?;

@@ -1,4 +1,5 @@
 use crate::{badge_user, sample_world};
+use bank_policy::{check_policy, user_row};
 use std::alloc::AllocError;
 
 /// The opening agrees with itself: accounts, tellers and branches have one sum, and so have each branch and its tellers.
@@ -30,4 +31,55 @@ fn badges_are_compared_byte_for_byte(rt: HostRuntime) {
     assert_eq!(rt; badge_user(b"Tess"), None);
     assert_eq!(rt; badge_user(b"tess "), None);
     assert_eq!(rt; badge_user(b""), None);
+}
+
+/// The counts of the policy's rows, and its soundness: no row dangles, and no one executes what he certifies.
+#[test]
+fn policy_is_sound(rt: HostRuntime) -> Result<(), AllocError> {
+    let world = sample_world(rt.alloc())?;
+    let policy = world.policy();
+    assert_eq!(rt; check_policy(policy), Ok(()));
+    assert_eq!(rt; (policy.users().len(), policy.certifiers().len()), (6, 26));
+    assert_eq!(rt;
+        (policy.relations().len(), policy.triples().len()),
+        (18, 21)
+    );
+    assert!(rt;
+        policy
+            .sets()
+            .iter()
+            .map(|row| row.members().len())
+            .eq([6usize, 7, 5, 5, 2])
+    );
+    Ok(())
+}
+
+/// Each badge is that of a user of the policy whose first session is open. The officer is Olga alone.
+#[test]
+fn each_badge_has_its_user(rt: HostRuntime) -> Result<(), AllocError> {
+    let world = sample_world(rt.alloc())?;
+    let policy = world.policy();
+    for (badge, number, name) in [
+        (b"olga".as_slice(), 1, "Olga"),
+        (b"carl", 2, "Carl"),
+        (b"cora", 3, "Cora"),
+        (b"tess", 7, "Tess"),
+        (b"tom", 8, "Tom"),
+        (b"sue", 9, "Sue"),
+    ] {
+        assert_eq!(rt; badge_user(badge), Some(number));
+        match user_row(policy, number) {
+            Some(user) => {
+                assert_eq!(rt; user.name.as_str(), name);
+                assert_eq!(rt;
+                    (user.officer, user.suspended),
+                    (number == 1, false),
+                    "{name}"
+                );
+                assert_eq!(rt; (user.session, user.on), (1, true), "{name}");
+            }
+            None => panic!(rt; "{name}"),
+        }
+    }
+    Ok(())
 }

@@ -82,13 +82,8 @@ fn kept_with(
             .push(AccountRecord { balance, ..*row })
             .expect(rt, "memory");
     }
-    Kept::new(
-        branches,
-        tellers,
-        accounts,
-        Vec::new(alloc),
-        Vec::new(alloc),
-    )
+    let users = Vec::from_slice(alloc, kept.users()).expect(rt, "memory");
+    Kept::new(branches, tellers, accounts, Vec::new(alloc), users)
 }
 
 #[test]
@@ -109,7 +104,14 @@ fn sums_of_the_sample_are_those_worked_out_by_hand(rt: HostRuntime) {
         assert_eq!(rt; holder_of(&world, teller), holder);
     }
     let kept = Kept::of(alloc, &world).expect(&rt, "memory");
-    assert!(rt; kept.entries().is_empty() && kept.users().is_empty());
+    assert!(rt; kept.entries().is_empty());
+    assert!(rt;
+        kept.users()
+            .iter()
+            .map(|row| row.user)
+            .eq([1u32, 2, 3, 7, 8, 9])
+    );
+    assert!(rt; kept.users().iter().all(|row| row.releases == 0));
     let first = kept.branches().first().copied().expect(&rt, "branch 1");
     assert_eq!(rt;
         (first.balance, first.vault, first.drawers),
