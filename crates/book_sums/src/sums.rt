@@ -13,8 +13,8 @@ use bank_policy::User;
 use money::Cents;
 use std::alloc::{AllocError, Global};
 
-/// The sums and the counts of a World by branch, teller, account, place, home and user. Each is found
-/// by searches that halve what is left.
+/// The sums and the counts of a World by teller, account, place, home and user. Each is found by
+/// searches that halve what is left. Those of a branch are found in its own rows, which stand together.
 #[derive(Drop)]
 pub struct Sums {
     /// The entries by teller, numbered by branch.
