@@ -11,8 +11,10 @@ mod row_write;
 mod rows;
 mod world;
 
-pub use balances::{account_balance, account_opening, account_row, branch_balance, teller_balance};
-pub use cash::{cash_of, holder_of};
+pub use balances::{
+    account_balance, account_opening, account_row, branch_balance, branch_deltas, teller_balance,
+};
+pub use cash::{cash_entry_total, cash_of, difference_total, drawer_total, holder_of};
 pub use lists::Lists;
 pub use record_of::{account_record, branch_record, teller_record};
 pub use records::{AccountRecord, BranchRecord, EntryRecord, ReleaseCount, TellerRecord};

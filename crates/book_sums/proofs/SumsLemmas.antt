@@ -1,12 +1,14 @@
 -- What sums by group give a row is what the World gives it.
-use Rattle.std.proofs.Common.{◌≡◌, ℕ, ℤ, pos, ◌+ℤ◌, List, map, Bool, true, false, ◌==◌, ◌&&◌, Option, refl, ap, ◌∙◌}
-use Rattle.std.specs.Prelude.{nat_le, not, if◌then◌else◌}
+use Rattle.std.proofs.Common.{◌≡◌, ℕ, ℤ, pos, ◌+ℤ◌, List, [], ◌∷◌, length, map, Bool, true, false, cond, ◌==◌, ◌&&◌, Option, refl, ap, arith, ◌∙◌}
+use Rattle.std.specs.Prelude.{filter, nat_le, not, if◌then◌else◌}
+use Rattle.std.proofs.lemmas.Int.{ints}
+use Rattle.std.proofs.lemmas.List.Sums.{length-filter}
 use Rattle.money.specs.Totals.{total}
 use Rattle.bank_policy.specs.declared.rows.User.{User}
 use Rattle.bank_books.specs.Cash.{holder_of, is_cash_entry, is_difference}
 use Rattle.bank_books.specs.Records.{account_record_of, branch_record_of, entry_record_of, release_count_of, teller_record_of}
-use Rattle.book_sums.specs.Shares.{group_count, group_total}
-use Rattle.book_sums.specs.Sums.{AreSumsOf, account_record_from, branch_part, branch_record_from, cash_entry_part, difference_part, drawer_part, entry_record_from, home_part, place_part, release_count_from, teller_part, teller_record_from, turn_part, user_part}
+use Rattle.book_sums.specs.Shares.{group_count}
+use Rattle.book_sums.specs.Sums.{AreSumsOf, account_record_from, branch_record_from, entry_record_from, home_part, place_part, release_count_from, teller_part, teller_record_from, turn_part, user_part}
 use Rattle.bank_books.specs.WorldLists.{WorldLists}
 use Rattle.bank_books.specs.declared.rows.Account.{Account}
 use Rattle.bank_books.specs.declared.rows.Branch.{Branch}
@@ -15,38 +17,45 @@ use Rattle.bank_books.specs.declared.rows.Entry.{Entry}
 use Rattle.bank_books.specs.declared.rows.Teller.{Teller}
 use Rattle.book_sums.specs.declared.shares.Part.{Part}
 use Rattle.book_sums.specs.declared.sums.Sums.{Sums}
-use Rattle.bank_books.specs.Balances.{account_count, account_opening}
+use Rattle.bank_books.specs.Balances.{account_count, account_opening, branch_deltas}
 use Rattle.book_sums.proofs.SameRecords.{account_same, branch_same, entry_same, teller_same}
-use Rattle.book_sums.proofs.SharesLemmas.{count_of_rows, of_rows, same_totals}
+use Rattle.book_sums.proofs.SharesLemmas.{count_of_rows, of_rows}
 
-nested : (a b : Bool) (x : ℤ) → (if a then (if b then x else pos 0) else pos 0) ≡ (if a && b then x else pos 0)
-nested true b x = refl
-nested false b x = refl
+-- rows whose shares are nothing add nothing
+total-filter : {X : Type 0} (p : X → Bool) (f : X → ℤ) (xs : List X) → ((x : X) → p x ≡ false → f x ≡ pos 0) → total (map f (filter p xs)) ≡ total (map f xs)
+total-filter p f [] none = refl
+total-filter {X} p f (x ∷ xs) none = go (p x) refl (total-filter p f xs none)
+  where
+    go : (b : Bool) → p x ≡ b → total (map f (filter p xs)) ≡ total (map f xs) → total (map f (cond b (x ∷ filter p xs) (filter p xs))) ≡ f x +ℤ total (map f xs)
+    go true is rest = ap (λ z. f x +ℤ z) rest
+    go false is rest = omega (arith, ints, rest, none x is)
 
--- parts that are nothing for the rows that a second test passes over
-of_tested : {T : Type 0} (branch_of : T → ℕ) (test : T → Bool) (amount : T → ℤ) (key : ℕ) (rows : List T) (shares : List Part) (part : T → Part) →
-    group_total key shares ≡ total (map (λ l. if branch_of l == key then (if test l then amount l else pos 0) else pos 0) rows) →
-    group_total key shares ≡ total (map (λ l. if branch_of l == key && test l then amount l else pos 0) rows)
-of_tested branch_of test amount key rows shares part is =
-    is ∙ same_totals (λ l. if branch_of l == key then (if test l then amount l else pos 0) else pos 0) (λ l. if branch_of l == key && test l then amount l else pos 0) rows
-    (λ l there. nested (branch_of l == key) (test l) (amount l))
+-- so the sum over the rows of a group is that over all rows
+of_group : {X : Type 0} (group : X → ℕ) (test : X → Bool) (amount : X → ℤ) (of : ℕ) (found rows : List X) → found ≡ filter (λ x. group x == of) rows →
+    total (map (λ x. if group x == of && test x then amount x else pos 0) found) ≡ total (map (λ x. if group x == of && test x then amount x else pos 0) rows)
+of_group {X} group test amount of found rows is =
+    ap (λ xs. total (map share xs)) is ∙ total-filter (λ x. group x == of) share rows (λ x other. ap (λ b. if b && test x then amount x else pos 0) other)
+  where
+    share : X → ℤ
+    share x = if group x == of && test x then amount x else pos 0
 
-pub branch_from_sums : (w : WorldLists) (s : Sums) (row : Branch) → AreSumsOf w s → branch_record_from s row ≡ branch_record_of w row
-branch_from_sums w s row sums =
-    let history = of_rows (λ (p : Part). if p.group == row.branch then p.amount else pos 0) branch_part w.entries s.by_branch sums.by_branch in
+pub branch_from_rows : (w : WorldLists) (s : Sums) (entries : List Entry) (lines : List CashLine) (row : Branch) → AreSumsOf w s →
+    entries ≡ filter (λ e. e.branch == row.branch) w.entries → lines ≡ filter (λ l. l.branch == row.branch) w.lines →
+    branch_record_from s entries lines row ≡ branch_record_of w row
+branch_from_rows w s entries lines row sums of_branch lines_of_branch =
+    let history : branch_deltas row.branch entries ≡ branch_deltas row.branch w.entries =
+    ap (λ es. branch_deltas row.branch es) of_branch ∙ total-filter (λ e. e.branch == row.branch) (λ e. if e.branch == row.branch then e.delta else pos 0) w.entries (λ e other. ap (λ b. if b then e.delta else pos 0) other) in
     let vault = of_rows (λ (p : Part). if p.group == row.branch && p.number == 0 then p.amount else pos 0) place_part w.lines s.by_place sums.by_place in
-    let entries = count_of_rows (λ (p : Part). p.group == row.branch) branch_part w.entries s.by_branch sums.by_branch in
-    let lines = count_of_rows (λ (p : Part). p.group == row.branch) place_part w.lines s.by_place sums.by_place in
     let accounts = count_of_rows (λ (p : Part). p.group == row.branch) home_part w.accounts s.by_home sums.by_home in
-    let drawers = of_tested (λ (l : CashLine). l.branch) (λ l. not (l.place == 0)) (λ l. l.amount) row.branch w.lines s.drawers drawer_part
-    (of_rows (λ (p : Part). if p.group == row.branch then p.amount else pos 0) drawer_part w.lines s.drawers sums.drawers) in
-    let cash_entries = of_tested (λ (l : CashLine). l.branch) (λ l. is_cash_entry l.form) (λ l. l.amount) row.branch w.lines s.cash_entries cash_entry_part
-    (of_rows (λ (p : Part). if p.group == row.branch then p.amount else pos 0) cash_entry_part w.lines s.cash_entries sums.cash_entries) in
-    let differences = of_tested (λ (l : CashLine). l.branch) (λ l. is_difference l.form) (λ l. l.amount) row.branch w.lines s.differences difference_part
-    (of_rows (λ (p : Part). if p.group == row.branch then p.amount else pos 0) difference_part w.lines s.differences sums.differences) in
-    branch_same (branch_record_from s row) (branch_record_of w row) refl
-    (record { balance = ap (λ z. row.opening +ℤ z) history; entries = entries; history = history; accounts = accounts })
-    (record { vault = ap (λ z. row.cash +ℤ z) vault; lines = lines; drawers = drawers; cash_entries = cash_entries; differences = differences })
+    branch_same (branch_record_from s entries lines row) (branch_record_of w row) refl
+    (record { balance = ap (λ z. row.opening +ℤ z) history; entries = ap length of_branch ∙ length-filter (λ e. e.branch == row.branch) w.entries; history = history; accounts = accounts })
+    (record {
+      vault = ap (λ z. row.cash +ℤ z) vault;
+      lines = ap length lines_of_branch ∙ length-filter (λ l. l.branch == row.branch) w.lines;
+      drawers = of_group (λ l. l.branch) (λ l. not (l.place == 0)) (λ l. l.amount) row.branch lines w.lines lines_of_branch;
+      cash_entries = of_group (λ l. l.branch) (λ l. is_cash_entry l.form) (λ l. l.amount) row.branch lines w.lines lines_of_branch;
+      differences = of_group (λ l. l.branch) (λ l. is_difference l.form) (λ l. l.amount) row.branch lines w.lines lines_of_branch;
+    })
 
 pub teller_from_sums : (w : WorldLists) (s : Sums) (row : Teller) (holder : Option ℕ) → holder ≡ holder_of w.lines row.teller → AreSumsOf w s → teller_record_from s row holder ≡ teller_record_of w row
 teller_from_sums w s row holder held sums =

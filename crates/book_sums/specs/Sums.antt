@@ -1,9 +1,10 @@
 -- The parts that the rows of a World have in its sums, by group.
-use Rattle.std.specs.Prelude.{ℕ, pos, ◌+ℤ◌, ◌==◌, not, map, Option, if◌then◌else◌}
+use Rattle.std.specs.Prelude.{ℕ, pos, ◌+ℤ◌, ◌<◌, ◌^◌, List, length, map, Option}
+use Rattle.std.specs.List.{All}
 use Rattle.std.specs.List.Sorted.{IsPermutation}
 use Rattle.bank_policy.specs.declared.rows.User.{User}
-use Rattle.bank_books.specs.Balances.{account_opening}
-use Rattle.bank_books.specs.Cash.{is_cash_entry, is_difference}
+use Rattle.bank_books.specs.Balances.{account_opening, branch_deltas}
+use Rattle.bank_books.specs.Cash.{cash_entry_total, difference_total, drawer_total}
 use Rattle.book_sums.specs.Shares.{group_count, group_total, total_at, total_up_to}
 use Rattle.bank_books.specs.WorldLists.{WorldLists}
 use Rattle.bank_books.specs.declared.records.AccountRecord.{AccountRecord}
@@ -20,28 +21,16 @@ use Rattle.bank_books.specs.declared.rows.Teller.{Teller}
 use Rattle.book_sums.specs.declared.shares.Part.{Part}
 use Rattle.book_sums.specs.declared.sums.Sums.{Sums}
 
--- an entry in the sums of its branch, of its teller by branch, and of its account by turn
-abbrev pub branch_part : Entry → Part
-branch_part e = record { group = e.branch; number = 0; amount = e.delta }
-
+-- an entry in the sums of its teller by branch, and of its account by turn
 abbrev pub teller_part : Entry → Part
 teller_part e = record { group = e.teller; number = e.branch; amount = e.delta }
 
 abbrev pub turn_part : Entry → Part
 turn_part e = record { group = e.account; number = e.turn; amount = e.delta }
 
--- a line in the sums of its branch by place, and in those of its form
+-- a line in the sums of its branch by place
 abbrev pub place_part : CashLine → Part
 place_part l = record { group = l.branch; number = l.place; amount = l.amount }
-
-abbrev pub drawer_part : CashLine → Part
-drawer_part l = record { group = l.branch; number = 0; amount = if not (l.place == 0) then l.amount else pos 0 }
-
-abbrev pub cash_entry_part : CashLine → Part
-cash_entry_part l = record { group = l.branch; number = 0; amount = if is_cash_entry l.form then l.amount else pos 0 }
-
-abbrev pub difference_part : CashLine → Part
-difference_part l = record { group = l.branch; number = 0; amount = if is_difference l.form then l.amount else pos 0 }
 
 -- an account in the count of its home, and a release in that of its user
 abbrev pub home_part : Account → Part
@@ -50,31 +39,30 @@ home_part a = record { group = a.home; number = 0; amount = pos 0 }
 abbrev pub user_part : Release → Part
 user_part r = record { group = r.user; number = 0; amount = pos 0 }
 
--- the sums hold the parts of these rows and no others, in an order of their own
+-- The sums hold the parts of these rows and no others, in an order of their own. The entries and the lines of a branch are
+-- found by their keys, in which 32 bits hold their numbers.
 pub record AreSumsOf (w : WorldLists) (s : Sums) : Type 0 where
-  pub by_branch : IsPermutation (map branch_part w.entries) s.by_branch
   pub by_teller : IsPermutation (map teller_part w.entries) s.by_teller
   pub by_turn : IsPermutation (map turn_part w.entries) s.by_turn
   pub by_place : IsPermutation (map place_part w.lines) s.by_place
-  pub drawers : IsPermutation (map drawer_part w.lines) s.drawers
-  pub cash_entries : IsPermutation (map cash_entry_part w.lines) s.cash_entries
-  pub differences : IsPermutation (map difference_part w.lines) s.differences
   pub by_home : IsPermutation (map home_part w.accounts) s.by_home
   pub by_user : IsPermutation (map user_part w.releases) s.by_user
+  pub entry_numbers : All (λ e. e.number < 2 ^ 32) w.entries
+  pub line_numbers : All (λ l. l.number < 2 ^ 32) w.lines
 
--- rows with the numbers that sums give them
-abbrev pub branch_record_from : Sums → Branch → BranchRecord
-branch_record_from s row = record {
+-- rows with the numbers that sums give them, a branch beside its own entries and lines
+abbrev pub branch_record_from : Sums → List Entry → List CashLine → Branch → BranchRecord
+branch_record_from s entries lines row = record {
   row = row;
-  balance = row.opening +ℤ group_total row.branch s.by_branch;
+  balance = row.opening +ℤ branch_deltas row.branch entries;
   vault = row.cash +ℤ total_at row.branch 0 s.by_place;
-  entries = group_count row.branch s.by_branch;
-  lines = group_count row.branch s.by_place;
+  entries = length entries;
+  lines = length lines;
   accounts = group_count row.branch s.by_home;
-  history = group_total row.branch s.by_branch;
-  drawers = group_total row.branch s.drawers;
-  cash_entries = group_total row.branch s.cash_entries;
-  differences = group_total row.branch s.differences;
+  history = branch_deltas row.branch entries;
+  drawers = drawer_total row.branch lines;
+  cash_entries = cash_entry_total row.branch lines;
+  differences = difference_total row.branch lines;
 }
 
 abbrev pub teller_record_from : Sums → Teller → Option ℕ → TellerRecord

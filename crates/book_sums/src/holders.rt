@@ -17,7 +17,7 @@ pub(crate) fn holders(
     ensures { IfOk result (λ holders. holders.items ≡ map (λ t. holder_of lines.now t.teller) tellers.now) }
 {
     let held = held_drawers(alloc, lines)?;
-    let mut holders = Vec::new(alloc);
+    let mut holders = Vec::with_capacity(alloc, tellers.len())?;
     for row in tellers {
         holders.push(held.get(&row.teller).copied())?;
     }

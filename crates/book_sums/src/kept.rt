@@ -126,7 +126,7 @@ fn branch_records(alloc: Global, world: &World, sums: &Sums) -> Result<Vec<Branc
     let rows = world.branches();
     let mut records = Vec::with_capacity(alloc, rows.len())?;
     for row in rows {
-        records.push(sums.branch_record(row))?;
+        records.push(sums.branch_record(world, row))?;
     }
     Ok(records)
 }

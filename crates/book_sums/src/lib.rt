@@ -1,5 +1,5 @@
-//! The sums of a bank's books by branch, teller, account, place and user, each from one sort, and
-//! the numbers that a store keeps beside the rows.
+//! The sums of a bank's books by teller, account, place and user, each from one sort, and by branch,
+//! from its own rows, and the numbers that a store keeps beside the rows.
 #![tactic(auto)]
 
 mod groups;

@@ -1,24 +1,6 @@
 use crate::shares::{Part, Parts};
 use bank_books::{Account, CashLine, Entry, Release};
 
-/// Entries in the sums of their branches.
-#[derive(Clone, Copy)]
-pub(crate) struct ByBranch;
-
-impl Parts<Entry> for ByBranch {
-    ghost use Rattle.book_sums.specs.Sums.{branch_part};
-
-    ghost part = { λ _ e. branch_part e };
-
-    fn part(&self, row: &Entry) -> Part {
-        Part {
-            group: row.branch,
-            number: 0,
-            amount: row.delta.get(),
-        }
-    }
-}
-
 /// Entries in the sums of their tellers, by branch.
 #[derive(Clone, Copy)]
 pub(crate) struct ByTeller;
@@ -69,68 +51,6 @@ impl Parts<CashLine> for ByPlace {
             group: row.branch,
             number: row.place,
             amount: row.amount.get(),
-        }
-    }
-}
-
-/// Cash lines at drawers, in the sums of their branches.
-#[derive(Clone, Copy)]
-pub(crate) struct AtDrawers;
-
-impl Parts<CashLine> for AtDrawers {
-    ghost use Rattle.book_sums.specs.Sums.{drawer_part};
-
-    ghost part = { λ _ l. drawer_part l };
-
-    fn part(&self, row: &CashLine) -> Part {
-        Part {
-            group: row.branch,
-            number: 0,
-            amount: if row.place != 0 { row.amount.get() } else { 0 },
-        }
-    }
-}
-
-/// Cash lines that came with entries, in the sums of their branches.
-#[derive(Clone, Copy)]
-pub(crate) struct CashEntries;
-
-impl Parts<CashLine> for CashEntries {
-    ghost use Rattle.book_sums.specs.Sums.{cash_entry_part};
-
-    ghost part = { λ _ l. cash_entry_part l };
-
-    fn part(&self, row: &CashLine) -> Part {
-        Part {
-            group: row.branch,
-            number: 0,
-            amount: if row.form.is_cash_entry() {
-                row.amount.get()
-            } else {
-                0
-            },
-        }
-    }
-}
-
-/// Cash lines that tell what counts of drawers differed by, in the sums of their branches.
-#[derive(Clone, Copy)]
-pub(crate) struct Differences;
-
-impl Parts<CashLine> for Differences {
-    ghost use Rattle.book_sums.specs.Sums.{difference_part};
-
-    ghost part = { λ _ l. difference_part l };
-
-    fn part(&self, row: &CashLine) -> Part {
-        Part {
-            group: row.branch,
-            number: 0,
-            amount: if row.form.is_difference() {
-                row.amount.get()
-            } else {
-                0
-            },
         }
     }
 }

@@ -1,36 +1,28 @@
-ghost use Rattle.std.specs.Prelude.{◌≡◌, ◌+ℤ◌};
-ghost use Rattle.book_sums.specs.Shares.{group_total, total_at};
+ghost use Rattle.std.specs.Prelude.{◌≡◌, ◌+ℤ◌, ◌≤ℤ◌, ◌<◌, ◌^◌, ◌==◌, filter, neg_ℤ, pos};
+ghost use Rattle.std.specs.List.{All};
 
-use crate::parts::{
-    AtDrawers, ByBranch, ByHome, ByPlace, ByTeller, ByTurn, ByUser, CashEntries, Differences,
-};
+use crate::groups::rows_of_group;
+use crate::parts::{ByHome, ByPlace, ByTeller, ByTurn, ByUser};
 use crate::shares::Shares;
 use bank_books::{
-    Account, AccountRecord, Branch, BranchRecord, Entry, EntryRecord, ReleaseCount, Teller,
-    TellerRecord, World, account_opening,
+    Account, AccountRecord, Branch, BranchRecord, CashLine, Entry, EntryRecord, ReleaseCount,
+    Teller, TellerRecord, World, account_opening, branch_deltas, cash_entry_total,
+    difference_total, drawer_total,
 };
 use bank_policy::User;
 use money::Cents;
 use std::alloc::{AllocError, Global};
 
-/// The sums and the counts of a World by branch, teller, account, place, home and user. Each is found
-/// by searches that halve what is left.
+/// The sums and the counts of a World by teller, account, place, home and user. Each is found by
+/// searches that halve what is left. Those of a branch are found in its own rows, which stand together.
 #[derive(Drop)]
 pub struct Sums {
-    /// The entries by branch.
-    pub by_branch: Shares,
     /// The entries by teller, numbered by branch.
     pub by_teller: Shares,
     /// The entries by account, numbered by turn.
     pub by_turn: Shares,
     /// The cash lines by branch, numbered by place.
     pub by_place: Shares,
-    /// The cash lines by branch, with what they bring to its drawers.
-    pub drawers: Shares,
-    /// The cash lines by branch, with what entries bring.
-    pub cash_entries: Shares,
-    /// The cash lines by branch, with what counts differed by.
-    pub differences: Shares,
     /// The accounts by home.
     pub by_home: Shares,
     /// The releases by user.
@@ -40,40 +32,57 @@ pub struct Sums {
 impl Sums {
     ghost use Rattle.std.specs.Prelude.{◌≡◌, IfOk};
     ghost use Rattle.book_sums.specs.Sums.{AreSumsOf, account_record_from, branch_record_from, entry_record_from, release_count_from, teller_record_from};
+    ghost use Rattle.bank_books.specs.Records.{branch_record_of};
     ghost use Rattle.bank_books.specs.WorldLists.{WorldLists};
 
     /// The sums of this World. Only memory keeps them from an answer.
     pub fn of(alloc: Global, world: &World) -> Result<Sums, AllocError>
         ensures { IfOk result (AreSumsOf world.now) }
     {
+        see_entry_numbers(world.entries());
+        see_line_numbers(world.lines());
         Ok(Sums {
-            by_branch: Shares::of(alloc, &ByBranch, world.entries())?,
             by_teller: Shares::of(alloc, &ByTeller, world.entries())?,
             by_turn: Shares::of(alloc, &ByTurn, world.entries())?,
             by_place: Shares::of(alloc, &ByPlace, world.lines())?,
-            drawers: Shares::of(alloc, &AtDrawers, world.lines())?,
-            cash_entries: Shares::of(alloc, &CashEntries, world.lines())?,
-            differences: Shares::of(alloc, &Differences, world.lines())?,
             by_home: Shares::of(alloc, &ByHome, world.accounts())?,
             by_user: Shares::of(alloc, &ByUser, world.releases())?,
         })
     }
 
-    /// The branch with the numbers that the sums give it.
-    pub(crate) fn branch_record(&self, row: &Branch) -> BranchRecord
-        ensures { result ≡ branch_record_from self.now row.now }
+    /// The branch with the numbers that the World gives it.
+    pub(crate) fn branch_record(&self, world: &World, row: &Branch) -> BranchRecord
+        requires { AreSumsOf world.now self.now }
+        ensures { result ≡ branch_record_of world.now row.now }
     {
+        self.branch_record_from(
+            entries_of(world, row.branch),
+            lines_of(world, row.branch),
+            row,
+        )
+    }
+
+    /// The same, from its own entries and lines.
+    fn branch_record_from(
+        &self,
+        entries: &[Entry],
+        lines: &[CashLine],
+        row: &Branch,
+    ) -> BranchRecord
+        ensures { result ≡ branch_record_from self.now entries.now lines.now row.now }
+    {
+        let history = branch_deltas(entries, row.branch);
         BranchRecord {
             row: *row,
-            balance: opened(row.opening, &self.by_branch, row.branch),
-            vault: vault_cash(row.cash, &self.by_place, row.branch),
-            entries: self.by_branch.count_of(row.branch),
-            lines: self.by_place.count_of(row.branch),
+            balance: opened(row.opening, history),
+            vault: opened(row.cash, self.by_place.total_at(row.branch, 0)),
+            entries: entries.len() as u64,
+            lines: lines.len() as u64,
             accounts: self.by_home.count_of(row.branch),
-            history: self.by_branch.total_of(row.branch),
-            drawers: self.drawers.total_of(row.branch),
-            cash_entries: self.cash_entries.total_of(row.branch),
-            differences: self.differences.total_of(row.branch),
+            history,
+            drawers: drawer_total(lines, row.branch),
+            cash_entries: cash_entry_total(lines, row.branch),
+            differences: difference_total(lines, row.branch),
         }
     }
 
@@ -83,7 +92,7 @@ impl Sums {
     {
         TellerRecord {
             row: *row,
-            balance: opened(row.opening, &self.by_teller, row.teller),
+            balance: opened(row.opening, self.by_teller.total_of(row.teller)),
             cash: self.by_place.total_at(row.branch, row.teller),
             holder,
         }
@@ -95,7 +104,7 @@ impl Sums {
     {
         AccountRecord {
             row: *row,
-            balance: opened(row.opening, &self.by_turn, row.account),
+            balance: opened(row.opening, self.by_turn.total_of(row.account)),
             turns: self.by_turn.count_of(row.account),
         }
     }
@@ -122,16 +131,49 @@ impl Sums {
     }
 }
 
-/// An opening and what a group comes to.
-fn opened(opening: Cents, shares: &Shares, group: u32) -> i128
-    ensures { result ≡ opening +ℤ group_total group shares.now }
+/// An opening and what was added to it.
+fn opened(opening: Cents, added: i128) -> i128
+    requires low { neg_ℤ (pos (2 ^ 126)) ≤ℤ added }
+    requires high { added ≤ℤ pos (2 ^ 126) }
+    ensures { result ≡ opening +ℤ added }
 {
-    i128::from(opening.get()) + shares.total_of(group)
+    i128::from(opening.get()) + added
 }
 
-/// The cash of a vault: its opening and its lines.
-fn vault_cash(opening: Cents, places: &Shares, branch: u32) -> i128
-    ensures { result ≡ opening +ℤ total_at branch 0 places.now }
+/// The entries of the branch, by number.
+fn entries_of(world: &World, branch: u32) -> &[Entry]
+    requires { All (λ e. e.number < 2 ^ 32) world.now.entries }
+    ensures { result.now ≡ filter (λ e. e.branch == branch) world.now.entries }
 {
-    i128::from(opening.get()) + places.total_at(branch, 0)
+    rows_of_group(world.entries(), branch)
 }
+
+/// The lines of the branch, by number.
+fn lines_of(world: &World, branch: u32) -> &[CashLine]
+    requires { All (λ l. l.number < 2 ^ 32) world.now.lines }
+    ensures { result.now ≡ filter (λ l. l.branch == branch) world.now.lines }
+{
+    rows_of_group(world.lines(), branch)
+}
+
+/// That the numbers of the entries are of 32 bits. Their type says so, and there is nothing to compute.
+fn see_entry_numbers(entries: &[Entry])
+    ensures { All (λ e. e.number < 2 ^ 32) entries.now }
+{
+    for entry in entries {
+        see_number(entry.number);
+    }
+}
+
+/// The same of lines.
+fn see_line_numbers(lines: &[CashLine])
+    ensures { All (λ l. l.number < 2 ^ 32) lines.now }
+{
+    for line in lines {
+        see_number(line.number);
+    }
+}
+
+fn see_number(number: u32)
+    ensures { number < 2 ^ 32 }
+{}

@@ -1,6 +1,7 @@
-use Rattle.std.proofs.Common.{◌≡◌, List, map, subst}
+use Rattle.std.proofs.Common.{◌≡◌, ◌<◌, ◌^◌, List, map, subst}
+use Rattle.std.specs.List.{All}
 use Rattle.std.specs.List.Sorted.{IsPermutation}
-use Rattle.book_sums.specs.Sums.{branch_part, teller_part, turn_part, place_part, drawer_part, cash_entry_part, difference_part, home_part, user_part}
+use Rattle.book_sums.specs.Sums.{teller_part, turn_part, place_part, home_part, user_part}
 use Rattle.book_sums.specs.declared.shares.Part.{Part}
 use Rattle.book_sums.proofs.sums.Sums.of.Goals as goal
 
@@ -12,13 +13,11 @@ pub returns : goal.returns
 returns c =
     let w = c.args.world.now in
     record {
-      by_branch = moved branch_part c.entries.result.now w.entries c.in_ok-of.field-0 c.entries.ensures.value c.in_ok-of.ensures;
-      by_teller = moved teller_part c.entries-2.result.now w.entries c.in_ok-of-2.field-0 c.entries-2.ensures.value c.in_ok-of-2.ensures;
-      by_turn = moved turn_part c.entries-3.result.now w.entries c.in_ok-of-3.field-0 c.entries-3.ensures.value c.in_ok-of-3.ensures;
-      by_place = moved place_part c.lines.result.now w.lines c.in_ok-of-4.field-0 c.lines.ensures.value c.in_ok-of-4.ensures;
-      drawers = moved drawer_part c.lines-2.result.now w.lines c.in_ok-of-5.field-0 c.lines-2.ensures.value c.in_ok-of-5.ensures;
-      cash_entries = moved cash_entry_part c.lines-3.result.now w.lines c.in_ok-of-6.field-0 c.lines-3.ensures.value c.in_ok-of-6.ensures;
-      differences = moved difference_part c.lines-4.result.now w.lines c.in_ok-of-7.field-0 c.lines-4.ensures.value c.in_ok-of-7.ensures;
-      by_home = moved home_part c.accounts.result.now w.accounts c.in_ok-of-8.field-0 c.accounts.ensures.value c.in_ok-of-8.ensures;
-      by_user = moved user_part c.releases.result.now w.releases c.in_ok-of-9.field-0 c.releases.ensures.value c.in_ok-of-9.ensures;
+      by_teller = moved teller_part c.entries-2.result.now w.entries c.in_ok-of.field-0 c.entries-2.ensures.value c.in_ok-of.ensures;
+      by_turn = moved turn_part c.entries-3.result.now w.entries c.in_ok-of-2.field-0 c.entries-3.ensures.value c.in_ok-of-2.ensures;
+      by_place = moved place_part c.lines-2.result.now w.lines c.in_ok-of-3.field-0 c.lines-2.ensures.value c.in_ok-of-3.ensures;
+      by_home = moved home_part c.accounts.result.now w.accounts c.in_ok-of-4.field-0 c.accounts.ensures.value c.in_ok-of-4.ensures;
+      by_user = moved user_part c.releases.result.now w.releases c.in_ok-of-5.field-0 c.releases.ensures.value c.in_ok-of-5.ensures;
+      entry_numbers = subst (λ es. All (λ e. e.number < 2 ^ 32) es) c.entries.ensures.value c.see_entry_numbers.ensures;
+      line_numbers = subst (λ ls. All (λ l. l.number < 2 ^ 32) ls) c.lines.ensures.value c.see_line_numbers.ensures;
     }
