@@ -1,3 +1,4 @@
 pub mod Answer
 pub mod Permit
+pub mod PolicyRules
 pub mod Requests

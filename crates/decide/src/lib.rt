@@ -5,6 +5,7 @@ mod answer;
 mod brought;
 mod judge;
 mod permit;
+mod policy_rules;
 mod text;
 mod who;
 
