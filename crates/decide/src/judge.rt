@@ -9,6 +9,7 @@ ghost use Rattle.decide.specs.Requests.{answer_of, answer_of_balance, answer_of_
 ghost use Rattle.decide.specs.PolicyRules.{asker};
 
 use crate::answer::{Answer, Posted};
+use crate::new_account::prepare_new_account;
 use crate::policy_rules::policy_rule;
 use crate::who::Who;
 use bank_books::{AccountRecord, Plan};
@@ -73,6 +74,7 @@ fn prepare_by_books<S: Store>(
 {
     match op {
         Op::Post(post) => prepare_post(alloc, store, user, moment, post),
+        Op::NewAccount(form) => prepare_new_account(alloc, store, form),
         Op::Balance(balance) => prepare_balance(alloc, store, balance),
         _ => unreachable!(),
     }
