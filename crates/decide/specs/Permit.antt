@@ -8,6 +8,7 @@ use Rattle.bank_books.specs.WorldLists.{WorldLists}
 use Rattle.store_rows.specs.Status.{Status, Answers, after_mark}
 use Rattle.store_rows.specs.declared.bank.Bank.{Bank}
 use Rattle.decide.specs.Answer.{answer_text}
+use Rattle.decide.specs.PolicyRules.{asker}
 use Rattle.decide.specs.Requests.{answer_of, effect, first}
 use Rattle.decide.specs.declared.who.Who.{Who}
 use Rattle.decide.specs.declared.permit.Permit.{Permit}
@@ -32,8 +33,8 @@ module _ {S : Type 0} where
 
   -- leave in a World: no rule denies the operation there, and the plan and the answer are those of its effect
   pub record IsLeave (w : WorldLists) (p : Permit S) : Type 0 where
-    pub allowed : first w p.op ≡ None
-    pub plan : applied p.plan.items w ≡ effect w 0 p.moment p.op
+    pub allowed : first w p.who p.op ≡ None
+    pub plan : applied p.plan.items w ≡ effect w (asker p.who) p.moment p.op
     pub answer : answer_of w p.op ≡ Some p.answer
 
   -- a permit of what was asked
@@ -45,16 +46,16 @@ module _ {S : Type 0} where
 
   -- denied by the first rule that denies, or allowed
   abbrev pub IsDecided : WorldLists → Who → ℕ → Op → Decision S → Type 0
-  IsDecided w who moment op (decision.Denied d) = first w op ≡ Some d.rule
+  IsDecided w who moment op (decision.Denied d) = first w who op ≡ Some d.rule
   IsDecided w who moment op (decision.Allowed p) = IsPermitOf w who moment op p
 
   -- what carrying out a permit makes of each World that gave leave
   pub record CarriesOut (old new : Status) (p : Permit S) (mark : Option Fault) : Type 0 where
     pub answers : Answers old new mark
-    pub moved : (w : WorldLists) → IsLeave w p → old.holds w → new.holds (after_mark mark (effect w 0 p.moment p.op) w)
-    pub crash : new.is_honest → (w left : WorldLists) → IsLeave w p → old.holds w → new.may_leave left → old.may_leave left ⊎ (left ≡ effect w 0 p.moment p.op)
+    pub moved : (w : WorldLists) → IsLeave w p → old.holds w → new.holds (after_mark mark (effect w (asker p.who) p.moment p.op) w)
+    pub crash : new.is_honest → (w left : WorldLists) → IsLeave w p → old.holds w → new.may_leave left → old.may_leave left ⊎ (left ≡ effect w (asker p.who) p.moment p.op)
 
   -- the reply, and what a crash may leave once it is given
   pub record IsReplied (new : Status) (w : WorldLists) (p : Permit S) (r : Reply S) : Type 0 where
     pub body : reply_body r ≡ answer_text p.answer
-    pub settled : (left : WorldLists) → new.may_leave left → left ≡ effect w 0 p.moment p.op
+    pub settled : (left : WorldLists) → new.may_leave left → left ≡ effect w (asker p.who) p.moment p.op

@@ -8,5 +8,8 @@ use bank_policy::Procedure;
 pub fn is_brought(procedure: Procedure) -> bool
     ensures { result ≡ is_brought procedure }
 {
-    matches!(procedure, Procedure::Post | Procedure::Balance)
+    matches!(
+        procedure,
+        Procedure::Post | Procedure::NewAccount | Procedure::Balance
+    )
 }

@@ -1,13 +1,17 @@
-ghost use Rattle.std.specs.Prelude.{◌≡◌, Some, None, true, false, is_some, IfSome, IfOk, IfErr, OnOk};
+ghost use Rattle.std.specs.Prelude.{◌≡◌, Some, None, true, false, is_some, IfSome, IsSome, IfOk, IfErr, OnOk};
 ghost use Rattle.money.specs.Range.{is_cents};
 ghost use Rattle.bank_books.specs.Records.{account_record};
 ghost use Rattle.bank_books.specs.Effects.{applied};
 ghost use Rattle.counter_ops.specs.Op.{procedure_of};
 ghost use Rattle.postings.specs.Post.{first_against_post, is_full, is_in_range, is_unknown, post_effect, post_rows};
 ghost use Rattle.store_rows.specs.Status.{Keeps, Refuses, Tells, mark_of};
-ghost use Rattle.decide.specs.Requests.{answer_of, answer_of_balance, answer_of_post, effect, first, first_against_balance, is_brought};
+ghost use Rattle.decide.specs.Requests.{answer_of, answer_of_balance, answer_of_post, effect, first, first_against_balance, first_of_books, is_brought};
+ghost use Rattle.decide.specs.PolicyRules.{asker};
 
 use crate::answer::{Answer, Posted};
+use crate::new_account::prepare_new_account;
+use crate::policy_rules::policy_rule;
+use crate::who::Who;
 use bank_books::{AccountRecord, Plan};
 use bank_policy::Rule;
 use counter_ops::{Balance, Op, Post};
@@ -16,32 +20,61 @@ use postings::{PostRows, balance_after, plan_post};
 use std::alloc::Global;
 use store_rows::Store;
 
-/// The user of an entry as long as no request bears one.
-const NO_USER: u32 = 0;
-
 /// All that a permit holds beside the bank: what it changes, and what it is answered.
 pub(crate) struct Prepared {
     pub(crate) plan: Plan,
     pub(crate) answer: Answer,
 }
 
-/// The plan and the answer of an operation, or the first rule that denies it.
+/// The plan and the answer of an operation, or the first rule that denies it. The rules of the
+/// policy come first, and nothing of the books is read where one of them denies.
 pub(crate) fn prepare<S: Store>(
     alloc: Global,
     store: &mut S,
+    who: Who,
     moment: u64,
     op: &Op,
 ) -> Result<Result<Prepared, Rule>, Fault>
     requires { is_brought (procedure_of op.now) ≡ true }
-    ensures denied { Tells (S.status store.old) (S.status store.new) (λ w. IfOk result (λ r. IfErr r (λ rule. first w op.now ≡ Some rule))) }
-    ensures allowed { Tells (S.status store.old) (S.status store.new) (λ w. IfOk result (λ r. OnOk r (first w op.now ≡ None))) }
-    ensures plan { Tells (S.status store.old) (S.status store.new) (λ w. IfOk result (λ r. IfOk r (λ p. applied p.plan.items w ≡ effect w 0 moment op.now))) }
+    ensures denied { Tells (S.status store.old) (S.status store.new) (λ w. IfOk result (λ r. IfErr r (λ rule. first w who op.now ≡ Some rule))) }
+    ensures allowed { Tells (S.status store.old) (S.status store.new) (λ w. IfOk result (λ r. OnOk r (first w who op.now ≡ None))) }
+    ensures plan { Tells (S.status store.old) (S.status store.new) (λ w. IfOk result (λ r. IfOk r (λ p. applied p.plan.items w ≡ effect w (asker who) moment op.now))) }
+    ensures answer { Tells (S.status store.old) (S.status store.new) (λ w. IfOk result (λ r. IfOk r (λ p. answer_of w op.now ≡ Some p.answer))) }
+    ensures kept { Keeps (S.status store.old) (S.status store.new) (mark_of result) }
+    ensures refused { IsSome who.user → Refuses (S.status store.old) (mark_of result) }
+{
+    match policy_rule(alloc, store, who, op)? {
+        Some(rule) => Ok(Err(rule)),
+        None => prepare_by_books(alloc, store, asker(who), moment, op),
+    }
+}
+
+/// The user who asks, 0 where the gate names none.
+fn asker(who: Who) -> u32
+    ensures { result ≡ asker who }
+{
+    who.user.unwrap_or(0)
+}
+
+/// The same by the rules of the books alone, for this user.
+fn prepare_by_books<S: Store>(
+    alloc: Global,
+    store: &mut S,
+    user: u32,
+    moment: u64,
+    op: &Op,
+) -> Result<Result<Prepared, Rule>, Fault>
+    requires { is_brought (procedure_of op.now) ≡ true }
+    ensures denied { Tells (S.status store.old) (S.status store.new) (λ w. IfOk result (λ r. IfErr r (λ rule. first_of_books w op.now ≡ Some rule))) }
+    ensures allowed { Tells (S.status store.old) (S.status store.new) (λ w. IfOk result (λ r. OnOk r (first_of_books w op.now ≡ None))) }
+    ensures plan { Tells (S.status store.old) (S.status store.new) (λ w. IfOk result (λ r. IfOk r (λ p. applied p.plan.items w ≡ effect w user moment op.now))) }
     ensures answer { Tells (S.status store.old) (S.status store.new) (λ w. IfOk result (λ r. IfOk r (λ p. answer_of w op.now ≡ Some p.answer))) }
     ensures kept { Keeps (S.status store.old) (S.status store.new) (mark_of result) }
     ensures refused { Refuses (S.status store.old) (mark_of result) }
 {
     match op {
-        Op::Post(post) => prepare_post(alloc, store, moment, post),
+        Op::Post(post) => prepare_post(alloc, store, user, moment, post),
+        Op::NewAccount(form) => prepare_new_account(alloc, store, form),
         Op::Balance(balance) => prepare_balance(alloc, store, balance),
         _ => unreachable!(),
     }
@@ -50,18 +83,19 @@ pub(crate) fn prepare<S: Store>(
 fn prepare_post<S: Store>(
     alloc: Global,
     store: &mut S,
+    user: u32,
     moment: u64,
     post: &Post,
 ) -> Result<Result<Prepared, Rule>, Fault>
     ensures denied { Tells (S.status store.old) (S.status store.new) (λ w. IfOk result (λ r. IfErr r (λ rule. first_against_post (post_rows w post.now) post.now ≡ Some rule))) }
     ensures allowed { Tells (S.status store.old) (S.status store.new) (λ w. IfOk result (λ r. OnOk r (first_against_post (post_rows w post.now) post.now ≡ None))) }
-    ensures plan { Tells (S.status store.old) (S.status store.new) (λ w. IfOk result (λ r. IfOk r (λ p. applied p.plan.items w ≡ post_effect w post.now 0 moment))) }
+    ensures plan { Tells (S.status store.old) (S.status store.new) (λ w. IfOk result (λ r. IfOk r (λ p. applied p.plan.items w ≡ post_effect w post.now user moment))) }
     ensures answer { Tells (S.status store.old) (S.status store.new) (λ w. IfOk result (λ r. IfOk r (λ p. answer_of_post (post_rows w post.now) post.now ≡ Some p.answer))) }
     ensures kept { Keeps (S.status store.old) (S.status store.new) (mark_of result) }
     ensures refused { Refuses (S.status store.old) (mark_of result) }
 {
     let rows = load_post_rows(alloc, store, post)?;
-    match plan_post(alloc, &rows, post, NO_USER, moment)? {
+    match plan_post(alloc, &rows, post, user, moment)? {
         Ok(plan) => Ok(Ok(Prepared {
             plan,
             answer: posted(&rows, post),

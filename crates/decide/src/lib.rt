@@ -4,11 +4,14 @@
 mod answer;
 mod brought;
 mod judge;
+pub mod laws;
+mod new_account;
 mod permit;
+mod policy_rules;
 mod text;
 mod who;
 
-pub use answer::{Answer, Posted};
+pub use answer::{Answer, Opened, Posted};
 pub use bank_policy::Rule;
 pub use brought::is_brought;
 pub use counter_ops::Op;

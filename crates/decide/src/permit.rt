@@ -1,4 +1,4 @@
-ghost use Rattle.std.specs.Prelude.{◌≡◌, None, Some, true, IfOk, IfErr};
+ghost use Rattle.std.specs.Prelude.{◌≡◌, None, Some, true, IfOk, IfErr, IsSome};
 ghost use Rattle.std.specs.Borrow.{sem, RestsIfErr};
 ghost use Rattle.counter_ops.specs.Op.{procedure_of};
 ghost use Rattle.bank_books.specs.WorldLists.{WorldLists};
@@ -99,10 +99,10 @@ pub fn decide<'b, S: Store>(
     ensures* fault { sem 𝓛 (RestsIfErr (the_row S.row) bank.entry (λ d. (decision_bank d).ghost_name) result (λ n. IfErr result (λ f. Keeps (S.status bank.old.store) (S.status n.store) (Some f)))) }
     ensures same_reference { IfOk result (λ d. (decision_bank d).ghost_name ≡ bank.entry.ghost_name) }
     ensures kept { IfOk result (λ d. Keeps (S.status bank.old.store) (S.status (decision_bank d).now.store) None) }
-    ensures refused { Refuses (S.status bank.old.store) (mark_of result) }
+    ensures refused { IsSome who.user → Refuses (S.status bank.old.store) (mark_of result) }
     ensures decided { IfOk result (λ d. Tells (S.status bank.old.store) (S.status (decision_bank d).now.store) (λ w. IsDecided w who moment op.now d)) }
 {
-    match prepare(alloc, &mut bank.store, moment, op)? {
+    match prepare(alloc, &mut bank.store, who, moment, op)? {
         Ok(Prepared { plan, answer }) => Ok(Decision::Allowed(Permit {
             bank,
             alloc,

@@ -1,0 +1,14 @@
+//! What holds of every decision. The functions do nothing; their contracts are the laws.
+
+ghost use Rattle.decide.specs.Laws.{FirstIsLeast, PolicyIsJudged};
+
+/// The rule that a denial names is the least that denies, and where none is named, none denies.
+pub fn first_is_least()
+    ensures { FirstIsLeast }
+{}
+
+/// The rules of the policy deny exactly where no relation, no one triple, or none up to the amount
+/// holds all that is touched.
+pub fn policy_is_judged()
+    ensures { PolicyIsJudged }
+{}
