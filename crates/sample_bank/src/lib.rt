@@ -1,4 +1,4 @@
-//! The sample bank: the opening of its books, and the badges of its users.
+//! The sample bank: the opening of its books, its policy, and the badges of its users.
 #![tactic(auto)]
 
 mod badges;
@@ -9,3 +9,4 @@ mod tests;
 
 pub use badges::badge_user;
 pub use opening::sample_world;
+pub use policy::sample_policy;

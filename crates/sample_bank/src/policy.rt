@@ -9,7 +9,7 @@ use bank_policy::{
 use std::alloc::{AllocError, Global};
 
 /// The policy of the sample bank. The only error is that memory is refused.
-pub(crate) fn sample_policy(alloc: Global) -> Result<Policy, AllocError>
+pub fn sample_policy(alloc: Global) -> Result<Policy, AllocError>
     ensures { IfOk result (λ policy. policy ≡ sample_policy) }
 {
     let mut policy = Policy::new(alloc);

@@ -1,13 +1,14 @@
 use bank_books::{Account, Branch, Teller, World};
-use bank_policy::Policy;
 use money::Cents;
+use sample_bank::sample_policy;
 use std::alloc::Global;
 use std::process::Abort;
 
-/// An opening that is sound, with account 101, its teller and its branch at this balance.
+/// An opening that is sound and has the policy of the sample, with account 101, its teller and its branch at this balance.
 pub(crate) fn opening_at(rt: &impl Abort, alloc: Global, balance: i64) -> World {
     let cents = |value: i64| Cents::new(value).expect(rt, "an amount of money");
-    let mut world = World::new(alloc, Policy::new(alloc));
+    let policy = sample_policy(alloc).expect(rt, "memory");
+    let mut world = World::new(alloc, policy);
     for (branch, opening) in [(2, 20_000), (1, balance)] {
         let row = Branch {
             branch,

@@ -4,7 +4,7 @@ ghost use Rattle.decide.specs.Requests.{is_brought};
 
 use crate::opening::opening_at;
 use bank_books::{account_balance, branch_balance, teller_balance};
-use counter_ops::{Balance, Post};
+use counter_ops::{Balance, NewAccount, Post};
 use decide::{Decision, Op, Reply, Rule, Who, carry_out, decide, denial_text};
 use money::Delta;
 use sample_bank::sample_world;
@@ -12,20 +12,37 @@ use std::alloc::Global;
 use std::process::Abort;
 use store_rows::{Bank, ListStore, Store};
 
+/// Tess, who posts at branch 1 and asks for balances there.
+const TESS: Who = Who {
+    user: Some(7),
+    session: 1,
+    release: 0,
+};
+
+/// Tom, who posts up to 500.00 at branch 1, and up to 10.00 anywhere.
+const TOM: Who = Who {
+    user: Some(8),
+    session: 1,
+    release: 0,
+};
+
+/// Sue, who opens accounts.
+const SUE: Who = Who {
+    user: Some(9),
+    session: 1,
+    release: 0,
+};
+
 /// The body of the reply to a request that is carried out, or the rule that denies it.
 fn ask<S: Store>(
     rt: &impl Abort,
     bank: &mut Bank<S>,
     alloc: Global,
+    who: Who,
     op: Op,
 ) -> Result<Vec<u8>, Rule>
     requires { is_brought (procedure_of op) ≡ true }
 {
-    let who = Who {
-        user: Some(7),
-        session: 1,
-        release: 0,
-    };
     match decide(bank, alloc, who, 700, &op) {
         Ok(Decision::Allowed(permit)) => match carry_out(permit) {
             Ok(Reply::Done(done)) => Ok(done.into_body()),
@@ -37,16 +54,32 @@ fn ask<S: Store>(
 }
 
 /// A post that has to be carried out, with the body of its reply.
-fn posts<S: Store>(rt: &impl Abort, bank: &mut Bank<S>, alloc: Global, post: Post, body: &str) {
-    match ask(rt, bank, alloc, Op::Post(post)) {
+fn posts<S: Store>(
+    rt: &impl Abort,
+    bank: &mut Bank<S>,
+    alloc: Global,
+    who: Who,
+    post: Post,
+    body: &str,
+) {
+    match ask(rt, bank, alloc, who, Op::Post(post)) {
         Ok(given) => assert!(rt; given.as_slice() == body.as_bytes(), "{body}"),
         Err(rule) => panic!(rt; "{}", rule.name()),
     }
 }
 
-/// A post that has to be denied by this rule.
-fn denied<S: Store>(rt: &impl Abort, bank: &mut Bank<S>, alloc: Global, post: Post, rule: Rule) {
-    match ask(rt, bank, alloc, Op::Post(post)) {
+/// An operation that has to be denied by this rule.
+fn denied<S: Store>(
+    rt: &impl Abort,
+    bank: &mut Bank<S>,
+    alloc: Global,
+    who: Who,
+    op: Op,
+    rule: Rule,
+)
+    requires { is_brought (procedure_of op) ≡ true }
+{
+    match ask(rt, bank, alloc, who, op) {
         Ok(_) => panic!(rt; "carried out"),
         Err(given) => assert!(rt; given == rule, "{}", given.name()),
     }
@@ -76,6 +109,7 @@ fn posts_move_three_balances(rt: HostRuntime) {
         &rt,
         &mut bank,
         alloc,
+        TESS,
         first,
         "{\"balance\":52500,\"branch\":1,\"entry\":1}",
     );
@@ -84,6 +118,7 @@ fn posts_move_three_balances(rt: HostRuntime) {
         &rt,
         &mut bank,
         alloc,
+        TESS,
         remote,
         "{\"balance\":0,\"branch\":1,\"entry\":2}",
     );
@@ -92,6 +127,7 @@ fn posts_move_three_balances(rt: HostRuntime) {
         &rt,
         &mut bank,
         alloc,
+        TESS,
         nothing,
         "{\"balance\":52500,\"branch\":1,\"entry\":3}",
     );
@@ -122,13 +158,20 @@ fn a_rule_that_denies_changes_nothing(rt: HostRuntime) {
         store: ListStore::new(opening_at(&rt, alloc, 999_999_999_999)),
     };
     let too_much = post(&rt, 101, 11, 1, 1);
-    denied(&rt, &mut bank, alloc, too_much, Rule::Range);
+    denied(&rt, &mut bank, alloc, TESS, Op::Post(too_much), Rule::Range);
     let below = post(&rt, 102, 12, 1, -1);
-    denied(&rt, &mut bank, alloc, below, Rule::Floor);
+    denied(&rt, &mut bank, alloc, TESS, Op::Post(below), Rule::Floor);
     let elsewhere = post(&rt, 101, 21, 1, 100);
-    denied(&rt, &mut bank, alloc, elsewhere, Rule::Branch);
+    denied(
+        &rt,
+        &mut bank,
+        alloc,
+        TOM,
+        Op::Post(elsewhere),
+        Rule::Branch,
+    );
     let missing = post(&rt, 999, 11, 1, 100);
-    denied(&rt, &mut bank, alloc, missing, Rule::Unknown);
+    denied(&rt, &mut bank, alloc, TOM, Op::Post(missing), Rule::Unknown);
     let account = bank
         .store
         .account(alloc, 101)
@@ -146,6 +189,7 @@ fn a_rule_that_denies_changes_nothing(rt: HostRuntime) {
         &rt,
         &mut bank,
         alloc,
+        TESS,
         down,
         "{\"balance\":999999999998,\"branch\":1,\"entry\":1}",
     );
@@ -158,12 +202,89 @@ fn balances_are_told(rt: HostRuntime) {
     let mut bank = Bank {
         store: ListStore::new(world),
     };
-    match ask(&rt, &mut bank, alloc, Op::Balance(Balance { account: 101 })) {
+    match ask(
+        &rt,
+        &mut bank,
+        alloc,
+        TESS,
+        Op::Balance(Balance { account: 101 }),
+    ) {
         Ok(body) => assert!(rt; body.as_slice() == b"{\"balance\":50000}".as_slice()),
         Err(rule) => panic!(rt; "{}", rule.name()),
     }
-    let missing = ask(&rt, &mut bank, alloc, Op::Balance(Balance { account: 999 }));
-    assert!(rt; matches!(missing, Err(Rule::Unknown)));
+    let missing = Op::Balance(Balance { account: 999 });
+    denied(&rt, &mut bank, alloc, TESS, missing, Rule::NoTriple);
     let text = denial_text(alloc, Rule::NoTriple).expect(&rt, "memory");
     assert!(rt; text.as_slice() == b"{\"name\":\"no triple\",\"rule\":3}".as_slice());
+}
+
+#[test]
+fn the_policy_is_asked_before_the_books(rt: HostRuntime) {
+    let alloc = rt.alloc();
+    let world = sample_world(alloc).expect(&rt, "memory");
+    let mut bank = Bank {
+        store: ListStore::new(world),
+    };
+    let uncertified = Op::Post(post(&rt, 1_000_000, 11, 1, 5));
+    denied(&rt, &mut bank, alloc, TESS, uncertified, Rule::NotCertified);
+    let too_high = Op::Post(post(&rt, 101, 12, 1, 60_000));
+    denied(&rt, &mut bank, alloc, TOM, too_high, Rule::Limit);
+    let within = post(&rt, 101, 12, 1, 20_000);
+    let body = "{\"balance\":70000,\"branch\":1,\"entry\":1}";
+    posts(&rt, &mut bank, alloc, TOM, within, body);
+    let elsewhere = Op::Post(post(&rt, 201, 21, 2, 100));
+    denied(&rt, &mut bank, alloc, TESS, elsewhere, Rule::NoTriple);
+    let balance = Op::Balance(Balance { account: 101 });
+    denied(&rt, &mut bank, alloc, TOM, balance, Rule::NoTriple);
+}
+
+#[test]
+fn who_asks_has_to_be_known(rt: HostRuntime) {
+    let alloc = rt.alloc();
+    let world = sample_world(alloc).expect(&rt, "memory");
+    let mut bank = Bank {
+        store: ListStore::new(world),
+    };
+    let balance = Op::Balance(Balance { account: 101 });
+    let nobody = Who { user: None, ..TESS };
+    let stranger = Who {
+        user: Some(55),
+        ..TESS
+    };
+    let of_another_session = Who { session: 2, ..TESS };
+    for who in [nobody, stranger, of_another_session] {
+        denied(&rt, &mut bank, alloc, who, balance, Rule::Identity);
+    }
+}
+
+#[test]
+fn accounts_are_opened_once(rt: HostRuntime) {
+    let alloc = rt.alloc();
+    let world = sample_world(alloc).expect(&rt, "memory");
+    let mut bank = Bank {
+        store: ListStore::new(world),
+    };
+    let form = NewAccount {
+        account: 103,
+        branch: 1,
+        floor: 0,
+    };
+    match ask(&rt, &mut bank, alloc, SUE, Op::NewAccount(form)) {
+        Ok(body) => assert!(rt; body.as_slice() == b"{\"account\":103,\"branch\":1}".as_slice()),
+        Err(rule) => panic!(rt; "{}", rule.name()),
+    }
+    let again = Op::NewAccount(form);
+    denied(&rt, &mut bank, alloc, SUE, again, Rule::Taken);
+    let with_credit = Op::NewAccount(NewAccount {
+        account: 104,
+        branch: 1,
+        floor: -1,
+    });
+    denied(&rt, &mut bank, alloc, SUE, with_credit, Rule::Limit);
+    let nowhere = Op::NewAccount(NewAccount {
+        account: 104,
+        branch: 9,
+        floor: 0,
+    });
+    denied(&rt, &mut bank, alloc, SUE, nowhere, Rule::Unknown);
 }
