@@ -3,13 +3,14 @@ ghost use Rattle.counter_ops.specs.Op.{procedure_of};
 ghost use Rattle.decide.specs.Requests.{is_brought};
 
 use crate::clock::Clock;
+use crate::fields::who_of;
 use crate::gate::Gate;
 use crate::response::Response;
 use crate::routes::Routes;
 use bank_policy::Procedure;
 use bodies::read_op;
 use decide::{Decision, Op, Reply, Who, carry_out, decide, is_brought};
-use heads::{Found, MessageFault};
+use heads::MessageFault;
 use messages::{AnswerFault, Engine, Message};
 use money::Tallied;
 use std::alloc::Global;
@@ -33,11 +34,12 @@ impl<'b, 'g, 'c, S: Store, G: Gate, C: Clock> Counter<'b, 'g, 'c, S, G, C> {
         let Some(procedure) = self.procedure(message) else {
             return Response::refused(MessageFault::NoSuchRoute);
         };
+        let who = match who_of(message, self.gate) {
+            Ok(who) => who,
+            Err(fault) => return Response::refused(fault),
+        };
         match read_op(self.alloc, procedure, message.body()) {
-            Ok(Some(op)) => {
-                let who = self.who(message);
-                carried_out(self.bank, self.alloc, who, moment, &op)
-            }
+            Ok(Some(op)) => carried_out(self.bank, self.alloc, who, moment, &op),
             Ok(None) => Response::refused(MessageFault::BadContent),
             Err(fault) => Response::faulted(fault),
         }
@@ -52,19 +54,6 @@ impl<'b, 'g, 'c, S: Store, G: Gate, C: Clock> Counter<'b, 'g, 'c, S, G, C> {
             Some(procedure)
         } else {
             None
-        }
-    }
-
-    /// Who asks: the user whom the gate names for the badge. Sessions and releases are not looked at.
-    fn who(&self, message: &Message<'_>) -> Who {
-        let user = match message.field(b"Bank-Badge") {
-            Found::One(badge) => self.gate.user_of(badge),
-            _ => None,
-        };
-        Who {
-            user,
-            session: 0,
-            release: 0,
         }
     }
 }

@@ -3,6 +3,7 @@
 
 mod clock;
 mod counter;
+mod fields;
 mod gate;
 mod response;
 mod routes;

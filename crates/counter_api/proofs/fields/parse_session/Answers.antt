@@ -1,0 +1,35 @@
+use Rattle.std.proofs.Common.{rules, ◌≡◌, None, Some, sym, ◌∙◌, ap, false, IsUtf8}
+use Rattle.std.specs.Result.{is_ok, result_ok}
+use Rattle.std.specs.Str.Parse.{ParsesUnsigned}
+use Rattle.std.proofs.lemmas.Bool.{cond-false, cond-true}
+use Rattle.counter_api.proofs.SessionLemmas.{no_session_started, no_session_in_bytes, no_session_parsed, no_session_above, session_parsed}
+use Rattle.counter_api.proofs.fields.parse_session.Goals as goal
+
+pub returns-then-not-starts_number : goal.returns-then-not-starts_number
+returns-then-not-starts_number c = sym (cond-false _ _ _ (no_session_started _ c.if-not-starts_number.ensures))
+
+pub returns-in_err-ok : goal.returns-in_err-ok
+returns-in_err-ok c =
+    let none : c.from_residual.result ≡ None = search rules in
+    let text : ¬ (IsUtf8 c.args.value.now) = search rules in
+    none ∙ sym (cond-false _ _ _ (no_session_in_bytes _ text))
+
+pub returns-in_err-session : goal.returns-in_err-session
+returns-in_err-session c =
+    let none : c.from_residual-in_err-session.result ≡ None = search rules in
+    let parsed : ParsesUnsigned 32 10 c.args.value.now c.parse.result = search rules in
+    let failed : false ≡ is_ok c.parse.result = search rules in
+    none ∙ sym (cond-false _ _ _ (no_session_parsed _ _ parsed (sym c.if-not-starts_number.ensures) failed))
+
+pub returns-then-session-le-MAX_SESSION : goal.returns-then-session-le-MAX_SESSION
+returns-then-session-le-MAX_SESSION c =
+    let parsed : ParsesUnsigned 32 10 c.args.value.now c.parse.result = search rules in
+    let told : Some c.in_ok-session.session ≡ result_ok c.parse.result = search rules in
+    let is = session_parsed _ _ parsed (sym c.if-not-starts_number.ensures) _ told c.if-session-le-MAX_SESSION.true in
+    ap Some is.1 ∙ sym (cond-true _ _ _ is.0)
+
+pub returns-else-session-le-MAX_SESSION : goal.returns-else-session-le-MAX_SESSION
+returns-else-session-le-MAX_SESSION c =
+    let parsed : ParsesUnsigned 32 10 c.args.value.now c.parse.result = search rules in
+    let told : Some c.in_ok-session.session ≡ result_ok c.parse.result = search rules in
+    sym (cond-false _ _ _ (no_session_above _ _ parsed (sym c.if-not-starts_number.ensures) _ told c.if-session-le-MAX_SESSION.false))

@@ -1,0 +1,43 @@
+-- Who asks, as the fields of a message say.
+use Rattle.std.specs.Prelude.{ℕ, Bool, ◌&&◌, nat_lt, nat_le, if◌then◌else◌, List, [], ◌∷◌, length, get_or, codes, Option, None, Result, Ok, Err}
+use Rattle.std.specs.Char.{is_ascii_graphic}
+use Rattle.std.specs.Int.{is_in_range}
+use Rattle.std.specs.List.{list_all}
+use Rattle.std.specs.Str.{all_ascii_digits}
+use Rattle.std.specs.Str.Parse.{digits_value}
+use Rattle.decide.specs.declared.who.Who.{Who}
+use Rattle.heads.specs.declared.fault.MessageFault.{MessageFault}
+use Rattle.heads.specs.declared.fault.MessageFault.TheVariants.{BadContent}
+use Rattle.heads.specs.Fields.{values_named}
+
+-- a badge: 1 to 64 bytes, each of them visible ASCII
+unfoldable pub is_badge : List ℕ → Bool
+is_badge value = nat_lt 0 (length value) && nat_le (length value) 64 && list_all is_ascii_graphic value
+
+-- the number of a session: digits that come to 999,999,999 at most, and the first is 1 to 9
+unfoldable pub is_session : List ℕ → Bool
+is_session value = is_in_range 49 57 (get_or value 0 0) && all_ascii_digits value && nat_le (digits_value 10 value) 999999999
+
+-- the user whom the values of Bank-Badge fields name; a fault where there are two, or one that is no badge
+abbrev pub user_of : (List ℕ → Option ℕ) → List (List ℕ) → Result (Option ℕ) MessageFault
+user_of users [] = Ok None
+user_of users (value ∷ []) = if is_badge value then Ok (users value) else Err BadContent
+user_of users (value ∷ other ∷ values) = Err BadContent
+
+-- the session that the values of Bank-Session fields state, 0 where there is none; a fault where there are two,
+-- or one that is no such number
+abbrev pub session_of : List (List ℕ) → Result ℕ MessageFault
+session_of [] = Ok 0
+session_of (value ∷ []) = if is_session value then Ok (digits_value 10 value) else Err BadContent
+session_of (value ∷ other ∷ values) = Err BadContent
+
+-- both together, with no release
+abbrev pub who_from : Result (Option ℕ) MessageFault → Result ℕ MessageFault → Result Who MessageFault
+who_from (Ok user) (Ok session) = Ok (record { user = user; session = session; release = 0 })
+who_from (Ok user) (Err fault) = Err fault
+who_from (Err fault) session = Err fault
+
+-- who asks, as the fields of a message say
+abbrev pub who_of : (List ℕ → Option ℕ) → List (List ℕ × List ℕ) → Result Who MessageFault
+who_of users fields =
+    who_from (user_of users (values_named (codes "Bank-Badge") fields)) (session_of (values_named (codes "Bank-Session") fields))

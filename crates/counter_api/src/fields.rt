@@ -1,0 +1,123 @@
+ghost use Rattle.std.specs.Prelude.{◌≡◌, if◌then◌else◌, List, ℕ, Some, None, get_or};
+ghost use Rattle.std.specs.Int.{is_in_range};
+ghost use Rattle.std.specs.Str.Parse.{digits_value};
+ghost use Rattle.heads.specs.Found.{IsFound};
+ghost use Rattle.counter_api.specs.Fields.{is_badge, is_session, user_of, session_of, who_of};
+
+use crate::gate::Gate;
+use decide::Who;
+use heads::{Found, MessageFault};
+use messages::Message;
+use std::str;
+
+/// The most bytes of a badge.
+const MAX_BADGE_LEN: usize = 64;
+
+/// The greatest number of a session.
+const MAX_SESSION: u32 = 999_999_999;
+
+/// Who asks, as the fields of a message say it, or the fault M6 where one of them is not of its form. The user is none
+/// where there is no badge, or one that the gate does not know, and the session is 0 where there is none. Releases are
+/// not looked at.
+pub(crate) fn who_of<G: Gate>(message: &Message<'_>, gate: &G) -> Result<Who, MessageFault>
+    ensures { result ≡ who_of (G.users gate.now) message.now.head.fields }
+{
+    let user = user_of(message.field(b"Bank-Badge"), gate)?;
+    let session = session_of(message.field(b"Bank-Session"))?;
+    Ok(Who {
+        user,
+        session,
+        release: 0,
+    })
+}
+
+/// The user whom the gate names for the badge, if there is one.
+fn user_of<G: Gate>(badge: Found<'_>, gate: &G) -> Result<Option<u32>, MessageFault>
+    ensures { (values : List (List ℕ)) → IsFound values badge.entry → result ≡ user_of (G.users gate.now) values }
+{
+    match badge {
+        Found::Missing => Ok(None),
+        Found::One(badge) if is_badge(badge) => Ok(gate.user_of(badge)),
+        _ => Err(MessageFault::BadContent),
+    }
+}
+
+/// The session that a message bears, or 0 where it bears none.
+fn session_of(session: Found<'_>) -> Result<u32, MessageFault>
+    ensures { (values : List (List ℕ)) → IsFound values session.entry → result ≡ session_of values }
+{
+    match session {
+        Found::Missing => Ok(0),
+        Found::One(value) => parse_session(value).ok_or(MessageFault::BadContent),
+        Found::Several => Err(MessageFault::BadContent),
+    }
+}
+
+/// Whether the value of a field is a badge: 1 to 64 bytes, each of them visible ASCII.
+fn is_badge(value: &[u8]) -> bool
+    ensures { result ≡ is_badge value.now }
+{
+    !value.is_empty()
+        && value.len() <= MAX_BADGE_LEN
+        && value.iter().all(|byte| byte.is_ascii_graphic())
+}
+
+/// The number of a session that the value of a field states: digits that come to 999,999,999 at most, and the first is
+/// 1 to 9.
+fn parse_session(value: &[u8]) -> Option<u32>
+    ensures { result ≡ (if is_session value.now then Some (digits_value 10 value.now) else None) }
+{
+    if !starts_number(value) {
+        return None;
+    }
+    let session: u32 = str::from_utf8(value).ok()?.parse().ok()?;
+    if session <= MAX_SESSION {
+        Some(session)
+    } else {
+        None
+    }
+}
+
+/// Whether the first byte is a digit and no zero.
+fn starts_number(value: &[u8]) -> bool
+    ensures { result ≡ is_in_range 49 57 (get_or value.now 0 0) }
+{
+    matches!(value.first(), Some(b'1'..=b'9'))
+}
+
+#[cfg(test)]
+mod tests {
+    use super::{is_badge, parse_session};
+
+    #[test]
+    fn badges_are_visible_bytes(rt: HostRuntime) {
+        assert!(rt; is_badge(b"tess"));
+        assert!(rt; is_badge(b"!~"));
+        assert!(rt; is_badge(&[b'x'; 64]));
+        assert!(rt; !is_badge(&[b'x'; 65]));
+        assert!(rt; !is_badge(b""));
+        assert!(rt; !is_badge(b"te ss"));
+        assert!(rt; !is_badge(b"tess\x7F"));
+        assert!(rt; !is_badge(b"t\xC3\xA4ss"));
+    }
+
+    #[test]
+    fn sessions_are_plain_numbers(rt: HostRuntime) {
+        assert_eq!(rt; parse_session(b"1"), Some(1));
+        assert_eq!(rt; parse_session(b"10"), Some(10));
+        assert_eq!(rt; parse_session(b"999999999"), Some(999_999_999));
+        for value in [
+            "",
+            "0",
+            "01",
+            "+1",
+            "-1",
+            "1 2",
+            "1a",
+            "1000000000",
+            "4294967297",
+        ] {
+            assert_eq!(rt; parse_session(value.as_bytes()), None, "{value}");
+        }
+    }
+}
