@@ -245,16 +245,43 @@ fn who_asks_has_to_be_known(rt: HostRuntime) {
     let mut bank = Bank {
         store: ListStore::new(world),
     };
-    let balance = Op::Balance(Balance { account: 101 });
     let nobody = Who { user: None, ..TESS };
+    denied(
+        &rt,
+        &mut bank,
+        alloc,
+        nobody,
+        balance_of_101(),
+        Rule::Identity,
+    );
     let stranger = Who {
         user: Some(55),
         ..TESS
     };
+    denied(
+        &rt,
+        &mut bank,
+        alloc,
+        stranger,
+        balance_of_101(),
+        Rule::Identity,
+    );
     let of_another_session = Who { session: 2, ..TESS };
-    for who in [nobody, stranger, of_another_session] {
-        denied(&rt, &mut bank, alloc, who, balance, Rule::Identity);
-    }
+    denied(
+        &rt,
+        &mut bank,
+        alloc,
+        of_another_session,
+        balance_of_101(),
+        Rule::Identity,
+    );
+}
+
+/// The question for the balance of account 101.
+fn balance_of_101() -> Op
+    ensures { is_brought (procedure_of result) ≡ true }
+{
+    Op::Balance(Balance { account: 101 })
 }
 
 #[test]
