@@ -87,7 +87,40 @@ fn starts_number(value: &[u8]) -> bool
 
 #[cfg(test)]
 mod tests {
-    use super::{is_badge, parse_session};
+    use super::{is_badge, parse_session, session_of, user_of};
+    use crate::gate::Gate;
+    use heads::{Found, MessageFault};
+
+    /// A gate that takes every badge for user 7's.
+    struct AllSeven;
+
+    impl Gate for AllSeven {
+        ghost use Rattle.std.specs.Prelude.{Some};
+
+        ghost users = { λ _ _. Some 7 };
+
+        fn user_of(&self, _badge: &[u8]) -> Option<u32> {
+            Some(7)
+        }
+    }
+
+    #[test]
+    fn badges_are_asked_of_the_gate(rt: HostRuntime) {
+        let fault = Err(MessageFault::BadContent);
+        assert_eq!(rt; user_of(Found::Missing, &AllSeven), Ok(None));
+        assert_eq!(rt; user_of(Found::One(b"tess"), &AllSeven), Ok(Some(7)));
+        assert_eq!(rt; user_of(Found::One(b""), &AllSeven), fault);
+        assert_eq!(rt; user_of(Found::Several, &AllSeven), fault);
+    }
+
+    #[test]
+    fn no_session_is_zero(rt: HostRuntime) {
+        let fault = Err(MessageFault::BadContent);
+        assert_eq!(rt; session_of(Found::Missing), Ok(0));
+        assert_eq!(rt; session_of(Found::One(b"12")), Ok(12));
+        assert_eq!(rt; session_of(Found::One(b"012")), fault);
+        assert_eq!(rt; session_of(Found::Several), fault);
+    }
 
     #[test]
     fn badges_are_visible_bytes(rt: HostRuntime) {
