@@ -6,6 +6,7 @@ ghost use Rattle.book_check.specs.Least.{IsFirstFailing};
 ghost use Rattle.bank_books.specs.Range.{IsInRange};
 ghost use Rattle.bank_books.specs.Records.{kept_of};
 ghost use Rattle.book_check.specs.RowConditions.{balance_part};
+ghost use Rattle.book_check.specs.Turns.{turn_balance};
 ghost use Rattle.book_sums.specs.Sums.{AreSumsOf};
 
 use crate::amounts::{TellerBalances, totals_agree};
@@ -13,6 +14,7 @@ use crate::cash_book::first_of_other_cash;
 use crate::history::first_of_other_history;
 use crate::least::{Condition, least_failing};
 use crate::range::is_in_range;
+use crate::turns::TurnBalances;
 use bank_books::{BranchRecord, World};
 use book_sums::{Kept, Shares, Sums};
 use money::Fault;
@@ -68,7 +70,8 @@ pub fn check_books(
     let sums = Sums::of(alloc, world)?;
     let computed = Kept::from_sums(alloc, world, &sums)?;
     let tellers = Shares::of(alloc, &TellerBalances, kept.tellers())?;
-    Ok(verdict(world, kept, &computed, &sums, &tellers))
+    let balances = Shares::of(alloc, &TurnBalances, kept.entries())?;
+    Ok(verdict(world, kept, &computed, &sums, &tellers, &balances))
 }
 
 /// The verdict, beside the numbers that the World gives.
@@ -78,10 +81,12 @@ fn verdict(
     computed: &Kept,
     sums: &Sums,
     tellers: &Shares,
+    balances: &Shares,
 ) -> Result<(), BooksFault>
     requires computed { computed.now ≡ kept_of world.now }
     requires sums { AreSumsOf world.now sums.now }
     requires tellers { IsPermutation (map balance_part kept.now.tellers) tellers.now }
+    requires balances { IsPermutation (map turn_balance kept.now.entries) balances.now }
     ensures { IsVerdict world.now kept.now result }
 {
     if !is_in_range(world, kept, computed, sums) {
@@ -90,7 +95,7 @@ fn verdict(
     if let Some(branch) = first_of_other_tellers(world, kept, tellers) {
         return Err(BooksFault::ConditionB { branch });
     }
-    if let Some(branch) = first_of_other_history(world, kept, computed, sums) {
+    if let Some(branch) = first_of_other_history(world, kept, computed, sums, balances) {
         return Err(BooksFault::ConditionC { branch });
     }
     if let Some(branch) = first_of_other_cash(world, kept, computed) {
