@@ -2,29 +2,29 @@ ghost use Rattle.std.specs.Prelude.{◌≡◌, ℕ, map};
 ghost use Rattle.std.specs.List.Sorted.{IsPermutation};
 ghost use Rattle.bank_books.specs.Conditions.{HistoryAgrees};
 ghost use Rattle.bank_books.specs.Range.{AreOfRows, IsInRange};
-ghost use Rattle.bank_books.specs.Records.{kept_of};
 ghost use Rattle.book_check.specs.Least.{IsFirstFailing};
 ghost use Rattle.book_check.specs.RowConditions.{AccountsOfHistory, BranchesOfHistory, EntriesOfHistory, TellersOfHistory, TurnsOfHistory};
 ghost use Rattle.book_check.specs.Turns.{AreBeside, turn_balance};
+ghost use Rattle.book_sums.specs.Records.{AreRecordsOf};
 ghost use Rattle.book_sums.specs.Sums.{AreSumsOf};
 
 use crate::branch_numbers::first_of_other_numbers;
 use crate::least::{Condition, least_failing, lesser_of};
 use crate::turns::is_in_turns;
 use bank_books::{AccountRecord, BranchRecord, TellerRecord, World};
-use book_sums::{Kept, Shares, Sums};
+use book_sums::{Kept, Records, Shares, Sums};
 
 /// The least branch whose history does not give what is kept of it, of its tellers, or of the
 /// accounts whose home it is, or none.
 pub(crate) fn first_of_other_history(
     world: &World,
     kept: &Kept,
-    computed: &Kept,
+    computed: &Records,
     sums: &Sums,
     balances: &Shares,
 ) -> Option<u32>
     requires in_range { IsInRange world.now kept.now }
-    requires computed { computed.now ≡ kept_of world.now }
+    requires computed { AreRecordsOf world.now computed.now }
     requires sums { AreSumsOf world.now sums.now }
     requires balances { IsPermutation (map turn_balance kept.now.entries) balances.now }
     ensures { IsFirstFailing (HistoryAgrees world.now kept.now) result }
@@ -40,28 +40,28 @@ pub(crate) fn first_of_other_history(
     )
 }
 
-fn first_branch(world: &World, kept: &Kept, computed: &Kept) -> Option<u32>
+fn first_branch(world: &World, kept: &Kept, computed: &Records) -> Option<u32>
     requires rows { AreOfRows world.now kept.now }
-    requires computed { computed.now ≡ kept_of world.now }
+    requires computed { AreRecordsOf world.now computed.now }
     ensures { IsFirstFailing (BranchesOfHistory world.now kept.now) result }
 {
-    least_failing(&BranchHistory, kept.branches(), computed.branches())
+    least_failing(&BranchHistory, kept.branches(), &computed.branches)
 }
 
-fn first_teller(world: &World, kept: &Kept, computed: &Kept) -> Option<u32>
+fn first_teller(world: &World, kept: &Kept, computed: &Records) -> Option<u32>
     requires rows { AreOfRows world.now kept.now }
-    requires computed { computed.now ≡ kept_of world.now }
+    requires computed { AreRecordsOf world.now computed.now }
     ensures { IsFirstFailing (TellersOfHistory world.now kept.now) result }
 {
-    least_failing(&TellerHistory, kept.tellers(), computed.tellers())
+    least_failing(&TellerHistory, kept.tellers(), &computed.tellers)
 }
 
-fn first_account(world: &World, kept: &Kept, computed: &Kept) -> Option<u32>
+fn first_account(world: &World, kept: &Kept, computed: &Records) -> Option<u32>
     requires rows { AreOfRows world.now kept.now }
-    requires computed { computed.now ≡ kept_of world.now }
+    requires computed { AreRecordsOf world.now computed.now }
     ensures { IsFirstFailing (AccountsOfHistory world.now kept.now) result }
 {
-    least_failing(&AccountHistory, kept.accounts(), computed.accounts())
+    least_failing(&AccountHistory, kept.accounts(), &computed.accounts)
 }
 
 /// The least home of an account whose turns, or the balances kept beside its entries, are not those of
