@@ -2,7 +2,7 @@ ghost use Rattle.std.specs.Prelude.{◌≡◌, ◌↔◌, ◌+ℤ◌, IfSome, Is
 ghost use Rattle.book_check.specs.Turns.{AreBalancesAfter, AreBeside, IsAccountInTurns};
 
 use crate::amounts::amount_of;
-use crate::numbering::has_numbered_parts;
+use crate::numbering::are_numbered;
 use bank_books::{Account, EntryRecord};
 use book_sums::{Part, Parts, Shares};
 
@@ -30,12 +30,12 @@ pub(crate) fn is_in_turns(deltas: &Shares, balances: &Shares, account: &Account)
     requires { AreBeside deltas.now balances.now account.now.account }
     ensures { IsTrue result ↔ IsAccountInTurns deltas.now balances.now account.now }
 {
-    let of = account.account;
-    has_numbered_parts(deltas, of)
+    let parts = deltas.parts_of(account.account);
+    are_numbered(parts)
         && are_balances_after(
             account.opening.get(),
-            deltas.parts_of(of),
-            balances.parts_of(of),
+            parts,
+            balances.parts_of(account.account),
         )
 }
 
