@@ -1,8 +1,10 @@
 -- What is asked of the rows that are told of a branch is what the history asks of the branch.
-use Rattle.std.proofs.Common.{◌≡◌, ℕ, ◌<◌, ◌^◌, ◌==◌, ◌&&◌, map, Contains, refl, ap, arith, sym, ◌∙◌, subst, inl, inr}
+use Rattle.std.proofs.Common.{◌≡◌, ℕ, ◌<◌, ◌^◌, ◌==◌, ◌&&◌, ◌+ℤ◌, List, map, Contains, refl, ap, arith, sym, ◌∙◌, subst, inl, inr}
 use Rattle.std.specs.List.{count_by}
+use Rattle.std.specs.List.Sorted.{IsPermutation}
 use Rattle.std.specs.Option.{option_map_or}
 use Rattle.std.proofs.lemmas.Bool.{cases_lt, eqb-true}
+use Rattle.std.proofs.lemmas.List.Sorted.{Contains-permutation, IsPermutation-sym}
 use Rattle.money.specs.Ordered.{AreDistinct}
 use Rattle.bank_books.specs.declared.records.AccountRecord.{AccountRecord}
 use Rattle.bank_books.specs.declared.records.EntryRecord.{EntryRecord}
@@ -16,15 +18,22 @@ use Rattle.bank_books.specs.Records.{KeptLists}
 use Rattle.bank_books.specs.WorldLists.{WorldLists}
 use Rattle.book_check.specs.Numbers.{BranchesBearNumbers}
 use Rattle.book_check.specs.RowConditions.{AccountsOfHistory, BranchesOfHistory, EntriesOfHistory, TellersOfHistory, TurnsOfHistory}
+use Rattle.book_check.specs.Turns.{IsAccountInTurns, turn_balance}
+use Rattle.book_sums.specs.Shares.{total_up_to}
+use Rattle.book_sums.specs.Sums.{AreSumsOf}
+use Rattle.book_sums.specs.declared.shares.Part.{Part}
+use Rattle.book_sums.specs.declared.sums.Sums.{Sums}
 use Rattle.book_sums.proofs.Counting.{both_true, counted_row, made_of, source_of}
+use Rattle.book_check.proofs.CashConditions.{amount_in_range}
 use Rattle.book_check.proofs.FoundRows.{finds_itself}
 use Rattle.book_check.proofs.Numbered.{AreNamed, branches_from_numbered, branches_numbered}
+use Rattle.book_check.proofs.TurnParts.{balance_given, parts_from_turns, turns_from_parts}
 
 -- what is asked of all rows that are told of a branch
 abbrev pub RowsAgree : WorldLists → KeptLists → ℕ → Type 0
 RowsAgree w kept branch =
-    ((BranchesOfHistory w kept branch × TellersOfHistory w kept branch) × (AccountsOfHistory w kept branch × EntriesOfHistory w kept branch))
-    × (BranchesBearNumbers entry_key (λ e. e.number) w.entries kept branch × TurnsOfHistory w kept branch)
+    ((BranchesOfHistory w kept branch × TellersOfHistory w kept branch) × (AccountsOfHistory w kept branch × (EntriesOfHistory w kept branch × TurnsOfHistory w kept branch)))
+    × BranchesBearNumbers entry_key (λ e. e.number) w.entries kept branch
 
 -- what is kept of an entry is in range
 entry_in_range : (w : WorldLists) (kept : KeptLists) → IsInRange w kept → (e : Entry) → Contains w.entries e → (r : EntryRecord) × (IsEntryInRange w r × (r.row ≡ e))
@@ -82,16 +91,49 @@ agrees_by_rows w kept branch in_range rows = record {
   branches = rows.0.0.0;
   tellers = rows.0.0.1;
   accounts = rows.0.1.0;
-  entries = rows.0.1.1;
-  numbers = branches_numbered w kept entry_key (λ e. e.branch) (λ e. e.number) (λ _. refl) w.entries branch in_range.rows in_range.keys.entries (entries_named w kept in_range) rows.1.0;
-  turns = turns_agree w kept branch in_range rows.1.1;
+  entries = rows.0.1.1.0;
+  numbers = branches_numbered w kept entry_key (λ e. e.branch) (λ e. e.number) (λ _. refl) w.entries branch in_range.rows in_range.keys.entries (entries_named w kept in_range) rows.1;
+  turns = turns_agree w kept branch in_range rows.0.1.1.1;
 }
 
 pub rows_by_agreement : (w : WorldLists) (kept : KeptLists) (branch : ℕ) → IsInRange w kept → HistoryAgrees w kept branch → RowsAgree w kept branch
 rows_by_agreement w kept branch in_range agrees = (
-  ((agrees.branches, agrees.tellers), (agrees.accounts, agrees.entries)),
-  (
-    branches_from_numbered w kept entry_key (λ e. e.branch) (λ e. e.number) (λ _. refl) w.entries branch (entries_named w kept in_range) agrees.numbers,
-    turns_by_agreement w kept branch in_range agrees,
-  ),
+  ((agrees.branches, agrees.tellers), (agrees.accounts, (agrees.entries, turns_by_agreement w kept branch in_range agrees))),
+  branches_from_numbered w kept entry_key (λ e. e.branch) (λ e. e.number) (λ _. refl) w.entries branch (entries_named w kept in_range) agrees.numbers,
 )
+
+-- what is judged of the accounts that are told of a branch
+abbrev pub AccountsInTurns : KeptLists → Sums → List Part → ℕ → Type 0
+AccountsInTurns kept s balances branch = (a : AccountRecord) → Contains kept.accounts a → a.row.home ≡ branch → IsAccountInTurns s.by_turn balances a.row
+
+-- it is what is asked of their entries and turns
+pub turns_by_accounts : (w : WorldLists) (kept : KeptLists) (s : Sums) (balances : List Part) (branch : ℕ) → IsInRange w kept → AreSumsOf w s → IsPermutation (map turn_balance kept.entries) balances →
+    AccountsInTurns kept s balances branch → EntriesOfHistory w kept branch × TurnsOfHistory w kept branch
+turns_by_accounts w kept s balances branch in_range sums moved each = (
+  λ e there told.
+      let named = (in_range.entries e there).account in
+      let source = source_of (λ (a : AccountRecord). a.row) kept.accounts w.accounts named.0 in_range.rows.accounts named.1.0 in
+      let home : source.0.row.home ≡ branch = ap (λ a. a.home) source.1.1 ∙ sym (home_found w named.0 in_range.keys.accounts named.1.0) ∙ ap (home_of w) named.1.1 ∙ told in
+      let P : Account → Type 0 = λ a. IsAccountInTurns s.by_turn balances a in
+      let judged = subst P source.1.1 (each source.0 source.1.0 home) in
+      let part = Contains-permutation (map turn_balance kept.entries) balances (turn_balance e) moved (made_of turn_balance kept.entries (map turn_balance kept.entries) e refl there) in
+      sym (amount_in_range e.balance_after (in_range.entries e there).balance_after) ∙ judged.amounts (turn_balance e) part (sym named.1.1)
+      ∙ sym (balance_given w s named.0 e.row sums in_range.keys.accounts named.1.0 named.1.1),
+  λ a there told. turns_from_parts w s a.row.account sums (each a there told).turns,
+)
+
+pub accounts_by_turns : (w : WorldLists) (kept : KeptLists) (s : Sums) (balances : List Part) (branch : ℕ) → IsInRange w kept → AreSumsOf w s → IsPermutation (map turn_balance kept.entries) balances →
+    EntriesOfHistory w kept branch × TurnsOfHistory w kept branch → AccountsInTurns kept s balances branch
+accounts_by_turns w kept s balances branch in_range sums moved (entries, turns) a there told =
+    record {
+      turns = parts_from_turns w s a.row.account sums (turns a there told);
+      amounts = λ p in_balances of.
+          let back = IsPermutation-sym (map turn_balance kept.entries) balances moved in
+          let source = source_of turn_balance kept.entries (map turn_balance kept.entries) p refl (Contains-permutation balances (map turn_balance kept.entries) p back in_balances) in
+          let e = source.0 in
+          let row = made_of (λ (r : AccountRecord). r.row) kept.accounts w.accounts a in_range.rows.accounts there in
+          let same : e.row.account ≡ a.row.account = ap (λ q. q.group) source.1.1 ∙ of in
+          sym (ap (λ q. q.amount) source.1.1) ∙ amount_in_range e.balance_after (in_range.entries e source.1.0).balance_after
+          ∙ entries e source.1.0 (ap (home_of w) same ∙ home_found w a.row in_range.keys.accounts row ∙ told)
+          ∙ balance_given w s a.row e.row sums in_range.keys.accounts row (sym same) ∙ ap (λ n. a.row.opening +ℤ total_up_to a.row.account n s.by_turn) (ap (λ q. q.number) source.1.1);
+    }

@@ -11,4 +11,5 @@ pub mod NamedParts
 pub mod Numbered
 pub mod RangeJoined
 pub mod SameCounts
-pub mod Turns
+pub mod TurnParts
+pub mod TurnWalk

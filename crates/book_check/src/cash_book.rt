@@ -2,19 +2,19 @@ ghost use Rattle.std.specs.Prelude.{◌≡◌, ◌↔◌, ◌+ℤ◌, ◌≤ℤ�
 ghost use Rattle.bank_books.specs.Conditions.{CashAgrees, IsBranchOfLines};
 ghost use Rattle.book_check.specs.Least.{IsFirstFailing};
 ghost use Rattle.bank_books.specs.Range.{AreOfRows, IsInRange};
-ghost use Rattle.bank_books.specs.Records.{kept_of};
 ghost use Rattle.book_check.specs.RowConditions.{BranchesOfCash, TellersOfLines, amount_of};
+ghost use Rattle.book_sums.specs.Records.{AreRecordsOf};
 
 use crate::amounts::amount_of;
 use crate::branch_numbers::first_of_other_numbers;
 use crate::least::{Condition, least_failing, lesser_of};
 use bank_books::{BranchRecord, TellerRecord, World};
-use book_sums::Kept;
+use book_sums::{Kept, Records};
 
 /// The least branch whose cash book does not give what is kept of its cash, or none.
-pub(crate) fn first_of_other_cash(world: &World, kept: &Kept, computed: &Kept) -> Option<u32>
+pub(crate) fn first_of_other_cash(world: &World, kept: &Kept, computed: &Records) -> Option<u32>
     requires in_range { IsInRange world.now kept.now }
-    requires computed { computed.now ≡ kept_of world.now }
+    requires computed { AreRecordsOf world.now computed.now }
     ensures { IsFirstFailing (CashAgrees world.now kept.now) result }
 {
     let branches = first_branch(world, kept, computed);
@@ -23,20 +23,20 @@ pub(crate) fn first_of_other_cash(world: &World, kept: &Kept, computed: &Kept) -
     lesser_of(lesser_of(branches, tellers), numbers)
 }
 
-fn first_branch(world: &World, kept: &Kept, computed: &Kept) -> Option<u32>
+fn first_branch(world: &World, kept: &Kept, computed: &Records) -> Option<u32>
     requires rows { AreOfRows world.now kept.now }
-    requires computed { computed.now ≡ kept_of world.now }
+    requires computed { AreRecordsOf world.now computed.now }
     ensures { IsFirstFailing (BranchesOfCash world.now kept.now) result }
 {
-    least_failing(&BranchCash, kept.branches(), computed.branches())
+    least_failing(&BranchCash, kept.branches(), &computed.branches)
 }
 
-fn first_teller(world: &World, kept: &Kept, computed: &Kept) -> Option<u32>
+fn first_teller(world: &World, kept: &Kept, computed: &Records) -> Option<u32>
     requires rows { AreOfRows world.now kept.now }
-    requires computed { computed.now ≡ kept_of world.now }
+    requires computed { AreRecordsOf world.now computed.now }
     ensures { IsFirstFailing (TellersOfLines world.now kept.now) result }
 {
-    least_failing(&TellerCash, kept.tellers(), computed.tellers())
+    least_failing(&TellerCash, kept.tellers(), &computed.tellers)
 }
 
 /// That what is kept of a branch's cash is what its lines give, and adds up.

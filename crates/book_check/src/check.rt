@@ -4,8 +4,9 @@ ghost use Rattle.book_check.specs.Verdict.{IsVerdict};
 ghost use Rattle.bank_books.specs.Conditions.{TellersAgree, TotalsAgree};
 ghost use Rattle.book_check.specs.Least.{IsFirstFailing};
 ghost use Rattle.bank_books.specs.Range.{IsInRange};
-ghost use Rattle.bank_books.specs.Records.{kept_of};
 ghost use Rattle.book_check.specs.RowConditions.{balance_part};
+ghost use Rattle.book_check.specs.Turns.{turn_balance};
+ghost use Rattle.book_sums.specs.Records.{AreRecordsOf};
 ghost use Rattle.book_sums.specs.Sums.{AreSumsOf};
 
 use crate::amounts::{TellerBalances, totals_agree};
@@ -13,8 +14,9 @@ use crate::cash_book::first_of_other_cash;
 use crate::history::first_of_other_history;
 use crate::least::{Condition, least_failing};
 use crate::range::is_in_range;
+use crate::turns::TurnBalances;
 use bank_books::{BranchRecord, World};
-use book_sums::{Kept, Shares, Sums};
+use book_sums::{Kept, Records, Shares, Sums};
 use money::Fault;
 use std::alloc::Global;
 use thiserror::Error;
@@ -66,22 +68,25 @@ pub fn check_books(
     ensures memory { IsOkUnless result Fault.Memory }
 {
     let sums = Sums::of(alloc, world)?;
-    let computed = Kept::from_sums(alloc, world, &sums)?;
+    let computed = Records::of(alloc, world, &sums)?;
     let tellers = Shares::of(alloc, &TellerBalances, kept.tellers())?;
-    Ok(verdict(world, kept, &computed, &sums, &tellers))
+    let balances = Shares::of(alloc, &TurnBalances, kept.entries())?;
+    Ok(verdict(world, kept, &computed, &sums, &tellers, &balances))
 }
 
 /// The verdict, beside the numbers that the World gives.
 fn verdict(
     world: &World,
     kept: &Kept,
-    computed: &Kept,
+    computed: &Records,
     sums: &Sums,
     tellers: &Shares,
+    balances: &Shares,
 ) -> Result<(), BooksFault>
-    requires computed { computed.now ≡ kept_of world.now }
+    requires computed { AreRecordsOf world.now computed.now }
     requires sums { AreSumsOf world.now sums.now }
     requires tellers { IsPermutation (map balance_part kept.now.tellers) tellers.now }
+    requires balances { IsPermutation (map turn_balance kept.now.entries) balances.now }
     ensures { IsVerdict world.now kept.now result }
 {
     if !is_in_range(world, kept, computed, sums) {
@@ -90,7 +95,7 @@ fn verdict(
     if let Some(branch) = first_of_other_tellers(world, kept, tellers) {
         return Err(BooksFault::ConditionB { branch });
     }
-    if let Some(branch) = first_of_other_history(world, kept, computed, sums) {
+    if let Some(branch) = first_of_other_history(world, kept, computed, sums, balances) {
         return Err(BooksFault::ConditionC { branch });
     }
     if let Some(branch) = first_of_other_cash(world, kept, computed) {

@@ -13,5 +13,6 @@ mod numbering;
 mod numbers;
 mod range;
 mod range_rows;
+mod turns;
 
 pub use check::{BooksFault, check_books};

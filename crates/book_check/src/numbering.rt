@@ -1,13 +1,17 @@
-ghost use Rattle.std.specs.Prelude.{◌≡◌, ◌↔◌, ◌+◌, ◌≤◌, ◌==◌, IsTrue, filter};
+ghost use Rattle.std.specs.Prelude.{◌≡◌, ◌↔◌, ◌+◌, ◌≤◌, ◌==◌, IsTrue, filter, map};
 ghost use Rattle.std.specs.List.{count_by};
+ghost use Rattle.std.specs.List.Sorted.{IsNonDecreasingBy};
+ghost use Rattle.money.specs.Ordered.{AreDistinct};
 ghost use Rattle.bank_books.specs.Numbering.{AreNumbered};
 ghost use Rattle.bank_books.specs.Range.{HasDistinctKeys};
 ghost use Rattle.bank_books.specs.Records.{release_count};
 ghost use Rattle.book_check.specs.RangeParts.{AreCashBooksInRange, AreReleasesAlone, AreReleasesNumbered};
+ghost use Rattle.book_check.specs.Numbers.{BearNumbers};
+ghost use Rattle.book_sums.specs.Shares.{part_key};
 
 use crate::numbers::bear_numbers;
 use bank_books::{Branch, Proof, Release, World};
-use book_sums::{Shares, rows_of_group};
+use book_sums::{Part, rows_of_group};
 use money::has_distinct_keys;
 
 /// Whether the proofs of a branch are those of the days before its present one, each once.
@@ -54,10 +58,10 @@ fn release_count(world: &World, user: u32) -> u64
     rows_of_group(world.releases(), user).len() as u64
 }
 
-/// Whether the parts of a group are numbered 1, 2, 3 and so on, each once.
-pub(crate) fn has_numbered_parts(shares: &Shares, group: u32) -> bool
-    ensures { IsTrue result ↔ AreNumbered (λ p. p.group) (λ p. p.number) shares.now group }
+/// Whether parts of one group are numbered 1, 2, 3 and so on, each once.
+pub(crate) fn are_numbered(parts: &[Part]) -> bool
+    requires { IsNonDecreasingBy part_key parts.now }
+    ensures { IsTrue result ↔ (AreDistinct (map part_key parts.now) × BearNumbers (λ p. p.number) parts.now) }
 {
-    let parts = shares.parts_of(group);
     has_distinct_keys(parts) && bear_numbers(parts)
 }

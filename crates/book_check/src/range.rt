@@ -3,7 +3,7 @@ ghost use Rattle.money.specs.Ordered.{AreDistinct};
 ghost use Rattle.bank_books.specs.Keys.{account_key, branch_key, entry_key, line_key, proof_key, release_key, teller_key};
 ghost use Rattle.bank_books.specs.Range.{AreOfRows, HasDistinctKeys, IsBranchInRange, IsEntryInRange, IsInRange, IsLineInRange, IsReleaseInRange};
 ghost use Rattle.book_check.specs.RangeParts.{AreAllInRange, AreCashBooksInRange, AreLedgersInRange, ArePlacesInRange, AreUsersInRange};
-ghost use Rattle.bank_books.specs.Records.{kept_of};
+ghost use Rattle.book_sums.specs.Records.{AreRecordsOf};
 ghost use Rattle.book_sums.specs.Sums.{AreSumsOf};
 ghost use Rattle.bank_books.specs.declared.records.BranchRecord.{BranchRecord as ABranch};
 ghost use Rattle.bank_books.specs.declared.records.EntryRecord.{EntryRecord as AnEntry};
@@ -15,13 +15,13 @@ use crate::named::{are_entries_named, are_lines_named};
 use crate::numbering::are_releases_numbered;
 use crate::range_rows::{Limited, is_branch_in_range};
 use bank_books::{BranchRecord, World};
-use book_sums::{Kept, Sums};
+use book_sums::{Kept, Records, Sums};
 use money::has_distinct_keys;
 
 /// Whether every number is within its limits, no key stands twice, and each row names rows that are
 /// there, of the rows and of the numbers kept beside them. It takes no memory.
-pub(crate) fn is_in_range(world: &World, kept: &Kept, computed: &Kept, sums: &Sums) -> bool
-    requires computed { computed.now ≡ kept_of world.now }
+pub(crate) fn is_in_range(world: &World, kept: &Kept, computed: &Records, sums: &Sums) -> bool
+    requires computed { AreRecordsOf world.now computed.now }
     requires sums { AreSumsOf world.now sums.now }
     ensures { IsTrue result ↔ IsInRange world.now kept.now }
 {
@@ -131,13 +131,13 @@ fn are_within_limits<T: Limited>(world: &World, rows: &[T]) -> bool
 }
 
 /// Whether the kept numbers stand beside the rows of the World, each once and in their order.
-fn are_of_rows(world: &World, kept: &Kept, computed: &Kept) -> bool
-    requires { computed.now ≡ kept_of world.now }
+fn are_of_rows(world: &World, kept: &Kept, computed: &Records) -> bool
+    requires { AreRecordsOf world.now computed.now }
     ensures { IsTrue result ↔ AreOfRows world.now kept.now }
 {
     stand_beside(kept.branches(), world.branches())
         && stand_beside(kept.tellers(), world.tellers())
         && stand_beside(kept.accounts(), world.accounts())
         && stand_beside(kept.entries(), world.entries())
-        && kept.users() == computed.users()
+        && kept.users() == computed.users.as_slice()
 }

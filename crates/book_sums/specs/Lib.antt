@@ -1,3 +1,4 @@
 pub mod Groups
+pub mod Records
 pub mod Shares
 pub mod Sums

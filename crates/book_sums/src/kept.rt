@@ -1,4 +1,4 @@
-use crate::holders::holders;
+use crate::records::Records;
 use crate::sums::Sums;
 use bank_books::{AccountRecord, BranchRecord, EntryRecord, ReleaseCount, TellerRecord, World};
 use money::Fault;
@@ -9,11 +9,8 @@ use std::marker::Model;
 /// counts and totals.
 #[derive(Debug, Drop)]
 pub struct Kept {
-    branches: Vec<BranchRecord>,
-    tellers: Vec<TellerRecord>,
-    accounts: Vec<AccountRecord>,
+    records: Records,
     entries: Vec<EntryRecord>,
-    users: Vec<ReleaseCount>,
 }
 
 impl Model for Kept {
@@ -22,18 +19,17 @@ impl Model for Kept {
     ghost Value = { KeptLists };
 
     ghost view = { λ k. record {
-      branches = k.branches.items;
-      tellers = k.tellers.items;
-      accounts = k.accounts.items;
+      branches = k.records.branches.items;
+      tellers = k.records.tellers.items;
+      accounts = k.records.accounts.items;
       entries = k.entries.items;
-      users = k.users.items;
+      users = k.records.users.items;
     } };
 }
 
 impl Kept {
     ghost use Rattle.std.specs.Prelude.{◌≡◌, IfOk, IsOkUnless};
     ghost use Rattle.bank_books.specs.Records.{kept_of};
-    ghost use Rattle.book_sums.specs.Sums.{AreSumsOf};
 
     /// The numbers that a store kept, in the order of the rows.
     pub fn new(
@@ -45,13 +41,13 @@ impl Kept {
     ) -> Kept
         ensures { result ≡ record { branches = branches.items; tellers = tellers.items; accounts = accounts.items; entries = entries.items; users = users.items } }
     {
-        Kept {
+        let records = Records {
             branches,
             tellers,
             accounts,
-            entries,
             users,
-        }
+        };
+        Kept { records, entries }
     }
 
     /// What a store has to keep beside the rows of this World. Only memory keeps it from an answer.
@@ -60,21 +56,9 @@ impl Kept {
         ensures memory { IsOkUnless result Fault.Memory }
     {
         let sums = Sums::of(alloc, world)?;
-        Kept::from_sums(alloc, world, &sums)
-    }
-
-    /// The same, from the sums of the World.
-    pub fn from_sums(alloc: Global, world: &World, sums: &Sums) -> Result<Kept, Fault>
-        requires { AreSumsOf world.now sums.now }
-        ensures value { IfOk result (λ kept. kept ≡ kept_of world.now) }
-        ensures memory { IsOkUnless result Fault.Memory }
-    {
         Ok(Kept {
-            branches: branch_records(alloc, world, sums)?,
-            tellers: teller_records(alloc, world, sums)?,
-            accounts: account_records(alloc, world, sums)?,
-            entries: entry_records(alloc, world, sums)?,
-            users: release_counts(alloc, world, sums)?,
+            records: Records::of(alloc, world, &sums)?,
+            entries: entry_records(alloc, world, &sums)?,
         })
     }
 
@@ -82,21 +66,21 @@ impl Kept {
     pub fn branches(&self) -> &[BranchRecord]
         ensures { result.now ≡ self.now.branches }
     {
-        &self.branches
+        &self.records.branches
     }
 
     /// The tellers with their numbers.
     pub fn tellers(&self) -> &[TellerRecord]
         ensures { result.now ≡ self.now.tellers }
     {
-        &self.tellers
+        &self.records.tellers
     }
 
     /// The accounts with their numbers.
     pub fn accounts(&self) -> &[AccountRecord]
         ensures { result.now ≡ self.now.accounts }
     {
-        &self.accounts
+        &self.records.accounts
     }
 
     /// The entries with the balances after them.
@@ -110,39 +94,13 @@ impl Kept {
     pub fn users(&self) -> &[ReleaseCount]
         ensures { result.now ≡ self.now.users }
     {
-        &self.users
+        &self.records.users
     }
 }
 
 ghost use Rattle.std.specs.Prelude.{◌≡◌, IfOk, IsOkUnless, map};
-ghost use Rattle.bank_books.specs.Records.{account_record_of, branch_record_of, entry_record_of, release_count_of, teller_record_of};
+ghost use Rattle.bank_books.specs.Records.{entry_record_of};
 ghost use Rattle.book_sums.specs.Sums.{AreSumsOf};
-
-fn branch_records(alloc: Global, world: &World, sums: &Sums) -> Result<Vec<BranchRecord>, Fault>
-    requires { AreSumsOf world.now sums.now }
-    ensures value { IfOk result (λ records. records.items ≡ map (branch_record_of world.now) world.now.branches) }
-    ensures memory { IsOkUnless result Fault.Memory }
-{
-    let rows = world.branches();
-    let mut records = Vec::with_capacity(alloc, rows.len())?;
-    for row in rows {
-        records.push(sums.branch_record(world, row))?;
-    }
-    Ok(records)
-}
-
-fn account_records(alloc: Global, world: &World, sums: &Sums) -> Result<Vec<AccountRecord>, Fault>
-    requires { AreSumsOf world.now sums.now }
-    ensures value { IfOk result (λ records. records.items ≡ map (account_record_of world.now) world.now.accounts) }
-    ensures memory { IsOkUnless result Fault.Memory }
-{
-    let rows = world.accounts();
-    let mut records = Vec::with_capacity(alloc, rows.len())?;
-    for row in rows {
-        records.push(sums.account_record(row))?;
-    }
-    Ok(records)
-}
 
 fn entry_records(alloc: Global, world: &World, sums: &Sums) -> Result<Vec<EntryRecord>, Fault>
     requires { AreSumsOf world.now sums.now }
@@ -153,33 +111,6 @@ fn entry_records(alloc: Global, world: &World, sums: &Sums) -> Result<Vec<EntryR
     let mut records = Vec::with_capacity(alloc, rows.len())?;
     for row in rows {
         records.push(sums.entry_record(world, row))?;
-    }
-    Ok(records)
-}
-
-fn release_counts(alloc: Global, world: &World, sums: &Sums) -> Result<Vec<ReleaseCount>, Fault>
-    requires { AreSumsOf world.now sums.now }
-    ensures value { IfOk result (λ records. records.items ≡ map (release_count_of world.now) world.now.policy.users) }
-    ensures memory { IsOkUnless result Fault.Memory }
-{
-    let rows = world.policy().users();
-    let mut records = Vec::with_capacity(alloc, rows.len())?;
-    for row in rows {
-        records.push(sums.release_count(row))?;
-    }
-    Ok(records)
-}
-
-fn teller_records(alloc: Global, world: &World, sums: &Sums) -> Result<Vec<TellerRecord>, Fault>
-    requires { AreSumsOf world.now sums.now }
-    ensures value { IfOk result (λ records. records.items ≡ map (teller_record_of world.now) world.now.tellers) }
-    ensures memory { IsOkUnless result Fault.Memory }
-{
-    let tellers = world.tellers();
-    let holders = holders(alloc, tellers, world.lines())?;
-    let mut records = Vec::with_capacity(alloc, tellers.len())?;
-    for index in 0..tellers.len() {
-        records.push(sums.teller_record(&tellers[index], holders[index]))?;
     }
     Ok(records)
 }

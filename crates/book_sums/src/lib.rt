@@ -6,10 +6,12 @@ mod groups;
 mod holders;
 mod kept;
 mod parts;
+mod records;
 mod shares;
 mod sums;
 
 pub use groups::rows_of_group;
 pub use kept::Kept;
+pub use records::Records;
 pub use shares::{Part, Parts, Shares};
 pub use sums::Sums;

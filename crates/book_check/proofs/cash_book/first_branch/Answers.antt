@@ -10,7 +10,7 @@ pub returns : goal.returns
 returns c =
     let w = c.args.world.now in
     let row : BranchRecord → _ = λ x. x.row in
-    let judged = by_rows (λ (kept computed : BranchRecord). IsBranchOfCash kept computed) (λ (kept : BranchRecord). kept.row.branch) row (branch_record_of w) c.branches.result.now c.branches-2.result.now w.branches c.least_failing.result
-    (ap (map row) c.branches.ensures ∙ c.requires.rows.branches) (c.branches-2.ensures ∙ ap (λ k. k.branches) c.requires.computed) c.least_failing.ensures in
+    let judged = by_rows (λ (kept computed : BranchRecord). IsBranchOfCash kept computed) (λ (kept : BranchRecord). kept.row.branch) row (branch_record_of w) c.branches.result.now c.deref.result.now w.branches c.least_failing.result
+    (ap (map row) c.branches.ensures ∙ c.requires.rows.branches) (c.deref.ensures.value ∙ c.requires.computed.branches) c.least_failing.ensures in
     let P : List BranchRecord → Type 0 = λ xs. IsFirstFailing (λ branch. (x : BranchRecord) → Contains xs x → (λ (kept : BranchRecord). kept.row.branch) x ≡ branch → (λ (kept computed : BranchRecord). IsBranchOfCash kept computed) x (branch_record_of w x.row)) c.least_failing.result in
     subst P c.branches.ensures judged

@@ -17,17 +17,15 @@ returns c =
     let branches = c.first_branch-branches.result in
     let tellers = c.first_teller-tellers.result in
     let accounts = c.first_account-accounts.result in
-    let entries = c.first_entry-entries.result in
-    let numbers = c.first_of_other_numbers-numbers.result in
     let turns = c.first_turn-turns.result in
+    let numbers = c.first_of_other_numbers-numbers.result in
     let N : List Entry → Type 0 = λ rows. IsFirstFailing (BranchesBearNumbers entry_key (λ e. e.number) rows kept) numbers in
     let one = both (BranchesOfHistory w kept) (TellersOfHistory w kept) branches tellers c.first_branch-branches.ensures c.first_teller-tellers.ensures in
-    let two = both (AccountsOfHistory w kept) (EntriesOfHistory w kept) accounts entries c.first_account-accounts.ensures c.first_entry-entries.ensures in
-    let three = both (λ b. BranchesOfHistory w kept b × TellersOfHistory w kept b) (λ b. AccountsOfHistory w kept b × EntriesOfHistory w kept b) (lesser_of branches tellers) (lesser_of accounts entries) one two in
-    let four = both (BranchesBearNumbers entry_key (λ e. e.number) w.entries kept) (TurnsOfHistory w kept) numbers turns (subst N c.entries.ensures.value c.first_of_other_numbers-numbers.ensures) c.first_turn-turns.ensures in
-    let all = both (λ b. (BranchesOfHistory w kept b × TellersOfHistory w kept b) × (AccountsOfHistory w kept b × EntriesOfHistory w kept b))
-    (λ b. BranchesBearNumbers entry_key (λ e. e.number) w.entries kept b × TurnsOfHistory w kept b) (lesser_of (lesser_of branches tellers) (lesser_of accounts entries)) (lesser_of numbers turns) three four in
-    let least = lesser_of (lesser_of (lesser_of branches tellers) (lesser_of accounts entries)) (lesser_of numbers turns) in
-    let joined : c.lesser_of-5.result ≡ least = cc in
+    let two = both (AccountsOfHistory w kept) (λ b. EntriesOfHistory w kept b × TurnsOfHistory w kept b) accounts turns c.first_account-accounts.ensures c.first_turn-turns.ensures in
+    let three = both (λ b. BranchesOfHistory w kept b × TellersOfHistory w kept b) (λ b. AccountsOfHistory w kept b × (EntriesOfHistory w kept b × TurnsOfHistory w kept b)) (lesser_of branches tellers) (lesser_of accounts turns) one two in
+    let all = both (λ b. (BranchesOfHistory w kept b × TellersOfHistory w kept b) × (AccountsOfHistory w kept b × (EntriesOfHistory w kept b × TurnsOfHistory w kept b)))
+    (BranchesBearNumbers entry_key (λ e. e.number) w.entries kept) (lesser_of (lesser_of branches tellers) (lesser_of accounts turns)) numbers three (subst N c.entries.ensures.value c.first_of_other_numbers-numbers.ensures) in
+    let least = lesser_of (lesser_of (lesser_of branches tellers) (lesser_of accounts turns)) numbers in
+    let joined : c.lesser_of-4.result ≡ least = cc in
     let P : Option ℕ → Type 0 = λ o. IsFirstFailing (HistoryAgrees w kept) o in
     subst P (sym joined) (reworded (RowsAgree w kept) (HistoryAgrees w kept) least (λ b. agrees_by_rows w kept b c.requires.in_range) (λ b. rows_by_agreement w kept b c.requires.in_range) all)

@@ -5,5 +5,5 @@ use Rattle.book_check.proofs.range.are_of_rows.Goals as goal
 
 pub returns-then-stand_beside-4 : goal.returns-then-stand_beside-4
 returns-then-stand_beside-4 c =
-    let users : IsTrue c.eq.result ↔ (c.users.result.now ≡ c.users-then-stand_beside-4.result.now) = slice_eq-Decides counts_decide _ _ _ c.eq.ensures in
+    let users : IsTrue c.eq.result ↔ (c.users.result.now ≡ c.as_slice.result.now) = slice_eq-Decides counts_decide _ _ _ c.eq.ensures in
     search (rules, users)

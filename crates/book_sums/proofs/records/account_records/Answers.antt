@@ -2,7 +2,7 @@ use Rattle.std.proofs.Common.{◌∙◌}
 use Rattle.bank_books.specs.Records.{account_record_of}
 use Rattle.book_sums.proofs.Mapped.{mapped_more}
 use Rattle.book_sums.proofs.SumsLemmas.{account_from_sums}
-use Rattle.book_sums.proofs.kept.account_records.Goals as goal
+use Rattle.book_sums.proofs.records.account_records.Goals as goal
 
 pub loop-row-preserved : goal.loop-row-preserved
 loop-row-preserved c =

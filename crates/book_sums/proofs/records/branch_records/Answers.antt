@@ -1,6 +1,6 @@
 use Rattle.bank_books.specs.Records.{branch_record_of}
 use Rattle.book_sums.proofs.Mapped.{mapped_more}
-use Rattle.book_sums.proofs.kept.branch_records.Goals as goal
+use Rattle.book_sums.proofs.records.branch_records.Goals as goal
 
 pub loop-row-preserved : goal.loop-row-preserved
 loop-row-preserved c =

@@ -6,7 +6,7 @@ use Rattle.bank_books.specs.Records.{teller_record_of}
 use Rattle.bank_books.specs.declared.rows.Teller.{Teller}
 use Rattle.book_sums.proofs.Mapped.{mapped_more}
 use Rattle.book_sums.proofs.SumsLemmas.{teller_from_sums}
-use Rattle.book_sums.proofs.kept.teller_records.Goals as goal
+use Rattle.book_sums.proofs.records.teller_records.Goals as goal
 
 pub loop-index-preserved : goal.loop-index-preserved
 loop-index-preserved c =

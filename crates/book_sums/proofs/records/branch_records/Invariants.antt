@@ -1,6 +1,6 @@
 use Rattle.std.proofs.Common.{◌≡◌, map, take}
 use Rattle.bank_books.specs.Records.{branch_record_of}
-use Rattle.book_sums.proofs.kept.branch_records.Given as goal
+use Rattle.book_sums.proofs.records.branch_records.Given as goal
 
 abbrev pub invariant-loop-row : goal.invariant-loop-row
 invariant-loop-row l = l.records.items ≡ map (branch_record_of l.world) (take l.row-index l.world.branches)

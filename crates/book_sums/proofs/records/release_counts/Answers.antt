@@ -2,7 +2,7 @@ use Rattle.std.proofs.Common.{ap, ◌∙◌}
 use Rattle.bank_books.specs.Records.{release_count_of}
 use Rattle.book_sums.proofs.Mapped.{mapped_more}
 use Rattle.book_sums.proofs.SumsLemmas.{releases_from_sums}
-use Rattle.book_sums.proofs.kept.release_counts.Goals as goal
+use Rattle.book_sums.proofs.records.release_counts.Goals as goal
 
 pub loop-row-preserved : goal.loop-row-preserved
 loop-row-preserved c =
