@@ -36,7 +36,7 @@ parts_of_range w kept all = record {
 
 -- the entries, which are kept beside their rows
 pub entries_joined : (w : WorldLists) (kept : List EntryRecord) → map (λ e. e.row) kept ≡ w.entries → ((e : Entry) → Contains w.entries e → IsEntryNamed w e) →
-    ((e : EntryRecord) → Contains kept e → IsEntryLimited e) → (e : EntryRecord) → Contains kept e → IsEntryInRange w e
+    ((e : EntryRecord) → Contains kept e → IsEntryLimited w e) → (e : EntryRecord) → Contains kept e → IsEntryInRange w e
 entries_joined w kept same named limited e there =
     let names = named e.row (made_of (λ k. k.row) kept w.entries e same there) in
     let limits = limited e there in
@@ -48,6 +48,7 @@ entries_joined w kept same named limited e there =
       teller = names.teller;
       moment = limits.moment;
       day = limits.day;
+      user = limits.user;
       partner = limits.partner;
       undoes = limits.undoes;
       balance_after = limits.balance_after;
@@ -60,20 +61,21 @@ entries_named w kept same all e there =
     let in_range = all source.0 source.1.0 in
     subst (IsEntryNamed w) source.1.1 record { branch = in_range.branch; account = in_range.account; teller = in_range.teller }
 
-pub entry_limits : (w : WorldLists) (e : EntryRecord) → IsEntryInRange w e → IsEntryLimited e
+pub entry_limits : (w : WorldLists) (e : EntryRecord) → IsEntryInRange w e → IsEntryLimited w e
 entry_limits w e all = record {
   number = all.number;
   turn = all.turn;
   moment = all.moment;
   day = all.day;
+  user = all.user;
   partner = all.partner;
   undoes = all.undoes;
   balance_after = all.balance_after;
 }
 
 -- the lines
-pub line_joined : (w : WorldLists) (l : CashLine) → IsLineNamed w l → IsLineLimited l → IsLineInRange w l
-line_joined w l names limits = record { branch = names.branch; number = limits.number; place = names.place; moment = limits.moment; day = limits.day }
+pub line_joined : (w : WorldLists) (l : CashLine) → IsLineNamed w l → IsLineLimited w l → IsLineInRange w l
+line_joined w l names limits = record { branch = names.branch; number = limits.number; place = names.place; moment = limits.moment; day = limits.day; user = limits.user }
 
 -- the releases, each by itself
 pub releases_told : (w : WorldLists) (seen : List Release) (r : Bool) → seen ≡ w.releases →

@@ -15,21 +15,23 @@ use Rattle.bank_books.specs.Range.{HoldsReleasable, IsAccountInRange, IsBranch, 
 use Rattle.bank_books.specs.Records.{KeptLists}
 use Rattle.bank_books.specs.WorldLists.{WorldLists}
 
--- the numbers of an entry are within their limits
-pub record IsEntryLimited (e : EntryRecord) : Type 0 where
+-- the numbers of an entry are within their limits, and its user is there
+pub record IsEntryLimited (w : WorldLists) (e : EntryRecord) : Type 0 where
   pub number : IsKey e.row.number
   pub turn : IsKey e.row.turn
   pub moment : e.row.moment ≤ 99999999999
   pub day : IsDay e.row.day
+  pub user : IsUser w e.row.user
   pub partner : IsKeyOrZero e.row.partner
   pub undoes : IsKeyOrZero e.row.undoes
   pub balance_after : IsCents e.balance_after
 
--- and those of a line
-pub record IsLineLimited (l : CashLine) : Type 0 where
+-- and those of a line, and its user
+pub record IsLineLimited (w : WorldLists) (l : CashLine) : Type 0 where
   pub number : IsKey l.number
   pub moment : l.moment ≤ 99999999999
   pub day : IsDay l.day
+  pub user : IsUser w l.user
 
 -- what is asked of a release beside the others of its user
 pub record IsReleaseAlone (w : WorldLists) (r : Release) : Type 0 where

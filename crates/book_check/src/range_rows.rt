@@ -99,11 +99,11 @@ impl Limited for AccountRecord {
     }
 }
 
-/// What an entry names is looked up beside.
+/// The branch, account and teller that an entry names are looked up beside.
 impl Limited for EntryRecord {
-    ghost has_limits = { λ _ e. IsEntryLimited e };
+    ghost has_limits = { IsEntryLimited };
 
-    fn is_within_limits(&self, _: &World) -> bool {
+    fn is_within_limits(&self, world: &World) -> bool {
         is_key(self.row.number)
             && is_key(self.row.turn)
             && self.row.moment <= MAX_MOMENT
@@ -111,15 +111,19 @@ impl Limited for EntryRecord {
             && self.row.partner <= MAX_KEY
             && self.row.undoes <= MAX_KEY
             && is_cents(self.balance_after)
+            && is_user(world, self.row.user)
     }
 }
 
-/// What a line names is looked up beside.
+/// The branch and the place that a line names are looked up beside.
 impl Limited for CashLine {
-    ghost has_limits = { λ _ l. IsLineLimited l };
+    ghost has_limits = { IsLineLimited };
 
-    fn is_within_limits(&self, _: &World) -> bool {
-        is_key(self.number) && self.moment <= MAX_MOMENT && is_day(self.day)
+    fn is_within_limits(&self, world: &World) -> bool {
+        is_key(self.number)
+            && self.moment <= MAX_MOMENT
+            && is_day(self.day)
+            && is_user(world, self.user)
     }
 }
 

@@ -1,5 +1,5 @@
 use bank_books::{Account, Branch, CashLine, Entry, EntryForm, LineForm, Lists, Teller, World};
-use bank_policy::Policy;
+use bank_policy::{Name, Policy, User};
 use money::{Cents, Delta, Fault};
 use std::alloc::Global;
 
@@ -17,6 +17,9 @@ const OPENING: i64 = 1_000_000;
 
 /// The cash that each drawer is put on with, in cents.
 const DRAWER: i64 = 1_000_000;
+
+/// The user who makes all entries and lines.
+const USER: u32 = 1;
 
 /// What the vault of each branch opened with, in cents.
 const VAULT: i64 = 100_000_000;
@@ -39,7 +42,21 @@ pub fn made_up_world(alloc: Global, branches: u32) -> Result<Option<World>, Faul
             return Ok(None);
         }
     }
-    Ok(World::from_lists(lists, Policy::new(alloc)))
+    Ok(World::from_lists(lists, one_user(alloc)?))
+}
+
+/// A policy with the one user who does everything.
+fn one_user(alloc: Global) -> Result<Policy, Fault> {
+    let mut policy = Policy::new(alloc);
+    policy.add_user(User {
+        user: USER,
+        name: Name::new(alloc, "Ann")?,
+        officer: false,
+        suspended: false,
+        session: 1,
+        on: true,
+    })?;
+    Ok(policy)
 }
 
 /// Adds a branch with its tellers and its accounts.
@@ -129,7 +146,7 @@ fn entry(turns: &mut Vec<u32>, branch: u32, number: u32, delta: Delta) -> Entry 
         delta,
         moment: 0,
         day: 1,
-        user: 0,
+        user: USER,
         form: EntryForm::Post,
         partner: 0,
         undoes: 0,
@@ -162,6 +179,6 @@ fn line(branch: u32, number: u32, place: u32, amount: Cents, form: LineForm) -> 
         form,
         moment: 0,
         day: 1,
-        user: 1,
+        user: USER,
     }
 }

@@ -6,6 +6,7 @@ use Rattle.std.proofs.lemmas.Bool.{and_parts, eq-eqb, eqb-true, leb-false, ne_eq
 use Rattle.std.proofs.lemmas.Int.{ints}
 use Rattle.money.specs.Ordered.{add_row}
 use Rattle.money.specs.Range.{IsCents, is_cents}
+use Rattle.bank_books.specs.Range.{IsUser}
 use Rattle.counter_ops.specs.declared.op.Post.{Post}
 use Rattle.counter_ops.specs.Ranges.{IsKeyOrZero}
 use Rattle.bank_books.specs.Balances.{account_balance, account_deltas, account_opening, account_row, branch_balance, branch_deltas, branch_opening, branch_row, teller_balance, teller_deltas, teller_opening, teller_row}
@@ -102,9 +103,9 @@ has_room n e = omega (arith, leb-false 999999999 n e)
 none_named : IsKeyOrZero 0
 none_named = (omega arith, omega arith)
 
-pub post_is_next : (w : WorldLists) (post : Post) (there : AreThere w post) (user moment : ℕ) → IsAllowed (post_rows w post) post → Books w → moment ≤ 99999999999
+pub post_is_next : (w : WorldLists) (post : Post) (there : AreThere w post) (user moment : ℕ) → IsAllowed (post_rows w post) post → Books w → IsUser w user → moment ≤ 99999999999
     → IsNextEntry w (entry_of w post there user moment)
-post_is_next w post there user moment allowed books moment_high =
+post_is_next w post there user moment allowed books user_there moment_high =
     let branch_found = find-found (λ row. row.branch == post.branch) w.branches there.branch there.branch_is in
     let of_branch = subst (λ o. option_map_or (λ t. t.row.branch == post.branch) (option_map (teller_record_of w) o) true ≡ true) there.teller_is allowed.of_branch in
     let floor = subst (λ o. option_map_or (λ a. not (int_lt (a.balance +ℤ post.delta) a.row.floor)) (option_map (account_record_of w) o) true ≡ true) there.account_is allowed.above_floor in
@@ -130,6 +131,7 @@ post_is_next w post there user moment allowed books moment_high =
       turn_high = has_room (account_record_of w there.account).turns turns;
       moment = moment_high;
       day = (books.in_range.branches (branch_record_of w there.branch) (Contains-map (branch_record_of w) w.branches there.branch branch_found.0)).day;
+      user = user_there;
       partner = none_named;
       undoes = none_named;
       above_floor = at_least _ _ floor;
@@ -142,10 +144,10 @@ post_is_next w post there user moment allowed books moment_high =
 -- ---- the laws
 
 pub post_keeps_books : PostKeepsBooks
-post_keeps_books w post user moment books moment_high none =
+post_keeps_books w post user moment books user_there moment_high none =
     let allowed = is_allowed (post_rows w post) post none in
     let there = are_there w post allowed in
-    subst Books (sym (effect_is w post there user moment)) (keeps_books w (entry_of w post there user moment) (post_is_next w post there user moment allowed books moment_high) books)
+    subst Books (sym (effect_is w post there user moment)) (keeps_books w (entry_of w post there user moment) (post_is_next w post there user moment allowed books user_there moment_high) books)
 
 branch_moves : (w : WorldLists) (e : Entry) → IsMovedAlone (branch_balance w) (branch_balance (grown w e)) e.branch e.delta
 branch_moves w e = record {

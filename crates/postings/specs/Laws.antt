@@ -2,14 +2,15 @@
 use Rattle.std.specs.Prelude.{ℕ, ℤ, ◌≡◌, ◌≢◌, ◌≤◌, ◌+ℤ◌, None}
 use Rattle.bank_books.specs.Balances.{account_balance, branch_balance, teller_balance}
 use Rattle.bank_books.specs.Books.{Books}
+use Rattle.bank_books.specs.Range.{IsUser}
 use Rattle.bank_books.specs.WorldLists.{WorldLists}
 use Rattle.counter_ops.specs.declared.op.Post.{Post}
 use Rattle.postings.specs.Post.{first_against_post, post_effect, post_rows}
 
--- A post is a well-formed transaction: of books that hold it makes books that hold, as Clark and Wilson's rule C2 asks of every
+-- A post by a user who is there is a well-formed transaction: of books that hold it makes books that hold, as Clark and Wilson's rule C2 asks of every
 -- transformation procedure.
 abbrev pub PostKeepsBooks : Type 0
-PostKeepsBooks = (w : WorldLists) (post : Post) (user moment : ℕ) → Books w → moment ≤ 99999999999 → first_against_post (post_rows w post) post ≡ None
+PostKeepsBooks = (w : WorldLists) (post : Post) (user moment : ℕ) → Books w → IsUser w user → moment ≤ 99999999999 → first_against_post (post_rows w post) post ≡ None
     → Books (post_effect w post user moment)
 
 -- a balance is moved by a delta at one key and kept at every other
