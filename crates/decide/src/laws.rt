@@ -1,6 +1,7 @@
-//! What holds of every decision. The functions do nothing; their contracts are the laws.
+//! What holds of every decision, and along every list of requests. The functions do nothing; their contracts are the laws.
 
 ghost use Rattle.decide.specs.Laws.{FirstIsLeast, PolicyIsJudged};
+ghost use Rattle.decide.specs.Sums.{NoOneExecutesWhatHeCertifies, SumsAlwaysAgree};
 
 /// The rule that a denial names is the least that denies, and where none is named, none denies.
 pub fn first_is_least()
@@ -11,4 +12,16 @@ pub fn first_is_least()
 /// holds all that is touched.
 pub fn policy_is_judged()
     ensures { PolicyIsJudged }
+{}
+
+/// In a policy that separates them, no one is let execute a procedure that he certifies.
+pub fn no_one_executes_what_he_certifies()
+    ensures { NoOneExecutesWhatHeCertifies }
+{}
+
+/// Of every World that passes both checks, and after each request of every list of proper ones, with
+/// any marks: the checks pass, each branch has gained the deltas of the accepted posts at its tellers,
+/// and entries, cash lines and proofs were added alone.
+pub fn sums()
+    ensures { SumsAlwaysAgree }
 {}
