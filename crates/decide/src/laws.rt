@@ -1,6 +1,6 @@
 //! What holds of every decision. The functions do nothing; their contracts are the laws.
 
-ghost use Rattle.decide.specs.Laws.{FirstIsLeast, PolicyIsJudged};
+ghost use Rattle.decide.specs.Laws.{FirstIsLeast, NewAccountKeepsBooks, PolicyIsJudged};
 
 /// The rule that a denial names is the least that denies, and where none is named, none denies.
 pub fn first_is_least()
@@ -11,4 +11,9 @@ pub fn first_is_least()
 /// holds all that is touched.
 pub fn policy_is_judged()
     ensures { PolicyIsJudged }
+{}
+
+/// Where the books hold, they hold after an account is opened that no rule of the books denies, too.
+pub fn new_account_keeps_books()
+    ensures { NewAccountKeepsBooks }
 {}
