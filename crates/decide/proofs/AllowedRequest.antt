@@ -51,7 +51,7 @@ may_execute : (w : WorldLists) (who : Who) (o : Op) → first w who o ≡ None �
 may_execute w who o is =
     let some = held_by_some (triples_of w.policy (asker who) (procedure_of o)) (touched o) (not-false _ (passes w who o rule.NoTriple is)) in
     let held = (held_by_rows w.policy (asker who) (procedure_of o) (touched o) some.0).1 some.1 in
-    (held.0, (held.1.0, (held.1.1.0, held.1.1.1.0)))
+    (held.0, held.1, held.2, held.3, (held.4.0, held.4.1))
 
 pub no_one_executes_what_he_certifies : NoOneExecutesWhatHeCertifies
 no_one_executes_what_he_certifies w who o separated is certifies = separated.others (asker who) (procedure_of o) (certifies, may_execute w who o is)

@@ -33,7 +33,7 @@ use Rattle.decide.specs.Requests.{effect, first, first_of_books}
 use Rattle.decide.specs.Run.{Marked, accepted, after_request, if_allowed, is_accepted, world_after}
 use Rattle.decide.specs.Sums.{AreKept, AreProper, IsProper, OnlyAdds, PassesChecks, SumsAgree, SumsAlwaysAgree, moved_at}
 use Rattle.decide.proofs.AllowedRequest.{allowed_by_books, allowed_user}
-use Rattle.decide.proofs.OpenedAccount.{new_account_keeps_books}
+use Rattle.decide.proofs.OpenedBooks.{new_account_keeps_books}
 
 -- ---- what is kept
 
@@ -124,7 +124,7 @@ by_form w (op.NewAccount form) user moment checks proper there high is = opens w
 by_form w _ user moment checks proper there high is = stands w checks
 
 -- where it is made
-Proper : Marked → Type 0
+abbrev Proper : Marked → Type 0
 Proper m = m.mark ≡ None → IsProper m.request
 
 -- with its mark, and the rule against it

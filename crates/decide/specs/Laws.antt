@@ -1,14 +1,18 @@
--- What holds of every decision: the rule that is named is the least that denies, and the tests of the policy ask what Clark and
--- Wilson's rules E1 and E2 ask.
+-- What holds of every decision: the rule that is named is the least that denies, the tests of the policy ask what Clark and
+-- Wilson's rules E1 and E2 ask, and an account that is opened keeps the books.
 use Rattle.std.specs.Prelude.{ℕ, ◌≡◌, ◌↔◌, ◌<◌, ◌≤◌, true, false, Some, None}
 use Rattle.bank_policy.specs.Execution.{Certified, Held}
 use Rattle.bank_policy.specs.Rule.{number_of}
 use Rattle.bank_policy.specs.declared.rule.Rule.{Rule}
 use Rattle.bank_policy.specs.declared.rule.Rule.TheVariants as rule
+use Rattle.bank_books.specs.Books.{Books}
 use Rattle.bank_books.specs.WorldLists.{WorldLists}
 use Rattle.counter_ops.specs.Op.{procedure_of}
+use Rattle.counter_ops.specs.Ranges.{IsNewAccount}
+use Rattle.counter_ops.specs.declared.op.NewAccount.{NewAccount}
 use Rattle.counter_ops.specs.declared.op.Op.{Op}
 use Rattle.touched.specs.Touched.{amount, touched}
+use Rattle.decide.specs.NewAccount.{first_against_new_account, new_account_effect, opening_rows}
 use Rattle.decide.specs.PolicyRules.{asker}
 use Rattle.decide.specs.Requests.{denies, first}
 use Rattle.decide.specs.declared.who.Who.{Who}
@@ -34,3 +38,7 @@ pub record IsJudged (w : WorldLists) (who : Who) (op : Op) : Type 0 where
 
 abbrev pub PolicyIsJudged : Type 0
 PolicyIsJudged = (w : WorldLists) (who : Who) (op : Op) → IsJudged w who op
+
+-- An account that is opened is a well-formed transaction, too: of books that hold it makes books that hold.
+abbrev pub NewAccountKeepsBooks : Type 0
+NewAccountKeepsBooks = (w : WorldLists) (form : NewAccount) → Books w → IsNewAccount form → first_against_new_account (opening_rows w form) ≡ None → Books (new_account_effect w form)

@@ -1,6 +1,6 @@
 //! What holds of every decision, and along every list of requests. The functions do nothing; their contracts are the laws.
 
-ghost use Rattle.decide.specs.Laws.{FirstIsLeast, PolicyIsJudged};
+ghost use Rattle.decide.specs.Laws.{FirstIsLeast, NewAccountKeepsBooks, PolicyIsJudged};
 ghost use Rattle.decide.specs.Sums.{NoOneExecutesWhatHeCertifies, SumsAlwaysAgree};
 
 /// The rule that a denial names is the least that denies, and where none is named, none denies.
@@ -12,6 +12,11 @@ pub fn first_is_least()
 /// holds all that is touched.
 pub fn policy_is_judged()
     ensures { PolicyIsJudged }
+{}
+
+/// Where the books hold, they hold after an account is opened that no rule of the books denies, too.
+pub fn new_account_keeps_books()
+    ensures { NewAccountKeepsBooks }
 {}
 
 /// In a policy that separates them, no one is let execute a procedure that he certifies.
