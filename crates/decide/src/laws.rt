@@ -1,4 +1,5 @@
-//! What holds of every decision. The functions do nothing; their contracts are the laws.
+//! What holds of every decision, and of every account that is opened. The functions do nothing; their
+//! contracts are the laws.
 
 ghost use Rattle.decide.specs.Laws.{FirstIsLeast, NewAccountKeepsBooks, PolicyIsJudged};
 
