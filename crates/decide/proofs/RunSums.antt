@@ -1,14 +1,13 @@
 -- Along a list of requests the checks pass, the sums agree, and what is written stays.
-use Rattle.std.proofs.Common.{◌≡◌, ℕ, ◌≤◌, zero, suc, ℤ, pos, ◌+ℤ◌, ◌==◌, ◌&&◌, List, [], ◌∷◌, map, take, All, Bool, true, false, cond, Option, Some, None, ◌⊎◌, inl, inr, refl, ap, arith, sym, subst, ◌∙◌}
+use Rattle.std.proofs.Common.{◌≡◌, ℕ, ◌≤◌, zero, suc, ℤ, pos, ◌+ℤ◌, ◌==◌, ◌&&◌, List, [], ◌∷◌, map, take, Bool, true, false, cond, Option, Some, None, inl, inr, refl, ap, arith, sym, subst, ◌∙◌}
 use Rattle.std.specs.Prelude.{nat_le, is_none, if◌then◌else◌}
 use Rattle.std.specs.Option.{option_map_or}
-use Rattle.std.proofs.lemmas.Bool.{cases_Bool, eqb-true, eqb-false}
+use Rattle.std.proofs.lemmas.Bool.{eqb-true, eqb-false}
 use Rattle.std.proofs.lemmas.Int.{ints}
 use Rattle.std.proofs.lemmas.List.Elements.{All-head, All-tail}
 use Rattle.money.specs.Ordered.{add_row}
 use Rattle.money.specs.Totals.{total}
 use Rattle.money.specs.declared.fault.Fault.{Fault}
-use Rattle.bank_policy.specs.Policy.{PolicyLists}
 use Rattle.bank_policy.specs.Separation.{Separated}
 use Rattle.bank_policy.specs.Soundness.{IsPolicySound}
 use Rattle.bank_policy.specs.declared.rule.Rule.{Rule}
@@ -31,7 +30,7 @@ use Rattle.decide.specs.NewAccount.{new_account_effect}
 use Rattle.decide.specs.PolicyRules.{asker}
 use Rattle.decide.specs.Requests.{effect, first, first_of_books}
 use Rattle.decide.specs.Run.{Marked, accepted, after_request, if_allowed, is_accepted, world_after}
-use Rattle.decide.specs.Sums.{AreKept, AreProper, IsProper, OnlyAdds, PassesChecks, SumsAgree, SumsAlwaysAgree, moved_at}
+use Rattle.decide.specs.Sums.{AreKept, AreProper, IsProper, OnlyAdds, PassesChecks, SumsAlwaysAgree, moved_at}
 use Rattle.decide.proofs.AllowedRequest.{allowed_by_books, allowed_user}
 use Rattle.decide.proofs.OpenedBooks.{new_account_keeps_books}
 

@@ -1,4 +1,4 @@
-//! What holds of every decision, and along every list of requests. The functions do nothing; their contracts are the laws.
+//! What holds of every decision, of a new account, and along every list of requests. The functions do nothing; their contracts are the laws.
 
 ghost use Rattle.decide.specs.Laws.{FirstIsLeast, NewAccountKeepsBooks, PolicyIsJudged};
 ghost use Rattle.decide.specs.Sums.{NoOneExecutesWhatHeCertifies, SumsAlwaysAgree};
