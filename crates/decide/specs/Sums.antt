@@ -12,7 +12,8 @@ use Rattle.counter_ops.specs.declared.op.Op.{Op}
 use Rattle.counter_ops.specs.declared.op.Op.TheVariants as op
 use Rattle.decide.specs.PolicyRules.{asker}
 use Rattle.decide.specs.Requests.{first}
-use Rattle.decide.specs.Run.{Marked, Request, accepted, world_after}
+use Rattle.decide.specs.Run.{Marked, accepted, world_after}
+use Rattle.decide.specs.declared.request.Request.{Request}
 use Rattle.decide.specs.declared.who.Who.{Who}
 
 -- The World passes both checks: its books hold, no row of its policy dangles, and no one may execute what he certifies.

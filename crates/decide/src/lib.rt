@@ -8,6 +8,7 @@ pub mod laws;
 mod new_account;
 mod permit;
 mod policy_rules;
+mod request;
 mod text;
 mod who;
 
@@ -16,5 +17,6 @@ pub use bank_policy::Rule;
 pub use brought::is_brought;
 pub use counter_ops::Op;
 pub use permit::{Decision, Denial, Done, Permit, Reply, carry_out, decide};
+pub use request::Request;
 pub use text::{answer_text, denial_text};
 pub use who::Who;
