@@ -1,2 +1,4 @@
 pub mod Fault
 pub mod Fields
+pub mod Response
+pub mod Routes

@@ -12,7 +12,7 @@ use bodies::read_op;
 use decide::{Decision, Op, Reply, Who, carry_out, decide, is_brought};
 use heads::MessageFault;
 use messages::{AnswerFault, Engine, Message};
-use money::Tallied;
+use money::{Fault, Tallied};
 use std::alloc::Global;
 use std::io::Write;
 use store_rows::{Bank, Store};
@@ -69,7 +69,10 @@ fn carried_out<S: Store>(
     requires { is_brought (procedure_of op.now) ≡ true }
 {
     match decide(bank, alloc, who, moment, op) {
-        Ok(Decision::Denied(denial)) => Response::denied(alloc, denial.rule()),
+        Ok(Decision::Denied(denial)) => match Response::denied(alloc, denial.rule()) {
+            Ok(response) => response,
+            Err(refused) => Response::faulted(Fault::from(refused)),
+        },
         Ok(Decision::Allowed(permit)) => match carry_out(permit) {
             Ok(Reply::Done(done)) => Response::done(done.into_body()),
             Err(fault) => Response::faulted(fault),
@@ -95,8 +98,9 @@ impl<'b, 'g, 'c, S: Store, G: Gate, C: Clock> Engine for Counter<'b, 'g, 'c, S, 
         writer: &mut Tallied<W>,
     ) -> Result<(), AnswerFault> {
         let response = self.response(message);
-        let body = response.body.bytes();
-        match message.reply(writer, response.status, "application/json", body) {
+        let status = response.status();
+        let body = response.body();
+        match message.reply(writer, status, "application/json", body) {
             Ok(()) => Ok(()),
             Err(_) => Err(AnswerFault::Write),
         }

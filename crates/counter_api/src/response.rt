@@ -1,15 +1,17 @@
-ghost use Rattle.std.specs.Prelude.{◌≡◌};
+ghost use Rattle.std.specs.Prelude.{◌≡◌, IfOk};
 ghost use Rattle.counter_api.specs.Fault.{fault_text};
+ghost use Rattle.counter_api.specs.Response.{body_bytes, done_parts, denied_parts, refused_parts, faulted_parts};
 
 use decide::{Rule, denial_text};
 use heads::MessageFault;
 use http::StatusCode;
 use money::Fault;
-use std::alloc::Global;
+use std::alloc::{AllocError, Global};
+use std::marker::Model;
 
 /// The body of a reply, in JSON.
 #[derive(Drop)]
-pub(crate) enum Body {
+enum Body {
     /// A text that was formed.
     Text(Vec<u8>),
     /// A text that takes no memory.
@@ -18,7 +20,9 @@ pub(crate) enum Body {
 
 impl Body {
     /// Its bytes.
-    pub(crate) fn bytes(&self) -> &[u8] {
+    fn bytes(&self) -> &[u8]
+        ensures { result.now ≡ body_bytes self.now }
+    {
         match self {
             Body::Text(text) => text.as_slice(),
             Body::Fixed(text) => text,
@@ -26,16 +30,26 @@ impl Body {
     }
 }
 
-/// What a message is answered.
+/// What a message is answered: a status, and a body in JSON.
 #[derive(Drop)]
 pub(crate) struct Response {
-    pub(crate) status: StatusCode,
-    pub(crate) body: Body,
+    status: StatusCode,
+    body: Body,
+}
+
+impl Model for Response {
+    ghost use Rattle.counter_api.specs.Response.{ResponseParts, body_bytes};
+
+    ghost Value = { ResponseParts };
+
+    ghost view = { λ response. record { status = response.status; body = body_bytes response.body } };
 }
 
 impl Response {
     /// To a request that was carried out.
-    pub(crate) fn done(body: Vec<u8>) -> Response {
+    pub(crate) fn done(body: Vec<u8>) -> Response
+        ensures { result ≡ done_parts body.items }
+    {
         Response {
             status: StatusCode::OK,
             body: Body::Text(body),
@@ -43,23 +57,24 @@ impl Response {
     }
 
     /// To a request that a rule denies.
-    pub(crate) fn denied(alloc: Global, rule: Rule) -> Response {
+    pub(crate) fn denied(alloc: Global, rule: Rule) -> Result<Response, AllocError>
+        ensures { IfOk result (λ response. response ≡ denied_parts rule) }
+    {
         let status = if rule.is_forbidden() {
             StatusCode::FORBIDDEN
         } else {
             StatusCode::CONFLICT
         };
-        match denial_text(alloc, rule) {
-            Ok(body) => Response {
-                status,
-                body: Body::Text(body),
-            },
-            Err(_) => Response::faulted(Fault::Memory),
-        }
+        Ok(Response {
+            status,
+            body: Body::Text(denial_text(alloc, rule)?),
+        })
     }
 
     /// To a message that asks for nothing that is served, or not in the form that it has to have.
-    pub(crate) fn refused(fault: MessageFault) -> Response {
+    pub(crate) fn refused(fault: MessageFault) -> Response
+        ensures { result ≡ refused_parts fault }
+    {
         Response {
             status: fault.status(),
             body: Body::Fixed(fault.text()),
@@ -67,11 +82,27 @@ impl Response {
     }
 
     /// To a request that a fault kept from being made. It takes no memory.
-    pub(crate) fn faulted(fault: Fault) -> Response {
+    pub(crate) fn faulted(fault: Fault) -> Response
+        ensures { result ≡ faulted_parts fault }
+    {
         Response {
             status: StatusCode::SERVICE_UNAVAILABLE,
             body: Body::Fixed(fault_text(fault)),
         }
+    }
+
+    /// Its status.
+    pub(crate) fn status(&self) -> StatusCode
+        ensures { result ≡ self.now.status }
+    {
+        self.status
+    }
+
+    /// The bytes of its body.
+    pub(crate) fn body(&self) -> &[u8]
+        ensures { result.now ≡ self.now.body }
+    {
+        self.body.bytes()
     }
 }
 
