@@ -1,2 +1,5 @@
+pub mod FramingLemmas
+pub mod HandledLemmas
 pub mod RouteLemmas
+pub mod RunLemmas
 pub mod SessionLemmas

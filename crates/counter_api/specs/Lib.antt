@@ -1,4 +1,7 @@
 pub mod Fault
 pub mod Fields
+pub mod Request
 pub mod Response
 pub mod Routes
+pub mod Run
+pub mod Served

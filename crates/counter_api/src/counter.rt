@@ -1,6 +1,15 @@
-ghost use Rattle.std.specs.Prelude.{◌≡◌, true, IfSome};
+ghost use Rattle.std.specs.Prelude.{◌≡◌, ◌≤◌, true, IfOk, IfSome, IsOkUnless, IsSome, OnErr, OnOk};
+ghost use Rattle.std.specs.Io.KnownBytes.{Appends};
+ghost use Rattle.money.specs.Counted.{AppendsBeginning, CountsFailure, failure_count, stream_of};
+ghost use Rattle.money.specs.declared.fault.Fault.TheVariants.{Memory};
 ghost use Rattle.counter_ops.specs.Op.{procedure_of};
 ghost use Rattle.decide.specs.Requests.{is_brought};
+ghost use Rattle.decide.specs.Sums.{IsProper};
+ghost use Rattle.store_rows.specs.Status.{Refuses, mark_of};
+ghost use Rattle.counter_api.specs.Request.{request_of, served};
+ghost use Rattle.counter_api.specs.Routes.{asked_procedure};
+ghost use Rattle.counter_api.specs.Run.{IsHandled, framed, parts_or_fault};
+ghost use Rattle.counter_api.specs.Served.{IsServed};
 
 use crate::clock::Clock;
 use crate::fields::who_of;
@@ -9,85 +18,165 @@ use crate::response::Response;
 use crate::routes::Routes;
 use bank_policy::Procedure;
 use bodies::read_op;
-use decide::{Decision, Op, Reply, Who, carry_out, decide, is_brought};
+use decide::{Decision, Reply, Request, Who, carry_out, decide, is_brought};
 use heads::MessageFault;
 use messages::{AnswerFault, Engine, Message};
-use money::{Fault, Tallied};
+use money::{Fault, Tallied, WriteStopped};
 use std::alloc::Global;
 use std::io::Write;
 use store_rows::{Bank, Store};
 
 /// A bank that answers messages.
 #[derive(Drop)]
-pub(crate) struct Counter<'b, 'g, 'c, S, G, C> {
+pub(crate) struct Counter<'b, 'g, 'c, 'r, S, G, C> {
     pub(crate) alloc: Global,
     pub(crate) bank: &'b mut Bank<S>,
     pub(crate) gate: &'g G,
     pub(crate) clock: &'c mut C,
-    pub(crate) routes: Routes,
+    pub(crate) routes: &'r Routes,
 }
 
-impl<'b, 'g, 'c, S: Store, G: Gate, C: Clock> Counter<'b, 'g, 'c, S, G, C> {
-    /// Does what a message asks for, and leaves the reply to be written.
-    fn response(&mut self, message: &Message<'_>) -> Response {
-        let moment = self.clock.moment();
-        let Some(procedure) = self.procedure(message) else {
-            return Response::refused(MessageFault::NoSuchRoute);
-        };
-        let who = match who_of(message, self.gate) {
-            Ok(who) => who,
-            Err(fault) => return Response::refused(fault),
-        };
-        match read_op(self.alloc, procedure, message.body()) {
-            Ok(Some(op)) => carried_out(self.bank, self.alloc, who, moment, &op),
-            Ok(None) => Response::refused(MessageFault::BadContent),
-            Err(fault) => Response::faulted(fault),
-        }
-    }
-
-    /// The procedure that a message asks for, if it is served.
-    fn procedure(&self, message: &Message<'_>) -> Option<Procedure>
-        ensures brought { IfSome result (λ procedure. is_brought procedure ≡ true) }
-    {
-        let procedure = self.routes.procedure(message.method(), message.target())?;
-        if is_brought(procedure) {
-            Some(procedure)
-        } else {
-            None
-        }
+/// The procedure that a message asks for, if it is served.
+fn served_procedure(routes: &Routes, message: &Message<'_>) -> Option<Procedure>
+    ensures asked { result ≡ served (asked_procedure message.now.head.method message.now.head.target) }
+    ensures brought { IfSome result (λ procedure. is_brought procedure ≡ true) }
+{
+    let procedure = routes.procedure(message.method(), message.target())?;
+    if is_brought(procedure) {
+        Some(procedure)
+    } else {
+        None
     }
 }
 
-/// Decides an operation, and carries it out where it is allowed.
+/// The request that a message states at a moment, or its fault.
+fn stated_request<G: Gate>(
+    alloc: Global,
+    routes: &Routes,
+    gate: &G,
+    message: &Message<'_>,
+    moment: u64,
+) -> Result<Result<Request, MessageFault>, Fault>
+    requires { moment ≤ 99999999999 }
+    ensures stated { IfOk result (λ stated. stated ≡ request_of (G.users gate.now) moment message.now) }
+    ensures proper { IfOk result (λ stated. IfOk stated IsProper) }
+    ensures brought { IfOk result (λ stated. IfOk stated (λ request. is_brought (procedure_of request.op) ≡ true)) }
+    ensures memory { IsOkUnless result Memory }
+{
+    let Some(procedure) = served_procedure(routes, message) else {
+        return Ok(Err(MessageFault::NoSuchRoute));
+    };
+    let who = match who_of(message, gate) {
+        Ok(who) => who,
+        Err(fault) => return Ok(Err(fault)),
+    };
+    match read_op(alloc, procedure, message.body())? {
+        Some(op) => Ok(Ok(Request { who, moment, op })),
+        None => Ok(Err(MessageFault::BadContent)),
+    }
+}
+
+/// Decides a request, and carries it out where it is allowed: the reply to it, or the fault that
+/// kept it from being made.
 fn carried_out<S: Store>(
     bank: &mut Bank<S>,
     alloc: Global,
-    who: Who,
-    moment: u64,
-    op: &Op,
-) -> Response
-    requires { is_brought (procedure_of op.now) ≡ true }
+    request: &Request,
+) -> Result<Response, Fault>
+    requires { is_brought (procedure_of request.now.op) ≡ true }
+    ensures served { IsServed (S.status bank.old.store) (S.status bank.new.store) request.now result }
+    ensures refused { IsSome request.now.who.user → Refuses (S.status bank.old.store) (mark_of result) }
 {
-    match decide(bank, alloc, who, moment, op) {
-        Ok(Decision::Denied(denial)) => match Response::denied(alloc, denial.rule()) {
-            Ok(response) => response,
-            Err(refused) => Response::faulted(Fault::from(refused)),
-        },
+    match decide(bank, alloc, request.who, request.moment, &request.op) {
+        Ok(Decision::Denied(denial)) => Ok(Response::denied(alloc, denial.rule())?),
         Ok(Decision::Allowed(permit)) => match carry_out(permit) {
-            Ok(Reply::Done(done)) => Response::done(done.into_body()),
-            Err(fault) => Response::faulted(fault),
+            Ok(Reply::Done(done)) => Ok(Response::done(done.into_body())),
+            Err(fault) => Err(fault),
         },
+        Err(fault) => Err(fault),
+    }
+}
+
+/// Does what a message asks for at a moment: the reply to it, or the fault that kept it from one.
+fn handled<S: Store, G: Gate>(
+    bank: &mut Bank<S>,
+    alloc: Global,
+    routes: &Routes,
+    gate: &G,
+    message: &Message<'_>,
+    moment: u64,
+) -> Result<Response, Fault>
+    requires { moment ≤ 99999999999 }
+    ensures { IsHandled (G.users gate.now) (S.status bank.old.store) (S.status bank.new.store) (record { message = message.now; moment = moment; mark = mark_of result }) (parts_or_fault result) }
+{
+    let stated = match stated_request(alloc, routes, gate, message, moment) {
+        Ok(stated) => stated,
+        Err(fault) => return Err(fault),
+    };
+    match stated {
+        Ok(request) => carried_out(bank, alloc, &request),
+        Err(fault) => Ok(Response::refused(fault)),
+    }
+}
+
+impl<'b, 'g, 'c, 'r, S: Store, G: Gate, C: Clock> Counter<'b, 'g, 'c, 'r, S, G, C> {
+    /// The reply to a message, or the fault that is replied. The clock gives the moment.
+    fn respond(&mut self, message: &Message<'_>) -> (u64, Result<Response, Fault>)
+        ensures handled { IsHandled (G.users self.old.gate.now) (S.status self.old.bank.now.store) (S.status self.new.bank.now.store) (record { message = message.now; moment = result.0; mark = mark_of result.1 }) (parts_or_fault result.1) }
+        ensures given { C.may_give self.old.clock.now result.0 self.new.clock.now }
+        ensures same_bank { self.new.bank.ghost_name ≡ self.old.bank.ghost_name }
+        ensures same_clock { self.new.clock.ghost_name ≡ self.old.clock.ghost_name }
+        ensures same_gate { self.new.gate ≡ self.old.gate }
+    {
+        let moment = self.clock.moment();
+        let response = handled(
+            self.bank,
+            self.alloc,
+            self.routes,
+            self.gate,
+            message,
+            moment,
+        );
+        (moment, response)
+    }
+}
+
+/// The response to a message, also to one that a fault is replied to.
+fn response_of(outcome: Result<Response, Fault>) -> Response
+    ensures { result ≡ parts_or_fault outcome }
+{
+    match outcome {
+        Ok(response) => response,
         Err(fault) => Response::faulted(fault),
     }
 }
 
-impl<'b, 'g, 'c, S: Store, G: Gate, C: Clock> Engine for Counter<'b, 'g, 'c, S, G, C> {
-    ghost use Rattle.std.specs.Prelude.{◌≡◌, ℕ, List, codes};
-    ghost use Rattle.heads.specs.Framing.{asks_head, closes};
-    ghost use Rattle.messages.specs.Reply.{reply_bytes};
+/// Writes a response, framed as its message asks for it.
+fn write_response<W: Write>(
+    message: &Message<'_>,
+    response: &Response,
+    writer: &mut Tallied<W>,
+) -> Result<(), WriteStopped>
+    ensures whole { OnOk result (Appends (W.contents (stream_of writer.old)) (W.contents (stream_of writer.new)) (framed message.now response.now)) }
+    ensures beginning { OnErr result (AppendsBeginning (W.contents (stream_of writer.old)) (W.contents (stream_of writer.new)) (framed message.now response.now)) }
+    ensures cause { OnErr result (CountsFailure (failure_count writer.old) (failure_count writer.new)) }
+    ensures counts { failure_count writer.old ≤ failure_count writer.new }
+{
+    message.reply(
+        writer,
+        response.status(),
+        "application/json",
+        response.body(),
+    )
+}
 
-    // One reply in JSON, framed as the message asks for it.
-    ghost answers = { λ _ m reply _. (status : ℕ) × (body : List ℕ) × (reply ≡ reply_bytes status (codes "application/json") body (closes m.head) (asks_head m.head)) };
+impl<'b, 'g, 'c, 'r, S: Store, G: Gate, C: Clock> Engine for Counter<'b, 'g, 'c, 'r, S, G, C> {
+    ghost use Rattle.std.specs.Prelude.{◌≡◌};
+    ghost use Rattle.counter_api.specs.Run.{IsAnswered};
+
+    // One request is handled at a moment of the clock, over the same bank.
+    ghost answers = { λ old m out new. IsAnswered (G.users old.gate.now) C.may_give (S.status old.bank.now.store) (S.status new.bank.now.store) old.clock.now new.clock.now m out
+        × (new.bank.ghost_name ≡ old.bank.ghost_name) × (new.clock.ghost_name ≡ old.clock.ghost_name) × (new.gate ≡ old.gate) };
 
     // No reply is a report yet.
     ghost breaks = { λ _ _ _ _. ⊥ };
@@ -97,10 +186,9 @@ impl<'b, 'g, 'c, S: Store, G: Gate, C: Clock> Engine for Counter<'b, 'g, 'c, S, 
         message: &Message<'_>,
         writer: &mut Tallied<W>,
     ) -> Result<(), AnswerFault> {
-        let response = self.response(message);
-        let status = response.status();
-        let body = response.body();
-        match message.reply(writer, status, "application/json", body) {
+        let (_, outcome) = self.respond(message);
+        let response = response_of(outcome);
+        match write_response(message, &response, writer) {
             Ok(()) => Ok(()),
             Err(_) => Err(AnswerFault::Write),
         }

@@ -39,7 +39,7 @@ pub fn serve<R: Read, W: Write, S: Store, G: Gate, C: Clock>(
         bank,
         gate,
         clock,
-        routes,
+        routes: &routes,
     };
     serve_messages(alloc, &mut counter, reader, writer, most)
 }

@@ -1,0 +1,120 @@
+-- Messages one after another: the requests that they state, and the replies to them.
+use Rattle.std.specs.Prelude.{ℕ, ◌≡◌, ◌⊎◌, ◌+◌, Bool, IsTrue, List, [], ◌∷◌, ◌++◌, codes, Option, Some, None, IsSome, Result, Ok, Err, IfOk, ⊤}
+use Rattle.money.specs.declared.fault.Fault.{Fault}
+use Rattle.money.specs.declared.fault.Fault.TheVariants.{Memory, Stopped}
+use Rattle.bank_policy.specs.declared.rule.Rule.{Rule}
+use Rattle.bank_books.specs.WorldLists.{WorldLists}
+use Rattle.heads.specs.Framing.{asks_head, closes}
+use Rattle.heads.specs.declared.fault.MessageFault.{MessageFault}
+use Rattle.messages.specs.Parts.{MessageParts}
+use Rattle.messages.specs.Reply.{reply_bytes}
+use Rattle.store_rows.specs.Status.{Answers, Refuses, RoseBy, Status, Tells, counts, stops}
+use Rattle.decide.specs.Run.{Marked, reply, world_after}
+use Rattle.decide.specs.Sums.{IsProper, PassesChecks, SumsAgree}
+use Rattle.decide.specs.declared.request.Request.{Request}
+use Rattle.counter_api.specs.Request.{request_of}
+use Rattle.counter_api.specs.Response.{ResponseParts, denied_parts, done_parts, faulted_parts, refused_parts}
+
+-- a message, the moment that it bears, and the fault that kept it from being answered otherwise, if one did
+pub record MarkedMessage : Type 0 where
+  pub message : MessageParts
+  pub moment : ℕ
+  pub mark : Option Fault
+
+-- a request with its mark; none where a message states none
+abbrev pub marked : Result Request MessageFault → Option Fault → List Marked → List Marked
+marked (Ok r) mark rest = record { request = r; mark = mark } ∷ rest
+marked (Err fault) mark rest = rest
+
+-- the text, or the rule, as a reply
+abbrev pub told_parts : Result (List ℕ) Rule → ResponseParts
+told_parts (Ok text) = done_parts text
+told_parts (Err rule) = denied_parts rule
+
+-- what a message is answered in a World
+abbrev pub response_to : WorldLists → Result Request MessageFault → Option Fault → ResponseParts
+response_to w stated (Some fault) = faulted_parts fault
+response_to w (Ok r) None = told_parts (reply w r)
+response_to w (Err fault) None = refused_parts fault
+
+-- its bytes, framed as the message asks for it
+abbrev pub framed : MessageParts → ResponseParts → List ℕ
+framed m parts = reply_bytes parts.status (codes "application/json") parts.body (closes m.head) (asks_head m.head)
+
+-- A request may be kept from being made by any fault. A message that states none may be kept from its reply by want of memory alone.
+abbrev pub MayBear : Result Request MessageFault → Option Fault → Type 0
+MayBear (Ok r) mark = ⊤
+MayBear (Err fault) mark = (mark ≡ None) ⊎ (mark ≡ Some Memory)
+
+module _ (users : List ℕ → Option ℕ) where
+  abbrev pub stated_by : MarkedMessage → Result Request MessageFault
+  stated_by m = request_of users m.moment m.message
+
+  -- the requests that messages state, in their order
+  abbrev pub requests_of : List MarkedMessage → List Marked
+  requests_of [] = []
+  requests_of (m ∷ ms) = marked (stated_by m) m.mark (requests_of ms)
+
+  abbrev pub reply_to : WorldLists → MarkedMessage → List ℕ
+  reply_to w m = framed m.message (response_to w (stated_by m) m.mark)
+
+  -- the World after one message: that after its request, if it states one
+  abbrev pub after_message : WorldLists → MarkedMessage → WorldLists
+  after_message w m = world_after w (marked (stated_by m) m.mark [])
+
+  -- the replies to messages, one after another
+  abbrev pub replies_to : WorldLists → List MarkedMessage → List ℕ
+  replies_to w [] = []
+  replies_to w (m ∷ ms) = reply_to w m ++ replies_to (after_message w m) ms
+
+  -- What one message makes of a store, and what it is answered, of each World that the store stood for. A request that is made is proper.
+  pub record IsHandled (old new : Status) (m : MarkedMessage) (parts : ResponseParts) : Type 0 where
+    pub bears : MayBear (stated_by m) m.mark
+    pub proper : m.mark ≡ None → IfOk (stated_by m) IsProper
+    pub answers : Answers old new m.mark
+    pub refused : IfOk (stated_by m) (λ r. IsSome r.who.user → Refuses old m.mark)
+    pub moved : Tells old new (λ w. new.holds (after_message w m))
+    pub replied : Tells old new (λ w. parts ≡ response_to w (stated_by m) m.mark)
+
+  -- Along messages: a request of a known user that finds the store stopped is marked Stopped or Memory, and Stopped marks no other.
+  abbrev pub AreOrderly : List MarkedMessage → Bool → Type 0
+  AreOrderly [] stopped = ⊤
+  AreOrderly (m ∷ ms) stopped =
+      IfOk (stated_by m) (λ r. IsSome r.who.user → IsTrue stopped → (m.mark ≡ Some Stopped) ⊎ (m.mark ≡ Some Memory))
+      × (m.mark ≡ Some Stopped → IsTrue stopped) × MayBear (stated_by m) m.mark × AreOrderly ms (stops m.mark stopped)
+
+-- is the store stopped after them: a mark of Disk stops it
+abbrev pub stopped_after : List MarkedMessage → Bool → Bool
+stopped_after [] stopped = stopped
+stopped_after (m ∷ ms) stopped = stopped_after ms (stops m.mark stopped)
+
+-- how many marks of Size, Disk and Stopped there are
+abbrev pub faults_of : List MarkedMessage → ℕ
+faults_of [] = 0
+faults_of (m ∷ ms) = counts m.mark + faults_of ms
+
+-- What messages and the bytes of their replies make of a store, of each World that it stood for: it stands for the World
+-- after their requests, and the bytes are the replies to them.
+pub record IsRun (users : List ℕ → Option ℕ) (old new : Status) (ms : List MarkedMessage) (out : List ℕ) : Type 0 where
+  pub honest : new.is_honest → old.is_honest
+  pub state : new.is_stopped ≡ stopped_after ms old.is_stopped
+  pub orderly : AreOrderly users ms old.is_stopped
+  pub counted : RoseBy (faults_of ms) old.fault_count new.fault_count
+  pub moved : Tells old new (λ w. new.holds (world_after w (requests_of users ms)))
+  pub replied : Tells old new (λ w. out ≡ replies_to users w ms)
+  -- and where the checks passed before, they pass after each request, and the sums agree
+  pub agrees : (w : WorldLists) → PassesChecks w → SumsAgree w (requests_of users ms)
+
+-- what a message is answered, or the fault that it is answered with
+abbrev pub parts_or_fault : Result ResponseParts Fault → ResponseParts
+parts_or_fault (Ok parts) = parts
+parts_or_fault (Err fault) = faulted_parts fault
+
+-- The message bore a moment that the clock gave, and a mark, and this is its reply.
+pub record IsAnswered {C : Type 0} (users : List ℕ → Option ℕ) (may_give : C → ℕ → C → Type 0) (old new : Status) (from to : C) (message : MessageParts) (out : List ℕ) : Type 0 where
+  pub moment : ℕ
+  pub mark : Option Fault
+  pub parts : ResponseParts
+  pub given : may_give from moment to
+  pub handled : IsHandled users old new (record { message = message; moment = moment; mark = mark }) parts
+  pub framing : out ≡ framed message parts
