@@ -10,3 +10,5 @@ mod opening;
 mod policy_rows;
 #[cfg(test)]
 mod requests;
+#[cfg(test)]
+mod streams;
