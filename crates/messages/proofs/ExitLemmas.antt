@@ -5,6 +5,7 @@ use Rattle.std.proofs.Math.Seq.{take-length}
 use Rattle.std.proofs.KnownBytes.{Consumes-trans, Appends-trans, Appends-kept}
 use Rattle.std.specs.Io.KnownBytes.{Appends, Keeps}
 use Rattle.money.specs.Counted.{AppendsBeginning}
+use Rattle.heads.proofs.LineLemmas.{nil_of_length}
 use Rattle.messages.specs.declared.serving.Served.{Served}
 use Rattle.messages.specs.declared.serving.ServeFault.{ServeFault}
 use Rattle.messages.specs.declared.serving.ServeFault.TheVariants.{Read, Write, Cut, Memory, Report}
@@ -18,6 +19,10 @@ use Rattle.messages.proofs.RunLemmas.{splits_on, splits_more, answers_more}
 -- what a caller sees of a server, once its writer has this
 abbrev pub seen : {S : Type 0} → At S → Option (List ℕ) → Point S
 seen a written = record { left = a.left; written = written; engine = a.engine }
+
+-- where no byte was read there is no rest
+rest_none : (bytes front rest : List ℕ) → bytes ≡ front ++ rest → bytes ≡ [] → rest ≡ []
+rest_none bytes front rest whole none = nil_of_length rest (omega (arith, ap length whole, ap length none, length-append front rest))
 
 -- a whole reply is a beginning of it
 stops_whole : (old new : Option (List ℕ)) (replies reply : List ℕ) → Appends old new (replies ++ reply) → StopsWithin old new replies reply
@@ -155,7 +160,7 @@ module _ {S : Type 0} (answers breaks : S → MessageParts → List ℕ → S �
     mid.held,
     out,
     subst (λ n. Reads answers (seen old old.written) (seen n w) ms mid.held out) (sym same) (reads_run old mid w ms out none run),
-    inl (count, inl (full, run.lasting), Appends-kept old.written mid.written w out run.written (subst (λ n. Keeps n.written w) same keeps)),
+    inl (count, inl (full, run.lasting, λ zero. rest_none _ _ _ (run_splits old mid ms out none run).whole (run.idle (full ∙ zero))), Appends-kept old.written mid.written w out run.written (subst (λ n. Keeps n.written w) same keeps)),
   )
   ended_ok most old mid new w ms out s none run (inr (fewer, inl (count, inl (reply, a, closing, wrote)))) keeps =
       let one = length-append ms (a.message ∷ []) in (

@@ -49,6 +49,7 @@ module _ {S : Type 0} (answers breaks : S → MessageParts → List ℕ → S �
     answered = (refl, refl);
     written = Appends-nil old.written;
     unflushed = λ dirty. let e = sym clean ∙ dirty in absurd cc;
+    idle = λ _. refl;
   }
 
   pub run_more : (old mid new : At S) (ms : List WholeMessage) (out : List ℕ) → Runs answers breaks old mid ms out → (x : Answers answers breaks false mid new)
@@ -64,4 +65,5 @@ module _ {S : Type 0} (answers breaks : S → MessageParts → List ℕ → S �
         answered = answers_more answers old.engine mid.engine new.engine ms m out reply run.answered a.answered;
         written = Appends-trans old.written mid.written new.written out reply run.written wrote;
         unflushed = λ _. omega (arith, length-append ms (m ∷ []));
+        idle = λ none. absurd (omega (arith, none, length-append ms (m ∷ [])));
       }

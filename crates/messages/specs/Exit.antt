@@ -28,10 +28,11 @@ ClosesLast ms =
     (before : List WholeMessage) × (last : WholeMessage) × (ms ≡ before ++ last ∷ []) × All StaysOpen before
     × (closes (parts_of last.head) ≡ true)
 
--- nothing follows these messages: as many were asked for; or the input ended between two messages; or the last one ended the connection
+-- nothing follows these messages: as many were asked for, and where none was nothing was read; or the input ended between two
+-- messages; or the last one ended the connection
 abbrev pub Ends : ℕ → List WholeMessage → List ℕ → Option (List ℕ) → Type 0
 Ends most ms rest left =
-    ((length ms ≡ most) × All StaysOpen ms)
+    ((length ms ≡ most) × All StaysOpen ms × (most ≡ 0 → rest ≡ []))
     ⊎ (((length ms < most) × All StaysOpen ms × IsPartial rest × AreLineEnds rest × IsAtEnd left)
     ⊎ ((length ms ≤ most) × ClosesLast ms))
 

@@ -1,5 +1,5 @@
 -- A whole run of the loop.
-use Rattle.std.specs.Prelude.{◌≡◌, ◌⊎◌, ℕ, ◌+◌, ◌<◌, List, ◌++◌, length, All, Result, Ok, Err, true}
+use Rattle.std.specs.Prelude.{◌≡◌, ◌⊎◌, ℕ, ◌+◌, ◌<◌, List, [], ◌++◌, length, All, Result, Ok, Err, true}
 use Rattle.std.specs.Io.KnownBytes.{Consumes, Appends}
 use Rattle.messages.specs.declared.serving.Served.{Served}
 use Rattle.messages.specs.declared.serving.ServeFault.{ServeFault}
@@ -10,7 +10,8 @@ use Rattle.messages.specs.Whole.{WholeMessage, Splits}
 use Rattle.messages.specs.Turn.{At, IsTurn}
 
 module _ {S : Type 0} (answers breaks : S → MessageParts → List ℕ → S → Type 0) where
-  -- the bytes read are these messages and what is held, none of them ends the connection, and they were answered by out
+  -- the bytes read are these messages and what is held, none of them ends the connection, and they were answered by out. Without
+  -- a message nothing is unflushed, and nothing was read
   pub record Runs (old new : At S) (ms : List WholeMessage) (out : List ℕ) : Type 0 where
     pub more : List ℕ
     pub taken : Consumes old.left new.left more
@@ -19,6 +20,7 @@ module _ {S : Type 0} (answers breaks : S → MessageParts → List ℕ → S �
     pub answered : AnswersAll answers old.engine ms out new.engine
     pub written : Appends old.written new.written out
     pub unflushed : new.unflushed ≡ true → 0 < length ms
+    pub idle : length ms ≡ 0 → more ≡ []
 
   -- how a run of k messages ended
   abbrev pub EndsSo : ℕ → ℕ → At S → At S → Result Served ServeFault → Type 0
