@@ -1,5 +1,5 @@
 -- What a turn of the loop says, from what its calls say.
-use Rattle.std.proofs.Common.{◌≡◌, ◌⊎◌, ℕ, ◌+◌, ◌≤◌, Bool, true, List, ◌++◌, length, length-drop, take, drop, Option, None, Some, Result, Ok, Err, IfOk, IfErr, refl, sym, ap, ◌∙◌, subst, arith, append_assoc, inl, inr}
+use Rattle.std.proofs.Common.{◌≡◌, ◌⊎◌, ℕ, ◌+◌, ◌≤◌, Bool, false, true, List, ◌++◌, length, length-drop, take, drop, Option, None, Some, Result, Ok, Err, IfOk, IfErr, refl, sym, ap, ◌∙◌, subst, arith, append_assoc, inl, inr}
 use Rattle.std.proofs.lemmas.List.{length-take-le, take-append-drop}
 use Rattle.std.proofs.Math.Seq.{drop-drop}
 use Rattle.std.specs.Io.KnownBytes.{Appends, Keeps}
@@ -14,11 +14,12 @@ use Rattle.messages.specs.declared.serving.ServeFault.{ServeFault}
 use Rattle.messages.specs.declared.serving.ServeFault.TheVariants.{Read, Write, Cut, Memory, Report}
 use Rattle.messages.specs.Answered.{IsTurnOf}
 use Rattle.heads.specs.Framing.{asks_head}
-use Rattle.messages.specs.Next.{BeginsMessage, BeginsFaulty}
+use Rattle.messages.specs.Next.{BeginsMessage, BeginsFaulty, IsPartial}
 use Rattle.heads.specs.Parts.{HeadParts, parts_of}
 use Rattle.messages.specs.Parts.{MessageParts}
 use Rattle.messages.specs.Received.{Takes}
-use Rattle.messages.specs.Turn.{At, Handles, IsRefused, refusal_bytes, IsTurn}
+use Rattle.messages.specs.Refusal.{IsRefused, refusal_bytes}
+use Rattle.messages.specs.Turn.{At, Handles, IsTurn}
 
 pub kept_Appends : (a b c : Option (List ℕ)) (bs : List ℕ) → Keeps a b → Appends b c bs → Appends a c bs
 kept_Appends None b c bs p q = tt
@@ -113,17 +114,12 @@ module _ {S : Type 0} (answers breaks : S → MessageParts → List ℕ → S �
   turn_refused old new kept more fault head_only P (Err Report) takes same refused keeps ok err = let e = err.0 in absurd cc
 
   pub turn_stopped : (old new : At S) (more : List ℕ) (P Q : Type 0) (f : ServeFault) → Takes old.left new.left old.held new.held more → new.engine ≡ old.engine
-      → Keeps old.written new.written → ((f ≡ Read) × P) ⊎ ((f ≡ Write) × Q × (old.unflushed ≡ true)) → IsTurn answers breaks old new (Err f)
-  turn_stopped old new more P Q Read takes same keeps why = (record { more = more; taken = takes.taken; held = takes.held; engine = same }, keeps)
-  turn_stopped old new more P Q Write takes same keeps (inl why) = let e = why.0 in absurd cc
-  turn_stopped old new more P Q Write takes same keeps (inr why) =
-      inl (why.2, record { more = more; taken = takes.taken; held = takes.held; engine = same }, keeps)
-  turn_stopped old new more P Q Cut takes same keeps (inl why) = let e = why.0 in absurd cc
-  turn_stopped old new more P Q Cut takes same keeps (inr why) = let e = why.0 in absurd cc
-  turn_stopped old new more P Q Memory takes same keeps (inl why) = let e = why.0 in absurd cc
-  turn_stopped old new more P Q Memory takes same keeps (inr why) = let e = why.0 in absurd cc
-  turn_stopped old new more P Q Report takes same keeps (inl why) = let e = why.0 in absurd cc
-  turn_stopped old new more P Q Report takes same keeps (inr why) = let e = why.0 in absurd cc
+      → Keeps old.written new.written
+      → ((f ≡ Read) × P × IsPartial new.held × (new.unflushed ≡ false)) ⊎ ((f ≡ Write) × Q × (old.unflushed ≡ true)) → IsTurn answers breaks old new (Err f)
+  turn_stopped old new more P Q f takes same keeps (inl (is, _, part, clean)) =
+      subst (λ e. IsTurn answers breaks old new (Err e)) (sym is) (record { more = more; taken = takes.taken; held = takes.held; engine = same }, part, keeps, clean)
+  turn_stopped old new more P Q f takes same keeps (inr (is, _, dirty)) =
+      subst (λ e. IsTurn answers breaks old new (Err e)) (sym is) (inl (dirty, record { more = more; taken = takes.taken; held = takes.held; engine = same }, keeps))
 
 -- a head that has a fault, where its spans begin the bytes
 pub faulty_refused : (bytes : List ℕ) (headers : List HeaderSpan) (r : RequestSpans) (fault : MessageFault) (p : HeadParts) (head_only : Bool)

@@ -1,36 +1,18 @@
 -- What one turn of the loop does.
-use Rattle.std.specs.Prelude.{◌≡◌, ◌⊎◌, ℕ, Bool, List, ◌++◌, Option, Some, Result, Ok, Err, codes, true, false}
+use Rattle.std.specs.Prelude.{◌≡◌, ◌⊎◌, ℕ, Bool, List, ◌++◌, Option, Result, Ok, Err, true, false}
 use Rattle.std.specs.Io.KnownBytes.{Consumes, Appends, Keeps, IsAtEnd}
 use Rattle.money.specs.Counted.{AppendsBeginning}
-use Rattle.httparse.specs.Grammar.{RequestHead}
-use Rattle.heads.specs.declared.fault.MessageFault.{MessageFault}
 use Rattle.messages.specs.declared.serving.Turn.{Turn}
 use Rattle.messages.specs.declared.serving.Turn.TheVariants.{Answered, Closed, Ended}
 use Rattle.messages.specs.declared.serving.ServeFault.{ServeFault}
 use Rattle.messages.specs.declared.serving.ServeFault.TheVariants.{Read, Write, Cut, Memory, Report}
 use Rattle.messages.specs.Blank.{AreLineEnds}
-use Rattle.heads.specs.Fault.{fault_status, fault_text}
-use Rattle.heads.specs.Framing.{head_fault, asks_head, closes}
-use Rattle.messages.specs.Next.{HasFault, IsPartial}
+use Rattle.heads.specs.Framing.{closes}
+use Rattle.messages.specs.Next.{IsPartial}
 use Rattle.heads.specs.Parts.{parts_of}
 use Rattle.messages.specs.Parts.{MessageParts}
-use Rattle.messages.specs.Reply.{reply_bytes}
-use Rattle.heads.specs.Stream.{BeginsHead}
+use Rattle.messages.specs.Refusal.{IsRefusal}
 use Rattle.messages.specs.Whole.{WholeMessage, print_message, message_parts, IsMessage}
-
--- the reply to a fault that ends the connection
-abbrev pub refusal_bytes : MessageFault → Bool → List ℕ
-refusal_bytes fault head_only = reply_bytes (fault_status fault) (codes "application/json") (fault_text fault) true head_only
-
--- the bytes begin with no message, for this fault: no head was taken, or one that has the fault
-abbrev pub IsRefused : List ℕ → MessageFault → Bool → Type 0
-IsRefused bytes fault head_only =
-    (HasFault bytes fault × (head_only ≡ false))
-    ⊎ ((h : RequestHead) × (rest : List ℕ) × BeginsHead bytes h rest × (head_fault (parts_of h) ≡ Some fault) × (head_only ≡ asks_head (parts_of h)))
-
--- the reply to bytes that begin with no message
-abbrev pub IsRefusal : List ℕ → List ℕ → Type 0
-IsRefusal bytes reply = (fault : MessageFault) × (head_only : Bool) × IsRefused bytes fault head_only × (reply ≡ refusal_bytes fault head_only)
 
 -- a server, as a contract sees it: what its reader has left, what it holds, what its writer has, whether something of that
 -- was written since the last flush, and its engine
@@ -64,15 +46,17 @@ module _ {S : Type 0} (answers breaks : S → MessageParts → List ℕ → S �
       (reply : List ℕ) × (a : Handles answers old new new.held reply) × (closes (parts_of a.message.head) ≡ ends)
       × Appends old.written new.written reply
 
-  -- how a turn ended. A failed write cut off a reply, or was a flush of what stood there before
+  -- how a turn ended. A failed write cut off a reply, or was a flush of what stood there before. After a read nothing is unflushed
   abbrev pub IsTurn : At S → At S → Result Turn ServeFault → Type 0
   IsTurn old new (Ok Answered) = Answers false old new
   IsTurn old new (Ok Closed) =
       Answers true old new
       ⊎ (OnlyReads old new × (reply : List ℕ) × IsRefusal new.held reply × Appends old.written new.written reply)
-  IsTurn old new (Ok Ended) = OnlyReads old new × IsPartial new.held × AreLineEnds new.held × IsAtEnd new.left × Keeps old.written new.written
-  IsTurn old new (Err Read) = OnlyReads old new × Keeps old.written new.written
-  IsTurn old new (Err Cut) = OnlyReads old new × IsPartial new.held × ¬ (AreLineEnds new.held) × IsAtEnd new.left × Keeps old.written new.written
+  IsTurn old new (Ok Ended) =
+      OnlyReads old new × IsPartial new.held × AreLineEnds new.held × IsAtEnd new.left × Keeps old.written new.written × (new.unflushed ≡ false)
+  IsTurn old new (Err Read) = OnlyReads old new × IsPartial new.held × Keeps old.written new.written × (new.unflushed ≡ false)
+  IsTurn old new (Err Cut) =
+      OnlyReads old new × IsPartial new.held × ¬ (AreLineEnds new.held) × IsAtEnd new.left × Keeps old.written new.written × (new.unflushed ≡ false)
   IsTurn old new (Err Write) =
       ((old.unflushed ≡ true) × OnlyReads old new × Keeps old.written new.written)
       ⊎ ((reply : List ℕ) × AppendsBeginning old.written new.written reply

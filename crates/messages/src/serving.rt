@@ -2,10 +2,12 @@ ghost use Rattle.std.specs.Prelude.{◌≡◌, ◌≢◌, ◌≤◌, ◌<◌, �
 ghost use Rattle.std.specs.Io.KnownBytes.{Appends, Keeps, IsAtEnd};
 ghost use Rattle.money.specs.Counted.{stream_of, failure_count, CountsFailure, AppendsBeginning};
 ghost use Rattle.messages.specs.Answered.{IsTurnOf};
-ghost use Rattle.messages.specs.Next.{IsNext};
-ghost use Rattle.messages.specs.Run.{IsServed, IsCall};
-ghost use Rattle.messages.specs.Turn.{IsTurn, refusal_bytes};
+ghost use Rattle.messages.specs.Exit.{IsExit};
+ghost use Rattle.messages.specs.Next.{IsNext, IsPartial};
 ghost use Rattle.messages.specs.Received.{Takes};
+ghost use Rattle.messages.specs.Refusal.{refusal_bytes};
+ghost use Rattle.messages.specs.Run.{IsServed};
+ghost use Rattle.messages.specs.Turn.{IsTurn};
 ghost use Rattle.heads.specs.Stream.{max_fields};
 
 use crate::blank::are_line_ends;
@@ -132,8 +134,9 @@ fn read_next<R: Read, W: Write>(
     requires { max_fields ≤ length headers.old }
     ensures takes { (more : List ℕ) × Takes (R.remaining (stream_of reader.old)) (R.remaining (stream_of reader.new)) received.old received.new more }
     ensures next { IfOk result (IsNext received.new headers.new) }
-    ensures end { result ≡ Ok Next.Partial → IsAtEnd (R.remaining (stream_of reader.new)) }
-    ensures err { IfErr result (λ fault. ((fault ≡ ServeFault.Read) × CountsFailure (failure_count reader.old) (failure_count reader.new))
+    ensures end { result ≡ Ok Next.Partial → IsAtEnd (R.remaining (stream_of reader.new)) × (written.new ≡ false) }
+    ensures err { IfErr result (λ fault. ((fault ≡ ServeFault.Read) × CountsFailure (failure_count reader.old) (failure_count reader.new)
+        × IsPartial received.new × (written.new ≡ false))
         ⊎ ((fault ≡ ServeFault.Write) × CountsFailure (failure_count writer.old) (failure_count writer.new) × (written.old ≡ true))) }
     ensures kept { Keeps (W.contents (stream_of writer.old)) (W.contents (stream_of writer.new)) }
     ensures counts_reads { failure_count reader.old ≤ failure_count reader.new }
@@ -294,10 +297,28 @@ fn serve_in<E: Engine, R: Read, W: Write>(
     Ok(Served { messages: most })
 }
 
+/// Flushes where a call ends without an error, and answers its end: a flush that fails makes it a failed write.
+fn flush_last<W: Write>(
+    writer: &mut Tallied<W>,
+    written: &mut bool,
+    served: Served,
+) -> Result<Served, ServeFault>
+    ensures ok { IfOk result (λ told. (told ≡ served) × (failure_count writer.new ≡ failure_count writer.old)) }
+    ensures err { IfErr result (λ fault. (fault ≡ ServeFault.Write) × CountsFailure (failure_count writer.old) (failure_count writer.new) × (written.old ≡ true)) }
+    ensures kept { Keeps (W.contents (stream_of writer.old)) (W.contents (stream_of writer.new)) }
+    ensures counts { failure_count writer.old ≤ failure_count writer.new }
+{
+    match flush_written(writer, written) {
+        Ok(()) => Ok(served),
+        Err(fault) => Err(fault),
+    }
+}
+
 /// Answers the messages of a stream one after another: until the input ends between two of them, after a reply that ends
 /// the connection, or after `most` replies. With `most` 0 nothing is read. A message is acted on once its whole body was
 /// read. What a message and its reply take is one room of fixed size, which is allocated first. The writer is flushed
-/// before each read and at the end, where something was written since it was flushed last.
+/// before each read and at the end, where something was written since it was flushed last. A flush that fails is a
+/// failed write; one that fails at the end takes the place of an `Ok`, and of no other fault.
 pub fn serve_messages<E: Engine, R: Read, W: Write>(
     alloc: Global,
     engine: &mut E,
@@ -305,9 +326,9 @@ pub fn serve_messages<E: Engine, R: Read, W: Write>(
     writer: &mut Tallied<W>,
     most: u32,
 ) -> Result<Served, ServeFault>
-    ensures call { IsCall E.answers E.breaks most
-        (record { left = R.remaining (stream_of reader.old); held = []; written = W.contents (stream_of writer.old); unflushed = false; engine = engine.old })
-        (record { left = R.remaining (stream_of reader.new); held = []; written = W.contents (stream_of writer.new); unflushed = false; engine = engine.new })
+    ensures exit { IsExit E.answers E.breaks most
+        (record { left = R.remaining (stream_of reader.old); written = W.contents (stream_of writer.old); engine = engine.old })
+        (record { left = R.remaining (stream_of reader.new); written = W.contents (stream_of writer.new); engine = engine.new })
         result }
     ensures most { IfOk result (λ served. served.messages ≤ most) }
     ensures read_cause { result ≡ Err ServeFault.Read → CountsFailure (failure_count reader.old) (failure_count reader.new) }
@@ -327,8 +348,13 @@ pub fn serve_messages<E: Engine, R: Read, W: Write>(
         headers.as_mut_slice(),
         most,
     );
-    match flush_written(writer, &mut written) {
-        Ok(()) => end,
+    match end {
+        Ok(served) => flush_last(writer, &mut written, served),
+        Err(ServeFault::Report) => {
+            // What went out of the broken reply is passed on. The call ends the same where that fails.
+            let _ = flush_written(writer, &mut written);
+            Err(ServeFault::Report)
+        }
         Err(fault) => Err(fault),
     }
 }

@@ -90,6 +90,29 @@ impl Engine for Echo {
     }
 }
 
+/// Writes a reply, and says that it broke.
+#[derive(Drop)]
+struct Breaking;
+
+impl Engine for Breaking {
+    ghost use Rattle.std.specs.Prelude.{◌≡◌, ℕ, List, codes};
+    ghost use Rattle.heads.specs.Framing.{closes, asks_head};
+    ghost use Rattle.messages.specs.Reply.{reply_bytes};
+
+    ghost answers = { λ _ m reply _. reply ≡ reply_bytes 200 (codes "text/plain") (codes "half") (closes m.head) (asks_head m.head) };
+
+    ghost breaks = { λ _ m reply _. reply ≡ reply_bytes 200 (codes "text/plain") (codes "half") (closes m.head) (asks_head m.head) };
+
+    fn answer<W: Write>(
+        &mut self,
+        message: &Message<'_>,
+        writer: &mut Tallied<W>,
+    ) -> Result<(), AnswerFault> {
+        message.reply(writer, StatusCode::OK, "text/plain", b"half")?;
+        Err(AnswerFault::Report)
+    }
+}
+
 /// What came of a run.
 #[derive(Drop)]
 struct Outcome {
@@ -333,4 +356,28 @@ fn streams_that_end_or_fail(rt: HostRuntime) {
     assert!(rt; serve(&rt, two, 50, 9, (0, 0)).flushed == 2);
     assert!(rt; serve(&rt, two, 9216, 1, (0, 0)).flushed == 1);
     assert!(rt; serve(&rt, two, 9216, 0, (1, 0)).result == Ok(Served { messages: 0 }));
+}
+
+#[test]
+fn broken_report(rt: HostRuntime) {
+    // What went out is flushed, and the end is the same where that fails: a reply is ten writes, and the flush follows.
+    for fails_at in [0usize, 11] {
+        let mut reader = Tallied::new(Pieces {
+            rest: b"GET /a HTTP/1.1\r\nHost: x\r\n\r\nGET /b HTTP/1.1\r\nHost: x\r\n\r\n",
+            size: 9216,
+            calls: 0,
+            fails_at: 0,
+        });
+        let mut writer = Tallied::new(Sink {
+            bytes: Vec::new(rt.alloc()),
+            flushed: 0,
+            calls: 0,
+            fails_at,
+        });
+        let end = serve_messages(rt.alloc(), &mut Breaking, &mut reader, &mut writer, 9);
+        assert!(rt; end == Err(ServeFault::Report));
+        let sink = writer.into_inner();
+        assert!(rt; sink.calls == 11);
+        assert!(rt; sink.bytes.as_slice().ends_with(b"\r\n\r\nhalf"));
+    }
 }

@@ -1,4 +1,4 @@
-use Rattle.std.proofs.Common.{◌≡◌, ℕ, [], ◌∷◌, ◌++◌, ◌+◌, length-append, refl, sym, ap, ◌∙◌, inl, inr, arith}
+use Rattle.std.proofs.Common.{◌≡◌, ◌<◌, ℕ, length, [], ◌∷◌, ◌++◌, ◌+◌, length-append, refl, sym, ap, ◌∙◌, inl, inr, arith}
 use Rattle.messages.proofs.RunLemmas.{run_none, run_more}
 use Rattle.messages.proofs.serving.serve_in.Goals as goal
 
@@ -9,18 +9,21 @@ pub returns-in-Ok-Closed-clause-served : goal.returns-in-Ok-Closed-clause-served
 returns-in-Ok-Closed-clause-served g c =
     let turn = rw c.in-Ok-Closed.field-0-is at c.in-Ok-Closed.ensures.turn in
     let i = c.loop-done.invariant.0 in
-    (_, i.0, i.1, i.3, inr (inl (ap (λ (n : ℕ). n + 1) (sym i.2), turn)))
+    let fewer : length i.0 < c.args.most = omega (arith, i.2) in
+    (_, i.0, i.1, i.3, inr (fewer, inl (ap (λ (n : ℕ). n + 1) (sym i.2), turn)))
 
 pub returns-in-Ok-Ended-clause-served : goal.returns-in-Ok-Ended-clause-served
 returns-in-Ok-Ended-clause-served g c =
     let turn = rw c.in-Ok-Ended.field-0-is at c.in-Ok-Ended.ensures.turn in
     let i = c.loop-done.invariant.0 in
-    (_, i.0, i.1, i.3, inr (inr (sym i.2, turn)))
+    let fewer : length i.0 < c.args.most = omega (arith, i.2) in
+    (_, i.0, i.1, i.3, inr (fewer, inr (sym i.2, turn)))
 
 pub returns-in-Err-clause-served : goal.returns-in-Err-clause-served
 returns-in-Err-clause-served g c =
     let i = c.loop-done.invariant.0 in
-    (_, i.0, i.1, i.3, c.in-Err.ensures.turn)
+    let fewer : length i.0 < c.args.most = omega (arith, i.2) in
+    (_, i.0, i.1, i.3, (fewer, c.in-Err.ensures.turn))
 
 pub loop-done-preserved : goal.loop-done-preserved
 loop-done-preserved g c =

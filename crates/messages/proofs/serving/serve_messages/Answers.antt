@@ -1,16 +1,28 @@
-use Rattle.std.proofs.Common.{refl, sym, subst}
-use Rattle.money.specs.Counted.{failure_count, CountsFailure}
-use Rattle.messages.proofs.RunLemmas.{call_done, call_stopped}
+use Rattle.std.proofs.Common.{◌≡◌, ℕ, ◌≤◌, Result, Ok, Err, IfOk, sym, subst}
+use Rattle.std.proofs.KnownBytes.{Keeps-refl}
+use Rattle.messages.specs.declared.serving.Served.{Served}
+use Rattle.messages.specs.declared.serving.ServeFault.{ServeFault}
+use Rattle.messages.specs.declared.serving.ServeFault.TheVariants.{Report}
+use Rattle.messages.proofs.ExitLemmas.{exit_ended, exit_flushed}
 use Rattle.messages.proofs.serving.serve_messages.Goals as goal
 
-pub returns-in-Ok-clause-call : goal.returns-in-Ok-clause-call
-returns-in-Ok-clause-call g c =
-    call_done g.E.Engine.answers g.E.Engine.breaks c.args.most _ _ _ _ _ _ _ c.in_ok-received.ensures c.serve_in-end.ensures.served (record { left = refl; written = c.in-Ok.ensures.kept; engine = refl })
+pub returns-in-Ok-clause-exit : goal.returns-in-Ok-clause-exit
+returns-in-Ok-clause-exit g c =
+    exit_flushed g.E.Engine.answers g.E.Engine.breaks c.args.most _ _ _ c.in-Ok.served _ _ c.flush_last.result c.in_ok-received.ensures c.in-Ok.ensures.served c.flush_last.ensures.ok c.flush_last.ensures.err c.flush_last.ensures.kept
 
-pub returns-in-Ok-clause-write_cause : goal.returns-in-Ok-clause-write_cause
-returns-in-Ok-clause-write_cause g c is =
-    subst (λ n. CountsFailure (failure_count c.args.writer.now) n) (sym c.in-Ok.ensures.ok) (c.serve_in-end.ensures.write_cause is)
+same_most : (most : ℕ) (s : Served) (P : Type 0) (r : Result Served ServeFault) → s.messages ≤ most → IfOk r (λ t. (t ≡ s) × P) → IfOk r (λ t. t.messages ≤ most)
+same_most most s P (Ok t) within ok = subst (λ x. x.messages ≤ most) (sym ok.0) within
+same_most most s P (Err f) within ok = tt
 
-pub returns-clause-call : goal.returns-clause-call
-returns-clause-call g c =
-    call_stopped g.E.Engine.answers g.E.Engine.breaks c.args.most _ _ _ _ _ _ _ c.in-Err.fault c.in_ok-received.ensures c.serve_in-end.ensures.served (record { left = refl; written = c.in-Err.ensures.kept; engine = refl }) c.in-Err.ensures.err.0 c.in-Err.ensures.err.2
+pub returns-in-Ok-clause-most : goal.returns-in-Ok-clause-most
+returns-in-Ok-clause-most g c = same_most c.args.most c.in-Ok.served _ c.flush_last.result c.in-Ok.ensures.most c.flush_last.ensures.ok
+
+pub returns-in-Err-Report-clause-exit : goal.returns-in-Err-Report-clause-exit
+returns-in-Err-Report-clause-exit g c =
+    let fault = rw c.in-Err-Report.is at c.in-Err-Report.field-0-is in
+    let served = rw fault at (rw c.in-Err-Report.is at c.serve_in-end.ensures.served) in
+    exit_ended g.E.Engine.answers g.E.Engine.breaks c.args.most _ _ _ (Err Report) c.in_ok-received.ensures served c.flush_written.ensures.kept
+
+pub returns-clause-exit : goal.returns-clause-exit
+returns-clause-exit g c =
+    exit_ended g.E.Engine.answers g.E.Engine.breaks c.args.most _ _ _ (Err c.in-Err.fault) c.in_ok-received.ensures c.in-Err.ensures.served (Keeps-refl _)
