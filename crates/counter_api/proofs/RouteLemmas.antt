@@ -1,4 +1,4 @@
--- A router of routes without parameters finds the route with the path's text, and one of the table's paths finds what the table says.
+-- A router of routes without parameters finds the route with the path's text, so one of the table's paths answers by the table.
 use Rattle.std.proofs.Common.{◌≡◌, ℕ, suc, zero, ◌-◌, ◌<◌, ◌≤◌, Bool, true, false, ◌&&◌, cond, List, [], ◌∷◌, Option, Some, None, length, map, All, IsUtf8, refl, sym, ap, ◌∙◌, subst, arith}
 use Rattle.std.specs.Prelude.{◌==◌, bytes_eq, option_map}
 use Rattle.std.specs.List.{find, list_all}
@@ -22,7 +22,7 @@ abbrev nothing : {K : Type 0} → RowsOf K
 nothing = []
 
 module _ {K : Type 0} where
-  -- the rows have no parameter
+  -- each row is of ASCII bytes, and so it has no parameter
   abbrev AreLiteral : RowsOf K → Type 0
   AreLiteral [] = Unit {0}
   AreLiteral ((text, key) ∷ rest) = (list_all is_ascii text ≡ true) × AreLiteral rest

@@ -22,10 +22,10 @@ paths =
     ∷ (codes "/do/transfer", Transfer)
     ∷ []
 
--- the procedure of the path that is this target, byte for byte: a query (RFC 9112, section 3.2.1) is none of a path
+-- the procedure whose path is this target, byte for byte: a target in origin form (RFC 9112, section 3.2.1) that has a query is none of the table
 unfoldable pub procedure_at : List ℕ → Option Procedure
 procedure_at target = option_map (λ (row : List ℕ × Procedure). row.1) (find (λ (row : List ℕ × Procedure). bytes_eq row.0 target) paths)
 
--- the procedure that a method and a target ask for: a method is told from others with its case (RFC 9110, section 9.1)
+-- the procedure that a method and a target ask for: a method is case-sensitive (RFC 9110, section 9.1)
 abbrev pub asked_procedure : List ℕ → List ℕ → Option Procedure
 asked_procedure method target = if bytes_eq method (codes "POST") then procedure_at target else None
