@@ -1,3 +1,4 @@
+pub mod ExitLemmas
 pub mod FramingLemmas
 pub mod HandledLemmas
 pub mod RouteLemmas

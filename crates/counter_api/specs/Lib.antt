@@ -1,3 +1,4 @@
+pub mod Exit
 pub mod Fault
 pub mod Fields
 pub mod Request

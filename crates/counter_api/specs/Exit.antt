@@ -1,0 +1,68 @@
+-- How a call of `serve` ends: what was read, what was written, and what became of the bank, by its exit.
+use Rattle.std.specs.Prelude.{◌≡◌, ◌⊎◌, ℕ, ◌+◌, List, [], ◌∷◌, ◌++◌, length, map, Option, Result, Ok, Err}
+use Rattle.std.specs.Io.KnownBytes.{Appends, Consumes, IsAtEnd}
+use Rattle.messages.specs.Blank.{AreLineEnds}
+use Rattle.messages.specs.Exit.{Ends, GoesOn, StopsWithin}
+use Rattle.messages.specs.Next.{IsPartial}
+use Rattle.messages.specs.Refusal.{IsRefusal}
+use Rattle.messages.specs.Whole.{Splits, WholeMessage, message_parts}
+use Rattle.messages.specs.declared.serving.ServeFault.{ServeFault}
+use Rattle.messages.specs.declared.serving.ServeFault.TheVariants.{Cut, Memory, Read, Report, Write}
+use Rattle.messages.specs.declared.serving.Served.{Served}
+use Rattle.store_rows.specs.Status.{Status, Tells}
+use Rattle.counter_api.specs.Run.{IsRun, MarkedMessage, replies_to}
+
+-- a bank at one point, as a caller sees it: what its reader has left, what its writer has, its store and its clock
+pub record Place (S C : Type 0) : Type 0 where
+  pub left : Option (List ℕ)
+  pub written : Option (List ℕ)
+  pub store : S
+  pub clock : C
+
+module _ {S C : Type 0} (status : S → Status) (users : List ℕ → Option ℕ) (may_give : C → ℕ → C → Type 0) where
+  -- the clock gave each message its moment, one after another
+  abbrev pub Gives : C → List MarkedMessage → C → Type 0
+  Gives from [] to = to ≡ from
+  Gives from (m ∷ ms) to = (mid : C) × may_give from m.moment mid × Gives mid ms to
+
+  -- The bytes that were read are these messages, one after another, and a rest. Each message bore a moment of the clock, and a
+  -- mark, and out are the replies to them.
+  pub record Serves (old new : Place S C) (messages : List WholeMessage) (rest : List ℕ) (run : List MarkedMessage) (out : List ℕ) : Type 0 where
+    pub bytes : List ℕ
+    pub taken : Consumes old.left new.left bytes
+    pub splits : Splits bytes messages rest
+    pub marked : map (λ m. m.message) run ≡ map message_parts messages
+    pub given : Gives old.clock run new.clock
+    pub ran : IsRun users (status old.store) (status new.store) run out
+
+  -- the reply to the last of the messages stopped: all those before it were written, and a beginning of it
+  abbrev pub StopsInReply : ℕ → Place S C → Place S C → Type 0
+  StopsInReply most old new =
+      (before : List WholeMessage) × (last : WholeMessage) × (rest : List ℕ) × (run : List MarkedMessage) × (marked : MarkedMessage) × (replies : List ℕ) × (reply : List ℕ)
+      × Serves old new (before ++ last ∷ []) rest (run ++ marked ∷ []) (replies ++ reply)
+      × GoesOn most before × Tells (status old.store) (status new.store) (λ w. replies ≡ replies_to users w run)
+      × StopsWithin old.written new.written replies reply
+
+  -- the reply to bytes that begin no message stopped
+  abbrev pub StopsInRefusal : ℕ → Place S C → Place S C → Type 0
+  StopsInRefusal most old new =
+      (ms : List WholeMessage) × (rest : List ℕ) × (run : List MarkedMessage) × (out : List ℕ) × (reply : List ℕ)
+      × Serves old new ms rest run out × GoesOn most ms × IsRefusal rest reply × StopsWithin old.written new.written out reply
+
+  -- The table of exits. Ok: the replies to the messages counted were written; nothing follows, or what follows begins no message
+  -- and was refused. Read, Cut: the replies to the whole messages before. Write: the replies before the one whose write failed,
+  -- and a beginning of that one. Report: no reply is a report yet. Memory: nothing was read, done or written.
+  abbrev pub IsServed : ℕ → Place S C → Place S C → Result Served ServeFault → Type 0
+  IsServed most old new (Ok s) =
+      (ms : List WholeMessage) × (rest : List ℕ) × (run : List MarkedMessage) × (out : List ℕ) × Serves old new ms rest run out
+      × (((s.messages ≡ length ms) × Ends most ms rest new.left × Appends old.written new.written out)
+      ⊎ ((s.messages ≡ length ms + 1) × GoesOn most ms × (reply : List ℕ) × IsRefusal rest reply × Appends old.written new.written (out ++ reply)))
+  IsServed most old new (Err Read) =
+      (ms : List WholeMessage) × (rest : List ℕ) × (run : List MarkedMessage) × (out : List ℕ) × Serves old new ms rest run out
+      × GoesOn most ms × IsPartial rest × Appends old.written new.written out
+  IsServed most old new (Err Cut) =
+      (ms : List WholeMessage) × (rest : List ℕ) × (run : List MarkedMessage) × (out : List ℕ) × Serves old new ms rest run out
+      × GoesOn most ms × IsPartial rest × ¬ (AreLineEnds rest) × IsAtEnd new.left × Appends old.written new.written out
+  IsServed most old new (Err Write) = StopsInReply most old new ⊎ StopsInRefusal most old new
+  IsServed most old new (Err Report) = ⊥
+  IsServed most old new (Err Memory) = new ≡ old
