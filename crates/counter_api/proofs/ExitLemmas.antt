@@ -1,8 +1,6 @@
 -- From the exits of the loop over an engine to those of `serve` over a bank.
-use Rattle.std.proofs.Common.{◌≡◌, ℕ, ◌+◌, ◌≤◌, ◌⊎◌, inl, inr, List, [], ◌∷◌, ◌++◌, map, length, Option, Some, None, Result, Ok, Err, refl, sym, ap, subst, ◌∙◌, append-nil, append_assoc}
-use Rattle.std.specs.Io.KnownBytes.{Appends, Consumes}
-use Rattle.bank_books.specs.WorldLists.{WorldLists}
-use Rattle.messages.specs.Exit.{AnswersAll, IsExit, Point, Reads, ReadsLast}
+use Rattle.std.proofs.Common.{◌≡◌, ℕ, inl, inr, List, [], ◌∷◌, ◌++◌, map, Option, Result, Ok, Err, refl, sym, ap, subst, ◌∙◌, append-nil, append_assoc}
+use Rattle.messages.specs.Exit.{AnswersAll, IsExit, Point, Reads}
 use Rattle.messages.specs.Parts.{MessageParts}
 use Rattle.messages.specs.Whole.{WholeMessage, message_parts}
 use Rattle.messages.specs.declared.serving.ServeFault.{ServeFault}
@@ -10,15 +8,14 @@ use Rattle.messages.specs.declared.serving.ServeFault.TheVariants.{Cut, Memory, 
 use Rattle.messages.specs.declared.serving.Served.{Served}
 use Rattle.store_rows.specs.Status.{Status, Tells}
 use Rattle.counter_api.specs.Exit.{Gives, IsServed, Place, Serves}
-use Rattle.counter_api.specs.Run.{IsAnswered, IsRun, MarkedMessage, after_message, framed, replies_to, reply_to}
+use Rattle.counter_api.specs.Run.{IsAnswered, MarkedMessage, after_message, framed, replies_to, reply_to}
 use Rattle.counter_api.proofs.RunLemmas.{Ran, none_ran, one_more}
 
 -- A server of whatever kind that has a store, a clock, and users who stay the same.
 module _ {E S C : Type 0} (store : E → S) (clock : E → C) (status : S → Status) (users : List ℕ → Option ℕ) (may_give : C → ℕ → C → Type 0) (IsOne : E → Type 0)
     (answers : E → MessageParts → List ℕ → E → Type 0)
     (tells : (old new : E) (m : MessageParts) (out : List ℕ) → IsOne old → answers old m out new
-      → IsOne new × IsAnswered users may_give (status (store old)) (status (store new)) (clock old) (clock new) m out) where
-
+    → IsOne new × IsAnswered users may_give (status (store old)) (status (store new)) (clock old) (clock new) m out) where
   -- messages that were answered, as a run of the bank
   record HasRun (old new : E) (ms : List WholeMessage) (out : List ℕ) : Type 0 where
     run : List MarkedMessage
@@ -40,7 +37,7 @@ module _ {E S C : Type 0} (store : E → S) (clock : E → C) (status : S → St
         marked = ap (λ xs. message_parts m ∷ xs) rest.marked;
         given = (clock mid, here.given, rest.given);
         ran = subst (λ o. Ran users (status (store old)) (status (store new)) (first ∷ rest.run) o) (ap (λ r. r ++ later) (sym here.framing) ∙ sym is)
-          (one_more users (status (store old)) (status (store mid)) (status (store new)) first rest.run here.parts later here.handled rest.ran);
+            (one_more users (status (store old)) (status (store mid)) (status (store new)) first rest.run here.parts later here.handled rest.ran);
         one = rest.one;
       }
 
@@ -72,7 +69,7 @@ module _ {E S C : Type 0} (store : E → S) (clock : E → C) (status : S → St
         marked = refl;
         given = (clock new, told.1.given, refl);
         ran = subst (λ o. Ran users (status (store old)) (status (store new)) (first ∷ []) o) (append-nil _ ∙ sym told.1.framing ∙ ap (λ r. r ++ reply) (sym nothing))
-          (one_more users (status (store old)) (status (store new)) (status (store new)) first [] told.1.parts [] told.1.handled (none_ran users (status (store new))));
+            (one_more users (status (store old)) (status (store new)) (status (store new)) first [] told.1.parts [] told.1.handled (none_ran users (status (store new))));
         replied = λ clean w held. nothing;
         one = told.0;
       }
@@ -86,11 +83,11 @@ module _ {E S C : Type 0} (store : E → S) (clock : E → C) (status : S → St
         marked = ap (λ xs. message_parts m ∷ xs) rest.marked;
         given = (clock next, told.1.given, rest.given);
         ran = subst (λ o. Ran users (status (store old)) (status (store new)) (lead ∷ (rest.run ++ rest.at ∷ [])) o)
-          (ap (λ r. r ++ (later ++ reply)) (sym told.1.framing) ∙ sym (append_assoc first later reply) ∙ ap (λ r. r ++ reply) (sym is))
-          (one_more users (status (store old)) (status (store next)) (status (store new)) lead (rest.run ++ rest.at ∷ []) told.1.parts (later ++ reply) told.1.handled rest.ran);
+            (ap (λ r. r ++ (later ++ reply)) (sym told.1.framing) ∙ sym (append_assoc first later reply) ∙ ap (λ r. r ++ reply) (sym is))
+            (one_more users (status (store old)) (status (store next)) (status (store new)) lead (rest.run ++ rest.at ∷ []) told.1.parts (later ++ reply) told.1.handled rest.ran);
         replied = λ clean w held.
-          let honest = rest.ran.run.honest clean in
-          is ∙ ap (λ r. r ++ later) (told.1.framing ∙ ap (framed (message_parts m)) (told.1.handled.replied honest w held))
+            let honest = rest.ran.run.honest clean in
+            is ∙ ap (λ r. r ++ later) (told.1.framing ∙ ap (framed (message_parts m)) (told.1.handled.replied honest w held))
             ∙ ap (λ o. reply_to users w lead ++ o) (rest.replied clean (after_message users w lead) (told.1.handled.moved honest w held));
         one = rest.one;
       }

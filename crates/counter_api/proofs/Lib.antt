@@ -1,3 +1,4 @@
+pub mod CounterLemmas
 pub mod ExitLemmas
 pub mod FramingLemmas
 pub mod HandledLemmas

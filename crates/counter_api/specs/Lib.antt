@@ -1,3 +1,4 @@
+pub mod Answers
 pub mod Exit
 pub mod Fault
 pub mod Fields

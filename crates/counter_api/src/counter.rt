@@ -171,12 +171,9 @@ fn write_response<W: Write>(
 }
 
 impl<'b, 'g, 'c, 'r, S: Store, G: Gate, C: Clock> Engine for Counter<'b, 'g, 'c, 'r, S, G, C> {
-    ghost use Rattle.std.specs.Prelude.{◌≡◌};
-    ghost use Rattle.counter_api.specs.Run.{IsAnswered};
+    ghost use Rattle.counter_api.specs.Answers.{CounterAnswers};
 
-    // One request is handled at a moment of the clock, over the same bank.
-    ghost answers = { λ old m out new. IsAnswered (G.users old.gate.now) C.may_give (S.status old.bank.now.store) (S.status new.bank.now.store) old.clock.now new.clock.now m out
-        × (new.bank.ghost_name ≡ old.bank.ghost_name) × (new.clock.ghost_name ≡ old.clock.ghost_name) × (new.gate ≡ old.gate) };
+    ghost answers = { CounterAnswers S.status G.users C.may_give };
 
     // No reply is a report yet.
     ghost breaks = { λ _ _ _ _. ⊥ };

@@ -1,5 +1,6 @@
 ghost use Rattle.std.specs.Prelude.{◌≡◌, ◌≤◌, IfOk, Err};
-ghost use Rattle.money.specs.Counted.{failure_count, CountsFailure};
+ghost use Rattle.money.specs.Counted.{CountsFailure, failure_count, stream_of};
+ghost use Rattle.counter_api.specs.Exit.{IsServed};
 
 use crate::clock::Clock;
 use crate::counter::Counter;
@@ -10,6 +11,29 @@ use money::Tallied;
 use std::alloc::Global;
 use std::io::{Read, Write};
 use store_rows::{Bank, Store};
+
+/// Has a counter answer the messages of a stream.
+fn serve_counter<'b, 'g, 'c, 'r, R: Read, W: Write, S: Store, G: Gate, C: Clock>(
+    alloc: Global,
+    counter: &mut Counter<'b, 'g, 'c, 'r, S, G, C>,
+    reader: &mut Tallied<R>,
+    writer: &mut Tallied<W>,
+    most: u32,
+) -> Result<Served, ServeFault>
+    ensures exit { IsServed S.status (G.users counter.old.gate.now) C.may_give most
+        (record { left = R.remaining (stream_of reader.old); written = W.contents (stream_of writer.old); store = counter.old.bank.now.store; clock = counter.old.clock.now })
+        (record { left = R.remaining (stream_of reader.new); written = W.contents (stream_of writer.new); store = counter.new.bank.now.store; clock = counter.new.clock.now })
+        result }
+    ensures same_bank { counter.new.bank.ghost_name ≡ counter.old.bank.ghost_name }
+    ensures same_clock { counter.new.clock.ghost_name ≡ counter.old.clock.ghost_name }
+    ensures most { IfOk result (λ served. served.messages ≤ most) }
+    ensures read_cause { result ≡ Err ServeFault.Read → CountsFailure (failure_count reader.old) (failure_count reader.new) }
+    ensures write_cause { result ≡ Err ServeFault.Write → CountsFailure (failure_count writer.old) (failure_count writer.new) }
+    ensures counts_reads { failure_count reader.old ≤ failure_count reader.new }
+    ensures counts_writes { failure_count writer.old ≤ failure_count writer.new }
+{
+    serve_messages(alloc, counter, reader, writer, most)
+}
 
 /// Answers the messages of a stream over a bank, one after another: until the input ends between
 /// two of them, after a reply that ends the connection, or after `most` replies. Users are those
@@ -27,6 +51,10 @@ pub fn serve<R: Read, W: Write, S: Store, G: Gate, C: Clock>(
     clock: &mut C,
     most: u32,
 ) -> Result<Served, ServeFault>
+    ensures exit { IsServed S.status (G.users gate.now) C.may_give most
+        (record { left = R.remaining (stream_of reader.old); written = W.contents (stream_of writer.old); store = bank.old.store; clock = clock.old })
+        (record { left = R.remaining (stream_of reader.new); written = W.contents (stream_of writer.new); store = bank.new.store; clock = clock.new })
+        result }
     ensures most { IfOk result (λ served. served.messages ≤ most) }
     ensures read_cause { result ≡ Err ServeFault.Read → CountsFailure (failure_count reader.old) (failure_count reader.new) }
     ensures write_cause { result ≡ Err ServeFault.Write → CountsFailure (failure_count writer.old) (failure_count writer.new) }
@@ -41,5 +69,5 @@ pub fn serve<R: Read, W: Write, S: Store, G: Gate, C: Clock>(
         clock,
         routes: &routes,
     };
-    serve_messages(alloc, &mut counter, reader, writer, most)
+    serve_counter(alloc, &mut counter, reader, writer, most)
 }

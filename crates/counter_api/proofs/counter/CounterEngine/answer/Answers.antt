@@ -9,19 +9,19 @@ returns-in-Ok-clause-answered g c =
     let outcome = c.respond-outcome.result in
     let says = c.respond-outcome.ensures in (
       framed c.args.message.now c.response_of-response.result,
-      (
-        record {
+      record {
+        answered = record {
           moment = outcome.0;
           mark = mark_of outcome.1;
           parts = _;
           given = says.given;
           handled = says.handled;
           framing = ap (framed c.args.message.now) c.response_of-response.ensures;
-        },
-        says.same_bank,
-        says.same_clock,
-        says.same_gate,
-      ),
+        };
+        same_bank = says.same_bank;
+        same_clock = says.same_clock;
+        same_gate = says.same_gate;
+      },
       c.in-Ok.ensures.whole,
     )
 
@@ -30,18 +30,18 @@ returns-clause-answered g c =
     let outcome = c.respond-outcome.result in
     let says = c.respond-outcome.ensures in (
       framed c.args.message.now c.response_of-response.result,
-      (
-        record {
+      record {
+        answered = record {
           moment = outcome.0;
           mark = mark_of outcome.1;
           parts = _;
           given = says.given;
           handled = says.handled;
           framing = ap (framed c.args.message.now) c.response_of-response.ensures;
-        },
-        says.same_bank,
-        says.same_clock,
-        says.same_gate,
-      ),
+        };
+        same_bank = says.same_bank;
+        same_clock = says.same_clock;
+        same_gate = says.same_gate;
+      },
       c.in-Err.ensures.beginning,
     )
