@@ -155,13 +155,15 @@ module _ {S : Type 0} (answers breaks : S → MessageParts → List ℕ → S �
 
   ended_ok : (most : ℕ) (old mid new : At S) (w : Option (List ℕ)) (ms : List WholeMessage) (out : List ℕ) (s : Served) → old.held ≡ [] → Runs answers breaks old mid ms out
       → EndsSo answers breaks most (length ms) mid new (Ok s) → Keeps new.written w → IsExit answers breaks most (seen old old.written) (seen new w) (Ok s)
-  ended_ok most old mid new w ms out s none run (inl (full, count, same)) keeps = (
-    ms,
-    mid.held,
-    out,
-    subst (λ n. Reads answers (seen old old.written) (seen n w) ms mid.held out) (sym same) (reads_run old mid w ms out none run),
-    inl (count, inl (full, run.lasting, λ zero. rest_none _ _ _ (run_splits old mid ms out none run).whole (run.idle (full ∙ zero))), Appends-kept old.written mid.written w out run.written (subst (λ n. Keeps n.written w) same keeps)),
-  )
+  ended_ok most old mid new w ms out s none run (inl (full, count, same)) keeps =
+      let nothing : most ≡ 0 → mid.held ≡ [] = λ zero. rest_none _ _ _ (run_splits old mid ms out none run).whole (run.idle (full ∙ zero)) in
+      let wrote = Appends-kept old.written mid.written w out run.written (subst (λ n. Keeps n.written w) same keeps) in (
+        ms,
+        mid.held,
+        out,
+        subst (λ n. Reads answers (seen old old.written) (seen n w) ms mid.held out) (sym same) (reads_run old mid w ms out none run),
+        inl (count, inl (full, run.lasting, nothing), wrote),
+      )
   ended_ok most old mid new w ms out s none run (inr (fewer, inl (count, inl (reply, a, closing, wrote)))) keeps =
       let one = length-append ms (a.message ∷ []) in (
         ms ++ a.message ∷ [],
@@ -288,7 +290,8 @@ module _ {S : Type 0} (answers breaks : S → MessageParts → List ℕ → S �
   exit_ended most old new w (Err f) none (mid, ms, out, run, ends) keeps = ended_err most old mid new w ms out f none run ends keeps
 
   -- the run ended well, and what was written was flushed, or that failed
-  pub exit_flushed : (most : ℕ) (old new : At S) (w : Option (List ℕ)) (s : Served) (P Q : Type 0) (r : Result Served ServeFault) → old.held ≡ [] → IsServed answers breaks most old new (Ok s)
+  pub exit_flushed : (most : ℕ) (old new : At S) (w : Option (List ℕ)) (s : Served) (P Q : Type 0) (r : Result Served ServeFault) → old.held ≡ []
+      → IsServed answers breaks most old new (Ok s)
       → IfOk r (λ t. (t ≡ s) × P) → IfErr r (λ f. (f ≡ Write) × Q × (new.unflushed ≡ true)) → Keeps new.written w
       → IsExit answers breaks most (seen old old.written) (seen new w) r
   exit_flushed most old new w s P Q (Ok t) none (mid, ms, out, run, ends) ok err keeps =
