@@ -12,7 +12,7 @@ use Rattle.decide.specs.declared.request.Request.{Request}
 use Rattle.counter_api.specs.Request.{request_of}
 use Rattle.counter_api.specs.Response.{ResponseParts, faulted_parts, refused_parts}
 use Rattle.counter_api.specs.Run.{IsHandled, MayBear, marked, parts_or_fault, response_to}
-use Rattle.counter_api.specs.Served.{IsServed}
+use Rattle.counter_api.specs.CarriedOut.{IsCarriedOut}
 
 -- the same, of what is stated
 record Handles (stated : Result Request MessageFault) (old new : Status) (mark : Option Fault) (parts : ResponseParts) : Type 0 where
@@ -61,7 +61,7 @@ without_request fault s = record {
   replied = λ clean w held. refl;
 }
 
-with_request : (r : Request) (old new : Status) (result : Result ResponseParts Fault) → IsProper r → IsServed old new r result → (IsSome r.who.user → Refuses old (mark_of result))
+with_request : (r : Request) (old new : Status) (result : Result ResponseParts Fault) → IsProper r → IsCarriedOut old new r result → (IsSome r.who.user → Refuses old (mark_of result))
     → Handles (Ok r) old new (mark_of result) (parts_or_fault result)
 with_request r old new (Ok parts) proper served refused = record {
   bears = tt;
@@ -94,7 +94,7 @@ handled_without_request users message moment s fault is =
     handled users message moment s s None (refused_parts fault) (subst (λ stated. Handles stated s s None (refused_parts fault)) is (without_request fault s))
 
 pub handled_with_request : (users : List ℕ → Option ℕ) (message : MessageParts) (moment : ℕ) (r : Request) (old new : Status) (result : Result ResponseParts Fault) → Ok r ≡ request_of users moment message
-    → IsProper r → IsServed old new r result → (IsSome r.who.user → Refuses old (mark_of result))
+    → IsProper r → IsCarriedOut old new r result → (IsSome r.who.user → Refuses old (mark_of result))
     → IsHandled users old new (record { message = message; moment = moment; mark = mark_of result }) (parts_or_fault result)
 handled_with_request users message moment r old new result is proper served refused =
     handled users message moment old new (mark_of result) (parts_or_fault result)

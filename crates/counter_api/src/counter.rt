@@ -9,7 +9,7 @@ ghost use Rattle.store_rows.specs.Status.{Refuses, mark_of};
 ghost use Rattle.counter_api.specs.Request.{request_of, served};
 ghost use Rattle.counter_api.specs.Routes.{asked_procedure};
 ghost use Rattle.counter_api.specs.Run.{IsHandled, framed, parts_or_fault};
-ghost use Rattle.counter_api.specs.Served.{IsServed};
+ghost use Rattle.counter_api.specs.CarriedOut.{IsCarriedOut};
 
 use crate::clock::Clock;
 use crate::fields::who_of;
@@ -84,7 +84,7 @@ fn carried_out<S: Store>(
     request: &Request,
 ) -> Result<Response, Fault>
     requires { is_brought (procedure_of request.now.op) ≡ true }
-    ensures served { IsServed (S.status bank.old.store) (S.status bank.new.store) request.now result }
+    ensures carried_out { IsCarriedOut (S.status bank.old.store) (S.status bank.new.store) request.now result }
     ensures refused { IsSome request.now.who.user → Refuses (S.status bank.old.store) (mark_of result) }
 {
     match decide(bank, alloc, request.who, request.moment, &request.op) {

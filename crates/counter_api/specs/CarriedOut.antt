@@ -9,7 +9,7 @@ use Rattle.counter_api.specs.Run.{told_parts}
 
 -- Of each World that the store stood for: it stands for the World after the request, and the reply is that to it. Where a
 -- fault is answered, it stands for the same World.
-pub record IsServed (old new : Status) (r : Request) (result : Result ResponseParts Fault) : Type 0 where
+pub record IsCarriedOut (old new : Status) (r : Request) (result : Result ResponseParts Fault) : Type 0 where
   pub answers : Answers old new (mark_of result)
   pub moved : Tells old new (λ w. new.holds (after_mark (mark_of result) (step w r) w))
   pub replied : Tells old new (λ w. IfOk result (λ parts. parts ≡ told_parts (reply w r)))
