@@ -119,28 +119,6 @@ fn handled<S: Store, G: Gate>(
     }
 }
 
-impl<'b, 'g, 'c, 'r, S: Store, G: Gate, C: Clock> Counter<'b, 'g, 'c, 'r, S, G, C> {
-    /// The reply to a message, or the fault that is replied. The clock gives the moment.
-    fn respond(&mut self, message: &Message<'_>) -> (u64, Result<Response, Fault>)
-        ensures handled { IsHandled (G.users self.old.gate.now) (S.status self.old.bank.now.store) (S.status self.new.bank.now.store) (record { message = message.now; moment = result.0; mark = mark_of result.1 }) (parts_or_fault result.1) }
-        ensures given { C.may_give self.old.clock.now result.0 self.new.clock.now }
-        ensures same_bank { self.new.bank.ghost_name ≡ self.old.bank.ghost_name }
-        ensures same_clock { self.new.clock.ghost_name ≡ self.old.clock.ghost_name }
-        ensures same_gate { self.new.gate ≡ self.old.gate }
-    {
-        let moment = self.clock.moment();
-        let response = handled(
-            self.bank,
-            self.alloc,
-            self.routes,
-            self.gate,
-            message,
-            moment,
-        );
-        (moment, response)
-    }
-}
-
 /// The response to a message, also to one that a fault is replied to.
 fn response_of(outcome: Result<Response, Fault>) -> Response
     ensures { result ≡ parts_or_fault outcome }
@@ -183,7 +161,15 @@ impl<'b, 'g, 'c, 'r, S: Store, G: Gate, C: Clock> Engine for Counter<'b, 'g, 'c,
         message: &Message<'_>,
         writer: &mut Tallied<W>,
     ) -> Result<(), AnswerFault> {
-        let (_, outcome) = self.respond(message);
+        let moment = self.clock.moment();
+        let outcome = handled(
+            self.bank,
+            self.alloc,
+            self.routes,
+            self.gate,
+            message,
+            moment,
+        );
         let response = response_of(outcome);
         match write_response(message, &response, writer) {
             Ok(()) => Ok(()),
