@@ -3,15 +3,16 @@ use Rattle.std.proofs.Common.{◌≡◌, ℕ, ◌⊎◌, inl, inr, List, [], Opt
 use Rattle.std.specs.Prelude.{IsSome}
 use Rattle.money.specs.declared.fault.Fault.{Fault}
 use Rattle.money.specs.declared.fault.Fault.TheVariants.{Memory}
+use Rattle.bank_books.specs.WorldLists.{WorldLists}
 use Rattle.heads.specs.declared.fault.MessageFault.{MessageFault}
 use Rattle.messages.specs.Parts.{MessageParts}
 use Rattle.store_rows.specs.Status.{Answers, Refuses, Status, Tells, mark_of}
-use Rattle.decide.specs.Run.{world_after}
+use Rattle.decide.specs.Run.{step, world_after}
 use Rattle.decide.specs.Sums.{IsProper}
 use Rattle.decide.specs.declared.request.Request.{Request}
 use Rattle.counter_api.specs.Request.{request_of}
 use Rattle.counter_api.specs.Response.{ResponseParts, faulted_parts, refused_parts}
-use Rattle.counter_api.specs.Run.{IsHandled, MayBear, marked, parts_or_fault, response_to}
+use Rattle.counter_api.specs.Run.{IsHandled, MayBear, marked, parts_or_fault, pending_after, response_to}
 use Rattle.counter_api.specs.CarriedOut.{IsCarriedOut}
 
 -- the same, of what is stated
@@ -22,10 +23,11 @@ record Handles (stated : Result Request MessageFault) (old new : Status) (mark :
   refused : IfOk stated (λ r. IsSome r.who.user → Refuses old mark)
   moved : Tells old new (λ w. new.holds (world_after w (marked stated mark [])))
   replied : Tells old new (λ w. parts ≡ response_to w stated mark)
+  leaves : Tells old new (λ w. (left : WorldLists) → new.may_leave left → (left ≡ world_after w (marked stated mark [])) ⊎ pending_after old.may_leave w stated mark left)
 
 handled : (users : List ℕ → Option ℕ) (message : MessageParts) (moment : ℕ) (old new : Status) (mark : Option Fault) (parts : ResponseParts)
     → Handles (request_of users moment message) old new mark parts → IsHandled users old new (record { message = message; moment = moment; mark = mark }) parts
-handled users message moment old new mark parts h = record { bears = h.bears; proper = h.proper; answers = h.answers; refused = h.refused; moved = h.moved; replied = h.replied }
+handled users message moment old new mark parts h = record { bears = h.bears; proper = h.proper; answers = h.answers; refused = h.refused; moved = h.moved; replied = h.replied; leaves = h.leaves }
 
 -- nothing is asked of the store
 rests : (s : Status) (mark : Option Fault) → (mark ≡ None) ⊎ (mark ≡ Some Memory) → Answers s s mark
@@ -41,6 +43,7 @@ without_memory (Ok r) s = record {
   refused = λ known stopped. inr refl;
   moved = λ clean w held. held;
   replied = λ clean w held. refl;
+  leaves = λ clean w held left may. inr (inl may);
 }
 without_memory (Err fault) s = record {
   bears = inr refl;
@@ -49,6 +52,7 @@ without_memory (Err fault) s = record {
   refused = tt;
   moved = λ clean w held. held;
   replied = λ clean w held. refl;
+  leaves = λ clean w held left may. inr may;
 }
 
 without_request : (fault : MessageFault) (s : Status) → Handles (Err fault) s s None (refused_parts fault)
@@ -59,7 +63,14 @@ without_request fault s = record {
   refused = tt;
   moved = λ clean w held. held;
   replied = λ clean w held. refl;
+  leaves = λ clean w held left may. inr may;
 }
+
+-- what a crash may leave, once a request was answered
+answered_leaves : (r : Request) (w left : WorldLists) (Old New : WorldLists → Type 0) → ((l : WorldLists) → New l → l ≡ step w r) ⊎ ((step w r ≡ w) × ((l : WorldLists) → New l → Old l)) → New left
+    → (left ≡ step w r) ⊎ ((step w r ≡ w) × Old left)
+answered_leaves r w left Old New (inl alone) may = inl (alone left may)
+answered_leaves r w left Old New (inr kept) may = inr (kept.0, kept.1 left may)
 
 with_request : (r : Request) (old new : Status) (result : Result ResponseParts Fault) → IsProper r → IsCarriedOut old new r result → (IsSome r.who.user → Refuses old (mark_of result))
     → Handles (Ok r) old new (mark_of result) (parts_or_fault result)
@@ -70,6 +81,7 @@ with_request r old new (Ok parts) proper served refused = record {
   refused = refused;
   moved = served.moved;
   replied = served.replied;
+  leaves = λ clean w held left may. answered_leaves r w left old.may_leave new.may_leave (served.settled refl clean w held) may;
 }
 with_request r old new (Err fault) proper served refused = record {
   bears = tt;
@@ -78,6 +90,7 @@ with_request r old new (Err fault) proper served refused = record {
   refused = refused;
   moved = served.moved;
   replied = λ clean w held. refl;
+  leaves = λ clean w held left may. inr (served.crash clean w held left may);
 }
 
 -- ---- the same of a message
