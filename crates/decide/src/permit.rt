@@ -1,4 +1,4 @@
-ghost use Rattle.std.specs.Prelude.{◌≡◌, None, Some, true, IfOk, IfErr, IsSome};
+ghost use Rattle.std.specs.Prelude.{◌≡◌, None, Some, true, IfErr, IfOk, IsNone, IsOk, IsSome};
 ghost use Rattle.std.specs.Borrow.{sem, RestsIfErr};
 ghost use Rattle.counter_ops.specs.Op.{procedure_of};
 ghost use Rattle.bank_books.specs.WorldLists.{WorldLists};
@@ -87,7 +87,8 @@ impl<'b, S, B> Done<'b, S, B> {
 }
 
 /// Decides an operation of a procedure that is served: a permit exactly where no rule denies it,
-/// else the first rule that does. At a fault nothing has changed.
+/// else the first rule that does. At a fault nothing has changed. The store is not asked about a
+/// request of no user, and so can't fail.
 pub fn decide<'b, S: Store>(
     bank: &'b mut Bank<S>,
     alloc: Global,
@@ -100,6 +101,7 @@ pub fn decide<'b, S: Store>(
     ensures same_reference { IfOk result (λ d. (decision_bank d).ghost_name ≡ bank.entry.ghost_name) }
     ensures kept { IfOk result (λ d. Keeps (S.status bank.old.store) (S.status (decision_bank d).now.store) None) }
     ensures refused { IsSome who.user → Refuses (S.status bank.old.store) (mark_of result) }
+    ensures stranger { IsNone who.user → IsOk result }
     ensures decided { IfOk result (λ d. Tells (S.status bank.old.store) (S.status (decision_bank d).now.store) (λ w. IsDecided w who moment op.now d)) }
 {
     match prepare(alloc, &mut bank.store, who, moment, op)? {
