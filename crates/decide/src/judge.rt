@@ -1,4 +1,4 @@
-ghost use Rattle.std.specs.Prelude.{◌≡◌, Some, None, true, false, is_some, IfSome, IsNone, IsOk, IsSome, IfOk, IfErr, OnOk};
+ghost use Rattle.std.specs.Prelude.{◌≡◌, Some, None, true, false, is_some, IfSome, IsNone, IsSome, IfOk, IfErr, OnOk, Ok, Err};
 ghost use Rattle.money.specs.Range.{is_cents};
 ghost use Rattle.bank_books.specs.Records.{account_record};
 ghost use Rattle.bank_books.specs.Effects.{applied};
@@ -42,7 +42,7 @@ pub(crate) fn prepare<S: Store>(
     ensures answer { Tells (S.status store.old) (S.status store.new) (λ w. IfOk result (λ r. IfOk r (λ p. answer_of w op.now ≡ Some p.answer))) }
     ensures kept { Keeps (S.status store.old) (S.status store.new) (mark_of result) }
     ensures refused { IsSome who.user → Refuses (S.status store.old) (mark_of result) }
-    ensures stranger { IsNone who.user → IsOk result }
+    ensures stranger { IsNone who.user → result ≡ Ok (Err Rule.Identity) }
 {
     match policy_rule(alloc, store, who, op)? {
         Some(rule) => Ok(Err(rule)),

@@ -1,11 +1,11 @@
-ghost use Rattle.std.specs.Prelude.{◌≡◌, None, Some, true, IfErr, IfOk, IsNone, IsOk, IsSome};
+ghost use Rattle.std.specs.Prelude.{◌≡◌, None, Some, true, IfErr, IfOk, IsNone, IsOkAnd, IsSome};
 ghost use Rattle.std.specs.Borrow.{sem, RestsIfErr};
 ghost use Rattle.counter_ops.specs.Op.{procedure_of};
 ghost use Rattle.bank_books.specs.WorldLists.{WorldLists};
 ghost use Rattle.store_rows.specs.contracts.bank.Bank.{the_row};
 ghost use Rattle.store_rows.specs.Status.{Keeps, Refuses, Tells, mark_of};
 ghost use Rattle.decide.specs.Requests.{is_brought};
-ghost use Rattle.decide.specs.Permit.{CarriesOut, IsDecided, IsLeave, IsReplied, decision_bank, reply_bank};
+ghost use Rattle.decide.specs.Permit.{CarriesOut, IsDecided, IsDeniedToStranger, IsLeave, IsReplied, decision_bank, reply_bank};
 
 use crate::answer::Answer;
 use crate::judge::{Prepared, prepare};
@@ -101,7 +101,7 @@ pub fn decide<'b, S: Store>(
     ensures same_reference { IfOk result (λ d. (decision_bank d).ghost_name ≡ bank.entry.ghost_name) }
     ensures kept { IfOk result (λ d. Keeps (S.status bank.old.store) (S.status (decision_bank d).now.store) None) }
     ensures refused { IsSome who.user → Refuses (S.status bank.old.store) (mark_of result) }
-    ensures stranger { IsNone who.user → IsOk result }
+    ensures stranger { IsNone who.user → IsOkAnd result IsDeniedToStranger }
     ensures decided { IfOk result (λ d. Tells (S.status bank.old.store) (S.status (decision_bank d).now.store) (λ w. IsDecided w who moment op.now d)) }
 {
     match prepare(alloc, &mut bank.store, who, moment, op)? {
