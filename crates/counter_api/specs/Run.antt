@@ -1,5 +1,5 @@
 -- Messages one after another: the requests that they state, and the replies to them.
-use Rattle.std.specs.Prelude.{ℕ, ◌≡◌, ◌⊎◌, ◌+◌, Bool, IsTrue, List, [], ◌∷◌, ◌++◌, codes, Option, Some, None, IsSome, Result, Ok, Err, IfOk, ⊤}
+use Rattle.std.specs.Prelude.{ℕ, ◌≡◌, ◌⊎◌, ◌+◌, Bool, IsTrue, List, [], ◌∷◌, ◌++◌, codes, Option, Some, None, IsNone, IsSome, Result, Ok, Err, IfOk, ⊤}
 use Rattle.money.specs.declared.fault.Fault.{Fault}
 use Rattle.money.specs.declared.fault.Fault.TheVariants.{Memory, Stopped}
 use Rattle.bank_policy.specs.declared.rule.Rule.{Rule}
@@ -41,10 +41,10 @@ response_to w (Err fault) None = refused_parts fault
 abbrev pub framed : MessageParts → ResponseParts → List ℕ
 framed m parts = reply_bytes parts.status (codes "application/json") parts.body (closes m.head) (asks_head m.head)
 
--- A request may be kept from being made by any fault. A message that states none may be kept from its reply by want of memory alone.
+-- A request of a user whom the gate knows may be kept from being made by any fault. One of nobody, and a message that states
+-- none, may be kept from its reply by want of memory alone.
 abbrev pub MayBear : Result Request MessageFault → Option Fault → Type 0
-MayBear (Ok r) mark = ⊤
-MayBear (Err fault) mark = (mark ≡ None) ⊎ (mark ≡ Some Memory)
+MayBear stated mark = IfOk stated (λ r. IsNone r.who.user) → (mark ≡ None) ⊎ (mark ≡ Some Memory)
 
 -- The Worlds that a crash may leave beside the one that stands: those that it could leave before, as long as no request has
 -- changed the World, and the one after a request that was answered by a fault.

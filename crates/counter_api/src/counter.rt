@@ -1,4 +1,4 @@
-ghost use Rattle.std.specs.Prelude.{◌≡◌, ◌≤◌, true, IfOk, IfSome, IsOkUnless, IsSome, OnErr, OnOk};
+ghost use Rattle.std.specs.Prelude.{◌≡◌, ◌≤◌, true, IfOk, IfSome, IsNone, IsOkUnless, IsSome, OnErr, OnOk};
 ghost use Rattle.std.specs.Io.KnownBytes.{Appends};
 ghost use Rattle.money.specs.Counted.{AppendsBeginning, CountsFailure, failure_count, stream_of};
 ghost use Rattle.money.specs.declared.fault.Fault.TheVariants.{Memory};
@@ -86,6 +86,7 @@ fn carried_out<S: Store>(
     requires { is_brought (procedure_of request.now.op) ≡ true }
     ensures carried_out { IsCarriedOut (S.status bank.old.store) (S.status bank.new.store) request.now result }
     ensures refused { IsSome request.now.who.user → Refuses (S.status bank.old.store) (mark_of result) }
+    ensures stranger { IsNone request.now.who.user → IsOkUnless result Memory }
 {
     match decide(bank, alloc, request.who, request.moment, &request.op) {
         Ok(Decision::Denied(denial)) => Ok(Response::denied(alloc, denial.rule())?),
