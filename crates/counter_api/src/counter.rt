@@ -3,7 +3,7 @@ ghost use Rattle.std.specs.Io.KnownBytes.{Appends};
 ghost use Rattle.money.specs.Counted.{AppendsBeginning, CountsFailure, failure_count, stream_of};
 ghost use Rattle.money.specs.declared.fault.Fault.TheVariants.{Memory};
 ghost use Rattle.counter_ops.specs.Op.{procedure_of};
-ghost use Rattle.decide.specs.Requests.{is_brought};
+ghost use Rattle.decide.specs.Requests.{is_served};
 ghost use Rattle.decide.specs.Sums.{IsProper};
 ghost use Rattle.store_rows.specs.Status.{Refuses, mark_of};
 ghost use Rattle.counter_api.specs.Request.{request_of, served};
@@ -18,7 +18,7 @@ use crate::response::Response;
 use crate::routes::Routes;
 use bank_policy::Procedure;
 use bodies::read_op;
-use decide::{Decision, Reply, Request, Who, carry_out, decide, is_brought};
+use decide::{Decision, Reply, Request, Who, carry_out, decide, is_served};
 use heads::MessageFault;
 use messages::{AnswerFault, Engine, Message};
 use money::{Fault, Tallied, WriteStopped};
@@ -39,10 +39,10 @@ pub(crate) struct Counter<'b, 'g, 'c, 'r, S, G, C> {
 /// The procedure that a message asks for, if it is served.
 fn served_procedure(routes: &Routes, message: &Message<'_>) -> Option<Procedure>
     ensures asked { result ≡ served (asked_procedure message.now.head.method message.now.head.target) }
-    ensures brought { IfSome result (λ procedure. is_brought procedure ≡ true) }
+    ensures served { IfSome result (λ procedure. is_served procedure ≡ true) }
 {
     let procedure = routes.procedure(message.method(), message.target())?;
-    if is_brought(procedure) {
+    if is_served(procedure) {
         Some(procedure)
     } else {
         None
@@ -60,7 +60,7 @@ fn stated_request<G: Gate>(
     requires { moment ≤ 99999999999 }
     ensures stated { IfOk result (λ stated. stated ≡ request_of (G.users gate.now) moment message.now) }
     ensures proper { IfOk result (λ stated. IfOk stated IsProper) }
-    ensures brought { IfOk result (λ stated. IfOk stated (λ request. is_brought (procedure_of request.op) ≡ true)) }
+    ensures served { IfOk result (λ stated. IfOk stated (λ request. is_served (procedure_of request.op) ≡ true)) }
     ensures memory { IsOkUnless result Memory }
 {
     let Some(procedure) = served_procedure(routes, message) else {
@@ -83,7 +83,7 @@ fn carried_out<S: Store>(
     alloc: Global,
     request: &Request,
 ) -> Result<Response, Fault>
-    requires { is_brought (procedure_of request.now.op) ≡ true }
+    requires { is_served (procedure_of request.now.op) ≡ true }
     ensures carried_out { IsCarriedOut (S.status bank.old.store) (S.status bank.new.store) request.now result }
     ensures refused { IsSome request.now.who.user → Refuses (S.status bank.old.store) (mark_of result) }
     ensures stranger { IsNone request.now.who.user → IsOkUnless result Memory }
