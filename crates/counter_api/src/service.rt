@@ -42,7 +42,8 @@ fn serve_counter<'b, 'g, 'c, 'r, R: Read, W: Write, S: Store, G: Gate, C: Clock>
 /// it.
 ///
 /// A message is acted on once its whole body was read. It works in a bounded room, which is
-/// allocated first: where that is refused, nothing is read.
+/// allocated first: where that is refused, nothing is read. An `Ok` says that no call of the
+/// reader or of the writer failed.
 pub fn serve<R: Read, W: Write, S: Store, G: Gate, C: Clock>(
     alloc: Global,
     reader: &mut Tallied<R>,

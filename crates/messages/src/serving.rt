@@ -323,7 +323,8 @@ fn flush_last<W: Write>(
 /// the connection, or after `most` replies. With `most` 0 nothing is read. A message is acted on once its whole body was
 /// read. What a message and its reply take is one room of fixed size, which is allocated first. The writer is flushed
 /// before each read and at the end, where something was written since it was flushed last. A flush that fails is a
-/// failed write; one that fails at the end takes the place of an `Ok`, and of no other fault.
+/// failed write; one that fails at the end takes the place of an `Ok`, and of no other fault. So an `Ok` says that no call of
+/// the reader or of the writer failed.
 pub fn serve_messages<E: Engine, R: Read, W: Write>(
     alloc: Global,
     engine: &mut E,
