@@ -138,6 +138,7 @@ fn write_response<W: Write>(
 ) -> Result<(), WriteStopped>
     ensures whole { OnOk result (Appends (W.contents (stream_of writer.old)) (W.contents (stream_of writer.new)) (framed message.now response.now)) }
     ensures beginning { OnErr result (AppendsBeginning (W.contents (stream_of writer.old)) (W.contents (stream_of writer.new)) (framed message.now response.now)) }
+    ensures no_failure { OnOk result (failure_count writer.new ≡ failure_count writer.old) }
     ensures cause { OnErr result (CountsFailure (failure_count writer.old) (failure_count writer.new)) }
     ensures counts { failure_count writer.old ≤ failure_count writer.new }
 {

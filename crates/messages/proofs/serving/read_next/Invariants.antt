@@ -10,6 +10,8 @@ invariant-loop-next g l =
     × (l.written ≡ true → l.fn.written ≡ true)
     × (l.fn.reader.failures ≤ l.reader.failures)
     × (l.fn.writer.failures ≤ l.writer.failures)
+    × (l.reader.failures ≡ l.fn.reader.failures)
+    × (l.writer.failures ≡ l.fn.writer.failures)
 
 abbrev pub decreases-loop-next : goal.decreases-loop-next
 decreases-loop-next g l = max_message_len - length l.received
