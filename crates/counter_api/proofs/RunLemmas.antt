@@ -1,5 +1,5 @@
 -- Messages one after another, by induction.
-use Rattle.std.proofs.Common.{◌≡◌, ◌⊎◌, ℕ, ◌+◌, inl, inr, List, [], ◌∷◌, ◌++◌, Option, Some, None, Result, Ok, Err, IfOk, refl, sym, ap, arith, subst, ◌∙◌}
+use Rattle.std.proofs.Common.{◌≡◌, ◌⊎◌, ℕ, ◌+◌, ◌≤◌, inl, inr, List, [], ◌∷◌, ◌++◌, Option, Some, None, Result, Ok, Err, IfOk, refl, sym, ap, arith, subst, ◌∙◌}
 use Rattle.std.proofs.lemmas.List.Elements.{All-cons, All-nil}
 use Rattle.money.specs.declared.fault.Fault.{Fault}
 use Rattle.bank_books.specs.WorldLists.{WorldLists}
@@ -17,6 +17,9 @@ rose_then m n a b c (inl p) (inl q) = inl (omega arith)
 rose_then m n a b c (inl p) (inr q) = inr q
 rose_then m n a b c (inr p) (inl q) = inr (omega arith)
 rose_then m n a b c (inr p) (inr q) = inr q
+
+along : (m n a b c : ℕ) → b ≤ a + m → c ≤ b + n → c ≤ a + (m + n)
+along m n a b c p q = omega arith
 
 -- a request in front
 after_marked : (w : WorldLists) (stated : Result Request MessageFault) (mark : Option Fault) (rest : List Marked)
@@ -60,6 +63,7 @@ none_ran users s = record {
     state = refl;
     orderly = tt;
     counted = inl (omega arith);
+    no_more = omega arith;
     moved = λ clean w held. held;
     replied = λ clean w held. refl;
     leaves = λ clean w held left may. inr may;
@@ -78,6 +82,7 @@ one_more users old mid new m ms parts out here behind =
         state = behind.run.state ∙ ap (stopped_after ms) here.answers.state;
         orderly = (here.refused, here.answers.was_stopped, here.bears, subst (AreOrderly users ms) here.answers.state behind.run.orderly);
         counted = rose_then (counts m.mark) (faults_of ms) old.fault_count mid.fault_count new.fault_count here.answers.counted behind.run.counted;
+        no_more = along (counts m.mark) (faults_of ms) old.fault_count mid.fault_count new.fault_count here.answers.no_more behind.run.no_more;
         moved = λ clean w held.
             let honest = behind.run.honest clean in
             subst (λ v. new.holds v) (after_marked w (stated_by users m) m.mark (requests_of users ms)) (behind.run.moved clean _ (here.moved honest w held));

@@ -1,5 +1,5 @@
 -- Messages one after another: the requests that they state, and the replies to them.
-use Rattle.std.specs.Prelude.{ℕ, ◌≡◌, ◌⊎◌, ◌+◌, Bool, IsTrue, List, [], ◌∷◌, ◌++◌, codes, Option, Some, None, IsNone, IsSome, Result, Ok, Err, IfOk, ⊤}
+use Rattle.std.specs.Prelude.{ℕ, ◌≡◌, ◌⊎◌, ◌+◌, ◌≤◌, Bool, IsTrue, List, [], ◌∷◌, ◌++◌, codes, Option, Some, None, IsNone, IsSome, Result, Ok, Err, IfOk, ⊤}
 use Rattle.money.specs.declared.fault.Fault.{Fault}
 use Rattle.money.specs.declared.fault.Fault.TheVariants.{Memory, Stopped}
 use Rattle.bank_policy.specs.declared.rule.Rule.{Rule}
@@ -113,6 +113,7 @@ pub record IsRun (users : List ℕ → Option ℕ) (old new : Status) (ms : List
   pub state : new.is_stopped ≡ stopped_after ms old.is_stopped
   pub orderly : AreOrderly users ms old.is_stopped
   pub counted : RoseBy (faults_of ms) old.fault_count new.fault_count
+  pub no_more : new.fault_count ≤ old.fault_count + faults_of ms
   pub moved : Tells old new (λ w. new.holds (world_after w (requests_of users ms)))
   pub replied : Tells old new (λ w. out ≡ replies_to users w ms)
   -- A crash leaves the World that stands, or one that is pending: no change that was carried out is undone.
