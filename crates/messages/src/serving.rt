@@ -330,6 +330,7 @@ pub fn serve_messages<E: Engine, R: Read, W: Write>(
         (record { left = R.remaining (stream_of reader.old); written = W.contents (stream_of writer.old); engine = engine.old })
         (record { left = R.remaining (stream_of reader.new); written = W.contents (stream_of writer.new); engine = engine.new })
         result }
+    ensures memory { result ≡ Err ServeFault.Memory → (reader.new ≡ reader.old) × (writer.new ≡ writer.old) }
     ensures most { IfOk result (λ served. served.messages ≤ most) }
     ensures read_cause { result ≡ Err ServeFault.Read → CountsFailure (failure_count reader.old) (failure_count reader.new) }
     ensures write_cause { result ≡ Err ServeFault.Write → CountsFailure (failure_count writer.old) (failure_count writer.new) }
