@@ -1,4 +1,4 @@
-ghost use Rattle.std.specs.Prelude.{◌≡◌, ◌+◌, ◌<◌, ◌≤◌, ℕ, List, [], length, take, drop, nat_lt, false, Ok, IfOk, OnErr};
+ghost use Rattle.std.specs.Prelude.{◌≡◌, ◌+◌, ◌<◌, ◌≤◌, ℕ, List, [], length, take, drop, nat_lt, false, Ok, IfOk, OnOk, OnErr};
 ghost use Rattle.std.specs.Io.KnownBytes.{Keeps, IsAtEnd};
 ghost use Rattle.money.specs.Counted.{stream_of, failure_count, CountsFailure};
 ghost use Rattle.messages.specs.Received.{max_message_len, Takes};
@@ -29,6 +29,7 @@ fn read_behind<R: Read>(
         × (len ≡ held + length more)) }
     ensures end { IfOk result (λ len. len ≡ held → IsAtEnd (R.remaining (stream_of reader.new))) }
     ensures err { OnErr result (Keeps (R.remaining (stream_of reader.old)) (R.remaining (stream_of reader.new)) × (take held room.new ≡ take held room.old)) }
+    ensures unfailed { OnOk result (failure_count reader.new ≡ failure_count reader.old) }
     ensures cause { OnErr result (CountsFailure (failure_count reader.old) (failure_count reader.new)) }
     ensures counts { failure_count reader.old ≤ failure_count reader.new }
 {
@@ -80,6 +81,7 @@ impl Received {
             × (any ≡ nat_lt 0 (length more))) }
         ensures end { result ≡ Ok false → IsAtEnd (R.remaining (stream_of reader.new)) }
         ensures err { OnErr result (Keeps (R.remaining (stream_of reader.old)) (R.remaining (stream_of reader.new)) × (self.new ≡ self.old)) }
+        ensures unfailed { OnOk result (failure_count reader.new ≡ failure_count reader.old) }
         ensures cause { OnErr result (CountsFailure (failure_count reader.old) (failure_count reader.new)) }
         ensures counts { failure_count reader.old ≤ failure_count reader.new }
     {

@@ -138,6 +138,7 @@ fn read_next<R: Read, W: Write>(
     ensures err { IfErr result (λ fault. ((fault ≡ ServeFault.Read) × CountsFailure (failure_count reader.old) (failure_count reader.new)
         × IsPartial received.new × (written.new ≡ false))
         ⊎ ((fault ≡ ServeFault.Write) × CountsFailure (failure_count writer.old) (failure_count writer.new) × (written.old ≡ true))) }
+    ensures unfailed { OnOk result ((failure_count reader.new ≡ failure_count reader.old) × (failure_count writer.new ≡ failure_count writer.old)) }
     ensures kept { Keeps (W.contents (stream_of writer.old)) (W.contents (stream_of writer.new)) }
     ensures counts_reads { failure_count reader.old ≤ failure_count reader.new }
     ensures counts_writes { failure_count writer.old ≤ failure_count writer.new }
@@ -167,6 +168,7 @@ fn refuse<W: Write>(
     ensures err { IfErr result (λ stopped. (stopped ≡ ServeFault.Write)
         × AppendsBeginning (W.contents (stream_of writer.old)) (W.contents (stream_of writer.new)) (refusal_bytes fault head_only)
         × CountsFailure (failure_count writer.old) (failure_count writer.new)) }
+    ensures unfailed { OnOk result (failure_count writer.new ≡ failure_count writer.old) }
     ensures counts { failure_count writer.old ≤ failure_count writer.new }
 {
     let framing = Framing {
@@ -192,6 +194,7 @@ fn answer<E: Engine, W: Write>(
     writer: &mut Tallied<W>,
 ) -> Result<Turn, ServeFault>
     ensures turn { IsTurnOf E.answers E.breaks engine.old engine.new message.now (W.contents (stream_of writer.old)) (W.contents (stream_of writer.new)) result }
+    ensures unfailed { OnOk result (failure_count writer.new ≡ failure_count writer.old) }
     ensures write_cause { result ≡ Err ServeFault.Write → CountsFailure (failure_count writer.old) (failure_count writer.new) }
     ensures counts { failure_count writer.old ≤ failure_count writer.new }
 {
@@ -221,6 +224,7 @@ fn serve_one<E: Engine, R: Read, W: Write>(
         (record { left = R.remaining (stream_of reader.old); held = received.old; written = W.contents (stream_of writer.old); unflushed = written.old; engine = engine.old })
         (record { left = R.remaining (stream_of reader.new); held = received.new; written = W.contents (stream_of writer.new); unflushed = written.new; engine = engine.new })
         result }
+    ensures unfailed { OnOk result ((failure_count reader.new ≡ failure_count reader.old) × (failure_count writer.new ≡ failure_count writer.old)) }
     ensures read_cause { result ≡ Err ServeFault.Read → CountsFailure (failure_count reader.old) (failure_count reader.new) }
     ensures write_cause { result ≡ Err ServeFault.Write → CountsFailure (failure_count writer.old) (failure_count writer.new) }
     ensures counts_reads { failure_count reader.old ≤ failure_count reader.new }
@@ -281,6 +285,7 @@ fn serve_in<E: Engine, R: Read, W: Write>(
         (record { left = R.remaining (stream_of reader.new); held = received.new; written = W.contents (stream_of writer.new); unflushed = written.new; engine = engine.new })
         result }
     ensures most { IfOk result (λ served. served.messages ≤ most) }
+    ensures unfailed { OnOk result ((failure_count reader.new ≡ failure_count reader.old) × (failure_count writer.new ≡ failure_count writer.old)) }
     ensures read_cause { result ≡ Err ServeFault.Read → CountsFailure (failure_count reader.old) (failure_count reader.new) }
     ensures write_cause { result ≡ Err ServeFault.Write → CountsFailure (failure_count writer.old) (failure_count writer.new) }
     ensures counts_reads { failure_count reader.old ≤ failure_count reader.new }
@@ -332,6 +337,7 @@ pub fn serve_messages<E: Engine, R: Read, W: Write>(
         result }
     ensures memory { result ≡ Err ServeFault.Memory → (reader.new ≡ reader.old) × (writer.new ≡ writer.old) }
     ensures most { IfOk result (λ served. served.messages ≤ most) }
+    ensures sound { OnOk result ((failure_count reader.new ≡ failure_count reader.old) × (failure_count writer.new ≡ failure_count writer.old)) }
     ensures read_cause { result ≡ Err ServeFault.Read → CountsFailure (failure_count reader.old) (failure_count reader.new) }
     ensures write_cause { result ≡ Err ServeFault.Write → CountsFailure (failure_count writer.old) (failure_count writer.new) }
     ensures counts_reads { failure_count reader.old ≤ failure_count reader.new }

@@ -1,4 +1,4 @@
-use Rattle.std.proofs.Common.{◌≡◌, ℕ, ◌≤◌, Result, Ok, Err, IfOk, sym, subst}
+use Rattle.std.proofs.Common.{◌≡◌, ℕ, ◌≤◌, Result, Ok, Err, IfOk, OnOk, sym, ◌∙◌, subst}
 use Rattle.std.proofs.KnownBytes.{Keeps-refl}
 use Rattle.messages.specs.declared.serving.Served.{Served}
 use Rattle.messages.specs.declared.serving.ServeFault.{ServeFault}
@@ -16,6 +16,13 @@ same_most most s P (Err f) within ok = tt
 
 pub returns-in-Ok-clause-most : goal.returns-in-Ok-clause-most
 returns-in-Ok-clause-most g c = same_most c.args.most c.in-Ok.served _ c.flush_last.result c.in-Ok.ensures.most c.flush_last.ensures.ok
+
+none_failed : (s : Served) (P : Type 0) (start mid last : ℕ) (r : Result Served ServeFault) → P × (mid ≡ start) → IfOk r (λ t. (t ≡ s) × (last ≡ mid)) → OnOk r (P × (last ≡ start))
+none_failed s P start mid last (Ok t) before ok = (before.0, ok.1 ∙ before.1)
+none_failed s P start mid last (Err f) before ok = tt
+
+pub returns-in-Ok-clause-sound : goal.returns-in-Ok-clause-sound
+returns-in-Ok-clause-sound g c = none_failed c.in-Ok.served _ _ _ _ c.flush_last.result c.in-Ok.ensures.unfailed c.flush_last.ensures.ok
 
 pub returns-in-Err-Report-clause-exit : goal.returns-in-Err-Report-clause-exit
 returns-in-Err-Report-clause-exit g c =
