@@ -68,7 +68,8 @@ impl Received {
 
     /// The bytes.
     pub(crate) fn bytes(&self) -> &[u8]
-        ensures { result.now ≡ self.now }
+        ensures value { result.now ≡ self.now }
+        ensures bounded { length result.now ≤ max_message_len }
     {
         &self.room[..self.len]
     }
@@ -79,6 +80,7 @@ impl Received {
         ensures ok { IfOk result (λ any. (more : List ℕ)
             × Takes (R.remaining (stream_of reader.old)) (R.remaining (stream_of reader.new)) self.old self.new more
             × (any ≡ nat_lt 0 (length more))) }
+        ensures bounded { length self.new ≤ max_message_len }
         ensures end { result ≡ Ok false → IsAtEnd (R.remaining (stream_of reader.new)) }
         ensures err { OnErr result (Keeps (R.remaining (stream_of reader.old)) (R.remaining (stream_of reader.new)) × (self.new ≡ self.old)) }
         ensures unfailed { OnOk result (failure_count reader.new ≡ failure_count reader.old) }

@@ -4,7 +4,7 @@ ghost use Rattle.money.specs.Counted.{stream_of, failure_count, CountsFailure, A
 ghost use Rattle.messages.specs.Answered.{IsTurnOf};
 ghost use Rattle.messages.specs.Exit.{IsExit};
 ghost use Rattle.messages.specs.Next.{IsNext, IsPartial};
-ghost use Rattle.messages.specs.Received.{Takes};
+ghost use Rattle.messages.specs.Received.{Takes, max_message_len};
 ghost use Rattle.messages.specs.Refusal.{refusal_bytes};
 ghost use Rattle.messages.specs.Run.{IsServed};
 ghost use Rattle.messages.specs.Turn.{IsTurn};
@@ -133,6 +133,7 @@ fn read_next<R: Read, W: Write>(
 ) -> Result<Next, ServeFault>
     requires { max_fields ≤ length headers.old }
     ensures takes { (more : List ℕ) × Takes (R.remaining (stream_of reader.old)) (R.remaining (stream_of reader.new)) received.old received.new more }
+    ensures bounded { length received.new ≤ max_message_len }
     ensures next { IfOk result (IsNext received.new headers.new) }
     ensures end { result ≡ Ok Next.Partial → IsAtEnd (R.remaining (stream_of reader.new)) × (written.new ≡ false) }
     ensures err { IfErr result (λ fault. ((fault ≡ ServeFault.Read) × CountsFailure (failure_count reader.old) (failure_count reader.new)
@@ -280,6 +281,7 @@ fn serve_in<E: Engine, R: Read, W: Write>(
 ) -> Result<Served, ServeFault>
     requires room { max_fields ≤ length headers.old }
     requires flushed { written.old ≡ false }
+    requires bounded { length received.old ≤ max_message_len }
     ensures served { IsServed E.answers E.breaks most
         (record { left = R.remaining (stream_of reader.old); held = received.old; written = W.contents (stream_of writer.old); unflushed = written.old; engine = engine.old })
         (record { left = R.remaining (stream_of reader.new); held = received.new; written = W.contents (stream_of writer.new); unflushed = written.new; engine = engine.new })

@@ -3,7 +3,7 @@ use Rattle.messages.proofs.RunLemmas.{run_none, run_more}
 use Rattle.messages.proofs.serving.serve_in.Goals as goal
 
 pub loop-done-init : goal.loop-done-init
-loop-done-init g c = (([], [], refl, run_none g.E.Engine.answers g.E.Engine.breaks _ c.requires.flushed), refl, refl)
+loop-done-init g c = (([], [], refl, run_none g.E.Engine.answers g.E.Engine.breaks _ c.requires.bounded c.requires.flushed), refl, refl)
 
 pub returns-in-Ok-Closed-clause-served : goal.returns-in-Ok-Closed-clause-served
 returns-in-Ok-Closed-clause-served g c =

@@ -1,4 +1,4 @@
-use Rattle.std.proofs.Common.{◌≡◌, ◌≤◌, ℕ, List, length}
+use Rattle.std.proofs.Common.{◌≡◌, ℕ, List, length}
 use Rattle.messages.specs.Run.{Runs}
 use Rattle.messages.specs.Whole.{WholeMessage}
 use Rattle.messages.proofs.serving.serve_in.Given as goal
