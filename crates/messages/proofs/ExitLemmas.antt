@@ -102,6 +102,7 @@ module _ {S : Type 0} (answers : S → MessageParts → List ℕ → S → Type 
           splits = subst (λ ns. Splits reads.bytes ns rest) l.messages reads.splits;
           answered = l.earlier;
           reached = l.reached;
+          bounded = reads.bounded;
         },
         (fewer, l.lasting),
         stops_whole old.written new.written l.replies l.reply whole,
@@ -119,6 +120,7 @@ module _ {S : Type 0} (answers breaks : S → MessageParts → List ℕ → S �
     taken = run.taken;
     splits = run_splits old mid ms out none run;
     answered = run.answered;
+    bounded = run.bounded;
   }
 
   -- more bytes were read behind it
@@ -129,6 +131,7 @@ module _ {S : Type 0} (answers breaks : S → MessageParts → List ℕ → S �
     taken = Consumes-trans old.left mid.left new.left run.more x.more run.taken x.taken;
     splits = splits_on run.more x.more ms mid.held new.held (run_splits old mid ms out none run) x.held;
     answered = subst (λ s. AnswersAll answers old.engine ms out s) (sym x.engine) run.answered;
+    bounded = x.bounded;
   }
 
   -- one message more was answered
@@ -141,6 +144,7 @@ module _ {S : Type 0} (answers breaks : S → MessageParts → List ℕ → S �
     splits = splits_more run.more a.more ms a.message mid.held rest (run_splits old mid ms out none run) a.split a.is;
     answered = run.answered;
     reached = a.answered;
+    bounded = a.bounded;
   }
 
   -- that message is one of those that were answered
@@ -151,6 +155,7 @@ module _ {S : Type 0} (answers breaks : S → MessageParts → List ℕ → S �
     taken = x.taken;
     splits = x.splits;
     answered = answers_more answers old.engine x.mid new.engine ms m out reply x.answered x.reached;
+    bounded = x.bounded;
   }
 
   ended_ok : (most : ℕ) (old mid new : At S) (w : Option (List ℕ)) (ms : List WholeMessage) (out : List ℕ) (s : Served) → old.held ≡ [] → Runs answers breaks old mid ms out

@@ -1,4 +1,5 @@
 pub mod BlankLemmas
+pub mod EndLemmas
 pub mod ExitLemmas
 pub mod ReadingLemmas
 pub mod RoomLemmas

@@ -1,10 +1,11 @@
 -- A run goes on by one message.
-use Rattle.std.proofs.Common.{◌≡◌, ℕ, List, [], ◌∷◌, ◌++◌, length-append, false, refl, sym, ap, ◌∙◌, subst, arith, append_assoc, append-nil, flat_map}
+use Rattle.std.proofs.Common.{◌≡◌, ℕ, ◌≤◌, length, List, [], ◌∷◌, ◌++◌, length-append, false, refl, sym, ap, ◌∙◌, subst, arith, append_assoc, append-nil, flat_map}
 use Rattle.std.proofs.lemmas.List.Elements.{All-push, All-nil}
 use Rattle.std.proofs.lemmas.List.Concat.{flat_map-append}
 use Rattle.std.proofs.KnownBytes.{Consumes-nil, Appends-nil, Consumes-trans, Appends-trans}
 use Rattle.messages.specs.Exit.{StaysOpen, AnswersAll}
 use Rattle.messages.specs.Parts.{MessageParts}
+use Rattle.messages.specs.Received.{max_message_len}
 use Rattle.messages.specs.Whole.{WholeMessage, print_message, message_parts, IsMessage, Splits}
 use Rattle.messages.specs.Turn.{At, Answers}
 use Rattle.messages.specs.Run.{Runs}
@@ -40,8 +41,8 @@ module _ {S : Type 0} (answers : S → MessageParts → List ℕ → S → Type 
       (next, first, later ++ reply, is, ap (λ l. l ++ reply) whole ∙ append_assoc first later reply, answers_more next mid new ms m later reply rest one)
 
 module _ {S : Type 0} (answers breaks : S → MessageParts → List ℕ → S → Type 0) where
-  pub run_none : (old : At S) → old.unflushed ≡ false → Runs answers breaks old old [] []
-  run_none old clean = record {
+  pub run_none : (old : At S) → length old.held ≤ max_message_len → old.unflushed ≡ false → Runs answers breaks old old [] []
+  run_none old within clean = record {
     more = [];
     taken = Consumes-nil old.left;
     splits = record { whole = append-nil old.held; each = All-nil IsMessage };
@@ -49,6 +50,7 @@ module _ {S : Type 0} (answers breaks : S → MessageParts → List ℕ → S �
     answered = (refl, refl);
     written = Appends-nil old.written;
     unflushed = λ dirty. let e = sym clean ∙ dirty in absurd cc;
+    bounded = within;
     idle = λ _. refl;
   }
 
@@ -65,5 +67,6 @@ module _ {S : Type 0} (answers breaks : S → MessageParts → List ℕ → S �
         answered = answers_more answers old.engine mid.engine new.engine ms m out reply run.answered a.answered;
         written = Appends-trans old.written mid.written new.written out reply run.written wrote;
         unflushed = λ _. omega (arith, length-append ms (m ∷ []));
+        bounded = a.bounded;
         idle = λ none. absurd (omega (arith, none, length-append ms (m ∷ [])));
       }

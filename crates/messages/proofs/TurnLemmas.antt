@@ -17,7 +17,7 @@ use Rattle.heads.specs.Framing.{asks_head}
 use Rattle.messages.specs.Next.{BeginsMessage, BeginsFaulty, IsPartial}
 use Rattle.heads.specs.Parts.{HeadParts, parts_of}
 use Rattle.messages.specs.Parts.{MessageParts}
-use Rattle.messages.specs.Received.{Takes}
+use Rattle.messages.specs.Received.{Takes, max_message_len}
 use Rattle.messages.specs.Refusal.{IsRefused, refusal_bytes}
 use Rattle.messages.specs.Turn.{At, Handles, IsTurn}
 
@@ -44,9 +44,9 @@ begun_parts bytes headers r n b = record { head = parts_of b.head; body = take n
 
 module _ {S : Type 0} (answers : S → MessageParts → List ℕ → S → Type 0) where
   handled : (old new : At S) (bytes : List ℕ) (headers : List HeaderSpan) (r : RequestSpans) (n : ℕ) (rest reply more : List ℕ)
-      → Takes old.left new.left old.held bytes more → (b : BeginsMessage bytes headers r n) → rest ≡ drop (r.len + n) bytes
+      → Takes old.left new.left old.held bytes more → length bytes ≤ max_message_len → (b : BeginsMessage bytes headers r n) → rest ≡ drop (r.len + n) bytes
       → answers old.engine (begun_parts bytes headers r n b) reply new.engine → Handles answers old new rest reply
-  handled old new bytes headers r n rest reply more takes b behind answered =
+  handled old new bytes headers r n rest reply more takes within b behind answered =
       let h = b.head in
       let fits : n ≤ length (drop r.len bytes) = omega (arith, b.whole, length-drop r.len bytes) in
       record {
@@ -63,63 +63,64 @@ module _ {S : Type 0} (answers : S → MessageParts → List ℕ → S → Type 
           body = length-take-le n (drop r.len bytes) fits ∙ b.body;
         };
         answered = answered;
+        bounded = omega (arith, ap length behind, length-drop (r.len + n) bytes, within);
       }
 
 module _ {S : Type 0} (answers breaks : S → MessageParts → List ℕ → S → Type 0) where
   pub turn_ok : (old new : At S) (kept : Option (List ℕ)) (bytes : List ℕ) (headers : List HeaderSpan) (r : RequestSpans) (n : ℕ) (m : MessageParts) (more : List ℕ) (t : Turn)
-      → Takes old.left new.left old.held bytes more → (b : BeginsMessage bytes headers r n) → m ≡ begun_parts bytes headers r n b
+      → Takes old.left new.left old.held bytes more → length bytes ≤ max_message_len → (b : BeginsMessage bytes headers r n) → m ≡ begun_parts bytes headers r n b
       → new.held ≡ drop (r.len + n) bytes → Keeps old.written kept
       → IsTurnOf answers breaks old.engine new.engine m kept new.written (Ok t) → IsTurn answers breaks old new (Ok t)
   unfolding handled
-  turn_ok old new kept bytes headers r n m more Answered takes b is behind keeps x =
+  turn_ok old new kept bytes headers r n m more Answered takes within b is behind keeps x =
       let y = subst (λ p. IsTurnOf answers breaks old.engine new.engine p kept new.written (Ok Answered)) is x in
-      (y.0, handled answers old new bytes headers r n new.held y.0 more takes b behind y.1, y.3, kept_Appends old.written kept new.written y.0 keeps y.2)
-  turn_ok old new kept bytes headers r n m more Closed takes b is behind keeps x =
+      (y.0, handled answers old new bytes headers r n new.held y.0 more takes within b behind y.1, y.3, kept_Appends old.written kept new.written y.0 keeps y.2)
+  turn_ok old new kept bytes headers r n m more Closed takes within b is behind keeps x =
       let y = subst (λ p. IsTurnOf answers breaks old.engine new.engine p kept new.written (Ok Closed)) is x in
-      inl (y.0, handled answers old new bytes headers r n new.held y.0 more takes b behind y.1, y.3, kept_Appends old.written kept new.written y.0 keeps y.2)
-  turn_ok old new kept bytes headers r n m more Ended takes b is behind keeps x = absurd x
+      inl (y.0, handled answers old new bytes headers r n new.held y.0 more takes within b behind y.1, y.3, kept_Appends old.written kept new.written y.0 keeps y.2)
+  turn_ok old new kept bytes headers r n m more Ended takes within b is behind keeps x = absurd x
 
   pub turn_err : (old new : At S) (kept : Option (List ℕ)) (bytes : List ℕ) (headers : List HeaderSpan) (r : RequestSpans) (n : ℕ) (m : MessageParts) (more : List ℕ) (f : ServeFault)
-      → Takes old.left new.left old.held bytes more → (b : BeginsMessage bytes headers r n) → m ≡ begun_parts bytes headers r n b → Keeps old.written kept
+      → Takes old.left new.left old.held bytes more → length bytes ≤ max_message_len → (b : BeginsMessage bytes headers r n) → m ≡ begun_parts bytes headers r n b → Keeps old.written kept
       → IsTurnOf answers breaks old.engine new.engine m kept new.written (Err f) → IsTurn answers breaks old new (Err f)
-  turn_err old new kept bytes headers r n m more Write takes b is keeps x =
+  turn_err old new kept bytes headers r n m more Write takes within b is keeps x =
       let y = subst (λ p. IsTurnOf answers breaks old.engine new.engine p kept new.written (Err Write)) is x in
-      inr (y.0, kept_beginning old.written kept new.written y.0 keeps y.2, inl (drop (r.len + n) bytes, handled answers old new bytes headers r n _ y.0 more takes b refl y.1))
-  turn_err old new kept bytes headers r n m more Report takes b is keeps x =
+      inr (y.0, kept_beginning old.written kept new.written y.0 keeps y.2, inl (drop (r.len + n) bytes, handled answers old new bytes headers r n _ y.0 more takes within b refl y.1))
+  turn_err old new kept bytes headers r n m more Report takes within b is keeps x =
       let y = subst (λ p. IsTurnOf answers breaks old.engine new.engine p kept new.written (Err Report)) is x in
-      (y.0, kept_beginning old.written kept new.written y.0 keeps y.2, drop (r.len + n) bytes, handled breaks old new bytes headers r n _ y.0 more takes b refl y.1)
-  turn_err old new kept bytes headers r n m more Read takes b is keeps x = absurd x
-  turn_err old new kept bytes headers r n m more Cut takes b is keeps x = absurd x
-  turn_err old new kept bytes headers r n m more Memory takes b is keeps x = absurd x
+      (y.0, kept_beginning old.written kept new.written y.0 keeps y.2, drop (r.len + n) bytes, handled breaks old new bytes headers r n _ y.0 more takes within b refl y.1)
+  turn_err old new kept bytes headers r n m more Read takes within b is keeps x = absurd x
+  turn_err old new kept bytes headers r n m more Cut takes within b is keeps x = absurd x
+  turn_err old new kept bytes headers r n m more Memory takes within b is keeps x = absurd x
 
   pub turn_refused : (old new : At S) (kept : Option (List ℕ)) (more : List ℕ) (fault : MessageFault) (head_only : Bool) (P : Type 0) (r : Result Turn ServeFault)
-      → Takes old.left new.left old.held new.held more → new.engine ≡ old.engine → IsRefused new.held fault head_only → Keeps old.written kept
+      → Takes old.left new.left old.held new.held more → length new.held ≤ max_message_len → new.engine ≡ old.engine → IsRefused new.held fault head_only → Keeps old.written kept
       → IfOk r (λ t. (t ≡ Closed) × Appends kept new.written (refusal_bytes fault head_only))
       → IfErr r (λ e. (e ≡ Write) × AppendsBeginning kept new.written (refusal_bytes fault head_only) × P) → IsTurn answers breaks old new r
-  turn_refused old new kept more fault head_only P (Ok Closed) takes same refused keeps ok err =
+  turn_refused old new kept more fault head_only P (Ok Closed) takes within same refused keeps ok err =
       let reply = refusal_bytes fault head_only in
-      inr (record { more = more; taken = takes.taken; held = takes.held; engine = same }, reply, (fault, head_only, refused, refl), kept_Appends old.written kept new.written reply keeps ok.1)
-  turn_refused old new kept more fault head_only P (Ok Answered) takes same refused keeps ok err = let e = ok.0 in absurd cc
-  turn_refused old new kept more fault head_only P (Ok Ended) takes same refused keeps ok err = let e = ok.0 in absurd cc
-  turn_refused old new kept more fault head_only P (Err Write) takes same refused keeps ok err =
+      inr (record { more = more; taken = takes.taken; held = takes.held; engine = same; bounded = within }, reply, (fault, head_only, refused, refl), kept_Appends old.written kept new.written reply keeps ok.1)
+  turn_refused old new kept more fault head_only P (Ok Answered) takes within same refused keeps ok err = let e = ok.0 in absurd cc
+  turn_refused old new kept more fault head_only P (Ok Ended) takes within same refused keeps ok err = let e = ok.0 in absurd cc
+  turn_refused old new kept more fault head_only P (Err Write) takes within same refused keeps ok err =
       let reply = refusal_bytes fault head_only in
       inr (
         reply,
         kept_beginning old.written kept new.written reply keeps err.1,
-        inr (record { more = more; taken = takes.taken; held = takes.held; engine = same }, (fault, head_only, refused, refl)),
+        inr (record { more = more; taken = takes.taken; held = takes.held; engine = same; bounded = within }, (fault, head_only, refused, refl)),
       )
-  turn_refused old new kept more fault head_only P (Err Read) takes same refused keeps ok err = let e = err.0 in absurd cc
-  turn_refused old new kept more fault head_only P (Err Cut) takes same refused keeps ok err = let e = err.0 in absurd cc
-  turn_refused old new kept more fault head_only P (Err Memory) takes same refused keeps ok err = let e = err.0 in absurd cc
-  turn_refused old new kept more fault head_only P (Err Report) takes same refused keeps ok err = let e = err.0 in absurd cc
+  turn_refused old new kept more fault head_only P (Err Read) takes within same refused keeps ok err = let e = err.0 in absurd cc
+  turn_refused old new kept more fault head_only P (Err Cut) takes within same refused keeps ok err = let e = err.0 in absurd cc
+  turn_refused old new kept more fault head_only P (Err Memory) takes within same refused keeps ok err = let e = err.0 in absurd cc
+  turn_refused old new kept more fault head_only P (Err Report) takes within same refused keeps ok err = let e = err.0 in absurd cc
 
-  pub turn_stopped : (old new : At S) (more : List ℕ) (P Q : Type 0) (f : ServeFault) → Takes old.left new.left old.held new.held more → new.engine ≡ old.engine
+  pub turn_stopped : (old new : At S) (more : List ℕ) (P Q : Type 0) (f : ServeFault) → Takes old.left new.left old.held new.held more → length new.held ≤ max_message_len → new.engine ≡ old.engine
       → Keeps old.written new.written
       → ((f ≡ Read) × P × IsPartial new.held × (new.unflushed ≡ false)) ⊎ ((f ≡ Write) × Q × (old.unflushed ≡ true)) → IsTurn answers breaks old new (Err f)
-  turn_stopped old new more P Q f takes same keeps (inl (is, _, part, clean)) =
-      subst (λ e. IsTurn answers breaks old new (Err e)) (sym is) (record { more = more; taken = takes.taken; held = takes.held; engine = same }, part, keeps, clean)
-  turn_stopped old new more P Q f takes same keeps (inr (is, _, dirty)) =
-      subst (λ e. IsTurn answers breaks old new (Err e)) (sym is) (inl (dirty, record { more = more; taken = takes.taken; held = takes.held; engine = same }, keeps))
+  turn_stopped old new more P Q f takes within same keeps (inl (is, _, part, clean)) =
+      subst (λ e. IsTurn answers breaks old new (Err e)) (sym is) (record { more = more; taken = takes.taken; held = takes.held; engine = same; bounded = within }, part, keeps, clean)
+  turn_stopped old new more P Q f takes within same keeps (inr (is, _, dirty)) =
+      subst (λ e. IsTurn answers breaks old new (Err e)) (sym is) (inl (dirty, record { more = more; taken = takes.taken; held = takes.held; engine = same; bounded = within }, keeps))
 
 -- a head that has a fault, where its spans begin the bytes
 pub faulty_refused : (bytes : List ℕ) (headers : List HeaderSpan) (r : RequestSpans) (fault : MessageFault) (p : HeadParts) (head_only : Bool)

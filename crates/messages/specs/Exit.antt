@@ -9,6 +9,7 @@ use Rattle.heads.specs.Parts.{parts_of}
 use Rattle.messages.specs.Blank.{AreLineEnds}
 use Rattle.messages.specs.Next.{IsPartial}
 use Rattle.messages.specs.Parts.{MessageParts}
+use Rattle.messages.specs.Received.{max_message_len}
 use Rattle.messages.specs.Refusal.{IsRefusal}
 use Rattle.messages.specs.Whole.{WholeMessage, message_parts, Splits}
 
@@ -28,8 +29,8 @@ ClosesLast ms =
     (before : List WholeMessage) × (last : WholeMessage) × (ms ≡ before ++ last ∷ []) × All StaysOpen before
     × (closes (parts_of last.head) ≡ true)
 
--- nothing follows these messages: as many were asked for, and where none was nothing was read; or the input ended between two
--- messages; or the last one ended the connection
+-- no further reply is due: as many messages were answered as were asked for, and where none was nothing was read; or the input
+-- ended between two messages; or the last one ended the connection. Where the input did not end, bytes may follow unread
 abbrev pub Ends : ℕ → List WholeMessage → List ℕ → Option (List ℕ) → Type 0
 Ends most ms rest left =
     ((length ms ≡ most) × All StaysOpen ms × (most ≡ 0 → rest ≡ []))
@@ -52,12 +53,14 @@ module _ {S : Type 0} (answers : S → MessageParts → List ℕ → S → Type 
       (mid : S) × (reply : List ℕ) × (later : List ℕ)
       × answers old (message_parts m) reply mid × (out ≡ reply ++ later) × AnswersAll mid ms later new
 
-  -- the bytes that were read are these messages, one after another, and a rest; the engine answered the messages by out
+  -- the bytes that were read are these messages, one after another, and a rest, which is at most as long as the longest message;
+  -- the engine answered the messages by out
   pub record Reads (old new : Point S) (ms : List WholeMessage) (rest out : List ℕ) : Type 0 where
     pub bytes : List ℕ
     pub taken : Consumes old.left new.left bytes
     pub splits : Splits bytes ms rest
     pub answered : AnswersAll old.engine ms out new.engine
+    pub bounded : length rest ≤ max_message_len
 
   -- the same with one message more, which was answered last, in this way and by this reply
   pub record ReadsLast (way : S → MessageParts → List ℕ → S → Type 0) (old new : Point S) (before : List WholeMessage) (last : WholeMessage) (rest replies reply : List ℕ) : Type 0 where
@@ -67,6 +70,7 @@ module _ {S : Type 0} (answers : S → MessageParts → List ℕ → S → Type 
     pub splits : Splits bytes (before ++ last ∷ []) rest
     pub answered : AnswersAll old.engine before replies mid
     pub reached : way mid (message_parts last) reply new.engine
+    pub bounded : length rest ≤ max_message_len
 
   -- the reply to a message stopped: that message is the last that was answered
   abbrev pub StopsInReply : (S → MessageParts → List ℕ → S → Type 0) → ℕ → Point S → Point S → Type 0
@@ -81,7 +85,7 @@ module _ {S : Type 0} (answers : S → MessageParts → List ℕ → S → Type 
       × Reads old new ms rest out × GoesOn most ms × IsRefusal rest reply × StopsWithin old.written new.written out reply
 
 module _ {S : Type 0} (answers breaks : S → MessageParts → List ℕ → S → Type 0) where
-  -- Ok: the messages were answered, and nothing follows, or what follows begins no message and was refused.
+  -- Ok: the messages were answered, and no further reply is due, or what follows begins no message and was refused.
   -- Read, Cut: the messages were answered, and less than one more had come. Write: a reply stopped. Report: the engine gave
   -- one up. Memory: nothing was read, answered or written
   abbrev pub IsExit : ℕ → Point S → Point S → Result Served ServeFault → Type 0

@@ -1,11 +1,12 @@
 -- A whole run of the loop.
-use Rattle.std.specs.Prelude.{◌≡◌, ◌⊎◌, ℕ, ◌+◌, ◌<◌, List, [], ◌++◌, length, All, Result, Ok, Err, true}
+use Rattle.std.specs.Prelude.{◌≡◌, ◌⊎◌, ℕ, ◌+◌, ◌<◌, ◌≤◌, List, [], ◌++◌, length, All, Result, Ok, Err, true}
 use Rattle.std.specs.Io.KnownBytes.{Consumes, Appends}
 use Rattle.messages.specs.declared.serving.Served.{Served}
 use Rattle.messages.specs.declared.serving.ServeFault.{ServeFault}
 use Rattle.messages.specs.declared.serving.Turn.TheVariants.{Closed, Ended}
 use Rattle.messages.specs.Exit.{StaysOpen, AnswersAll}
 use Rattle.messages.specs.Parts.{MessageParts}
+use Rattle.messages.specs.Received.{max_message_len}
 use Rattle.messages.specs.Whole.{WholeMessage, Splits}
 use Rattle.messages.specs.Turn.{At, IsTurn}
 
@@ -20,6 +21,7 @@ module _ {S : Type 0} (answers breaks : S → MessageParts → List ℕ → S �
     pub answered : AnswersAll answers old.engine ms out new.engine
     pub written : Appends old.written new.written out
     pub unflushed : new.unflushed ≡ true → 0 < length ms
+    pub bounded : length new.held ≤ max_message_len
     pub idle : length ms ≡ 0 → more ≡ []
 
   -- how a run of k messages ended

@@ -1,5 +1,5 @@
 -- What one turn of the loop does.
-use Rattle.std.specs.Prelude.{◌≡◌, ◌⊎◌, ℕ, Bool, List, ◌++◌, Option, Result, Ok, Err, true, false}
+use Rattle.std.specs.Prelude.{◌≡◌, ◌⊎◌, ℕ, ◌≤◌, Bool, List, ◌++◌, length, Option, Result, Ok, Err, true, false}
 use Rattle.std.specs.Io.KnownBytes.{Consumes, Appends, Keeps, IsAtEnd}
 use Rattle.money.specs.Counted.{AppendsBeginning}
 use Rattle.messages.specs.declared.serving.Turn.{Turn}
@@ -11,6 +11,7 @@ use Rattle.heads.specs.Framing.{closes}
 use Rattle.messages.specs.Next.{IsPartial}
 use Rattle.heads.specs.Parts.{parts_of}
 use Rattle.messages.specs.Parts.{MessageParts}
+use Rattle.messages.specs.Received.{max_message_len}
 use Rattle.messages.specs.Refusal.{IsRefusal}
 use Rattle.messages.specs.Whole.{WholeMessage, print_message, message_parts, IsMessage}
 
@@ -29,6 +30,7 @@ pub record OnlyReads {S : Type 0} (old new : At S) : Type 0 where
   pub taken : Consumes old.left new.left more
   pub held : new.held ≡ old.held ++ more
   pub engine : new.engine ≡ old.engine
+  pub bounded : length new.held ≤ max_message_len
 
 -- bytes were read, and the first message of what was held then was handed to the engine, with the rest behind it
 pub record Handles {S : Type 0} (answers : S → MessageParts → List ℕ → S → Type 0) (old new : At S) (rest reply : List ℕ) : Type 0 where
@@ -38,6 +40,7 @@ pub record Handles {S : Type 0} (answers : S → MessageParts → List ℕ → S
   pub split : old.held ++ more ≡ print_message message ++ rest
   pub is : IsMessage message
   pub answered : answers old.engine (message_parts message) reply new.engine
+  pub bounded : length rest ≤ max_message_len
 
 module _ {S : Type 0} (answers breaks : S → MessageParts → List ℕ → S → Type 0) where
   -- a message was answered, and its reply closes or not

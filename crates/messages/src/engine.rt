@@ -27,7 +27,7 @@ impl From<WriteStopped> for AnswerFault {
 
 /// What answers messages.
 pub trait Engine {
-    ghost use Rattle.std.specs.Prelude.{◌≡◌, ◌≤◌, ℕ, List, OnOk, Err};
+    ghost use Rattle.std.specs.Prelude.{◌≡◌, ◌≤◌, ℕ, List, Err, OnOk};
     ghost use Rattle.money.specs.Counted.{stream_of, failure_count, CountsFailure};
     ghost use Rattle.messages.specs.Answered.{IsAnswered};
     ghost use Rattle.messages.specs.Parts.{MessageParts};

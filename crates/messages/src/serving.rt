@@ -4,7 +4,7 @@ ghost use Rattle.money.specs.Counted.{stream_of, failure_count, CountsFailure, A
 ghost use Rattle.messages.specs.Answered.{IsTurnOf};
 ghost use Rattle.messages.specs.Exit.{IsExit};
 ghost use Rattle.messages.specs.Next.{IsNext, IsPartial};
-ghost use Rattle.messages.specs.Received.{Takes};
+ghost use Rattle.messages.specs.Received.{Takes, max_message_len};
 ghost use Rattle.messages.specs.Refusal.{refusal_bytes};
 ghost use Rattle.messages.specs.Run.{IsServed};
 ghost use Rattle.messages.specs.Turn.{IsTurn};
@@ -133,6 +133,7 @@ fn read_next<R: Read, W: Write>(
 ) -> Result<Next, ServeFault>
     requires { max_fields ≤ length headers.old }
     ensures takes { (more : List ℕ) × Takes (R.remaining (stream_of reader.old)) (R.remaining (stream_of reader.new)) received.old received.new more }
+    ensures bounded { length received.new ≤ max_message_len }
     ensures next { IfOk result (IsNext received.new headers.new) }
     ensures end { result ≡ Ok Next.Partial → IsAtEnd (R.remaining (stream_of reader.new)) × (written.new ≡ false) }
     ensures err { IfErr result (λ fault. ((fault ≡ ServeFault.Read) × CountsFailure (failure_count reader.old) (failure_count reader.new)
@@ -280,6 +281,7 @@ fn serve_in<E: Engine, R: Read, W: Write>(
 ) -> Result<Served, ServeFault>
     requires room { max_fields ≤ length headers.old }
     requires flushed { written.old ≡ false }
+    requires bounded { length received.old ≤ max_message_len }
     ensures served { IsServed E.answers E.breaks most
         (record { left = R.remaining (stream_of reader.old); held = received.old; written = W.contents (stream_of writer.old); unflushed = written.old; engine = engine.old })
         (record { left = R.remaining (stream_of reader.new); held = received.new; written = W.contents (stream_of writer.new); unflushed = written.new; engine = engine.new })
@@ -323,8 +325,7 @@ fn flush_last<W: Write>(
 /// the connection, or after `most` replies. With `most` 0 nothing is read. A message is acted on once its whole body was
 /// read. What a message and its reply take is one room of fixed size, which is allocated first. The writer is flushed
 /// before each read and at the end, where something was written since it was flushed last. A flush that fails is a
-/// failed write; one that fails at the end takes the place of an `Ok`, and of no other fault. So an `Ok` says that no call of
-/// the reader or of the writer failed.
+/// failed write; one that fails at the end takes the place of an `Ok`, and of no other fault.
 pub fn serve_messages<E: Engine, R: Read, W: Write>(
     alloc: Global,
     engine: &mut E,
@@ -336,6 +337,7 @@ pub fn serve_messages<E: Engine, R: Read, W: Write>(
         (record { left = R.remaining (stream_of reader.old); written = W.contents (stream_of writer.old); engine = engine.old })
         (record { left = R.remaining (stream_of reader.new); written = W.contents (stream_of writer.new); engine = engine.new })
         result }
+    ensures memory { result ≡ Err ServeFault.Memory → (reader.new ≡ reader.old) × (writer.new ≡ writer.old) }
     ensures most { IfOk result (λ served. served.messages ≤ most) }
     ensures no_failure { OnOk result ((failure_count reader.new ≡ failure_count reader.old) × (failure_count writer.new ≡ failure_count writer.old)) }
     ensures read_cause { result ≡ Err ServeFault.Read → CountsFailure (failure_count reader.old) (failure_count reader.new) }

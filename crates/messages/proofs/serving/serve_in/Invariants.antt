@@ -1,4 +1,4 @@
-use Rattle.std.proofs.Common.{◌≡◌, ◌≤◌, ℕ, List, length}
+use Rattle.std.proofs.Common.{◌≡◌, ℕ, List, length}
 use Rattle.messages.specs.Run.{Runs}
 use Rattle.messages.specs.Whole.{WholeMessage}
 use Rattle.messages.proofs.serving.serve_in.Given as goal
@@ -10,7 +10,5 @@ invariant-loop-done g l =
     (record { left = g.R.Read.remaining l.fn.reader.stream; held = l.fn.received; written = g.W.Write.contents l.fn.writer.stream; unflushed = l.fn.written; engine = l.fn.engine })
     (record { left = g.R.Read.remaining l.reader.stream; held = l.received; written = g.W.Write.contents l.writer.stream; unflushed = l.written; engine = l.engine })
     ms out)
-    × (l.fn.reader.failures ≤ l.reader.failures)
-    × (l.fn.writer.failures ≤ l.writer.failures)
     × (l.reader.failures ≡ l.fn.reader.failures)
     × (l.writer.failures ≡ l.fn.writer.failures)

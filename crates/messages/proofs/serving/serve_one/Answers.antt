@@ -11,31 +11,31 @@ returns-in-Ok-answer-clause-turn g c =
     let begins = rw c.in-Message.is at c.in-Ok.ensures.next in
     let r = c.in-Message.spans in
     let n = c.in-Message.body_len in
-    let covers = subst (λ (l : List ℕ). IsRequestAt l c.read_next.new.headers r begins.head) (sym c.bytes-bytes.ensures) begins.begins.covers in
-    let body = ap (λ (l : List ℕ). take ((r.len + n) - r.len) (drop r.len l)) c.bytes-bytes.ensures ∙ body_range c.read_next.new.received r.len n in
+    let covers = subst (λ (l : List ℕ). IsRequestAt l c.read_next.new.headers r begins.head) (sym c.bytes-bytes.ensures.value) begins.begins.covers in
+    let body = ap (λ (l : List ℕ). take ((r.len + n) - r.len) (drop r.len l)) c.bytes-bytes.ensures.value ∙ body_range c.read_next.new.received r.len n in
     let is : c.new-message.result ≡ begun_parts c.read_next.new.received c.read_next.new.headers r n begins =
     c.new-message.ensures ∙ (λ i. record { head = c.new-head.ensures begins.head covers i; body = body i }) in
-    turn_ok g.E.Engine.answers g.E.Engine.breaks _ _ _ _ _ _ _ _ c.in-Ok.ensures.takes.0 c.in-Ok-answer.turn c.in-Ok.ensures.takes.1 begins is c.drop_front.ensures c.in-Ok.ensures.kept c.in-Ok-answer.ensures.turn
+    turn_ok g.E.Engine.answers g.E.Engine.breaks _ _ _ _ _ _ _ _ c.in-Ok.ensures.takes.0 c.in-Ok-answer.turn c.in-Ok.ensures.takes.1 c.in-Ok.ensures.bounded begins is c.drop_front.ensures c.in-Ok.ensures.kept c.in-Ok-answer.ensures.turn
 
 pub returns-in-Err-answer-clause-turn : goal.returns-in-Err-answer-clause-turn
 returns-in-Err-answer-clause-turn g c =
     let begins = rw c.in-Message.is at c.in-Ok.ensures.next in
     let r = c.in-Message.spans in
     let n = c.in-Message.body_len in
-    let covers = subst (λ (l : List ℕ). IsRequestAt l c.read_next.new.headers r begins.head) (sym c.bytes-bytes.ensures) begins.begins.covers in
-    let body = ap (λ (l : List ℕ). take ((r.len + n) - r.len) (drop r.len l)) c.bytes-bytes.ensures ∙ body_range c.read_next.new.received r.len n in
+    let covers = subst (λ (l : List ℕ). IsRequestAt l c.read_next.new.headers r begins.head) (sym c.bytes-bytes.ensures.value) begins.begins.covers in
+    let body = ap (λ (l : List ℕ). take ((r.len + n) - r.len) (drop r.len l)) c.bytes-bytes.ensures.value ∙ body_range c.read_next.new.received r.len n in
     let is : c.new-message.result ≡ begun_parts c.read_next.new.received c.read_next.new.headers r n begins =
     c.new-message.ensures ∙ (λ i. record { head = c.new-head.ensures begins.head covers i; body = body i }) in
-    turn_err g.E.Engine.answers g.E.Engine.breaks _ _ _ _ _ _ _ _ c.in-Ok.ensures.takes.0 c.in-Err-answer.fault c.in-Ok.ensures.takes.1 begins is c.in-Ok.ensures.kept c.in-Err-answer.ensures.turn
+    turn_err g.E.Engine.answers g.E.Engine.breaks _ _ _ _ _ _ _ _ c.in-Ok.ensures.takes.0 c.in-Err-answer.fault c.in-Ok.ensures.takes.1 c.in-Ok.ensures.bounded begins is c.in-Ok.ensures.kept c.in-Err-answer.ensures.turn
 
 pub returns-in-FaultyHead-clause-turn : goal.returns-in-FaultyHead-clause-turn
 returns-in-FaultyHead-clause-turn g c =
     let begins = rw c.in-FaultyHead.is at c.in-Ok.ensures.next in
-    let covers = subst (λ (l : List ℕ). IsRequestAt l c.read_next.new.headers c.in-FaultyHead.spans begins.head) (sym c.bytes.ensures) begins.begins.covers in
+    let covers = subst (λ (l : List ℕ). IsRequestAt l c.read_next.new.headers c.in-FaultyHead.spans begins.head) (sym c.bytes.ensures.value) begins.begins.covers in
     let refused = faulty_refused _ _ _ _ _ _ begins (c.new-head-in-FaultyHead.ensures begins.head covers) c.framing.ensures.head_only in
-    turn_refused g.E.Engine.answers g.E.Engine.breaks _ _ _ c.in-Ok.ensures.takes.0 _ _ _ c.refuse.result c.in-Ok.ensures.takes.1 refl refused c.in-Ok.ensures.kept c.refuse.ensures.ok c.refuse.ensures.err
+    turn_refused g.E.Engine.answers g.E.Engine.breaks _ _ _ c.in-Ok.ensures.takes.0 _ _ _ c.refuse.result c.in-Ok.ensures.takes.1 c.in-Ok.ensures.bounded refl refused c.in-Ok.ensures.kept c.refuse.ensures.ok c.refuse.ensures.err
 
 pub returns-in-NoHead-clause-turn : goal.returns-in-NoHead-clause-turn
 returns-in-NoHead-clause-turn g c =
     let fault = rw c.in-NoHead.is at c.in-Ok.ensures.next in
-    turn_refused g.E.Engine.answers g.E.Engine.breaks _ _ _ c.in-Ok.ensures.takes.0 _ _ _ c.refuse-in-NoHead.result c.in-Ok.ensures.takes.1 refl (inl (fault, refl)) c.in-Ok.ensures.kept c.refuse-in-NoHead.ensures.ok c.refuse-in-NoHead.ensures.err
+    turn_refused g.E.Engine.answers g.E.Engine.breaks _ _ _ c.in-Ok.ensures.takes.0 _ _ _ c.refuse-in-NoHead.result c.in-Ok.ensures.takes.1 c.in-Ok.ensures.bounded refl (inl (fault, refl)) c.in-Ok.ensures.kept c.refuse-in-NoHead.ensures.ok c.refuse-in-NoHead.ensures.err
