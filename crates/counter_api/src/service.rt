@@ -1,4 +1,4 @@
-ghost use Rattle.std.specs.Prelude.{◌≡◌, ◌≤◌, IfOk, Err};
+ghost use Rattle.std.specs.Prelude.{◌≡◌, ◌≤◌, IfOk, OnOk, Err};
 ghost use Rattle.money.specs.Counted.{CountsFailure, failure_count, stream_of};
 ghost use Rattle.counter_api.specs.Exit.{IsServed};
 
@@ -27,6 +27,7 @@ fn serve_counter<'b, 'g, 'c, 'r, R: Read, W: Write, S: Store, G: Gate, C: Clock>
     ensures same_bank { counter.new.bank.ghost_name ≡ counter.old.bank.ghost_name }
     ensures same_clock { counter.new.clock.ghost_name ≡ counter.old.clock.ghost_name }
     ensures most { IfOk result (λ served. served.messages ≤ most) }
+    ensures no_failure { OnOk result ((failure_count reader.new ≡ failure_count reader.old) × (failure_count writer.new ≡ failure_count writer.old)) }
     ensures read_cause { result ≡ Err ServeFault.Read → CountsFailure (failure_count reader.old) (failure_count reader.new) }
     ensures write_cause { result ≡ Err ServeFault.Write → CountsFailure (failure_count writer.old) (failure_count writer.new) }
     ensures counts_reads { failure_count reader.old ≤ failure_count reader.new }
@@ -41,7 +42,8 @@ fn serve_counter<'b, 'g, 'c, 'r, R: Read, W: Write, S: Store, G: Gate, C: Clock>
 /// it.
 ///
 /// A message is acted on once its whole body was read. It works in a bounded room, which is
-/// allocated first: where that is refused, nothing is read.
+/// allocated first: where that is refused, nothing is read. An `Ok` says that no call of the
+/// reader or of the writer failed.
 pub fn serve<R: Read, W: Write, S: Store, G: Gate, C: Clock>(
     alloc: Global,
     reader: &mut Tallied<R>,
@@ -56,6 +58,7 @@ pub fn serve<R: Read, W: Write, S: Store, G: Gate, C: Clock>(
         (record { left = R.remaining (stream_of reader.new); written = W.contents (stream_of writer.new); store = bank.new.store; clock = clock.new })
         result }
     ensures most { IfOk result (λ served. served.messages ≤ most) }
+    ensures no_failure { OnOk result ((failure_count reader.new ≡ failure_count reader.old) × (failure_count writer.new ≡ failure_count writer.old)) }
     ensures read_cause { result ≡ Err ServeFault.Read → CountsFailure (failure_count reader.old) (failure_count reader.new) }
     ensures write_cause { result ≡ Err ServeFault.Write → CountsFailure (failure_count writer.old) (failure_count writer.new) }
     ensures counts_reads { failure_count reader.old ≤ failure_count reader.new }

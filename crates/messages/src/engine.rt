@@ -27,7 +27,7 @@ impl From<WriteStopped> for AnswerFault {
 
 /// What answers messages.
 pub trait Engine {
-    ghost use Rattle.std.specs.Prelude.{◌≡◌, ◌≤◌, ℕ, List, Err};
+    ghost use Rattle.std.specs.Prelude.{◌≡◌, ◌≤◌, ℕ, List, OnOk, Err};
     ghost use Rattle.money.specs.Counted.{stream_of, failure_count, CountsFailure};
     ghost use Rattle.messages.specs.Answered.{IsAnswered};
     ghost use Rattle.messages.specs.Parts.{MessageParts};
@@ -45,6 +45,7 @@ pub trait Engine {
         writer: &mut Tallied<W>,
     ) -> Result<(), AnswerFault>
         ensures answered { IsAnswered answers breaks self.old self.new message.now (W.contents (stream_of writer.old)) (W.contents (stream_of writer.new)) result }
+        ensures no_failure { OnOk result (failure_count writer.new ≡ failure_count writer.old) }
         ensures write_cause { result ≡ Err AnswerFault.Write → CountsFailure (failure_count writer.old) (failure_count writer.new) }
         ensures counts { failure_count writer.old ≤ failure_count writer.new };
 }

@@ -82,6 +82,7 @@ impl<'b> Message<'b> {
     ) -> Result<(), WriteStopped>
         ensures whole { OnOk result (Appends (W.contents (stream_of writer.old)) (W.contents (stream_of writer.new)) (reply_bytes status content_type.now body.now (closes self.now.head) (asks_head self.now.head))) }
         ensures beginning { OnErr result (AppendsBeginning (W.contents (stream_of writer.old)) (W.contents (stream_of writer.new)) (reply_bytes status content_type.now body.now (closes self.now.head) (asks_head self.now.head))) }
+        ensures no_failure { OnOk result (failure_count writer.new ≡ failure_count writer.old) }
         ensures cause { OnErr result (CountsFailure (failure_count writer.old) (failure_count writer.new)) }
         ensures counts { failure_count writer.old ≤ failure_count writer.new }
     {

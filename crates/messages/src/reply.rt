@@ -19,6 +19,7 @@ pub fn write_reply<W: Write>(
 ) -> Result<(), WriteStopped>
     ensures whole { OnOk result (Appends (W.contents (stream_of writer.old)) (W.contents (stream_of writer.new)) (reply_bytes status content_type.now body.now framing.close framing.head_only)) }
     ensures beginning { OnErr result (AppendsBeginning (W.contents (stream_of writer.old)) (W.contents (stream_of writer.new)) (reply_bytes status content_type.now body.now framing.close framing.head_only)) }
+    ensures no_failure { OnOk result (failure_count writer.new ≡ failure_count writer.old) }
     ensures cause { OnErr result (CountsFailure (failure_count writer.old) (failure_count writer.new)) }
     ensures counts { failure_count writer.old ≤ failure_count writer.new }
 {
@@ -68,6 +69,7 @@ fn write_texts<'a, W: Write>(
 ) -> Result<(), WriteStopped>
     ensures whole { OnOk result (Appends (W.contents (stream_of writer.old)) (W.contents (stream_of writer.new)) (reply_texts status.now phrase.now content_type.now len.now connection.now sent.now)) }
     ensures beginning { OnErr result (AppendsBeginning (W.contents (stream_of writer.old)) (W.contents (stream_of writer.new)) (reply_texts status.now phrase.now content_type.now len.now connection.now sent.now)) }
+    ensures no_failure { OnOk result (failure_count writer.new ≡ failure_count writer.old) }
     ensures cause { OnErr result (CountsFailure (failure_count writer.old) (failure_count writer.new)) }
     ensures counts { failure_count writer.old ≤ failure_count writer.new }
 {

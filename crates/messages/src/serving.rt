@@ -138,6 +138,7 @@ fn read_next<R: Read, W: Write>(
     ensures err { IfErr result (λ fault. ((fault ≡ ServeFault.Read) × CountsFailure (failure_count reader.old) (failure_count reader.new)
         × IsPartial received.new × (written.new ≡ false))
         ⊎ ((fault ≡ ServeFault.Write) × CountsFailure (failure_count writer.old) (failure_count writer.new) × (written.old ≡ true))) }
+    ensures no_failure { OnOk result ((failure_count reader.new ≡ failure_count reader.old) × (failure_count writer.new ≡ failure_count writer.old)) }
     ensures kept { Keeps (W.contents (stream_of writer.old)) (W.contents (stream_of writer.new)) }
     ensures counts_reads { failure_count reader.old ≤ failure_count reader.new }
     ensures counts_writes { failure_count writer.old ≤ failure_count writer.new }
@@ -167,6 +168,7 @@ fn refuse<W: Write>(
     ensures err { IfErr result (λ stopped. (stopped ≡ ServeFault.Write)
         × AppendsBeginning (W.contents (stream_of writer.old)) (W.contents (stream_of writer.new)) (refusal_bytes fault head_only)
         × CountsFailure (failure_count writer.old) (failure_count writer.new)) }
+    ensures no_failure { OnOk result (failure_count writer.new ≡ failure_count writer.old) }
     ensures counts { failure_count writer.old ≤ failure_count writer.new }
 {
     let framing = Framing {
@@ -192,6 +194,7 @@ fn answer<E: Engine, W: Write>(
     writer: &mut Tallied<W>,
 ) -> Result<Turn, ServeFault>
     ensures turn { IsTurnOf E.answers E.breaks engine.old engine.new message.now (W.contents (stream_of writer.old)) (W.contents (stream_of writer.new)) result }
+    ensures no_failure { OnOk result (failure_count writer.new ≡ failure_count writer.old) }
     ensures write_cause { result ≡ Err ServeFault.Write → CountsFailure (failure_count writer.old) (failure_count writer.new) }
     ensures counts { failure_count writer.old ≤ failure_count writer.new }
 {
@@ -221,6 +224,7 @@ fn serve_one<E: Engine, R: Read, W: Write>(
         (record { left = R.remaining (stream_of reader.old); held = received.old; written = W.contents (stream_of writer.old); unflushed = written.old; engine = engine.old })
         (record { left = R.remaining (stream_of reader.new); held = received.new; written = W.contents (stream_of writer.new); unflushed = written.new; engine = engine.new })
         result }
+    ensures no_failure { OnOk result ((failure_count reader.new ≡ failure_count reader.old) × (failure_count writer.new ≡ failure_count writer.old)) }
     ensures read_cause { result ≡ Err ServeFault.Read → CountsFailure (failure_count reader.old) (failure_count reader.new) }
     ensures write_cause { result ≡ Err ServeFault.Write → CountsFailure (failure_count writer.old) (failure_count writer.new) }
     ensures counts_reads { failure_count reader.old ≤ failure_count reader.new }
@@ -281,6 +285,7 @@ fn serve_in<E: Engine, R: Read, W: Write>(
         (record { left = R.remaining (stream_of reader.new); held = received.new; written = W.contents (stream_of writer.new); unflushed = written.new; engine = engine.new })
         result }
     ensures most { IfOk result (λ served. served.messages ≤ most) }
+    ensures no_failure { OnOk result ((failure_count reader.new ≡ failure_count reader.old) × (failure_count writer.new ≡ failure_count writer.old)) }
     ensures read_cause { result ≡ Err ServeFault.Read → CountsFailure (failure_count reader.old) (failure_count reader.new) }
     ensures write_cause { result ≡ Err ServeFault.Write → CountsFailure (failure_count writer.old) (failure_count writer.new) }
     ensures counts_reads { failure_count reader.old ≤ failure_count reader.new }
@@ -318,7 +323,8 @@ fn flush_last<W: Write>(
 /// the connection, or after `most` replies. With `most` 0 nothing is read. A message is acted on once its whole body was
 /// read. What a message and its reply take is one room of fixed size, which is allocated first. The writer is flushed
 /// before each read and at the end, where something was written since it was flushed last. A flush that fails is a
-/// failed write; one that fails at the end takes the place of an `Ok`, and of no other fault.
+/// failed write; one that fails at the end takes the place of an `Ok`, and of no other fault. So an `Ok` says that no call of
+/// the reader or of the writer failed.
 pub fn serve_messages<E: Engine, R: Read, W: Write>(
     alloc: Global,
     engine: &mut E,
@@ -331,6 +337,7 @@ pub fn serve_messages<E: Engine, R: Read, W: Write>(
         (record { left = R.remaining (stream_of reader.new); written = W.contents (stream_of writer.new); engine = engine.new })
         result }
     ensures most { IfOk result (λ served. served.messages ≤ most) }
+    ensures no_failure { OnOk result ((failure_count reader.new ≡ failure_count reader.old) × (failure_count writer.new ≡ failure_count writer.old)) }
     ensures read_cause { result ≡ Err ServeFault.Read → CountsFailure (failure_count reader.old) (failure_count reader.new) }
     ensures write_cause { result ≡ Err ServeFault.Write → CountsFailure (failure_count writer.old) (failure_count writer.new) }
     ensures counts_reads { failure_count reader.old ≤ failure_count reader.new }

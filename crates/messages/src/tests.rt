@@ -118,6 +118,7 @@ impl Engine for Breaking {
 struct Outcome {
     result: Result<Served, ServeFault>,
     asked: u32,
+    reads: usize,
     flushed: usize,
     bytes: Vec<u8>,
 }
@@ -149,6 +150,7 @@ fn serve(
     Outcome {
         result,
         asked: engine.asked,
+        reads: reader.into_inner().calls,
         flushed: sink.flushed,
         bytes: sink.bytes,
     }
@@ -343,6 +345,8 @@ fn streams_that_end_or_fail(rt: HostRuntime) {
         assert!(rt; run.result == Err(ServeFault::Read));
         let replies: [&[u8]; 3] = [b"", A, AB];
         assert_eq!(rt; run.bytes.as_slice(), replies[call - 1]);
+        // Each of them was flushed before that read.
+        assert!(rt; run.flushed == call - 1);
     }
     // A write or a flush fails, at each call: a beginning of the replies was written.
     // Each reply is ten writes, and a flush follows the second.
@@ -356,6 +360,30 @@ fn streams_that_end_or_fail(rt: HostRuntime) {
     assert!(rt; serve(&rt, two, 50, 9, (0, 0)).flushed == 2);
     assert!(rt; serve(&rt, two, 9216, 1, (0, 0)).flushed == 1);
     assert!(rt; serve(&rt, two, 9216, 0, (1, 0)).result == Ok(Served { messages: 0 }));
+}
+
+#[test]
+fn reads_that_may_wait(rt: HostRuntime) {
+    let two = b"GET /a HTTP/1.1\r\nHost: x\r\n\r\nGET /b HTTP/1.1\r\nHost: x\r\n\r\n";
+    // None where a whole message is held, and none behind the last that is asked for.
+    assert!(rt; serve(&rt, two, 9216, 0, (0, 0)).reads == 0);
+    assert!(rt; serve(&rt, two, 9216, 1, (0, 0)).reads == 1);
+    assert!(rt; serve(&rt, two, 9216, 2, (0, 0)).reads == 1);
+    assert!(rt; serve(&rt, two, 9216, 3, (0, 0)).reads == 2);
+    assert!(rt; serve(&rt, two, 28, 1, (0, 0)).reads == 1);
+    assert!(rt; serve(&rt, two, 28, 2, (0, 0)).reads == 2);
+    // None behind a reply that ends the connection.
+    for last in [
+        b"GET /a HTTP/1.0\r\n\r\n".as_slice(),
+        b"GET /a HTTP/1.1\r\n\r\n".as_slice(),
+    ] {
+        assert!(rt; serve(&rt, last, 9216, 9, (0, 0)).reads == 1);
+    }
+    // Where the flush before a read fails, nothing is read: a reply is ten writes, and the flush follows.
+    let run = serve(&rt, two, 28, 9, (0, 11));
+    assert!(rt; run.result == Err(ServeFault::Write));
+    assert!(rt; run.reads == 1 && run.asked == 1);
+    assert_eq!(rt; run.bytes.as_slice(), A);
 }
 
 #[test]

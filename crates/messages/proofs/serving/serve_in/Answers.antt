@@ -3,7 +3,7 @@ use Rattle.messages.proofs.RunLemmas.{run_none, run_more}
 use Rattle.messages.proofs.serving.serve_in.Goals as goal
 
 pub loop-done-init : goal.loop-done-init
-loop-done-init g c = (([], [], refl, run_none g.E.Engine.answers g.E.Engine.breaks _ c.requires.flushed), omega arith, omega arith)
+loop-done-init g c = (([], [], refl, run_none g.E.Engine.answers g.E.Engine.breaks _ c.requires.flushed), omega arith, omega arith, refl, refl)
 
 pub returns-in-Ok-Closed-clause-served : goal.returns-in-Ok-Closed-clause-served
 returns-in-Ok-Closed-clause-served g c =
@@ -33,6 +33,8 @@ loop-done-preserved g c =
       (i.0 ++ m ∷ [], i.1 ++ turn.0, omega (arith, length-append i.0 (m ∷ []), i.2), run_more _ _ _ _ _ i.0 i.1 i.3 turn),
       omega (arith, c.loop-done.invariant.1, c.in-Ok-Answered.ensures.counts_reads),
       omega (arith, c.loop-done.invariant.2, c.in-Ok-Answered.ensures.counts_writes),
+      c.in-Ok-Answered.ensures.no_failure.0 ∙ c.loop-done.invariant.3,
+      c.in-Ok-Answered.ensures.no_failure.1 ∙ c.loop-done.invariant.4,
     )
 
 pub returns-clause-served : goal.returns-clause-served

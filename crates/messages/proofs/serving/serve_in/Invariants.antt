@@ -12,3 +12,5 @@ invariant-loop-done g l =
     ms out)
     × (l.fn.reader.failures ≤ l.reader.failures)
     × (l.fn.writer.failures ≤ l.writer.failures)
+    × (l.reader.failures ≡ l.fn.reader.failures)
+    × (l.writer.failures ≡ l.fn.writer.failures)

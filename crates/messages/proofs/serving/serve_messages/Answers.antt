@@ -1,4 +1,4 @@
-use Rattle.std.proofs.Common.{◌≡◌, ℕ, ◌≤◌, Result, Ok, Err, IfOk, sym, subst}
+use Rattle.std.proofs.Common.{◌≡◌, ℕ, ◌≤◌, Result, Ok, Err, IfOk, OnOk, sym, subst, ◌∙◌}
 use Rattle.std.proofs.KnownBytes.{Keeps-refl}
 use Rattle.messages.specs.declared.serving.Served.{Served}
 use Rattle.messages.specs.declared.serving.ServeFault.{ServeFault}
@@ -16,6 +16,15 @@ same_most most s P (Err f) within ok = tt
 
 pub returns-in-Ok-clause-most : goal.returns-in-Ok-clause-most
 returns-in-Ok-clause-most g c = same_most c.args.most c.in-Ok.served _ c.flush_last.result c.in-Ok.ensures.most c.flush_last.ensures.ok
+
+no_failure : (r n n' m m' : ℕ) (s : Served) (told : Result Served ServeFault) → r ≡ n → m ≡ n' → IfOk told (λ t. (t ≡ s) × (m' ≡ m))
+    → OnOk told ((r ≡ n) × (m' ≡ n'))
+no_failure r n n' m m' s (Ok t) reads writes ok = (reads, ok.1 ∙ writes)
+no_failure r n n' m m' s (Err f) reads writes ok = tt
+
+pub returns-in-Ok-clause-no_failure : goal.returns-in-Ok-clause-no_failure
+returns-in-Ok-clause-no_failure g c =
+    no_failure _ _ _ _ _ c.in-Ok.served c.flush_last.result c.in-Ok.ensures.no_failure.0 c.in-Ok.ensures.no_failure.1 c.flush_last.ensures.ok
 
 pub returns-in-Err-Report-clause-exit : goal.returns-in-Err-Report-clause-exit
 returns-in-Err-Report-clause-exit g c =
