@@ -101,7 +101,7 @@ module _ {E S C : Type 0} (store : E → S) (clock : E → C) (status : S → St
       → ((run : List MarkedMessage) × Serves status users may_give (place old) (place new) ms rest run out) × IsOne new.engine
   reads old new ms rest out one r =
       let run = all_ran old.engine new.engine ms out one r.answered in
-      ((run.run, record { bytes = r.bytes; taken = r.taken; splits = r.splits; marked = run.marked; given = run.given; ran = run.ran.run }), run.one)
+      ((run.run, record { bytes = r.bytes; taken = r.taken; splits = r.splits; marked = run.marked; given = run.given; ran = run.ran.run; bounded = r.bounded }), run.one)
 
   abbrev pub no_report : E → MessageParts → List ℕ → E → Type 0
   no_report old m out new = ⊥
@@ -119,7 +119,7 @@ module _ {E S C : Type 0} (store : E → S) (clock : E → C) (status : S → St
       ((ms, rest, told.0.0, out, told.0.1, on, part, some, ended, wrote), told.1)
   exits most old new (Err Write) one (inl (before, last, rest, replies, reply, r, on, stops)) =
       let run = last_ran old.engine r.mid new.engine before last replies reply one r.answered r.reached in
-      (inl (before, last, rest, run.run, run.at, replies, reply, record { bytes = r.bytes; taken = r.taken; splits = r.splits; marked = run.marked; given = run.given; ran = run.ran.run }, on, run.replied, stops), run.one)
+      (inl (before, last, rest, run.run, run.at, replies, reply, record { bytes = r.bytes; taken = r.taken; splits = r.splits; marked = run.marked; given = run.given; ran = run.ran.run; bounded = r.bounded }, on, run.replied, stops), run.one)
   exits most old new (Err Write) one (inr (ms, rest, out, reply, r, on, refused, stops)) =
       let told = reads old new ms rest out one r in
       (inr (ms, rest, told.0.0, out, reply, told.0.1, on, refused, stops), told.1)

@@ -1,9 +1,10 @@
 -- How a call of `serve` ends: what was read, what was written, and what became of the bank, by its exit.
-use Rattle.std.specs.Prelude.{◌≡◌, ◌⊎◌, ℕ, ◌+◌, List, [], ◌∷◌, ◌++◌, length, map, Option, Result, Ok, Err}
+use Rattle.std.specs.Prelude.{◌≡◌, ◌⊎◌, ℕ, ◌+◌, ◌≤◌, List, [], ◌∷◌, ◌++◌, length, map, Option, Result, Ok, Err}
 use Rattle.std.specs.Io.KnownBytes.{Appends, Consumes, IsAtEnd}
 use Rattle.messages.specs.Blank.{AreLineEnds}
 use Rattle.messages.specs.Exit.{Ends, GoesOn, StopsWithin}
 use Rattle.messages.specs.Next.{IsPartial}
+use Rattle.messages.specs.Received.{max_message_len}
 use Rattle.messages.specs.Refusal.{IsRefusal}
 use Rattle.messages.specs.Whole.{Splits, WholeMessage, message_parts}
 use Rattle.messages.specs.declared.serving.ServeFault.{ServeFault}
@@ -34,6 +35,7 @@ module _ {S C : Type 0} (status : S → Status) (users : List ℕ → Option ℕ
     pub marked : map (λ m. m.message) run ≡ map message_parts messages
     pub given : Gives old.clock run new.clock
     pub ran : IsRun users (status old.store) (status new.store) run out
+    pub bounded : length rest ≤ max_message_len
 
   -- the reply to the last of the messages stopped: all those before it were written, and a beginning of it
   abbrev pub StopsInReply : ℕ → Place S C → Place S C → Type 0

@@ -26,6 +26,7 @@ fn serve_counter<'b, 'g, 'c, 'r, R: Read, W: Write, S: Store, G: Gate, C: Clock>
         result }
     ensures same_bank { counter.new.bank.ghost_name ≡ counter.old.bank.ghost_name }
     ensures same_clock { counter.new.clock.ghost_name ≡ counter.old.clock.ghost_name }
+    ensures memory { result ≡ Err ServeFault.Memory → (reader.new ≡ reader.old) × (writer.new ≡ writer.old) }
     ensures most { IfOk result (λ served. served.messages ≤ most) }
     ensures no_failure { OnOk result ((failure_count reader.new ≡ failure_count reader.old) × (failure_count writer.new ≡ failure_count writer.old)) }
     ensures read_cause { result ≡ Err ServeFault.Read → CountsFailure (failure_count reader.old) (failure_count reader.new) }
@@ -57,6 +58,7 @@ pub fn serve<R: Read, W: Write, S: Store, G: Gate, C: Clock>(
         (record { left = R.remaining (stream_of reader.old); written = W.contents (stream_of writer.old); store = bank.old.store; clock = clock.old })
         (record { left = R.remaining (stream_of reader.new); written = W.contents (stream_of writer.new); store = bank.new.store; clock = clock.new })
         result }
+    ensures memory { result ≡ Err ServeFault.Memory → (reader.new ≡ reader.old) × (writer.new ≡ writer.old) }
     ensures most { IfOk result (λ served. served.messages ≤ most) }
     ensures no_failure { OnOk result ((failure_count reader.new ≡ failure_count reader.old) × (failure_count writer.new ≡ failure_count writer.old)) }
     ensures read_cause { result ≡ Err ServeFault.Read → CountsFailure (failure_count reader.old) (failure_count reader.new) }
