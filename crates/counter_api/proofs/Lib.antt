@@ -1,7 +1,6 @@
 pub mod CounterLemmas
 pub mod ExitLemmas
 pub mod FramingLemmas
-pub mod HandledLemmas
 pub mod RouteLemmas
 pub mod RunLemmas
 pub mod SessionLemmas

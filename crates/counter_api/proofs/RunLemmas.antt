@@ -1,5 +1,5 @@
 -- Messages one after another, by induction.
-use Rattle.std.proofs.Common.{◌≡◌, ℕ, ◌+◌, inl, inr, List, [], ◌∷◌, ◌++◌, Option, None, Result, Ok, Err, IfOk, refl, ap, arith, subst, ◌∙◌}
+use Rattle.std.proofs.Common.{◌≡◌, ◌⊎◌, ℕ, ◌+◌, inl, inr, List, [], ◌∷◌, ◌++◌, Option, Some, None, Result, Ok, Err, IfOk, refl, sym, ap, arith, subst, ◌∙◌}
 use Rattle.std.proofs.lemmas.List.Elements.{All-cons, All-nil}
 use Rattle.money.specs.declared.fault.Fault.{Fault}
 use Rattle.bank_books.specs.WorldLists.{WorldLists}
@@ -10,7 +10,7 @@ use Rattle.decide.specs.Sums.{AreProper, IsProper}
 use Rattle.decide.proofs.RunSums.{sums_always_agree}
 use Rattle.decide.specs.declared.request.Request.{Request}
 use Rattle.counter_api.specs.Response.{ResponseParts}
-use Rattle.counter_api.specs.Run.{AreOrderly, IsHandled, IsRun, MarkedMessage, faults_of, framed, marked, reply_to, requests_of, stated_by, stopped_after}
+use Rattle.counter_api.specs.Run.{AreOrderly, IsHandled, IsPending, IsRun, MarkedMessage, after_message, faults_of, framed, marked, pending_after, reply_to, requests_of, stated_by, stopped_after}
 
 rose_then : (m n a b c : ℕ) → RoseBy m a b → RoseBy n b c → RoseBy (m + n) a c
 rose_then m n a b c (inl p) (inl q) = inl (omega arith)
@@ -28,6 +28,26 @@ proper_in_front : (stated : Result Request MessageFault) (mark : Option Fault) (
 proper_in_front (Ok r) mark rest here behind = All-cons (λ m. m.mark ≡ None → IsProper m.request) (record { request = r; mark = mark }) rest here behind
 proper_in_front (Err fault) mark rest here behind = behind
 
+-- ---- what a crash may leave
+
+-- where more could be left before, and beside it only the World that stood
+more_after : (P Q : WorldLists → Type 0) (w : WorldLists) (stated : Result Request MessageFault) (mark : Option Fault) → ((l : WorldLists) → P l → (l ≡ w) ⊎ Q l)
+    → (l : WorldLists) → pending_after P w stated mark l → (l ≡ world_after w (marked stated mark [])) ⊎ pending_after Q w stated mark l
+more_after P Q w (Err fault) mark within l may = within l may
+more_after P Q w (Ok r) (Some fault) within l (inl may) = elim (within l may) [ inl same ↦ inl same | inr q ↦ inr (inl q) ]
+more_after P Q w (Ok r) (Some fault) within l (inr is) = inr (inr is)
+more_after P Q w (Ok r) None within l (rests, may) = elim (within l may) [ inl same ↦ inl (same ∙ sym rests) | inr q ↦ inr (rests, q) ]
+
+more_pending : (users : List ℕ → Option ℕ) (P Q : WorldLists → Type 0) (w : WorldLists) (ms : List MarkedMessage) → ((l : WorldLists) → P l → (l ≡ w) ⊎ Q l)
+    → (l : WorldLists) → IsPending users P w ms l → (l ≡ world_after w (requests_of users ms)) ⊎ IsPending users Q w ms l
+more_pending users P Q w [] within l may = within l may
+more_pending users P Q w (m ∷ ms) within l may =
+    elim (more_pending users (pending_after P w (stated_by users m) m.mark) (pending_after Q w (stated_by users m) m.mark) (after_message users w m) ms
+    (more_after P Q w (stated_by users m) m.mark within) l may) [
+      | inl is ↦ inl (is ∙ after_marked w (stated_by users m) m.mark (requests_of users ms))
+      | inr q ↦ inr q
+    ]
+
 -- messages and their replies, and that the requests that were made are proper
 pub record Ran (users : List ℕ → Option ℕ) (old new : Status) (ms : List MarkedMessage) (out : List ℕ) : Type 0 where
   pub run : IsRun users old new ms out
@@ -42,6 +62,7 @@ none_ran users s = record {
     counted = inl (omega arith);
     moved = λ clean w held. held;
     replied = λ clean w held. refl;
+    leaves = λ clean w held left may. inr may;
     agrees = λ w checks. sums_always_agree w [] checks (All-nil (λ m. m.mark ≡ None → IsProper m.request));
   };
   proper = All-nil (λ m. m.mark ≡ None → IsProper m.request);
@@ -63,6 +84,15 @@ one_more users old mid new m ms parts out here behind =
         replied = λ clean w held.
             let honest = behind.run.honest clean in
             ap (λ p. framed m.message p ++ out) (here.replied honest w held) ∙ ap (λ o. reply_to users w m ++ o) (behind.run.replied clean _ (here.moved honest w held));
+        leaves = λ clean w held left may.
+            let honest = behind.run.honest clean in
+            elim (behind.run.leaves clean (after_message users w m) (here.moved honest w held) left may) [
+              | inl is ↦ inl (is ∙ after_marked w (stated_by users m) m.mark (requests_of users ms))
+              | inr pending ↦ elim (more_pending users mid.may_leave (pending_after old.may_leave w (stated_by users m) m.mark) (after_message users w m) ms (here.leaves honest w held) left pending) [
+                | inl is ↦ inl (is ∙ after_marked w (stated_by users m) m.mark (requests_of users ms))
+                | inr q ↦ inr q
+              ]
+            ];
         agrees = λ w checks. sums_always_agree w (requests_of users (m ∷ ms)) checks proper;
       };
       proper = proper;

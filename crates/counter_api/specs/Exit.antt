@@ -12,7 +12,7 @@ use Rattle.messages.specs.declared.serving.Served.{Served}
 use Rattle.store_rows.specs.Status.{Status, Tells}
 use Rattle.counter_api.specs.Run.{IsRun, MarkedMessage, replies_to}
 
--- a bank at one point, as a caller sees it: what its reader has left, what its writer has, its store and its clock
+-- a counter at one point, as its caller sees it: what its reader has left, what its writer has, its store and its clock
 pub record Place (S C : Type 0) : Type 0 where
   pub left : Option (List ℕ)
   pub written : Option (List ℕ)
@@ -49,8 +49,8 @@ module _ {S C : Type 0} (status : S → Status) (users : List ℕ → Option ℕ
       (ms : List WholeMessage) × (rest : List ℕ) × (run : List MarkedMessage) × (out : List ℕ) × (reply : List ℕ)
       × Serves old new ms rest run out × GoesOn most ms × IsRefusal rest reply × StopsWithin old.written new.written out reply
 
-  -- The table of exits. Ok: the replies to the messages counted were written; nothing follows, or what follows begins no message
-  -- and was refused. Read, Cut: the replies to the whole messages before. Write: the replies before the one whose write failed,
+  -- The table of exits. Ok: the replies to the messages counted were written; no further reply is due, or what follows begins no
+  -- message and was refused. Read, Cut: the replies to the whole messages before. Write: the replies before the one whose write failed,
   -- and a beginning of that one. Report: no reply is a report yet. Memory: nothing was read, done or written.
   abbrev pub IsServed : ℕ → Place S C → Place S C → Result Served ServeFault → Type 0
   IsServed most old new (Ok s) =

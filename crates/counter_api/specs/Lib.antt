@@ -1,4 +1,5 @@
 pub mod Answers
+pub mod CarriedOut
 pub mod Exit
 pub mod Fault
 pub mod Fields
@@ -6,4 +7,3 @@ pub mod Request
 pub mod Response
 pub mod Routes
 pub mod Run
-pub mod Served

@@ -3,7 +3,7 @@ use Rattle.std.specs.Prelude.{ℕ, List, Option, Some, None, Result, Ok, Err, if
 use Rattle.std.specs.Option.{option_map_or}
 use Rattle.bank_policy.specs.declared.procedure.Procedure.{Procedure}
 use Rattle.bodies.specs.Operation.{stated_op}
-use Rattle.decide.specs.Requests.{is_brought}
+use Rattle.decide.specs.Requests.{is_served}
 use Rattle.decide.specs.declared.request.Request.{Request}
 use Rattle.decide.specs.declared.who.Who.{Who}
 use Rattle.heads.specs.declared.fault.MessageFault.{MessageFault}
@@ -19,7 +19,7 @@ asked_by procedure moment body (Err fault) = Err fault
 
 -- the procedure, where it is served
 abbrev pub served : Option Procedure → Option Procedure
-served (Some procedure) = if is_brought procedure then Some procedure else None
+served (Some procedure) = if is_served procedure then Some procedure else None
 served None = None
 
 -- what is asked of a procedure

@@ -1,4 +1,4 @@
--- The requests that are served, as our own table of paths says.
+-- The operations that messages may ask for, by our own table of paths; which of them are served is said elsewhere.
 use Rattle.std.specs.Prelude.{ℕ, List, [], ◌∷◌, Option, None, codes, option_map, if◌then◌else◌, bytes_eq}
 use Rattle.std.specs.List.{find}
 use Rattle.bank_policy.specs.declared.procedure.Procedure.{Procedure}

@@ -1,5 +1,5 @@
 -- Messages one after another: the requests that they state, and the replies to them.
-use Rattle.std.specs.Prelude.{ℕ, ◌≡◌, ◌⊎◌, ◌+◌, Bool, IsTrue, List, [], ◌∷◌, ◌++◌, codes, Option, Some, None, IsSome, Result, Ok, Err, IfOk, ⊤}
+use Rattle.std.specs.Prelude.{ℕ, ◌≡◌, ◌⊎◌, ◌+◌, Bool, IsTrue, List, [], ◌∷◌, ◌++◌, codes, Option, Some, None, IsNone, IsSome, Result, Ok, Err, IfOk, ⊤}
 use Rattle.money.specs.declared.fault.Fault.{Fault}
 use Rattle.money.specs.declared.fault.Fault.TheVariants.{Memory, Stopped}
 use Rattle.bank_policy.specs.declared.rule.Rule.{Rule}
@@ -9,7 +9,7 @@ use Rattle.heads.specs.declared.fault.MessageFault.{MessageFault}
 use Rattle.messages.specs.Parts.{MessageParts}
 use Rattle.messages.specs.Reply.{reply_bytes}
 use Rattle.store_rows.specs.Status.{Answers, Refuses, RoseBy, Status, Tells, counts, stops}
-use Rattle.decide.specs.Run.{Marked, reply, world_after}
+use Rattle.decide.specs.Run.{Marked, reply, step, world_after}
 use Rattle.decide.specs.Sums.{IsProper, PassesChecks, SumsAgree}
 use Rattle.decide.specs.declared.request.Request.{Request}
 use Rattle.counter_api.specs.Request.{request_of}
@@ -41,10 +41,17 @@ response_to w (Err fault) None = refused_parts fault
 abbrev pub framed : MessageParts → ResponseParts → List ℕ
 framed m parts = reply_bytes parts.status (codes "application/json") parts.body (closes m.head) (asks_head m.head)
 
--- A request may be kept from being made by any fault. A message that states none may be kept from its reply by want of memory alone.
+-- A request of a user whom the gate knows may be kept from being made by any fault. One of nobody, and a message that states
+-- none, may be kept from its reply by want of memory alone.
 abbrev pub MayBear : Result Request MessageFault → Option Fault → Type 0
-MayBear (Ok r) mark = ⊤
-MayBear (Err fault) mark = (mark ≡ None) ⊎ (mark ≡ Some Memory)
+MayBear stated mark = IfOk stated (λ r. IsNone r.who.user) → (mark ≡ None) ⊎ (mark ≡ Some Memory)
+
+-- The Worlds that a crash may leave beside the one that stands: those that it could leave before, as long as no request has
+-- changed the World, and the one after a request that was answered by a fault.
+abbrev pub pending_after : (WorldLists → Type 0) → WorldLists → Result Request MessageFault → Option Fault → WorldLists → Type 0
+pending_after before w (Err fault) mark left = before left
+pending_after before w (Ok r) (Some fault) left = before left ⊎ (left ≡ step w r)
+pending_after before w (Ok r) None left = (step w r ≡ w) × before left
 
 module _ (users : List ℕ → Option ℕ) where
   abbrev pub stated_by : MarkedMessage → Result Request MessageFault
@@ -75,6 +82,12 @@ module _ (users : List ℕ → Option ℕ) where
     pub refused : IfOk (stated_by m) (λ r. IsSome r.who.user → Refuses old m.mark)
     pub moved : Tells old new (λ w. new.holds (after_message w m))
     pub replied : Tells old new (λ w. parts ≡ response_to w (stated_by m) m.mark)
+    pub leaves : Tells old new (λ w. (left : WorldLists) → new.may_leave left → (left ≡ after_message w m) ⊎ pending_after old.may_leave w (stated_by m) m.mark left)
+
+  -- the same of messages, one after another
+  abbrev pub IsPending : (WorldLists → Type 0) → WorldLists → List MarkedMessage → WorldLists → Type 0
+  IsPending before w [] left = before left
+  IsPending before w (m ∷ ms) left = IsPending (pending_after before w (stated_by m) m.mark) (after_message w m) ms left
 
   -- Along messages: a request of a known user that finds the store stopped is marked Stopped or Memory, and Stopped marks no other.
   abbrev pub AreOrderly : List MarkedMessage → Bool → Type 0
@@ -102,6 +115,8 @@ pub record IsRun (users : List ℕ → Option ℕ) (old new : Status) (ms : List
   pub counted : RoseBy (faults_of ms) old.fault_count new.fault_count
   pub moved : Tells old new (λ w. new.holds (world_after w (requests_of users ms)))
   pub replied : Tells old new (λ w. out ≡ replies_to users w ms)
+  -- A crash leaves the World that stands, or one that is pending: no change that was carried out is undone.
+  pub leaves : Tells old new (λ w. (left : WorldLists) → new.may_leave left → (left ≡ world_after w (requests_of users ms)) ⊎ IsPending users old.may_leave w ms left)
   -- and where the checks passed before, they pass after each request, and the sums agree
   pub agrees : (w : WorldLists) → PassesChecks w → SumsAgree w (requests_of users ms)
 

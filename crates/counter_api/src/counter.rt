@@ -1,15 +1,15 @@
-ghost use Rattle.std.specs.Prelude.{◌≡◌, ◌≤◌, true, IfOk, IfSome, IsOkUnless, IsSome, OnErr, OnOk};
+ghost use Rattle.std.specs.Prelude.{◌≡◌, ◌≤◌, true, IfOk, IfSome, IsNone, IsOkUnless, IsSome, OnErr, OnOk};
 ghost use Rattle.std.specs.Io.KnownBytes.{Appends};
 ghost use Rattle.money.specs.Counted.{AppendsBeginning, CountsFailure, failure_count, stream_of};
 ghost use Rattle.money.specs.declared.fault.Fault.TheVariants.{Memory};
 ghost use Rattle.counter_ops.specs.Op.{procedure_of};
-ghost use Rattle.decide.specs.Requests.{is_brought};
+ghost use Rattle.decide.specs.Requests.{is_served};
 ghost use Rattle.decide.specs.Sums.{IsProper};
 ghost use Rattle.store_rows.specs.Status.{Refuses, mark_of};
 ghost use Rattle.counter_api.specs.Request.{request_of, served};
 ghost use Rattle.counter_api.specs.Routes.{asked_procedure};
 ghost use Rattle.counter_api.specs.Run.{IsHandled, framed, parts_or_fault};
-ghost use Rattle.counter_api.specs.Served.{IsServed};
+ghost use Rattle.counter_api.specs.CarriedOut.{IsCarriedOut};
 
 use crate::clock::Clock;
 use crate::fields::who_of;
@@ -18,7 +18,7 @@ use crate::response::Response;
 use crate::routes::Routes;
 use bank_policy::Procedure;
 use bodies::read_op;
-use decide::{Decision, Reply, Request, Who, carry_out, decide, is_brought};
+use decide::{Decision, Reply, Request, Who, carry_out, decide, is_served};
 use heads::MessageFault;
 use messages::{AnswerFault, Engine, Message};
 use money::{Fault, Tallied, WriteStopped};
@@ -39,10 +39,10 @@ pub(crate) struct Counter<'b, 'g, 'c, 'r, S, G, C> {
 /// The procedure that a message asks for, if it is served.
 fn served_procedure(routes: &Routes, message: &Message<'_>) -> Option<Procedure>
     ensures asked { result ≡ served (asked_procedure message.now.head.method message.now.head.target) }
-    ensures brought { IfSome result (λ procedure. is_brought procedure ≡ true) }
+    ensures served { IfSome result (λ procedure. is_served procedure ≡ true) }
 {
     let procedure = routes.procedure(message.method(), message.target())?;
-    if is_brought(procedure) {
+    if is_served(procedure) {
         Some(procedure)
     } else {
         None
@@ -60,7 +60,7 @@ fn stated_request<G: Gate>(
     requires { moment ≤ 99999999999 }
     ensures stated { IfOk result (λ stated. stated ≡ request_of (G.users gate.now) moment message.now) }
     ensures proper { IfOk result (λ stated. IfOk stated IsProper) }
-    ensures brought { IfOk result (λ stated. IfOk stated (λ request. is_brought (procedure_of request.op) ≡ true)) }
+    ensures served { IfOk result (λ stated. IfOk stated (λ request. is_served (procedure_of request.op) ≡ true)) }
     ensures memory { IsOkUnless result Memory }
 {
     let Some(procedure) = served_procedure(routes, message) else {
@@ -83,9 +83,10 @@ fn carried_out<S: Store>(
     alloc: Global,
     request: &Request,
 ) -> Result<Response, Fault>
-    requires { is_brought (procedure_of request.now.op) ≡ true }
-    ensures served { IsServed (S.status bank.old.store) (S.status bank.new.store) request.now result }
+    requires { is_served (procedure_of request.now.op) ≡ true }
+    ensures carried_out { IsCarriedOut (S.status bank.old.store) (S.status bank.new.store) request.now result }
     ensures refused { IsSome request.now.who.user → Refuses (S.status bank.old.store) (mark_of result) }
+    ensures stranger { IsNone request.now.who.user → IsOkUnless result Memory }
 {
     match decide(bank, alloc, request.who, request.moment, &request.op) {
         Ok(Decision::Denied(denial)) => Ok(Response::denied(alloc, denial.rule())?),
@@ -116,28 +117,6 @@ fn handled<S: Store, G: Gate>(
     match stated {
         Ok(request) => carried_out(bank, alloc, &request),
         Err(fault) => Ok(Response::refused(fault)),
-    }
-}
-
-impl<'b, 'g, 'c, 'r, S: Store, G: Gate, C: Clock> Counter<'b, 'g, 'c, 'r, S, G, C> {
-    /// The reply to a message, or the fault that is replied. The clock gives the moment.
-    fn respond(&mut self, message: &Message<'_>) -> (u64, Result<Response, Fault>)
-        ensures handled { IsHandled (G.users self.old.gate.now) (S.status self.old.bank.now.store) (S.status self.new.bank.now.store) (record { message = message.now; moment = result.0; mark = mark_of result.1 }) (parts_or_fault result.1) }
-        ensures given { C.may_give self.old.clock.now result.0 self.new.clock.now }
-        ensures same_bank { self.new.bank.ghost_name ≡ self.old.bank.ghost_name }
-        ensures same_clock { self.new.clock.ghost_name ≡ self.old.clock.ghost_name }
-        ensures same_gate { self.new.gate ≡ self.old.gate }
-    {
-        let moment = self.clock.moment();
-        let response = handled(
-            self.bank,
-            self.alloc,
-            self.routes,
-            self.gate,
-            message,
-            moment,
-        );
-        (moment, response)
     }
 }
 
@@ -184,7 +163,15 @@ impl<'b, 'g, 'c, 'r, S: Store, G: Gate, C: Clock> Engine for Counter<'b, 'g, 'c,
         message: &Message<'_>,
         writer: &mut Tallied<W>,
     ) -> Result<(), AnswerFault> {
-        let (_, outcome) = self.respond(message);
+        let moment = self.clock.moment();
+        let outcome = handled(
+            self.bank,
+            self.alloc,
+            self.routes,
+            self.gate,
+            message,
+            moment,
+        );
         let response = response_of(outcome);
         match write_response(message, &response, writer) {
             Ok(()) => Ok(()),

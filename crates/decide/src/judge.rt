@@ -1,11 +1,11 @@
-ghost use Rattle.std.specs.Prelude.{◌≡◌, Some, None, true, false, is_some, IfSome, IsSome, IfOk, IfErr, OnOk};
+ghost use Rattle.std.specs.Prelude.{◌≡◌, Some, None, true, false, is_some, IfSome, IsNone, IsSome, IfOk, IfErr, OnOk, Ok, Err};
 ghost use Rattle.money.specs.Range.{is_cents};
 ghost use Rattle.bank_books.specs.Records.{account_record};
 ghost use Rattle.bank_books.specs.Effects.{applied};
 ghost use Rattle.counter_ops.specs.Op.{procedure_of};
 ghost use Rattle.postings.specs.Post.{first_against_post, is_full, is_in_range, is_unknown, post_effect, post_rows};
 ghost use Rattle.store_rows.specs.Status.{Keeps, Refuses, Tells, mark_of};
-ghost use Rattle.decide.specs.Requests.{answer_of, answer_of_balance, answer_of_post, effect, first, first_against_balance, first_of_books, is_brought};
+ghost use Rattle.decide.specs.Requests.{answer_of, answer_of_balance, answer_of_post, effect, first, first_against_balance, first_of_books, is_served};
 ghost use Rattle.decide.specs.PolicyRules.{asker};
 
 use crate::answer::{Answer, Posted};
@@ -35,13 +35,14 @@ pub(crate) fn prepare<S: Store>(
     moment: u64,
     op: &Op,
 ) -> Result<Result<Prepared, Rule>, Fault>
-    requires { is_brought (procedure_of op.now) ≡ true }
+    requires { is_served (procedure_of op.now) ≡ true }
     ensures denied { Tells (S.status store.old) (S.status store.new) (λ w. IfOk result (λ r. IfErr r (λ rule. first w who op.now ≡ Some rule))) }
     ensures allowed { Tells (S.status store.old) (S.status store.new) (λ w. IfOk result (λ r. OnOk r (first w who op.now ≡ None))) }
     ensures plan { Tells (S.status store.old) (S.status store.new) (λ w. IfOk result (λ r. IfOk r (λ p. applied p.plan.items w ≡ effect w (asker who) moment op.now))) }
     ensures answer { Tells (S.status store.old) (S.status store.new) (λ w. IfOk result (λ r. IfOk r (λ p. answer_of w op.now ≡ Some p.answer))) }
     ensures kept { Keeps (S.status store.old) (S.status store.new) (mark_of result) }
     ensures refused { IsSome who.user → Refuses (S.status store.old) (mark_of result) }
+    ensures stranger { IsNone who.user → result ≡ Ok (Err Rule.Identity) }
 {
     match policy_rule(alloc, store, who, op)? {
         Some(rule) => Ok(Err(rule)),
@@ -64,7 +65,7 @@ fn prepare_by_books<S: Store>(
     moment: u64,
     op: &Op,
 ) -> Result<Result<Prepared, Rule>, Fault>
-    requires { is_brought (procedure_of op.now) ≡ true }
+    requires { is_served (procedure_of op.now) ≡ true }
     ensures denied { Tells (S.status store.old) (S.status store.new) (λ w. IfOk result (λ r. IfErr r (λ rule. first_of_books w op.now ≡ Some rule))) }
     ensures allowed { Tells (S.status store.old) (S.status store.new) (λ w. IfOk result (λ r. OnOk r (first_of_books w op.now ≡ None))) }
     ensures plan { Tells (S.status store.old) (S.status store.new) (λ w. IfOk result (λ r. IfOk r (λ p. applied p.plan.items w ≡ effect w user moment op.now))) }

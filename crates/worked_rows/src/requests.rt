@@ -1,6 +1,6 @@
 ghost use Rattle.std.specs.Prelude.{◌≡◌, true};
 ghost use Rattle.counter_ops.specs.Op.{procedure_of};
-ghost use Rattle.decide.specs.Requests.{is_brought};
+ghost use Rattle.decide.specs.Requests.{is_served};
 
 use crate::opening::opening_at;
 use bank_books::{account_balance, branch_balance, teller_balance};
@@ -41,7 +41,7 @@ fn ask<S: Store>(
     who: Who,
     op: Op,
 ) -> Result<Vec<u8>, Rule>
-    requires { is_brought (procedure_of op) ≡ true }
+    requires { is_served (procedure_of op) ≡ true }
 {
     match decide(bank, alloc, who, 700, &op) {
         Ok(Decision::Allowed(permit)) => match carry_out(permit) {
@@ -77,7 +77,7 @@ fn denied<S: Store>(
     op: Op,
     rule: Rule,
 )
-    requires { is_brought (procedure_of op) ≡ true }
+    requires { is_served (procedure_of op) ≡ true }
 {
     match ask(rt, bank, alloc, who, op) {
         Ok(_) => panic!(rt; "carried out"),
@@ -279,7 +279,7 @@ fn who_asks_has_to_be_known(rt: HostRuntime) {
 
 /// The question for the balance of account 101.
 fn balance_of_101() -> Op
-    ensures { is_brought (procedure_of result) ≡ true }
+    ensures { is_served (procedure_of result) ≡ true }
 {
     Op::Balance(Balance { account: 101 })
 }
