@@ -312,6 +312,7 @@ fn flush_last<W: Write>(
 ) -> Result<Served, ServeFault>
     ensures ok { IfOk result (λ told. (told ≡ served) × (failure_count writer.new ≡ failure_count writer.old)) }
     ensures err { IfErr result (λ fault. (fault ≡ ServeFault.Write) × CountsFailure (failure_count writer.old) (failure_count writer.new) × (written.old ≡ true)) }
+    ensures spent { written.new ≡ false }
     ensures kept { Keeps (W.contents (stream_of writer.old)) (W.contents (stream_of writer.new)) }
     ensures counts { failure_count writer.old ≤ failure_count writer.new }
 {
