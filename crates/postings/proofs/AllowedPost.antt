@@ -34,7 +34,7 @@ pub record IsAllowed (rows : PostRows) (post : Post) : Type 0 where
   pub in_range : is_in_range rows post ≡ true
   pub room : is_full rows ≡ false
 
-passed_by : {R : Type 0} (b : Bool) (r : R) (rest : Option R) → cond b (Some r) rest ≡ None → (b ≡ false) × (rest ≡ None)
+pub passed_by : {R : Type 0} (b : Bool) (r : R) (rest : Option R) → cond b (Some r) rest ≡ None → (b ≡ false) × (rest ≡ None)
 passed_by true r rest is = absurd cc
 passed_by false r rest is = (refl, is)
 
@@ -63,7 +63,7 @@ pub record AreThere (w : WorldLists) (post : Post) : Type 0 where
   pub branch : Branch
   pub branch_is : branch_row post.branch w.branches ≡ Some branch
 
-source_of : {A B : Type 0} (f : A → B) (o : Option A) → is_none (option_map f o) ≡ false → (a : A) × (o ≡ Some a)
+pub source_of : {A B : Type 0} (f : A → B) (o : Option A) → is_none (option_map f o) ≡ false → (a : A) × (o ≡ Some a)
 source_of f None some = absurd cc
 source_of f (Some a) some = (a, refl)
 
