@@ -9,6 +9,7 @@ mod record_of;
 mod records;
 mod row_write;
 mod rows;
+mod signature;
 mod world;
 
 pub use balances::{
@@ -20,4 +21,5 @@ pub use record_of::{account_record, branch_record, teller_record};
 pub use records::{AccountRecord, BranchRecord, EntryRecord, ReleaseCount, TellerRecord};
 pub use row_write::{Plan, RowWrite};
 pub use rows::{Account, Branch, CashLine, Entry, EntryForm, LineForm, Proof, Release, Teller};
+pub use signature::Signature;
 pub use world::World;

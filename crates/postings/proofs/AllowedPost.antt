@@ -16,11 +16,13 @@ use Rattle.bank_books.specs.declared.rows.Branch.{Branch}
 use Rattle.bank_books.specs.declared.rows.Entry.{Entry}
 use Rattle.bank_books.specs.declared.rows.Teller.{Teller}
 use Rattle.bank_books.specs.Keys.{entry_key}
-use Rattle.bank_books.specs.Records.{account_record_of, branch_record_of, teller_record_of}
+use Rattle.bank_books.specs.Records.{account_record_of, branch_record, branch_record_of, teller_record_of}
 use Rattle.bank_books.specs.WorldLists.{WorldLists}
+use Rattle.bank_books.specs.declared.signature.Signature.{Signature}
 use Rattle.postings.specs.declared.post.PostRows.{PostRows}
 use Rattle.postings.specs.Laws.{IsMovedAlone, PostKeepsBooks, PostMovesItsBalances, PostMovesItsBranch}
-use Rattle.postings.specs.Post.{entry_after, first_against_post, is_full, is_in_range, is_of_branch, is_unknown, keeps_floor, post_effect, post_rows}
+use Rattle.postings.specs.Post.{entry_after, first_against_post, is_full, is_in_range, is_of_branch, is_unknown, post_effect, post_rows}
+use Rattle.postings.specs.Rules.{account_keeps_floor, ledger_of}
 use Rattle.postings.proofs.GrownLists.{Contains-map, above, find-found}
 use Rattle.postings.proofs.KeepsBooks.{keeps_books}
 use Rattle.postings.proofs.NextEntry.{IsNextEntry, account_deltas_named, account_deltas_other, branch_deltas_named, branch_deltas_other, grown, teller_deltas_named, teller_deltas_other}
@@ -30,7 +32,7 @@ use Rattle.postings.proofs.NextEntry.{IsNextEntry, account_deltas_named, account
 pub record IsAllowed (rows : PostRows) (post : Post) : Type 0 where
   pub known : is_unknown rows ≡ false
   pub of_branch : is_of_branch rows post ≡ true
-  pub above_floor : keeps_floor rows post ≡ true
+  pub above_floor : account_keeps_floor rows.account post.delta ≡ true
   pub in_range : is_in_range rows post ≡ true
   pub room : is_full rows ≡ false
 
@@ -42,13 +44,13 @@ pub is_allowed : (rows : PostRows) (post : Post) → first_against_post rows pos
 is_allowed rows post none =
     let known = passed_by (is_unknown rows) _ _ none in
     let of_branch = passed_by (not (is_of_branch rows post)) _ _ known.1 in
-    let floor = passed_by (not (keeps_floor rows post)) _ _ of_branch.1 in
+    let floor = passed_by (not (account_keeps_floor rows.account post.delta)) _ _ of_branch.1 in
     let range = passed_by (not (is_in_range rows post)) _ _ floor.1 in
     let room = passed_by (is_full rows) _ _ range.1 in
     record {
       known = known.0;
       of_branch = not-false (is_of_branch rows post) of_branch.0;
-      above_floor = not-false (keeps_floor rows post) floor.0;
+      above_floor = not-false (account_keeps_floor rows.account post.delta) floor.0;
       in_range = not-false (is_in_range rows post) range.0;
       room = room.0;
     }
@@ -74,18 +76,19 @@ are_there w post allowed =
     let second = or_parts (is_none rows.account) (is_none rows.teller) first.0 in
     let account = source_of (account_record_of w) (account_row post.account w.accounts) second.0 in
     let teller = source_of (teller_record_of w) (teller_row post.teller w.tellers) second.1 in
-    let branch = source_of (branch_record_of w) (branch_row post.branch w.branches) first.1 in
+    let record_of = source_of ledger_of (branch_record w post.branch) first.1 in
+    let branch = source_of (branch_record_of w) (branch_row post.branch w.branches) (ap is_none record_of.1) in
     record { account = account.0; account_is = account.1; teller = teller.0; teller_is = teller.1; branch = branch.0; branch_is = branch.1 }
 
 -- the entry of the post
-abbrev pub entry_of : (w : WorldLists) (post : Post) → AreThere w post → ℕ → ℕ → Entry
-entry_of w post there user moment = entry_after (account_record_of w there.account) (branch_record_of w there.branch) post user moment
+abbrev pub entry_of : (w : WorldLists) (post : Post) → AreThere w post → Signature → Entry
+entry_of w post there by = entry_after (account_record_of w there.account) (ledger_of (branch_record_of w there.branch)) post by
 
 -- the effect is the World with it
-pub effect_is : (w : WorldLists) (post : Post) (there : AreThere w post) (user moment : ℕ) → post_effect w post user moment ≡ grown w (entry_of w post there user moment)
-effect_is w post there user moment =
-    ap (λ o. option_map_or (λ e. grown w e) (option_and_then (λ a. option_map (λ b. entry_after a b post user moment) (option_map (branch_record_of w) (branch_row post.branch w.branches))) (option_map (account_record_of w) o)) w) there.account_is
-    ∙ ap (λ o. option_map_or (λ e. grown w e) (option_map (λ b. entry_after (account_record_of w there.account) b post user moment) (option_map (branch_record_of w) o)) w) there.branch_is
+pub effect_is : (w : WorldLists) (post : Post) (there : AreThere w post) (by : Signature) → post_effect w post by ≡ grown w (entry_of w post there by)
+effect_is w post there by =
+    ap (λ o. option_map_or (λ e. grown w e) (option_and_then (λ a. option_map (λ b. entry_after a b post by) (option_map ledger_of (option_map (branch_record_of w) (branch_row post.branch w.branches)))) (option_map (account_record_of w) o)) w) there.account_is
+    ∙ ap (λ o. option_map_or (λ e. grown w e) (option_map (λ b. entry_after (account_record_of w there.account) b post by) (option_map ledger_of (option_map (branch_record_of w) o))) w) there.branch_is
 
 -- ---- the entry may come next
 
@@ -103,9 +106,9 @@ has_room n e = omega (arith, leb-false 999999999 n e)
 none_named : IsKeyOrZero 0
 none_named = (omega arith, omega arith)
 
-pub post_is_next : (w : WorldLists) (post : Post) (there : AreThere w post) (user moment : ℕ) → IsAllowed (post_rows w post) post → Books w → IsUser w user → moment ≤ 99999999999
-    → IsNextEntry w (entry_of w post there user moment)
-post_is_next w post there user moment allowed books user_there moment_high =
+pub post_is_next : (w : WorldLists) (post : Post) (there : AreThere w post) (by : Signature) → IsAllowed (post_rows w post) post → Books w → IsUser w by.user → by.moment ≤ 99999999999
+    → IsNextEntry w (entry_of w post there by)
+post_is_next w post there by allowed books user_there moment_high =
     let branch_found = find-found (λ row. row.branch == post.branch) w.branches there.branch there.branch_is in
     let of_branch = subst (λ o. option_map_or (λ t. t.row.branch == post.branch) (option_map (teller_record_of w) o) true ≡ true) there.teller_is allowed.of_branch in
     let floor = subst (λ o. option_map_or (λ a. not (int_lt (a.balance +ℤ post.delta) a.row.floor)) (option_map (account_record_of w) o) true ≡ true) there.account_is allowed.above_floor in
@@ -113,9 +116,9 @@ post_is_next w post there user moment allowed books user_there moment_high =
     let others = and_parts _ _ range.0 in
     let account = subst (λ o. option_map_or (λ a. is_cents (a.balance +ℤ post.delta)) (option_map (account_record_of w) o) true ≡ true) there.account_is others.0 in
     let teller = subst (λ o. option_map_or (λ t. is_cents (t.balance +ℤ post.delta)) (option_map (teller_record_of w) o) true ≡ true) there.teller_is others.1 in
-    let branch = and_parts _ _ (subst (λ o. option_map_or (λ b. is_cents (b.balance +ℤ post.delta) && is_cents (b.history +ℤ post.delta)) (option_map (branch_record_of w) o) true ≡ true) there.branch_is range.1) in
+    let branch = and_parts _ _ (subst (λ o. option_map_or (λ b. is_cents (b.balance +ℤ post.delta) && is_cents (b.history +ℤ post.delta)) (option_map ledger_of (option_map (branch_record_of w) o)) true ≡ true) there.branch_is range.1) in
     let room = or_parts _ _ allowed.room in
-    let entries = subst (λ o. option_map_or (λ b. nat_le 999999999 b.entries) (option_map (branch_record_of w) o) false ≡ false) there.branch_is room.0 in
+    let entries = subst (λ o. option_map_or (λ b. nat_le 999999999 b.entries) (option_map ledger_of (option_map (branch_record_of w) o)) false ≡ false) there.branch_is room.0 in
     let turns = subst (λ o. option_map_or (λ a. nat_le 999999999 a.turns) (option_map (account_record_of w) o) false ≡ false) there.account_is room.1 in
     record {
       account = there.account;
@@ -144,10 +147,10 @@ post_is_next w post there user moment allowed books user_there moment_high =
 -- ---- the laws
 
 pub post_keeps_books : PostKeepsBooks
-post_keeps_books w post user moment books user_there moment_high none =
+post_keeps_books w post by books user_there moment_high none =
     let allowed = is_allowed (post_rows w post) post none in
     let there = are_there w post allowed in
-    subst Books (sym (effect_is w post there user moment)) (keeps_books w (entry_of w post there user moment) (post_is_next w post there user moment allowed books user_there moment_high) books)
+    subst Books (sym (effect_is w post there by)) (keeps_books w (entry_of w post there by) (post_is_next w post there by allowed books user_there moment_high) books)
 
 branch_moves : (w : WorldLists) (e : Entry) → IsMovedAlone (branch_balance w) (branch_balance (grown w e)) e.branch e.delta
 branch_moves w e = record {
@@ -174,14 +177,14 @@ teller_moves w e = record {
 }
 
 pub post_moves_its_branch : PostMovesItsBranch
-post_moves_its_branch w post user moment none =
+post_moves_its_branch w post by none =
     let there = are_there w post (is_allowed (post_rows w post) post none) in
-    subst (λ v. IsMovedAlone (branch_balance w) (branch_balance v) post.branch post.delta) (sym (effect_is w post there user moment)) (branch_moves w (entry_of w post there user moment))
+    subst (λ v. IsMovedAlone (branch_balance w) (branch_balance v) post.branch post.delta) (sym (effect_is w post there by)) (branch_moves w (entry_of w post there by))
 
 pub post_moves_its_balances : PostMovesItsBalances
-post_moves_its_balances w post user moment none =
+post_moves_its_balances w post by none =
     let there = are_there w post (is_allowed (post_rows w post) post none) in
-    let effect = sym (effect_is w post there user moment) in (
-      subst (λ v. IsMovedAlone (account_balance w) (account_balance v) post.account post.delta) effect (account_moves w (entry_of w post there user moment)),
-      subst (λ v. IsMovedAlone (teller_balance w) (teller_balance v) post.teller post.delta) effect (teller_moves w (entry_of w post there user moment)),
+    let effect = sym (effect_is w post there by) in (
+      subst (λ v. IsMovedAlone (account_balance w) (account_balance v) post.account post.delta) effect (account_moves w (entry_of w post there by)),
+      subst (λ v. IsMovedAlone (teller_balance w) (teller_balance v) post.teller post.delta) effect (teller_moves w (entry_of w post there by)),
     )

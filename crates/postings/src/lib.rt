@@ -2,6 +2,10 @@
 #![tactic(auto)]
 
 pub mod laws;
+mod ledger;
 mod post;
+mod rules;
 
-pub use post::{PostRows, balance_after, plan_post};
+pub use ledger::Ledger;
+pub use post::{PostRows, plan_post, rule_against_post};
+pub use rules::balance_after;
