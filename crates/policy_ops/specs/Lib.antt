@@ -1,0 +1,3 @@
+pub mod Command
+pub mod PolicyOp
+pub mod Ranges
