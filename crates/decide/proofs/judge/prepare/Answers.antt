@@ -1,15 +1,28 @@
-use Rattle.std.proofs.Common.{◌≡◌, Option, Some, IfErr, IfOk, subst, sym, ◌∙◌}
-use Rattle.bank_policy.specs.declared.rule.Rule.{Rule}
-use Rattle.decide.proofs.PolicyLemmas.{books_decide, policy_decides}
+use Rattle.std.proofs.Common.{rules, sym, subst, ◌∙◌}
+use Rattle.std.specs.Prelude.{IfOk}
+use Rattle.std.proofs.lemmas.Result.{IfOk-weaker}
+use Rattle.decide.specs.Judged.{IsJudged}
+use Rattle.decide.specs.Meaning.{by_books}
+use Rattle.decide.specs.Operations.{meaning_of}
+use Rattle.decide.proofs.JoinedVerdict.{judged}
+use Rattle.decide.proofs.PolicyLemmas.{leave_refused}
 use Rattle.decide.proofs.judge.prepare.Goals as goal
 
-pub returns-in-Some-clause-denied : goal.returns-in-Some-clause-denied
-returns-in-Some-clause-denied g c honest w holds =
-    policy_decides w c.args.who c.args.op.now c.in-Some.rule (sym (c.in_ok-rule.ensures.value honest w holds) ∙ c.in-Some.is)
+pub returns-in-Err : goal.returns-in-Err
+returns-in-Err g c = record {
+  told = λ honest w holds. leave_refused w c.args.execution.now c.in-Err.rule (sym (c.in_ok-rule.ensures.told honest w holds) ∙ c.in-Err.is);
+  kept = search rules;
+  refused = search rules;
+}
 
-pub returns-in-None-clause-denied : goal.returns-in-None-clause-denied
-returns-in-None-clause-denied g c honest w holds =
-    let before = c.prepare_by_books.ensures.kept.answers.honest honest in
-    let same = books_decide w c.args.who c.args.op.now (sym (c.in_ok-rule.ensures.value before w holds) ∙ c.in-None.is) in
-    let P : Option Rule → Type 0 = λ f. IfOk c.prepare_by_books.result (λ r. IfErr r (λ rule. f ≡ Some rule)) in
-    subst P (sym same) (c.prepare_by_books.ensures.denied honest w (c.in_ok-rule.ensures.kept.kept w holds))
+pub returns-in-Ok-Triple : goal.returns-in-Ok-Triple
+returns-in-Ok-Triple g c = record {
+  told = λ honest w holds.
+      let before = c.prepare_by_books.ensures.kept.answers.honest honest in
+      let leave = sym (c.in_ok-rule.ensures.told before w holds) ∙ c.in-Ok-Triple.is in
+      let books = subst (λ b. IfOk c.prepare_by_books.result (IsJudged (λ v. by_books (meaning_of c.args.execution.now.op b v)) w)) c.signature.ensures
+        (c.prepare_by_books.ensures.told honest w (c.in_ok-rule.ensures.kept.kept w holds)) in
+      IfOk-weaker c.prepare_by_books.result _ _ (λ r h. judged w c.args.execution.now c.in-Ok-Triple.field-0 r leave h) books;
+  kept = search rules;
+  refused = search rules;
+}

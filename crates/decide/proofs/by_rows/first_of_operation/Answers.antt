@@ -1,0 +1,9 @@
+use Rattle.std.proofs.Common.{◌≡◌, Some, None, ap, sym, subst, ◌∙◌}
+use Rattle.decide.proofs.LoadedRows.{denied_by_policy, denied_by_books}
+use Rattle.decide.proofs.by_rows.first_of_operation.Goals as goal
+
+pub returns-in-Some : goal.returns-in-Some
+returns-in-Some c = λ w loaded. denied_by_policy w c.args.execution.now c.args.rows.now c.in-Some.rule loaded (sym c.first_of_policy.ensures ∙ c.in-Some.is)
+
+pub returns-in-None : goal.returns-in-None
+returns-in-None c = λ w loaded. denied_by_books w c.args.execution.now c.args.rows.now c.first_of_books.result loaded (sym c.first_of_policy.ensures ∙ c.in-None.is) (λ by. c.first_of_books.ensures w by loaded.books)

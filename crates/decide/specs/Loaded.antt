@@ -1,0 +1,67 @@
+-- Rows that were loaded for an operation.
+use Rattle.std.specs.Prelude.{ℕ, ◌≡◌, Option, Some, None, option_and_then}
+use Rattle.bank_policy.specs.HeldRows.{relations_of, standing, triples_of}
+use Rattle.bank_books.specs.Records.{account_record}
+use Rattle.bank_books.specs.WorldLists.{WorldLists}
+use Rattle.counter_ops.specs.Op.{procedure_of}
+use Rattle.counter_ops.specs.declared.op.Op.{Op}
+use Rattle.counter_ops.specs.declared.op.Op.TheVariants as op
+use Rattle.postings.specs.Post.{post_rows}
+use Rattle.touched.specs.Touched.{amount, touched}
+use Rattle.decide.specs.NewAccount.{opening_rows}
+use Rattle.decide.specs.PolicyRules.{Grounds, asker}
+use Rattle.decide.specs.declared.execution.Execution.{Execution}
+use Rattle.decide.specs.declared.by_rows.BookRows.{BookRows}
+use Rattle.decide.specs.declared.by_rows.BookRows.TheVariants as rows
+use Rattle.decide.specs.declared.by_rows.Loaded.{Loaded}
+use Rattle.decide.specs.declared.by_rows.PolicyRows.{PolicyRows}
+use Rattle.decide.specs.declared.request.Asked.{Asked}
+use Rattle.decide.specs.declared.request.Asked.TheVariants as asked
+use Rattle.decide.specs.declared.request.Request.{Request}
+use Rattle.decide.specs.declared.who.Who.{Who}
+
+-- the rows of the books in a World by which an operation is judged, one line a form; none where the form is not served
+abbrev pub book_rows : WorldLists → Op → Option BookRows
+book_rows w (op.Post post) = Some (rows.Post (post_rows w post))
+book_rows w (op.Transfer transfer) = None
+book_rows w (op.Correct correct) = None
+book_rows w (op.DrawerOn drawer_on) = None
+book_rows w (op.DrawerOff drawer_off) = None
+book_rows w (op.MoveCash move_cash) = None
+book_rows w (op.NewAccount form) = Some (rows.NewAccount (opening_rows w form))
+book_rows w (op.Release release) = None
+book_rows w (op.Balance balance) = Some (rows.Balance (account_record w balance.account))
+book_rows w (op.Statement statement) = None
+book_rows w (op.Accounts accounts) = None
+book_rows w (op.Proof proof) = None
+book_rows w (op.CloseDay close_day) = None
+
+-- these rows are those of a World by which an operation is judged
+pub record IsLoadedFor (w : WorldLists) (x : Execution) (l : Loaded) : Type 0 where
+  pub standing : l.policy.standing ≡ option_and_then (λ user. standing w.policy user) x.who.user
+  pub relations : l.policy.relations.items ≡ relations_of w.policy (procedure_of x.op)
+  pub held : l.policy.held.items ≡ triples_of w.policy (asker x.who) (procedure_of x.op)
+  pub books : book_rows w x.op ≡ Some l.books
+
+-- by which a request is judged; only operations have any yet
+abbrev pub IsLoadedOf : WorldLists → Asked → Who → ℕ → Loaded → Type 0
+IsLoadedOf w (asked.Operation op) who moment l = IsLoadedFor w (record { who = who; moment = moment; op = op }) l
+IsLoadedOf w asked.Opening who moment l = ⊥
+IsLoadedOf w asked.Ending who moment l = ⊥
+IsLoadedOf w (asked.Command command) who moment l = ⊥
+IsLoadedOf w asked.Listing who moment l = ⊥
+
+abbrev pub IsLoaded : WorldLists → Request → Loaded → Type 0
+IsLoaded w q l = IsLoadedOf w q.asked q.who q.moment l
+
+-- what the rules of the policy judge an operation by, of rows that were loaded
+abbrev pub loaded_grounds : PolicyRows → Execution → Grounds
+loaded_grounds rows x = record {
+  standing = rows.standing;
+  session = x.who.session;
+  relations = rows.relations.items;
+  held = rows.held.items;
+  items = touched x.op;
+  amount = amount x.op;
+  release = x.who.release;
+}

@@ -1,0 +1,108 @@
+ghost use Rattle.std.specs.Prelude.{◌≡◌, Some};
+ghost use Rattle.bank_books.specs.WorldLists.{WorldLists};
+ghost use Rattle.bank_books.specs.declared.signature.Signature.{Signature};
+ghost use Rattle.decide.specs.Loaded.{IsLoaded, IsLoadedFor, book_rows, loaded_grounds};
+ghost use Rattle.decide.specs.Meaning.{by_books};
+ghost use Rattle.decide.specs.Operations.{meaning_of};
+ghost use Rattle.decide.specs.PolicyRules.{first_of_policy};
+ghost use Rattle.decide.specs.Requests.{executes, first};
+
+use crate::execution::Execution;
+use crate::operations::{OpeningRows, rule_against_balance, rule_against_new_account};
+use crate::policy_rules::{is_certified_for, is_identified, rule_of_triples};
+use crate::request::{Asked, Request};
+use bank_books::AccountRecord;
+use bank_policy::{CertifiedRow, HeldRow, Rule, Standing};
+use counter_ops::Op;
+use postings::{PostRows, rule_against_post};
+use touched::{amount, touches};
+
+/// The rows of the policy by which an operation is judged.
+#[derive(Drop)]
+pub struct PolicyRows {
+    /// What the row of the user who asks says of whether he may, or none where he isn't there.
+    pub standing: Option<Standing>,
+    /// The relations of the procedure.
+    pub relations: Vec<CertifiedRow>,
+    /// The user's triples for it.
+    pub held: Vec<HeldRow>,
+}
+
+/// The rows of the books by which an operation is judged, by its form.
+#[derive(Clone, Copy, Debug, PartialEq, Eq)]
+pub enum BookRows {
+    /// Of a post.
+    Post(PostRows),
+    /// Of an account that is opened.
+    NewAccount(OpeningRows),
+    /// Of the question for a balance: the account.
+    Balance(Option<AccountRecord>),
+}
+
+/// All rows by which one operation is judged.
+#[derive(Drop)]
+pub struct Loaded {
+    /// Those of the policy.
+    pub policy: PolicyRows,
+    /// Those of the books.
+    pub books: BookRows,
+}
+
+/// The first rule that denies a request, or none, where these rows were loaded for it from a World.
+/// It takes no memory.
+pub fn first_rule(rows: &Loaded, request: &Request) -> Option<Rule>
+    ensures { (w : WorldLists) → IsLoaded w request.now rows.now → result ≡ first w request.now }
+{
+    match &request.asked {
+        Asked::Operation(op) => first_of_operation(
+            rows,
+            &Execution {
+                who: request.who,
+                moment: request.moment,
+                op: *op,
+            },
+        ),
+        Asked::Opening | Asked::Ending | Asked::Command(_) | Asked::Listing => None,
+    }
+}
+
+/// The same of an operation: the rules of the policy come first.
+fn first_of_operation(rows: &Loaded, execution: &Execution) -> Option<Rule>
+    ensures { (w : WorldLists) → IsLoadedFor w execution.now rows.now → result ≡ first w (executes execution.now) }
+{
+    match first_of_policy(&rows.policy, execution) {
+        Some(rule) => Some(rule),
+        None => first_of_books(&rows.books, &execution.op),
+    }
+}
+
+/// The first rule of the policy against an operation, or none.
+fn first_of_policy(rows: &PolicyRows, execution: &Execution) -> Option<Rule>
+    ensures { result ≡ first_of_policy (loaded_grounds rows.now execution.now) }
+{
+    if !is_identified(rows.standing, execution.who.session) {
+        return Some(Rule::Identity);
+    }
+    let items = touches(&execution.op);
+    if !is_certified_for(&rows.relations, items.as_slice()) {
+        return Some(Rule::NotCertified);
+    }
+    rule_of_triples(
+        &rows.held,
+        items.as_slice(),
+        amount(&execution.op),
+        execution.who.release,
+    )
+}
+
+/// The first rule of the books against an operation, or none, where these are rows of its form.
+fn first_of_books(rows: &BookRows, op: &Op) -> Option<Rule>
+    ensures { (w : WorldLists) (by : Signature) → book_rows w op.now ≡ Some rows.now → result ≡ (by_books (meaning_of op.now by w)).first }
+{
+    match (rows, op) {
+        (BookRows::Post(rows), Op::Post(post)) => rule_against_post(rows, post),
+        (BookRows::NewAccount(rows), Op::NewAccount(_)) => rule_against_new_account(rows),
+        (BookRows::Balance(row), Op::Balance(_)) => rule_against_balance(*row),
+        _ => None,
+    }
+}
