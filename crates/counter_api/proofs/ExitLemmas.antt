@@ -136,23 +136,35 @@ module _ {E S C : Type 0} (store : E → S) (clock : E → C) (status : S → St
       (inr (ms, rest, told.0.0, out, reply, told.0.1, on, refused, stops), told.1)
   exits most old new (Err Report) one (before, last, rest, replies, reply, r, on, (n, fits, wrote)) =
       let run = all_ran old.engine r.mid before replies one r.answered in
-      let told = tells_broken r.mid new.engine (message_parts last) reply run.one r.reached in
-      ((before, last, rest, run.run, replies, take n reply, record {
-        bytes = r.bytes;
-        taken = r.taken;
-        splits = r.splits;
-        marked = run.marked;
-        store = store r.mid;
-        clock = clock r.mid;
-        given = run.given;
-        ran = run.ran.run;
-        broken = record {
-          moment = told.1.moment;
-          fault = told.1.fault;
-          given = told.1.given;
-          kept = told.1.kept;
-          begun = λ clean w held. shorter n _ reply (told.1.begun clean w held);
-        };
-        bounded = r.bounded;
-      }, on, wrote), told.0)
+      let told = tells_broken r.mid new.engine (message_parts last) reply run.one r.reached in (
+        (
+          before,
+          last,
+          rest,
+          run.run,
+          replies,
+          take n reply,
+          record {
+            bytes = r.bytes;
+            taken = r.taken;
+            splits = r.splits;
+            marked = run.marked;
+            store = store r.mid;
+            clock = clock r.mid;
+            given = run.given;
+            ran = run.ran.run;
+            broken = record {
+              moment = told.1.moment;
+              fault = told.1.fault;
+              given = told.1.given;
+              kept = told.1.kept;
+              begun = λ clean w held. shorter n _ reply (told.1.begun clean w held);
+            };
+            bounded = r.bounded;
+          },
+          on,
+          wrote,
+        ),
+        told.0,
+      )
   exits most old new (Err Memory) one same = (ap place same, subst (λ p. IsOne p.engine) (sym same) one)

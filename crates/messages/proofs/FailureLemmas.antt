@@ -1,5 +1,5 @@
 -- What was counted behind a call that counted nothing.
-use Rattle.std.proofs.Common.{◌≡◌, ◌⊎◌, ℕ, Result, Ok, Err, IfOk, IfErr, inl, inr, sym, ap, ◌∙◌, subst}
+use Rattle.std.proofs.Common.{◌≡◌, ◌⊎◌, Result, Ok, Err, IfErr, inl, inr, ap, ◌∙◌}
 use Rattle.money.specs.Counted.{counted_once_more}
 use Rattle.money.specs.declared.tallied.Tallied.{Tallied}
 use Rattle.messages.specs.declared.serving.ServeFault.{ServeFault}
