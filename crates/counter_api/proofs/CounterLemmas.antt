@@ -5,7 +5,7 @@ use Rattle.messages.specs.Parts.{MessageParts}
 use Rattle.messages.specs.declared.serving.ServeFault.{ServeFault}
 use Rattle.messages.specs.declared.serving.Served.{Served}
 use Rattle.store_rows.specs.Status.{Status}
-use Rattle.counter_api.specs.Answers.{CounterAnswers}
+use Rattle.counter_api.specs.Answers.{CounterAnswers, CounterBreaks, IsBroken}
 use Rattle.counter_api.specs.Exit.{IsServed}
 use Rattle.counter_api.specs.Run.{IsAnswered}
 use Rattle.counter_api.specs.declared.counter.Counter.{Counter}
@@ -21,22 +21,31 @@ module _ {S G C : Type 0} (status : S → Status) (users : G → List ℕ → Op
   as_before : (start : Counter S G C) → IsAsBefore start start
   as_before start = record { bank = refl; clock = refl; same_users = refl }
 
+  still : (start old new : Counter S G C) → IsAsBefore start old → new.bank.ghost_name ≡ old.bank.ghost_name → new.clock.ghost_name ≡ old.clock.ghost_name → new.gate ≡ old.gate
+      → IsAsBefore start new
+  still start old new before bank clock gate =
+      record { bank = bank ∙ before.bank; clock = clock ∙ before.clock; same_users = ap (λ g. users g.now) gate ∙ before.same_users }
+
   tells : (start old new : Counter S G C) (m : MessageParts) (out : List ℕ) → IsAsBefore start old → CounterAnswers status users may_give old m out new
       → IsAsBefore start new × IsAnswered (users start.gate.now) may_give (status old.bank.now.store) (status new.bank.now.store) old.clock.now new.clock.now m out
   tells start old new m out before says = (
-    record {
-      bank = says.same_bank ∙ before.bank;
-      clock = says.same_clock ∙ before.clock;
-      same_users = ap (λ gate. users gate.now) says.same_gate ∙ before.same_users;
-    },
+    still start old new before says.same_bank says.same_clock says.same_gate,
     subst (λ known. IsAnswered known may_give (status old.bank.now.store) (status new.bank.now.store) old.clock.now new.clock.now m out) before.same_users says.answered,
   )
 
-  pub counter_exits : (most : ℕ) (old new : Point (Counter S G C)) (r : Result Served ServeFault) → IsExit (CounterAnswers status users may_give) (λ a b c d. ⊥) most old new r
+  tells_broken : (start old new : Counter S G C) (m : MessageParts) (sent : List ℕ) → IsAsBefore start old → CounterBreaks status users may_give old m sent new
+      → IsAsBefore start new × IsBroken (users start.gate.now) may_give (status old.bank.now.store) (status new.bank.now.store) old.clock.now new.clock.now m sent
+  tells_broken start old new m sent before says = (
+    still start old new before says.same_bank says.same_clock says.same_gate,
+    subst (λ known. IsBroken known may_give (status old.bank.now.store) (status new.bank.now.store) old.clock.now new.clock.now m sent) before.same_users says.broken,
+  )
+
+  pub counter_exits : (most : ℕ) (old new : Point (Counter S G C)) (r : Result Served ServeFault)
+      → IsExit (CounterAnswers status users may_give) (CounterAnswers status users may_give) (CounterBreaks status users may_give) most old new r
       → IsServed status (users old.engine.gate.now) may_give most
       (record { left = old.left; written = old.written; store = old.engine.bank.now.store; clock = old.engine.clock.now })
       (record { left = new.left; written = new.written; store = new.engine.bank.now.store; clock = new.engine.clock.now }) r
       × IsAsBefore old.engine new.engine
   counter_exits most old new r exit =
-      exits (λ e. e.bank.now.store) (λ e. e.clock.now) status (users old.engine.gate.now) may_give (IsAsBefore old.engine) (CounterAnswers status users may_give) (tells old.engine) most old new r
-      (as_before old.engine) exit
+      exits (λ e. e.bank.now.store) (λ e. e.clock.now) status (users old.engine.gate.now) may_give (IsAsBefore old.engine) (CounterAnswers status users may_give) (tells old.engine)
+      (CounterBreaks status users may_give) (tells_broken old.engine) most old new r (as_before old.engine) exit

@@ -1,21 +1,30 @@
 -- From the exits of the loop over an engine to those of `serve` over a bank.
-use Rattle.std.proofs.Common.{◌≡◌, ℕ, inl, inr, List, [], ◌∷◌, ◌++◌, map, Option, Result, Ok, Err, refl, sym, ap, subst, ◌∙◌, append-nil, append_assoc}
-use Rattle.messages.specs.Exit.{AnswersAll, IsExit, Point, Reads}
+use Rattle.std.proofs.Common.{◌≡◌, ℕ, inl, inr, List, [], ◌∷◌, ◌++◌, drop, map, take, take-append-drop, Option, Result, Ok, Err, refl, sym, ap, subst, ◌∙◌, append-nil, append_assoc}
+use Rattle.messages.specs.Exit.{AnswersAll, IsExit, Point, Reads, StopsInReply}
 use Rattle.messages.specs.Parts.{MessageParts}
 use Rattle.messages.specs.Whole.{WholeMessage, message_parts}
 use Rattle.messages.specs.declared.serving.ServeFault.{ServeFault}
 use Rattle.messages.specs.declared.serving.ServeFault.TheVariants.{Cut, Memory, Read, Report, Write}
 use Rattle.messages.specs.declared.serving.Served.{Served}
 use Rattle.store_rows.specs.Status.{Status, Tells}
+use Rattle.counter_api.specs.Answers.{BeginsWith, IsBroken}
 use Rattle.counter_api.specs.Exit.{Gives, IsServed, Place, Serves}
 use Rattle.counter_api.specs.Run.{IsAnswered, MarkedMessage, after_message, framed, replies_to, reply_to}
 use Rattle.counter_api.proofs.RunLemmas.{Ran, none_ran, one_more}
+
+-- a beginning of a beginning is one
+shorter : (n : ℕ) (whole sent : List ℕ) → BeginsWith whole sent → BeginsWith whole (take n sent)
+shorter n whole sent (rest, is) =
+    (drop n sent ++ rest, is ∙ ap (λ l. l ++ rest) (sym (take-append-drop n sent)) ∙ append_assoc (take n sent) (drop n sent) rest)
 
 -- A server of whatever kind that has a store, a clock, and users who stay the same.
 module _ {E S C : Type 0} (store : E → S) (clock : E → C) (status : S → Status) (users : List ℕ → Option ℕ) (may_give : C → ℕ → C → Type 0) (IsOne : E → Type 0)
     (answers : E → MessageParts → List ℕ → E → Type 0)
     (tells : (old new : E) (m : MessageParts) (out : List ℕ) → IsOne old → answers old m out new
-    → IsOne new × IsAnswered users may_give (status (store old)) (status (store new)) (clock old) (clock new) m out) where
+    → IsOne new × IsAnswered users may_give (status (store old)) (status (store new)) (clock old) (clock new) m out)
+    (breaks : E → MessageParts → List ℕ → E → Type 0)
+    (tells_broken : (old new : E) (m : MessageParts) (sent : List ℕ) → IsOne old → breaks old m sent new
+    → IsOne new × IsBroken users may_give (status (store old)) (status (store new)) (clock old) (clock new) m sent) where
   -- messages that were answered, as a run of the bank
   record HasRun (old new : E) (ms : List WholeMessage) (out : List ℕ) : Type 0 where
     run : List MarkedMessage
@@ -103,10 +112,13 @@ module _ {E S C : Type 0} (store : E → S) (clock : E → C) (status : S → St
       let run = all_ran old.engine new.engine ms out one r.answered in
       ((run.run, record { bytes = r.bytes; taken = r.taken; splits = r.splits; marked = run.marked; given = run.given; ran = run.ran.run; bounded = r.bounded }), run.one)
 
-  abbrev pub no_report : E → MessageParts → List ℕ → E → Type 0
-  no_report old m out new = ⊥
+  stopped : (most : ℕ) (old new : Point E) → IsOne old.engine → StopsInReply answers answers most old new
+      → IsServed status users may_give most (place old) (place new) (Err Write) × IsOne new.engine
+  stopped most old new one (before, last, rest, replies, reply, r, on, stops) =
+      let run = last_ran old.engine r.mid new.engine before last replies reply one r.answered r.reached in
+      (inl (before, last, rest, run.run, run.at, replies, reply, record { bytes = r.bytes; taken = r.taken; splits = r.splits; marked = run.marked; given = run.given; ran = run.ran.run; bounded = r.bounded }, on, run.replied, stops), run.one)
 
-  pub exits : (most : ℕ) (old new : Point E) (r : Result Served ServeFault) → IsOne old.engine → IsExit answers no_report most old new r
+  pub exits : (most : ℕ) (old new : Point E) (r : Result Served ServeFault) → IsOne old.engine → IsExit answers answers breaks most old new r
       → IsServed status users may_give most (place old) (place new) r × IsOne new.engine
   exits most old new (Ok s) one (ms, rest, out, r, how) =
       let told = reads old new ms rest out one r in
@@ -117,11 +129,42 @@ module _ {E S C : Type 0} (store : E → S) (clock : E → C) (status : S → St
   exits most old new (Err Cut) one (ms, rest, out, r, on, part, some, ended, wrote) =
       let told = reads old new ms rest out one r in
       ((ms, rest, told.0.0, out, told.0.1, on, part, some, ended, wrote), told.1)
-  exits most old new (Err Write) one (inl (before, last, rest, replies, reply, r, on, stops)) =
-      let run = last_ran old.engine r.mid new.engine before last replies reply one r.answered r.reached in
-      (inl (before, last, rest, run.run, run.at, replies, reply, record { bytes = r.bytes; taken = r.taken; splits = r.splits; marked = run.marked; given = run.given; ran = run.ran.run; bounded = r.bounded }, on, run.replied, stops), run.one)
-  exits most old new (Err Write) one (inr (ms, rest, out, reply, r, on, refused, stops)) =
+  exits most old new (Err Write) one (inl in_reply) = stopped most old new one in_reply
+  exits most old new (Err Write) one (inr (inl in_reply)) = stopped most old new one in_reply
+  exits most old new (Err Write) one (inr (inr (ms, rest, out, reply, r, on, refused, stops))) =
       let told = reads old new ms rest out one r in
       (inr (ms, rest, told.0.0, out, reply, told.0.1, on, refused, stops), told.1)
-  exits most old new (Err Report) one (before, last, rest, replies, reply, r, on, stops) = absurd r.reached
+  exits most old new (Err Report) one (before, last, rest, replies, reply, r, on, (n, fits, wrote)) =
+      let run = all_ran old.engine r.mid before replies one r.answered in
+      let told = tells_broken r.mid new.engine (message_parts last) reply run.one r.reached in (
+        (
+          before,
+          last,
+          rest,
+          run.run,
+          replies,
+          take n reply,
+          record {
+            bytes = r.bytes;
+            taken = r.taken;
+            splits = r.splits;
+            marked = run.marked;
+            store = store r.mid;
+            clock = clock r.mid;
+            given = run.given;
+            ran = run.ran.run;
+            broken = record {
+              moment = told.1.moment;
+              fault = told.1.fault;
+              given = told.1.given;
+              kept = told.1.kept;
+              begun = λ clean w held. shorter n _ reply (told.1.begun clean w held);
+            };
+            bounded = r.bounded;
+          },
+          on,
+          wrote,
+        ),
+        told.0,
+      )
   exits most old new (Err Memory) one same = (ap place same, subst (λ p. IsOne p.engine) (sym same) one)

@@ -11,6 +11,7 @@ use Rattle.messages.specs.declared.serving.ServeFault.{ServeFault}
 use Rattle.messages.specs.declared.serving.ServeFault.TheVariants.{Cut, Memory, Read, Report, Write}
 use Rattle.messages.specs.declared.serving.Served.{Served}
 use Rattle.store_rows.specs.Status.{Status, Tells}
+use Rattle.counter_api.specs.Answers.{IsBroken}
 use Rattle.counter_api.specs.Run.{IsRun, MarkedMessage, replies_to}
 
 -- a counter at one point, as its caller sees it: what its reader has left, what its writer has, its store and its clock
@@ -45,6 +46,20 @@ module _ {S C : Type 0} (status : S → Status) (users : List ℕ → Option ℕ
       × GoesOn most before × Tells (status old.store) (status new.store) (λ w. replies ≡ replies_to users w run)
       × StopsWithin old.written new.written replies reply
 
+  -- The bytes that were read are these messages, and one more that was handed on last, and a rest. Those before it ran, and left
+  -- the store and the clock here, and replies are those to them. From here on the reply to the last one broke, behind sent.
+  pub record Breaks (old new : Place S C) (before : List WholeMessage) (last : WholeMessage) (rest : List ℕ) (run : List MarkedMessage) (replies sent : List ℕ) : Type 0 where
+    pub bytes : List ℕ
+    pub taken : Consumes old.left new.left bytes
+    pub splits : Splits bytes (before ++ last ∷ []) rest
+    pub marked : map (λ m. m.message) run ≡ map message_parts before
+    pub store : S
+    pub clock : C
+    pub given : Gives old.clock run clock
+    pub ran : IsRun users (status old.store) (status store) run replies
+    pub broken : IsBroken users may_give (status store) (status new.store) clock new.clock (message_parts last) sent
+    pub bounded : length rest ≤ max_message_len
+
   -- the reply to bytes that begin no message stopped
   abbrev pub StopsInRefusal : ℕ → Place S C → Place S C → Type 0
   StopsInRefusal most old new =
@@ -53,7 +68,8 @@ module _ {S C : Type 0} (status : S → Status) (users : List ℕ → Option ℕ
 
   -- The table of exits. Ok: the replies to the messages counted were written; no further reply is due, or what follows begins no
   -- message and was refused. Read, Cut: the replies to the whole messages before. Write: the replies before the one whose write failed,
-  -- and a beginning of that one. Report: no reply is a report yet. Memory: nothing was read, done or written.
+  -- and a beginning of that one. Report: the replies before the one that broke, and a beginning of that one; its message changed
+  -- nothing. Memory: nothing was read, done or written.
   abbrev pub IsServed : ℕ → Place S C → Place S C → Result Served ServeFault → Type 0
   IsServed most old new (Ok s) =
       (ms : List WholeMessage) × (rest : List ℕ) × (run : List MarkedMessage) × (out : List ℕ) × Serves old new ms rest run out
@@ -66,5 +82,7 @@ module _ {S C : Type 0} (status : S → Status) (users : List ℕ → Option ℕ
       (ms : List WholeMessage) × (rest : List ℕ) × (run : List MarkedMessage) × (out : List ℕ) × Serves old new ms rest run out
       × GoesOn most ms × IsPartial rest × ¬ (AreLineEnds rest) × IsAtEnd new.left × Appends old.written new.written out
   IsServed most old new (Err Write) = StopsInReply most old new ⊎ StopsInRefusal most old new
-  IsServed most old new (Err Report) = ⊥
+  IsServed most old new (Err Report) =
+      (before : List WholeMessage) × (last : WholeMessage) × (rest : List ℕ) × (run : List MarkedMessage) × (replies : List ℕ) × (sent : List ℕ)
+      × Breaks old new before last rest run replies sent × GoesOn most before × Appends old.written new.written (replies ++ sent)
   IsServed most old new (Err Memory) = new ≡ old

@@ -1,10 +1,11 @@
 ghost use Rattle.std.specs.Prelude.{◌≡◌, ◌≤◌, true, IfOk, IfSome, IsNone, IsOkUnless, IsSome, OnErr, OnOk};
 ghost use Rattle.std.specs.Io.KnownBytes.{Appends};
-ghost use Rattle.money.specs.Counted.{AppendsBeginning, CountsFailure, failure_count, stream_of};
+ghost use Rattle.money.specs.Counted.{AppendsBeginning, stream_of};
 ghost use Rattle.money.specs.declared.fault.Fault.TheVariants.{Memory};
 ghost use Rattle.counter_ops.specs.Op.{procedure_of};
 ghost use Rattle.decide.specs.Requests.{is_served};
 ghost use Rattle.decide.specs.Sums.{IsProper};
+ghost use Rattle.messages.specs.Failures.{CountsByCall};
 ghost use Rattle.store_rows.specs.Status.{Refuses, mark_of};
 ghost use Rattle.counter_api.specs.Request.{request_of, served};
 ghost use Rattle.counter_api.specs.Routes.{asked_procedure};
@@ -138,9 +139,7 @@ fn write_response<W: Write>(
 ) -> Result<(), WriteStopped>
     ensures whole { OnOk result (Appends (W.contents (stream_of writer.old)) (W.contents (stream_of writer.new)) (framed message.now response.now)) }
     ensures beginning { OnErr result (AppendsBeginning (W.contents (stream_of writer.old)) (W.contents (stream_of writer.new)) (framed message.now response.now)) }
-    ensures no_failure { OnOk result (failure_count writer.new ≡ failure_count writer.old) }
-    ensures cause { OnErr result (CountsFailure (failure_count writer.old) (failure_count writer.new)) }
-    ensures counts { failure_count writer.old ≤ failure_count writer.new }
+    ensures failures { CountsByCall writer.old writer.new result }
 {
     message.reply(
         writer,
@@ -151,12 +150,15 @@ fn write_response<W: Write>(
 }
 
 impl<'b, 'g, 'c, 'r, S: Store, G: Gate, C: Clock> Engine for Counter<'b, 'g, 'c, 'r, S, G, C> {
-    ghost use Rattle.counter_api.specs.Answers.{CounterAnswers};
+    ghost use Rattle.counter_api.specs.Answers.{CounterAnswers, CounterBreaks};
 
     ghost answers = { CounterAnswers S.status G.users C.may_give };
 
-    // No reply is a report yet.
-    ghost breaks = { λ _ _ _ _. ⊥ };
+    // Each reply is whole before it is written.
+    ghost stops = { CounterAnswers S.status G.users C.may_give };
+
+    // No reply is a report yet, so none breaks.
+    ghost breaks = { CounterBreaks S.status G.users C.may_give };
 
     fn answer<W: Write>(
         &mut self,

@@ -1,5 +1,6 @@
-ghost use Rattle.std.specs.Prelude.{◌≡◌, ◌≤◌, IfOk, OnOk, Err};
-ghost use Rattle.money.specs.Counted.{CountsFailure, failure_count, stream_of};
+ghost use Rattle.std.specs.Prelude.{◌≡◌, ◌≤◌, IfOk, Err};
+ghost use Rattle.money.specs.Counted.{stream_of};
+ghost use Rattle.messages.specs.Failures.{CountsByExit};
 ghost use Rattle.counter_api.specs.Exit.{IsServed};
 
 use crate::clock::Clock;
@@ -28,11 +29,7 @@ fn serve_counter<'b, 'g, 'c, 'r, R: Read, W: Write, S: Store, G: Gate, C: Clock>
     ensures same_clock { counter.new.clock.ghost_name ≡ counter.old.clock.ghost_name }
     ensures memory { result ≡ Err ServeFault.Memory → (reader.new ≡ reader.old) × (writer.new ≡ writer.old) }
     ensures most { IfOk result (λ served. served.messages ≤ most) }
-    ensures no_failure { OnOk result ((failure_count reader.new ≡ failure_count reader.old) × (failure_count writer.new ≡ failure_count writer.old)) }
-    ensures read_cause { result ≡ Err ServeFault.Read → CountsFailure (failure_count reader.old) (failure_count reader.new) }
-    ensures write_cause { result ≡ Err ServeFault.Write → CountsFailure (failure_count writer.old) (failure_count writer.new) }
-    ensures counts_reads { failure_count reader.old ≤ failure_count reader.new }
-    ensures counts_writes { failure_count writer.old ≤ failure_count writer.new }
+    ensures failures { CountsByExit reader.old reader.new writer.old writer.new result }
 {
     serve_messages(alloc, counter, reader, writer, most)
 }
@@ -43,8 +40,8 @@ fn serve_counter<'b, 'g, 'c, 'r, R: Read, W: Write, S: Store, G: Gate, C: Clock>
 /// it.
 ///
 /// A message is acted on once its whole body was read. It works in a bounded room, which is
-/// allocated first: where that is refused, nothing is read. An `Ok` says that no call of the
-/// reader or of the writer failed.
+/// allocated first: where that is refused, nothing is read. A call of the reader or of the writer
+/// that failed ends it, and is told: an `Ok` says that none did.
 pub fn serve<R: Read, W: Write, S: Store, G: Gate, C: Clock>(
     alloc: Global,
     reader: &mut Tallied<R>,
@@ -60,11 +57,7 @@ pub fn serve<R: Read, W: Write, S: Store, G: Gate, C: Clock>(
         result }
     ensures memory { result ≡ Err ServeFault.Memory → (reader.new ≡ reader.old) × (writer.new ≡ writer.old) }
     ensures most { IfOk result (λ served. served.messages ≤ most) }
-    ensures no_failure { OnOk result ((failure_count reader.new ≡ failure_count reader.old) × (failure_count writer.new ≡ failure_count writer.old)) }
-    ensures read_cause { result ≡ Err ServeFault.Read → CountsFailure (failure_count reader.old) (failure_count reader.new) }
-    ensures write_cause { result ≡ Err ServeFault.Write → CountsFailure (failure_count writer.old) (failure_count writer.new) }
-    ensures counts_reads { failure_count reader.old ≤ failure_count reader.new }
-    ensures counts_writes { failure_count writer.old ≤ failure_count writer.new }
+    ensures failures { CountsByExit reader.old reader.new writer.old writer.new result }
 {
     let routes = Routes::new(alloc)?;
     let mut counter = Counter {
