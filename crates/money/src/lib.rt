@@ -22,4 +22,4 @@ pub use ordered::{
 pub use sending::{WriteStopped, write_parts, write_whole};
 pub use sums::{Tally, sum_of};
 pub use tallied::Tallied;
-pub use text::write_cents;
+pub use text::{CENTS_ROOM, CentsText, cents_text, write_cents};

@@ -1,6 +1,4 @@
-ghost use Rattle.std.specs.Prelude.{◌≡◌, ◌≤◌, OnOk, OnErr};
-ghost use Rattle.std.specs.Io.KnownBytes.{Appends};
-ghost use Rattle.money.specs.Counted.{stream_of, failure_count, counted_once_more, CountsFailure, AppendsBeginning, joined};
+ghost use Rattle.money.specs.Counted.{Sends, joined};
 
 use crate::tallied::Tallied;
 use std::io::Write;
@@ -12,12 +10,7 @@ pub struct WriteStopped;
 /// Writes all the bytes. The first call that fails, or takes no byte, ends it: then a beginning of them is written,
 /// and the writer has counted that one failure. Where it ends well the writer has counted none.
 pub fn write_whole<W: Write>(writer: &mut Tallied<W>, bytes: &[u8]) -> Result<(), WriteStopped>
-    ensures whole { OnOk result (Appends (W.contents (stream_of writer.old)) (W.contents (stream_of writer.new)) bytes.now) }
-    ensures beginning { OnErr result (AppendsBeginning (W.contents (stream_of writer.old)) (W.contents (stream_of writer.new)) bytes.now) }
-    ensures kept { OnOk result (failure_count writer.new ≡ failure_count writer.old) }
-    ensures counted { OnErr result (failure_count writer.new ≡ counted_once_more (failure_count writer.old)) }
-    ensures cause { OnErr result (CountsFailure (failure_count writer.old) (failure_count writer.new)) }
-    ensures counts { failure_count writer.old ≤ failure_count writer.new }
+    ensures { Sends W.contents writer.old writer.new bytes.now result }
 {
     let mut done = 0;
     while done < bytes.len() {
@@ -33,12 +26,7 @@ pub fn write_whole<W: Write>(writer: &mut Tallied<W>, bytes: &[u8]) -> Result<()
 /// Writes the parts, one after another, with no bytes between them. It ends as `write_whole` does, with a beginning of
 /// all the parts' bytes written where a call fails.
 pub fn write_parts<W: Write>(writer: &mut Tallied<W>, parts: &[&[u8]]) -> Result<(), WriteStopped>
-    ensures whole { OnOk result (Appends (W.contents (stream_of writer.old)) (W.contents (stream_of writer.new)) (joined parts.now)) }
-    ensures beginning { OnErr result (AppendsBeginning (W.contents (stream_of writer.old)) (W.contents (stream_of writer.new)) (joined parts.now)) }
-    ensures kept { OnOk result (failure_count writer.new ≡ failure_count writer.old) }
-    ensures counted { OnErr result (failure_count writer.new ≡ counted_once_more (failure_count writer.old)) }
-    ensures cause { OnErr result (CountsFailure (failure_count writer.old) (failure_count writer.new)) }
-    ensures counts { failure_count writer.old ≤ failure_count writer.new }
+    ensures { Sends W.contents writer.old writer.new (joined parts.now) result }
 {
     for part in parts {
         match write_whole(writer, part) {

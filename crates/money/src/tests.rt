@@ -1,7 +1,8 @@
 use crate::{
     Cents, Delta, Fault, Grouped, Keyed, MAX_CENTS, MAX_DELTA, Tallied, Tally, WriteStopped, add,
-    are_in_order, find_row, has_distinct_keys, has_small_groups, insert_row, insert_row_reserved,
-    is_there, place_of, plus, rows_between, sum_of, write_cents, write_parts, write_whole,
+    are_in_order, cents_text, find_row, has_distinct_keys, has_small_groups, insert_row,
+    insert_row_reserved, is_there, place_of, plus, rows_between, sum_of, write_cents, write_parts,
+    write_whole,
 };
 use std::alloc::{AllocError, Global};
 use std::io;
@@ -220,6 +221,20 @@ fn sums_are_exact(rt: HostRuntime) {
 }
 
 #[test]
+fn every_amount_has_a_text(rt: HostRuntime) {
+    for (cents, text) in [
+        (0, "0.00"),
+        (-5, "-0.05"),
+        (70, "0.70"),
+        (-1234, "-12.34"),
+        (i128::MAX, "1701411834604692317316873037158841057.27"),
+        (i128::MIN, "-1701411834604692317316873037158841057.28"),
+    ] {
+        assert_eq!(rt; cents_text(cents).as_slice(), text.as_bytes());
+    }
+}
+
+#[test]
 fn amounts_stand_right_in_their_width(rt: HostRuntime) -> Result<(), Fail> {
     for (value, width, text) in [
         (-1234, 1, "-12.34"),
@@ -233,10 +248,11 @@ fn amounts_stand_right_in_their_width(rt: HostRuntime) -> Result<(), Fail> {
         (-999_999_999_999, 14, "-9999999999.99"),
     ] {
         let cents = Cents::new(value).ok_or("an amount")?;
-        let mut written = Vec::new(rt.alloc());
-        write_cents(&mut written, cents, width)?;
+        let mut writer = Tallied::new(Vec::new(rt.alloc()));
+        assert_eq!(rt; write_cents(&mut writer, cents, width), Ok(()));
+        assert_eq!(rt; writer.failures(), 0);
         assert_eq!(rt;
-            written.as_slice(),
+            writer.into_inner().as_slice(),
             text.as_bytes(),
             "at {value} in {width}"
         );
@@ -249,10 +265,11 @@ fn an_amount_stops_at_the_call_that_fails(rt: HostRuntime) -> Result<(), Fail> {
     let cents = Cents::new(-1234).ok_or("an amount")?;
     for fails in [true, false] {
         for (calls, text) in [(0, ""), (1, "  "), (2, "  -12"), (3, "  -12.34")] {
-            let mut writer = halts_after(rt.alloc(), calls, fails);
+            let mut writer = Tallied::new(halts_after(rt.alloc(), calls, fails));
             assert_eq!(rt; write_cents(&mut writer, cents, 8).is_ok(), calls == 3);
+            assert_eq!(rt; writer.failures(), u64::from(calls < 3));
             assert_eq!(rt;
-                writer.taken.as_slice(),
+                writer.into_inner().taken.as_slice(),
                 text.as_bytes(),
                 "after {calls} calls"
             );
