@@ -1,9 +1,12 @@
 -- The request that a message states, or why it states none.
-use Rattle.std.specs.Prelude.{ℕ, List, Option, Some, None, Result, Ok, Err, if◌then◌else◌}
+use Rattle.std.specs.Prelude.{ℕ, ◌≡◌, true, List, Option, Some, None, Result, Ok, Err, if◌then◌else◌}
 use Rattle.std.specs.Option.{option_map_or}
 use Rattle.bank_policy.specs.declared.procedure.Procedure.{Procedure}
 use Rattle.bodies.specs.Operation.{stated_op}
-use Rattle.decide.specs.Requests.{is_served}
+use Rattle.counter_ops.specs.Op.{procedure_of}
+use Rattle.decide.specs.Operations.{is_served}
+use Rattle.decide.specs.declared.request.Asked.{Asked}
+use Rattle.decide.specs.declared.request.Asked.TheVariants as asked
 use Rattle.decide.specs.declared.request.Request.{Request}
 use Rattle.decide.specs.declared.who.Who.{Who}
 use Rattle.heads.specs.declared.fault.MessageFault.{MessageFault}
@@ -14,7 +17,7 @@ use Rattle.counter_api.specs.Routes.{asked_procedure}
 
 -- the operation that the body states, asked at the moment by who it is
 abbrev pub asked_by : Procedure → ℕ → List ℕ → Result Who MessageFault → Result Request MessageFault
-asked_by procedure moment body (Ok who) = option_map_or (λ op. Ok (record { who = who; moment = moment; op = op })) (stated_op procedure body) (Err BadContent)
+asked_by procedure moment body (Ok who) = option_map_or (λ op. Ok (record { who = who; moment = moment; asked = asked.Operation op })) (stated_op procedure body) (Err BadContent)
 asked_by procedure moment body (Err fault) = Err fault
 
 -- the procedure, where it is served
@@ -31,3 +34,11 @@ asked_of users moment m None = Err NoSuchRoute
 -- for no procedure that is served; or a field or the body is not of its form.
 abbrev pub request_of : (List ℕ → Option ℕ) → ℕ → MessageParts → Result Request MessageFault
 request_of users moment m = asked_of users moment m (served (asked_procedure m.head.method m.head.target))
+
+-- what is asked for is served: operations of some procedures, and nothing else yet
+abbrev pub IsServedAsked : Asked → Type 0
+IsServedAsked (asked.Operation op) = is_served (procedure_of op) ≡ true
+IsServedAsked asked.Opening = ⊥
+IsServedAsked asked.Ending = ⊥
+IsServedAsked (asked.Command command) = ⊥
+IsServedAsked asked.Listing = ⊥

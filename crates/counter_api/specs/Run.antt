@@ -1,5 +1,5 @@
 -- Messages one after another: the requests that they state, and the replies to them.
-use Rattle.std.specs.Prelude.{ℕ, ◌≡◌, ◌⊎◌, ◌+◌, ◌≤◌, Bool, IsTrue, List, [], ◌∷◌, ◌++◌, codes, Option, Some, None, IsNone, IsSome, Result, Ok, Err, IfOk, ⊤}
+use Rattle.std.specs.Prelude.{ℕ, ◌≡◌, ◌⊎◌, ◌+◌, ◌≤◌, Bool, IsTrue, List, [], ◌∷◌, ◌++◌, Option, Some, None, IsNone, IsSome, Result, Ok, Err, IfOk, ⊤}
 use Rattle.money.specs.declared.fault.Fault.{Fault}
 use Rattle.money.specs.declared.fault.Fault.TheVariants.{Memory, Stopped}
 use Rattle.bank_policy.specs.declared.rule.Rule.{Rule}
@@ -8,7 +8,8 @@ use Rattle.heads.specs.Framing.{asks_head, closes}
 use Rattle.heads.specs.declared.fault.MessageFault.{MessageFault}
 use Rattle.messages.specs.Parts.{MessageParts}
 use Rattle.messages.specs.Reply.{reply_bytes}
-use Rattle.store_rows.specs.Status.{Answers, Refuses, RoseBy, Status, Tells, counts, stops}
+use Rattle.store_rows.specs.Status.{Answers, RoseBy, Status, Tells, counts, counts_at_most, stops}
+use Rattle.decide.specs.Meaning.{ReplyText}
 use Rattle.decide.specs.Run.{Marked, reply, step, world_after}
 use Rattle.decide.specs.Sums.{IsProper, PassesChecks, SumsAgree}
 use Rattle.decide.specs.declared.request.Request.{Request}
@@ -27,7 +28,7 @@ marked (Ok r) mark rest = record { request = r; mark = mark } ∷ rest
 marked (Err fault) mark rest = rest
 
 -- the text, or the rule, as a reply
-abbrev pub told_parts : Result (List ℕ) Rule → ResponseParts
+abbrev pub told_parts : Result ReplyText Rule → ResponseParts
 told_parts (Ok text) = done_parts text
 told_parts (Err rule) = denied_parts rule
 
@@ -39,12 +40,17 @@ response_to w (Err fault) None = refused_parts fault
 
 -- its bytes, framed as the message asks for it
 abbrev pub framed : MessageParts → ResponseParts → List ℕ
-framed m parts = reply_bytes parts.status (codes "application/json") parts.body (closes m.head) (asks_head m.head)
+framed m parts = reply_bytes parts.status parts.content_type parts.body (closes m.head) (asks_head m.head)
 
 -- A request of a user whom the gate knows may be kept from being made by any fault. One of nobody, and a message that states
 -- none, may be kept from its reply by want of memory alone.
 abbrev pub MayBear : Result Request MessageFault → Option Fault → Type 0
 MayBear stated mark = IfOk stated (λ r. IsNone r.who.user) → (mark ≡ None) ⊎ (mark ≡ Some Memory)
+
+-- A request of a user whom the gate knows that finds the store stopped is kept from being made: it is told so, or it wanted memory
+-- before the store was asked.
+abbrev pub RefusesRequest : Bool → Option Fault → Type 0
+RefusesRequest stopped mark = IsTrue stopped → (mark ≡ Some Stopped) ⊎ (mark ≡ Some Memory)
 
 -- The Worlds that a crash may leave beside the one that stands: those that it could leave before, as long as no request has
 -- changed the World, and the one after a request that was answered by a fault.
@@ -79,7 +85,7 @@ module _ (users : List ℕ → Option ℕ) where
     pub bears : MayBear (stated_by m) m.mark
     pub proper : m.mark ≡ None → IfOk (stated_by m) IsProper
     pub answers : Answers old new m.mark
-    pub refused : IfOk (stated_by m) (λ r. IsSome r.who.user → Refuses old m.mark)
+    pub refused : IfOk (stated_by m) (λ r. IsSome r.who.user → RefusesRequest old.is_stopped m.mark)
     pub moved : Tells old new (λ w. new.holds (after_message w m))
     pub replied : Tells old new (λ w. parts ≡ response_to w (stated_by m) m.mark)
     pub leaves : Tells old new (λ w. (left : WorldLists) → new.may_leave left → (left ≡ after_message w m) ⊎ pending_after old.may_leave w (stated_by m) m.mark left)
@@ -93,7 +99,7 @@ module _ (users : List ℕ → Option ℕ) where
   abbrev pub AreOrderly : List MarkedMessage → Bool → Type 0
   AreOrderly [] stopped = ⊤
   AreOrderly (m ∷ ms) stopped =
-      IfOk (stated_by m) (λ r. IsSome r.who.user → IsTrue stopped → (m.mark ≡ Some Stopped) ⊎ (m.mark ≡ Some Memory))
+      IfOk (stated_by m) (λ r. IsSome r.who.user → RefusesRequest stopped m.mark)
       × (m.mark ≡ Some Stopped → IsTrue stopped) × MayBear (stated_by m) m.mark × AreOrderly ms (stops m.mark stopped)
 
 -- is the store stopped after them: a mark of Disk stops it
@@ -106,6 +112,11 @@ abbrev pub faults_of : List MarkedMessage → ℕ
 faults_of [] = 0
 faults_of (m ∷ ms) = counts m.mark + faults_of ms
 
+-- and how many marks there are at all
+abbrev pub marks_of : List MarkedMessage → ℕ
+marks_of [] = 0
+marks_of (m ∷ ms) = counts_at_most m.mark + marks_of ms
+
 -- What messages and the bytes of their replies make of a store, of each World that it stood for: it stands for the World
 -- after their requests, and the bytes are the replies to them.
 pub record IsRun (users : List ℕ → Option ℕ) (old new : Status) (ms : List MarkedMessage) (out : List ℕ) : Type 0 where
@@ -113,7 +124,7 @@ pub record IsRun (users : List ℕ → Option ℕ) (old new : Status) (ms : List
   pub state : new.is_stopped ≡ stopped_after ms old.is_stopped
   pub orderly : AreOrderly users ms old.is_stopped
   pub counted : RoseBy (faults_of ms) old.fault_count new.fault_count
-  pub no_more : new.fault_count ≤ old.fault_count + faults_of ms
+  pub no_more : new.fault_count ≤ old.fault_count + marks_of ms
   pub moved : Tells old new (λ w. new.holds (world_after w (requests_of users ms)))
   pub replied : Tells old new (λ w. out ≡ replies_to users w ms)
   -- A crash leaves the World that stands, or one that is pending: no change that was carried out is undone.

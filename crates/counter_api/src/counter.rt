@@ -2,14 +2,13 @@ ghost use Rattle.std.specs.Prelude.{◌≡◌, ◌≤◌, true, IfOk, IfSome, Is
 ghost use Rattle.std.specs.Io.KnownBytes.{Appends};
 ghost use Rattle.money.specs.Counted.{AppendsBeginning, stream_of};
 ghost use Rattle.money.specs.declared.fault.Fault.TheVariants.{Memory};
-ghost use Rattle.counter_ops.specs.Op.{procedure_of};
-ghost use Rattle.decide.specs.Requests.{is_served};
+ghost use Rattle.decide.specs.Operations.{is_served};
 ghost use Rattle.decide.specs.Sums.{IsProper};
 ghost use Rattle.messages.specs.Failures.{CountsByCall};
-ghost use Rattle.store_rows.specs.Status.{Refuses, mark_of};
-ghost use Rattle.counter_api.specs.Request.{request_of, served};
+ghost use Rattle.store_rows.specs.Status.{mark_of};
+ghost use Rattle.counter_api.specs.Request.{IsServedAsked, request_of, served};
 ghost use Rattle.counter_api.specs.Routes.{asked_procedure};
-ghost use Rattle.counter_api.specs.Run.{IsHandled, framed, parts_or_fault};
+ghost use Rattle.counter_api.specs.Run.{IsHandled, RefusesRequest, framed, parts_or_fault};
 ghost use Rattle.counter_api.specs.CarriedOut.{IsCarriedOut};
 
 use crate::clock::Clock;
@@ -19,7 +18,7 @@ use crate::response::Response;
 use crate::routes::Routes;
 use bank_policy::Procedure;
 use bodies::read_op;
-use decide::{Decision, Reply, Request, Who, carry_out, decide, is_served};
+use decide::{Asked, Decision, Reply, Request, carry_out, decide, is_served};
 use heads::MessageFault;
 use messages::{AnswerFault, Engine, Message};
 use money::{Fault, Tallied, WriteStopped};
@@ -61,7 +60,7 @@ fn stated_request<G: Gate>(
     requires { moment ≤ 99999999999 }
     ensures stated { IfOk result (λ stated. stated ≡ request_of (G.users gate.now) moment message.now) }
     ensures proper { IfOk result (λ stated. IfOk stated IsProper) }
-    ensures served { IfOk result (λ stated. IfOk stated (λ request. is_served (procedure_of request.op) ≡ true)) }
+    ensures served { IfOk result (λ stated. IfOk stated (λ request. IsServedAsked request.asked)) }
     ensures memory { IsOkUnless result Memory }
 {
     let Some(procedure) = served_procedure(routes, message) else {
@@ -72,7 +71,11 @@ fn stated_request<G: Gate>(
         Err(fault) => return Ok(Err(fault)),
     };
     match read_op(alloc, procedure, message.body())? {
-        Some(op) => Ok(Ok(Request { who, moment, op })),
+        Some(op) => Ok(Ok(Request {
+            who,
+            moment,
+            asked: Asked::Operation(op),
+        })),
         None => Ok(Err(MessageFault::BadContent)),
     }
 }
@@ -84,12 +87,16 @@ fn carried_out<S: Store>(
     alloc: Global,
     request: &Request,
 ) -> Result<Response, Fault>
-    requires { is_served (procedure_of request.now.op) ≡ true }
+    requires served { IsServedAsked request.now.asked }
+    requires proper { IsProper request.now }
     ensures carried_out { IsCarriedOut (S.status bank.old.store) (S.status bank.new.store) request.now result }
-    ensures refused { IsSome request.now.who.user → Refuses (S.status bank.old.store) (mark_of result) }
+    ensures refused { IsSome request.now.who.user → RefusesRequest (S.status bank.old.store).is_stopped (mark_of result) }
     ensures stranger { IsNone request.now.who.user → IsOkUnless result Memory }
 {
-    match decide(bank, alloc, request.who, request.moment, &request.op) {
+    let Asked::Operation(op) = &request.asked else {
+        unreachable!();
+    };
+    match decide(bank, alloc, request.who, request.moment, op) {
         Ok(Decision::Denied(denial)) => Ok(Response::denied(alloc, denial.rule())?),
         Ok(Decision::Allowed(permit)) => match carry_out(permit) {
             Ok(Reply::Done(done)) => Ok(Response::done(done.into_body())),
@@ -144,7 +151,7 @@ fn write_response<W: Write>(
     message.reply(
         writer,
         response.status(),
-        "application/json",
+        response.content_type(),
         response.body(),
     )
 }

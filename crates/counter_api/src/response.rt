@@ -1,15 +1,16 @@
 ghost use Rattle.std.specs.Prelude.{◌≡◌, IfOk};
 ghost use Rattle.counter_api.specs.Fault.{fault_text};
+ghost use Rattle.decide.specs.Meaning.{json};
 ghost use Rattle.counter_api.specs.Response.{body_bytes, done_parts, denied_parts, refused_parts, faulted_parts};
 
-use decide::{Rule, denial_text};
+use decide::{ReplyKind, Rule, denial_text};
 use heads::MessageFault;
 use http::StatusCode;
 use money::Fault;
 use std::alloc::{AllocError, Global};
 use std::marker::Model;
 
-/// The body of a reply, in JSON.
+/// The body of a reply.
 #[derive(Drop)]
 enum Body {
     /// A text that was formed.
@@ -30,28 +31,31 @@ impl Body {
     }
 }
 
-/// What a message is answered: a status, and a body in JSON.
+/// What a message is answered: a status, and a body of a kind.
 #[derive(Drop)]
 pub(crate) struct Response {
     status: StatusCode,
+    kind: ReplyKind,
     body: Body,
 }
 
 impl Model for Response {
     ghost use Rattle.counter_api.specs.Response.{ResponseParts, body_bytes};
+    ghost use Rattle.decide.specs.Meaning.{content_type_of};
 
     ghost Value = { ResponseParts };
 
-    ghost view = { λ response. record { status = response.status; body = body_bytes response.body } };
+    ghost view = { λ response. record { status = response.status; content_type = content_type_of response.kind; body = body_bytes response.body } };
 }
 
 impl Response {
-    /// To a request that was carried out.
+    /// To a request that was carried out and is answered in JSON.
     pub(crate) fn done(body: Vec<u8>) -> Response
-        ensures { result ≡ done_parts body.items }
+        ensures { result ≡ done_parts (json body.items) }
     {
         Response {
             status: StatusCode::OK,
+            kind: ReplyKind::Json,
             body: Body::Text(body),
         }
     }
@@ -67,6 +71,7 @@ impl Response {
         };
         Ok(Response {
             status,
+            kind: ReplyKind::Json,
             body: Body::Text(denial_text(alloc, rule)?),
         })
     }
@@ -77,6 +82,7 @@ impl Response {
     {
         Response {
             status: fault.status(),
+            kind: ReplyKind::Json,
             body: Body::Fixed(fault.text()),
         }
     }
@@ -87,6 +93,7 @@ impl Response {
     {
         Response {
             status: StatusCode::SERVICE_UNAVAILABLE,
+            kind: ReplyKind::Json,
             body: Body::Fixed(fault_text(fault)),
         }
     }
@@ -96,6 +103,13 @@ impl Response {
         ensures { result ≡ self.now.status }
     {
         self.status
+    }
+
+    /// The type of its content.
+    pub(crate) fn content_type(&self) -> &'static str
+        ensures { result.now ≡ self.now.content_type }
+    {
+        self.kind.content_type()
     }
 
     /// The bytes of its body.
