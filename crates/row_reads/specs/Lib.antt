@@ -1,0 +1,2 @@
+pub mod BookReads
+pub mod PolicyReads

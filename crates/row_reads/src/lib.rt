@@ -1,0 +1,14 @@
+//! What a store answers of a World: each read by its definition, as a function of the World.
+#![tactic(auto)]
+
+mod accounts;
+mod entries;
+mod places;
+mod policy_reads;
+mod records;
+
+pub use accounts::{next_shown, shown};
+pub use entries::{entries_of, entry, entry_at, undone};
+pub use places::{drawer, next_teller, roster, vault};
+pub use policy_reads::{is_certifier, is_set, release, set_count, triple_count, user_record};
+pub use records::{DrawerRecord, UserRecord};
