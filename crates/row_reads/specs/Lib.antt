@@ -1,2 +1,3 @@
 pub mod BookReads
+pub mod PolicyListing
 pub mod PolicyReads
