@@ -1,13 +1,14 @@
-ghost use Rattle.std.specs.Prelude.{◌≡◌, IfOk};
+ghost use Rattle.std.specs.Prelude.{◌≡◌, map, IfOk};
 ghost use Rattle.std.specs.List.{find, flat_map};
 ghost use Rattle.std.specs.Option.{option_copied};
 ghost use Rattle.row_reads.specs.PolicyListing.{is_behind, is_member_behind, is_row_behind, lines_behind_users, next_policy, set_members};
 ghost use Rattle.row_reads.specs.declared.policy_row.PolicyKey.TheVariants as key;
+ghost use Rattle.row_reads.specs.declared.policy_row.PolicyRow.TheVariants as row;
 
 use crate::listing::copied_user;
 use crate::policy_row::{PolicyKey, PolicyRow, SetMember};
 use bank_books::World;
-use bank_policy::{Certifier, ItemSet, Policy, Relation, Triple, User};
+use bank_policy::{ItemSet, Policy, User};
 use std::alloc::{AllocError, Global};
 
 /// The line of the policy that is listed behind the one of this key, or the first where there is
@@ -30,64 +31,63 @@ pub fn next_policy(
 fn line_behind(policy: &Policy, after: Option<PolicyKey>) -> Option<PolicyRow>
     ensures { result ≡ find (is_row_behind after) (lines_behind_users policy.now) }
 {
-    if let Some(row) = certifier_behind(policy.certifiers(), after) {
-        return Some(PolicyRow::Certifier(*row));
+    if let Some(row) = certifier_behind(policy, after) {
+        return Some(row);
     }
-    if let Some(row) = member_behind(policy.sets(), after) {
-        return Some(PolicyRow::Member(row));
+    if let Some(row) = member_line_behind(policy, after) {
+        return Some(row);
     }
-    if let Some(row) = relation_behind(policy.relations(), after) {
-        return Some(PolicyRow::Relation(*row));
+    if let Some(row) = relation_behind(policy, after) {
+        return Some(row);
     }
-    match triple_behind(policy.triples(), after) {
-        Some(row) => Some(PolicyRow::Triple(*row)),
-        None => None,
-    }
+    triple_behind(policy, after)
 }
 
 fn user_behind(users: &[User], after: Option<PolicyKey>) -> Option<&User>
-    ensures { option_copied result ≡ find (λ row. is_behind after (key.User row.user)) users.now }
+    ensures { option_copied result ≡ find (λ user. is_behind after (key.User user.user)) users.now }
 {
     users
         .iter()
         .find(|row| PolicyKey::User { user: row.user }.is_behind(after))
 }
 
-fn certifier_behind(certifiers: &[Certifier], after: Option<PolicyKey>) -> Option<&Certifier>
-    ensures { option_copied result ≡ find (λ row. is_behind after (key.Certifier row.user row.procedure)) certifiers.now }
+fn certifier_behind(policy: &Policy, after: Option<PolicyKey>) -> Option<PolicyRow>
+    ensures { result ≡ find (is_row_behind after) (map row.Certifier policy.now.certifiers) }
 {
-    certifiers.iter().find(|row| {
-        PolicyKey::Certifier {
-            user: row.user,
-            procedure: row.procedure,
-        }
-        .is_behind(after)
-    })
+    policy
+        .certifiers()
+        .iter()
+        .map(|row| PolicyRow::Certifier(*row))
+        .find(|row| row.key().is_behind(after))
 }
 
-fn relation_behind(relations: &[Relation], after: Option<PolicyKey>) -> Option<&Relation>
-    ensures { option_copied result ≡ find (λ row. is_behind after (key.Relation row.procedure row.set)) relations.now }
+fn relation_behind(policy: &Policy, after: Option<PolicyKey>) -> Option<PolicyRow>
+    ensures { result ≡ find (is_row_behind after) (map row.Relation policy.now.relations) }
 {
-    relations.iter().find(|row| {
-        PolicyKey::Relation {
-            procedure: row.procedure,
-            set: row.set,
-        }
-        .is_behind(after)
-    })
+    policy
+        .relations()
+        .iter()
+        .map(|row| PolicyRow::Relation(*row))
+        .find(|row| row.key().is_behind(after))
 }
 
-fn triple_behind(triples: &[Triple], after: Option<PolicyKey>) -> Option<&Triple>
-    ensures { option_copied result ≡ find (λ row. is_behind after (key.Triple row.user row.procedure row.set)) triples.now }
+fn triple_behind(policy: &Policy, after: Option<PolicyKey>) -> Option<PolicyRow>
+    ensures { result ≡ find (is_row_behind after) (map row.Triple policy.now.triples) }
 {
-    triples.iter().find(|row| {
-        PolicyKey::Triple {
-            user: row.user,
-            procedure: row.procedure,
-            set: row.set,
-        }
-        .is_behind(after)
-    })
+    policy
+        .triples()
+        .iter()
+        .map(|row| PolicyRow::Triple(*row))
+        .find(|row| row.key().is_behind(after))
+}
+
+fn member_line_behind(policy: &Policy, after: Option<PolicyKey>) -> Option<PolicyRow>
+    ensures { result ≡ find (is_row_behind after) (map row.Member (flat_map set_members policy.now.sets)) }
+{
+    match member_behind(policy.sets(), after) {
+        Some(row) => Some(PolicyRow::Member(row)),
+        None => None,
+    }
 }
 
 /// The first member of these sets that is listed behind this key.

@@ -146,11 +146,7 @@ impl PolicyKey {
                 user,
                 procedure,
                 set,
-            } => {
-                user as u128 * (1 << 64)
-                    + procedure.number() as u128 * (1 << 32)
-                    + set as u128
-            }
+            } => { user as u128 * (1 << 64) + procedure.number() as u128 * (1 << 32) + set as u128 }
         }
     }
 }

@@ -1,4 +1,4 @@
-use Rattle.std.proofs.Common.{◌≡◌, ◌≤◌, ◌+◌, length, map, take, ap, ◌∙◌, sym, arith}
+use Rattle.std.proofs.Common.{◌≡◌, length, map, take, ap, ◌∙◌, sym, arith}
 use Rattle.std.specs.List.{filter}
 use Rattle.bank_policy.specs.HeldRows.{triples_of}
 use Rattle.bank_policy.specs.declared.procedure.Procedure.TheVariants as procedure
