@@ -3,12 +3,15 @@
 
 mod accounts;
 mod entries;
+pub mod laws;
 mod listing;
 mod next_line;
 mod places;
 mod policy_reads;
 mod policy_row;
 mod records;
+#[cfg(test)]
+mod tests;
 
 pub use accounts::{next_shown, shown};
 pub use entries::{entries_of, entry, entry_at, undone};
