@@ -1,0 +1,5 @@
+pub mod Firsts
+pub mod Found
+pub mod Kept
+pub mod There
+pub mod Turns

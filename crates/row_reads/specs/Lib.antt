@@ -1,0 +1,4 @@
+pub mod BookReads
+pub mod Laws
+pub mod PolicyListing
+pub mod PolicyReads
