@@ -3,13 +3,18 @@ ghost use Rattle.bank_books.specs.WorldLists.{WorldLists};
 ghost use Rattle.store_rows.specs.ListStore.{list_status};
 ghost use Rattle.store_rows.specs.Status.{count_after, mark_of};
 
-use crate::store::{BookReads, PolicyReads, Stands, Store};
+use crate::store::{BookReads, PolicyReads, ReportReads, Stands, Store};
 use bank_books::{
-    AccountRecord, BranchRecord, RowWrite, TellerRecord, World, account_record, branch_record,
-    teller_record,
+    AccountRecord, BranchRecord, Entry, EntryRecord, Release, RowWrite, TellerRecord, World,
+    account_record, branch_record, teller_record,
 };
-use bank_policy::{CertifiedRow, HeldRow, Procedure, Standing, relations_of, standing, triples_of};
+use bank_policy::{CertifiedRow, HeldRow, Procedure, relations_of, triples_of};
 use money::Fault;
+use row_reads::{
+    DrawerRecord, PolicyKey, PolicyRow, UserRecord, drawer, entries_of, entry, entry_at,
+    is_certifier, is_set, next_policy, next_shown, next_teller, policy_rows, release, roster,
+    set_count, shown, triple_count, undone, user_record, vault,
+};
 use std::alloc::{AllocError, Global};
 
 /// The plain store: a World in lists, of which every number is computed anew at each call. Only
@@ -59,8 +64,8 @@ impl Stands for ListStore {
 }
 
 impl PolicyReads for ListStore {
-    fn user(&mut self, _alloc: Global, user: u32) -> Result<Option<Standing>, Fault> {
-        Ok(standing(self.world.policy(), user))
+    fn user(&mut self, _alloc: Global, user: u32) -> Result<Option<UserRecord>, Fault> {
+        Ok(user_record(&self.world, user))
     }
 
     fn triples_of(
@@ -81,6 +86,31 @@ impl PolicyReads for ListStore {
         let rows = relations_of(alloc, self.world.policy(), procedure);
         self.counted(rows)
     }
+
+    fn triples(&mut self, _alloc: Global, user: u32) -> Result<u64, Fault> {
+        Ok(triple_count(&self.world, user))
+    }
+
+    fn sets(&mut self, _alloc: Global) -> Result<u64, Fault> {
+        Ok(set_count(&self.world))
+    }
+
+    fn set(&mut self, _alloc: Global, number: u32) -> Result<bool, Fault> {
+        Ok(is_set(&self.world, number))
+    }
+
+    fn certifier(&mut self, _alloc: Global, user: u32, procedure: Procedure) -> Result<bool, Fault> {
+        Ok(is_certifier(&self.world, user, procedure))
+    }
+
+    fn release(
+        &mut self,
+        _alloc: Global,
+        user: u32,
+        number: u32,
+    ) -> Result<Option<Release>, Fault> {
+        Ok(release(&self.world, user, number))
+    }
 }
 
 impl BookReads for ListStore {
@@ -94,6 +124,93 @@ impl BookReads for ListStore {
 
     fn branch(&mut self, _alloc: Global, branch: u32) -> Result<Option<BranchRecord>, Fault> {
         Ok(branch_record(&self.world, branch))
+    }
+
+    fn roster(&mut self, alloc: Global, branch: u32) -> Result<Vec<TellerRecord>, Fault> {
+        let rows = roster(alloc, &self.world, branch);
+        self.counted(rows)
+    }
+
+    fn entry(&mut self, _alloc: Global, branch: u32, number: u32) -> Result<Option<Entry>, Fault> {
+        Ok(entry(&self.world, branch, number))
+    }
+
+    fn undone(&mut self, _alloc: Global, branch: u32, number: u32) -> Result<bool, Fault> {
+        Ok(undone(&self.world, branch, number))
+    }
+
+    fn drawer(&mut self, _alloc: Global, teller: u32) -> Result<Option<DrawerRecord>, Fault> {
+        Ok(drawer(&self.world, teller))
+    }
+
+    fn vault(&mut self, _alloc: Global, branch: u32) -> Result<Option<i128>, Fault> {
+        Ok(vault(&self.world, branch))
+    }
+}
+
+impl ReportReads for ListStore {
+    fn entries_of(
+        &mut self,
+        alloc: Global,
+        account: u32,
+        start: u32,
+        count: u32,
+    ) -> Result<Vec<EntryRecord>, Fault> {
+        let rows = entries_of(alloc, &self.world, account, start, count);
+        self.counted(rows)
+    }
+
+    fn entry_at(
+        &mut self,
+        _alloc: Global,
+        account: u32,
+        turn: u32,
+    ) -> Result<Option<EntryRecord>, Fault> {
+        Ok(entry_at(&self.world, account, turn))
+    }
+
+    fn shown(
+        &mut self,
+        alloc: Global,
+        user: u32,
+        after: u32,
+        count: u32,
+    ) -> Result<Vec<AccountRecord>, Fault> {
+        let rows = shown(alloc, &self.world, user, after, count);
+        self.counted(rows)
+    }
+
+    fn next_shown(
+        &mut self,
+        alloc: Global,
+        user: u32,
+        after: u32,
+    ) -> Result<Option<AccountRecord>, Fault> {
+        let row = next_shown(alloc, &self.world, user, after);
+        self.counted(row)
+    }
+
+    fn next_teller(
+        &mut self,
+        _alloc: Global,
+        branch: u32,
+        after: u32,
+    ) -> Result<Option<TellerRecord>, Fault> {
+        Ok(next_teller(&self.world, branch, after))
+    }
+
+    fn policy_rows(&mut self, alloc: Global) -> Result<Vec<PolicyRow>, Fault> {
+        let rows = policy_rows(alloc, &self.world);
+        self.counted(rows)
+    }
+
+    fn next_policy(
+        &mut self,
+        alloc: Global,
+        after: Option<PolicyKey>,
+    ) -> Result<Option<PolicyRow>, Fault> {
+        let row = next_policy(alloc, &self.world, after);
+        self.counted(row)
     }
 }
 

@@ -1,12 +1,18 @@
-ghost use Rattle.std.specs.Prelude.{◌≡◌};
+ghost use Rattle.std.specs.Prelude.{◌≡◌, None, Some};
 ghost use Rattle.bank_books.specs.Records.{account_record, branch_record, teller_record};
 ghost use Rattle.bank_books.specs.Effects.{applied};
-ghost use Rattle.bank_policy.specs.HeldRows.{relations_of, standing, triples_of};
+ghost use Rattle.bank_policy.specs.HeldRows.{relations_of, triples_of};
+ghost use Rattle.row_reads.specs.BookReads.{drawer, entries_of, entry, entry_at, next_shown, next_teller, release, roster, shown, undone, vault};
+ghost use Rattle.row_reads.specs.PolicyListing.{next_policy, policy_rows};
+ghost use Rattle.row_reads.specs.PolicyReads.{is_certifier, is_set, set_count, triple_count, user_record};
 ghost use Rattle.store_rows.specs.Status.{Changes, ReadsRow, Refuses, Status, count_after, mark_of};
 
-use bank_books::{AccountRecord, BranchRecord, RowWrite, TellerRecord};
-use bank_policy::{CertifiedRow, HeldRow, Procedure, Standing};
+use bank_books::{
+    AccountRecord, BranchRecord, Entry, EntryRecord, Release, RowWrite, TellerRecord,
+};
+use bank_policy::{CertifiedRow, HeldRow, Procedure};
 use money::Fault;
+use row_reads::{DrawerRecord, PolicyKey, PolicyRow, UserRecord};
 use std::alloc::Global;
 
 /// What stands for a World, as long as it answers.
@@ -19,12 +25,12 @@ pub trait Stands {
         ensures { result ≡ (status self.now).fault_count };
 }
 
-/// The reads by which the policy is judged, and no others. Each answers what its definition says of
-/// the World, or a fault that changes nothing.
+/// The reads by which the policy is judged and its commands are planned, and no others. Each answers
+/// what its definition says of the World, or a fault that changes nothing.
 pub trait PolicyReads: Stands {
-    /// What the row of this user says of whether he may ask, or none where there is no such user.
-    fn user(&mut self, alloc: Global, user: u32) -> Result<Option<Standing>, Fault>
-        ensures { ReadsRow (Self.status self.old) (Self.status self.new) result (λ w row. row ≡ standing w.policy user) };
+    /// The user of this number and how many releases he was given, or none where he isn't there.
+    fn user(&mut self, alloc: Global, user: u32) -> Result<Option<UserRecord>, Fault>
+        ensures { ReadsRow (Self.status self.old) (Self.status self.new) result (λ w row. row ≡ user_record w user) };
 
     /// The triples of this user for this procedure, each with the members of its set.
     fn triples_of(
@@ -42,9 +48,34 @@ pub trait PolicyReads: Stands {
         procedure: Procedure,
     ) -> Result<Vec<CertifiedRow>, Fault>
         ensures { ReadsRow (Self.status self.old) (Self.status self.new) result (λ w rows. rows.items ≡ relations_of w.policy procedure) };
+
+    /// How many triples this user has.
+    fn triples(&mut self, alloc: Global, user: u32) -> Result<u64, Fault>
+        ensures { ReadsRow (Self.status self.old) (Self.status self.new) result (λ w n. n ≡ triple_count w user) };
+
+    /// How many sets there are.
+    fn sets(&mut self, alloc: Global) -> Result<u64, Fault>
+        ensures { ReadsRow (Self.status self.old) (Self.status self.new) result (λ w n. n ≡ set_count w) };
+
+    /// Whether there is a set of this number.
+    fn set(&mut self, alloc: Global, number: u32) -> Result<bool, Fault>
+        ensures { ReadsRow (Self.status self.old) (Self.status self.new) result (λ w is. is ≡ is_set w number) };
+
+    /// Whether this user may certify this procedure.
+    fn certifier(&mut self, alloc: Global, user: u32, procedure: Procedure) -> Result<bool, Fault>
+        ensures { ReadsRow (Self.status self.old) (Self.status self.new) result (λ w is. is ≡ is_certifier w user procedure) };
+
+    /// The release of this number of a user, or none where it isn't there.
+    fn release(
+        &mut self,
+        alloc: Global,
+        user: u32,
+        number: u32,
+    ) -> Result<Option<Release>, Fault>
+        ensures { ReadsRow (Self.status self.old) (Self.status self.new) result (λ w row. row ≡ release w user number) };
 }
 
-/// The reads by which operations are judged and planned.
+/// The reads by which operations are judged by the books, and planned.
 pub trait BookReads: Stands {
     /// The account of this number with its balance and turns, or none where it isn't there.
     fn account(&mut self, alloc: Global, account: u32) -> Result<Option<AccountRecord>, Fault>
@@ -54,14 +85,97 @@ pub trait BookReads: Stands {
     fn teller(&mut self, alloc: Global, teller: u32) -> Result<Option<TellerRecord>, Fault>
         ensures { ReadsRow (Self.status self.old) (Self.status self.new) result (λ w row. row ≡ teller_record w teller) };
 
-    /// The branch of this number with its balance and the number of its entries, or none where it
-    /// isn't there.
+    /// The branch of this number with its balance, its cash and its totals, or none where it isn't
+    /// there.
     fn branch(&mut self, alloc: Global, branch: u32) -> Result<Option<BranchRecord>, Fault>
         ensures { ReadsRow (Self.status self.old) (Self.status self.new) result (λ w row. row ≡ branch_record w branch) };
+
+    /// The tellers of this branch, by number.
+    fn roster(&mut self, alloc: Global, branch: u32) -> Result<Vec<TellerRecord>, Fault>
+        ensures { ReadsRow (Self.status self.old) (Self.status self.new) result (λ w rows. rows.items ≡ roster w branch) };
+
+    /// The entry of this number in the history of a branch, or none where it isn't there.
+    fn entry(&mut self, alloc: Global, branch: u32, number: u32) -> Result<Option<Entry>, Fault>
+        ensures { ReadsRow (Self.status self.old) (Self.status self.new) result (λ w row. row ≡ entry w branch number) };
+
+    /// Whether an entry of the branch corrects the one of this number. The number 0 is none's.
+    fn undone(&mut self, alloc: Global, branch: u32, number: u32) -> Result<bool, Fault>
+        ensures { ReadsRow (Self.status self.old) (Self.status self.new) result (λ w is. is ≡ undone w branch number) };
+
+    /// The cash of a teller's drawer and who holds it, or none where the teller isn't there.
+    fn drawer(&mut self, alloc: Global, teller: u32) -> Result<Option<DrawerRecord>, Fault>
+        ensures { ReadsRow (Self.status self.old) (Self.status self.new) result (λ w row. row ≡ drawer w teller) };
+
+    /// The cash of a branch's vault in cents, or none where the branch isn't there.
+    fn vault(&mut self, alloc: Global, branch: u32) -> Result<Option<i128>, Fault>
+        ensures { ReadsRow (Self.status self.old) (Self.status self.new) result (λ w cash. cash ≡ vault w branch) };
+}
+
+/// The reads that reports list: many rows at once, or one after another.
+pub trait ReportReads: Stands {
+    /// The entries of an account that are its turns from a first one on, as long as they are there,
+    /// at most so many, each with the balance after it.
+    fn entries_of(
+        &mut self,
+        alloc: Global,
+        account: u32,
+        start: u32,
+        count: u32,
+    ) -> Result<Vec<EntryRecord>, Fault>
+        ensures { ReadsRow (Self.status self.old) (Self.status self.new) result (λ w rows. rows.items ≡ entries_of w account start count) };
+
+    /// The entry of an account that is its turn of this number, or none where it isn't there.
+    fn entry_at(
+        &mut self,
+        alloc: Global,
+        account: u32,
+        turn: u32,
+    ) -> Result<Option<EntryRecord>, Fault>
+        ensures { ReadsRow (Self.status self.old) (Self.status self.new) result (λ w row. row ≡ entry_at w account turn) };
+
+    /// The accounts above a number that this user is shown, by number, at most so many.
+    fn shown(
+        &mut self,
+        alloc: Global,
+        user: u32,
+        after: u32,
+        count: u32,
+    ) -> Result<Vec<AccountRecord>, Fault>
+        ensures { ReadsRow (Self.status self.old) (Self.status self.new) result (λ w rows. rows.items ≡ shown w user after count) };
+
+    /// The next account above a number that this user is shown, or none where there is no other.
+    fn next_shown(
+        &mut self,
+        alloc: Global,
+        user: u32,
+        after: u32,
+    ) -> Result<Option<AccountRecord>, Fault>
+        ensures { ReadsRow (Self.status self.old) (Self.status self.new) result (λ w row. row ≡ next_shown w user after) };
+
+    /// The next teller of a branch above a number, or none where there is no other.
+    fn next_teller(
+        &mut self,
+        alloc: Global,
+        branch: u32,
+        after: u32,
+    ) -> Result<Option<TellerRecord>, Fault>
+        ensures { ReadsRow (Self.status self.old) (Self.status self.new) result (λ w row. row ≡ next_teller w branch after) };
+
+    /// All lines of the policy, in the order in which they are listed.
+    fn policy_rows(&mut self, alloc: Global) -> Result<Vec<PolicyRow>, Fault>
+        ensures { ReadsRow (Self.status self.old) (Self.status self.new) result (λ w rows. rows.items ≡ policy_rows w) };
+
+    /// The line of the policy behind a key, or the first one, or none where there is no other.
+    fn next_policy(
+        &mut self,
+        alloc: Global,
+        after: Option<PolicyKey>,
+    ) -> Result<Option<PolicyRow>, Fault>
+        ensures { ReadsRow (Self.status self.old) (Self.status self.new) result (λ w row. row ≡ next_policy w after) };
 }
 
 /// A store of one World, however it is kept. A plan is applied whole or not at all.
-pub trait Store: PolicyReads + BookReads {
+pub trait Store: PolicyReads + BookReads + ReportReads {
     /// Carries out the whole plan, or at a fault nothing of it.
     fn apply(&mut self, alloc: Global, plan: &[RowWrite]) -> Result<(), Fault>
         ensures changed { Changes (Self.status self.old) (Self.status self.new) (applied plan.now) (mark_of result) }
