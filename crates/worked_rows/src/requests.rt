@@ -1,6 +1,7 @@
 ghost use Rattle.std.specs.Prelude.{◌≡◌, true};
 ghost use Rattle.counter_ops.specs.Op.{procedure_of};
-ghost use Rattle.decide.specs.Requests.{is_served};
+ghost use Rattle.counter_ops.specs.Ranges.{IsKey, IsOp, IsPost};
+ghost use Rattle.decide.specs.Operations.{is_served};
 
 use crate::opening::opening_at;
 use bank_books::{account_balance, branch_balance, teller_balance};
@@ -41,7 +42,8 @@ fn ask<S: Store>(
     who: Who,
     op: Op,
 ) -> Result<Vec<u8>, Rule>
-    requires { is_served (procedure_of op) ≡ true }
+    requires served { is_served (procedure_of op) ≡ true }
+    requires proper { IsOp op }
 {
     match decide(bank, alloc, who, 700, &op) {
         Ok(Decision::Allowed(permit)) => match carry_out(permit) {
@@ -61,7 +63,9 @@ fn posts<S: Store>(
     who: Who,
     post: Post,
     body: &str,
-) {
+)
+    requires { IsPost post }
+{
     match ask(rt, bank, alloc, who, Op::Post(post)) {
         Ok(given) => assert!(rt; given.as_slice() == body.as_bytes(), "{body}"),
         Err(rule) => panic!(rt; "{}", rule.name()),
@@ -77,7 +81,8 @@ fn denied<S: Store>(
     op: Op,
     rule: Rule,
 )
-    requires { is_served (procedure_of op) ≡ true }
+    requires served { is_served (procedure_of op) ≡ true }
+    requires proper { IsOp op }
 {
     match ask(rt, bank, alloc, who, op) {
         Ok(_) => panic!(rt; "carried out"),
@@ -85,7 +90,12 @@ fn denied<S: Store>(
     }
 }
 
-fn post(rt: &impl Abort, account: u32, teller: u32, branch: u32, delta: i64) -> Post {
+fn post(rt: &impl Abort, account: u32, teller: u32, branch: u32, delta: i64) -> Post
+    requires account { IsKey account }
+    requires teller { IsKey teller }
+    requires branch { IsKey branch }
+    ensures { IsPost result }
+{
     let delta = Delta::new(delta).expect(rt, "a delta");
     Post {
         account,
