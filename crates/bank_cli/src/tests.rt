@@ -3,7 +3,6 @@ use money::Tallied;
 use sample_service::{ServeFault, line_of};
 use std::io;
 use std::io::{ErrorKind, Read, Write};
-use std::process::Abort;
 
 /// A post of 2500 cents by Tess, in as many bytes as its fields say.
 const POST: &[u8] =
@@ -36,54 +35,64 @@ impl Write for Broken {
     }
 }
 
-/// Has the words answered over these streams, and asks for the status and for what standard error gets.
-fn ask<R: Read, W: Write>(
+/// Has the words answered over these streams, and returns the status and what standard error got.
+fn ended<R: Read, W: Write>(
     rt: &HostRuntime,
     words: &[&str],
     input: &mut Tallied<R>,
     output: &mut Tallied<W>,
-    wanted: (u8, &[u8]),
-) {
+) -> (u8, Vec<u8>) {
     let mut errors = Tallied::new(Vec::new(rt.alloc()));
     let status = answer(rt, words, input, output, &mut errors);
-    assert_eq!(rt; status, wanted.0);
-    let told = errors.into_inner();
-    assert!(rt; told.as_slice() == wanted.1);
+    (status, errors.into_inner())
 }
 
-/// The same from an input in memory, with what standard output gets.
-fn ask_for(rt: &HostRuntime, input: &[u8], output: &[u8], wanted: (u8, &[u8])) {
-    let mut written = Tallied::new(Vec::new(rt.alloc()));
-    ask(
-        rt,
-        SAMPLE.as_slice(),
-        &mut Tallied::new(input),
-        &mut written,
-        wanted,
-    );
-    let written = written.into_inner();
-    assert!(rt; written.as_slice() == output);
+/// Has the words answered over an input in memory, and returns the status and what both outputs got.
+fn ran(rt: &HostRuntime, words: &[&str], input: &[u8]) -> (u8, Vec<u8>, Vec<u8>) {
+    let mut output = Tallied::new(Vec::new(rt.alloc()));
+    let (status, errors) = ended(rt, words, &mut Tallied::new(input), &mut output);
+    (status, output.into_inner(), errors)
 }
 
 #[test]
 fn sample_answers_a_post(rt: HostRuntime) {
-    ask_for(&rt, POST, POSTED, (0, b""));
+    let (status, output, errors) = ran(&rt, SAMPLE.as_slice(), POST);
+    assert_eq!(rt; status, 0);
+    assert_eq!(rt; output.as_slice(), POSTED);
+    assert!(rt; errors.is_empty());
 }
 
 #[test]
 fn sample_says_that_its_input_is_cut(rt: HostRuntime) {
-    ask_for(&rt, &POST[..20], b"", (3, b"stream: cut\n"));
+    let (status, output, errors) = ran(&rt, SAMPLE.as_slice(), &POST[..20]);
+    assert_eq!(rt; status, 3);
+    assert!(rt; output.is_empty());
+    assert_eq!(rt; errors.as_slice(), b"stream: cut\n".as_slice());
 }
 
 #[test]
-fn sample_says_that_a_stream_is_broken(rt: HostRuntime) {
-    let broken: (u8, &[u8]) = (3, b"stream: broken\n");
-    let (mut input, mut output) = (Tallied::new(POST), Tallied::new(Broken));
-    ask(&rt, SAMPLE.as_slice(), &mut input, &mut output, broken);
-    let (mut input, mut output) = (Tallied::new(Broken), Tallied::new(Vec::new(rt.alloc())));
-    ask(&rt, SAMPLE.as_slice(), &mut input, &mut output, broken);
-    let (mut input, mut output) = (Tallied::new(POST), Tallied::new(Broken));
-    ask(&rt, ["--help"].as_slice(), &mut input, &mut output, broken);
+fn broken_streams_are_told(rt: HostRuntime) {
+    let broken = b"stream: broken\n".as_slice();
+    let mut written = Tallied::new(Vec::new(rt.alloc()));
+    let read = ended(
+        &rt,
+        SAMPLE.as_slice(),
+        &mut Tallied::new(Broken),
+        &mut written,
+    );
+    assert_eq!(rt; read.0, 3);
+    assert_eq!(rt; read.1.as_slice(), broken);
+    assert!(rt; written.into_inner().is_empty());
+    for words in [SAMPLE.as_slice(), ["--help"].as_slice()] {
+        let (status, errors) = ended(
+            &rt,
+            words,
+            &mut Tallied::new(POST),
+            &mut Tallied::new(Broken),
+        );
+        assert_eq!(rt; status, 3);
+        assert_eq!(rt; errors.as_slice(), broken);
+    }
 }
 
 #[test]
@@ -99,26 +108,21 @@ fn each_fault_has_its_line(rt: HostRuntime) {
     }
 }
 
-/// What came of words that name no action: the status, whether standard output got a text, and whether standard error did.
-fn told(rt: &HostRuntime, words: &[&str]) -> (u8, bool, bool) {
-    let mut output = Tallied::new(Vec::new(rt.alloc()));
-    let mut errors = Tallied::new(Vec::new(rt.alloc()));
-    let mut input = Tallied::new(POST);
-    let status = answer(rt, words, &mut input, &mut output, &mut errors);
-    let (output, errors) = (output.into_inner(), errors.into_inner());
-    (status, !output.is_empty(), !errors.is_empty())
-}
-
 #[test]
 fn words_are_refused_or_ask_for_help(rt: HostRuntime) {
-    let (refused, helped) = ((2, false, true), (0, true, false));
-    for (words, wanted) in [
-        (["sample", "--moment", "100000000000"], refused),
-        (["sample", "--moment", "x"], refused),
-        (["sample", "--help", ""], helped),
-        (["--help", "", ""], helped),
-        (["frobnicate", "--moment", "1"], refused),
+    for (words, status) in [
+        (["sample", "--moment", "100000000000"], 2),
+        (["sample", "--moment", "x"], 2),
+        (["sample", "--help", ""], 0),
+        (["--help", "", ""], 0),
+        (["frobnicate", "--moment", "1"], 2),
     ] {
-        assert_eq!(rt; told(&rt, words.as_slice()), wanted);
+        let (ended, output, errors) = ran(&rt, words.as_slice(), POST);
+        assert_eq!(rt; ended, status);
+        // (help goes to standard output, a refusal to standard error)
+        assert_eq!(rt;
+            (output.is_empty(), errors.is_empty()),
+            (status == 2, status == 0)
+        );
     }
 }
