@@ -1,6 +1,5 @@
 -- By the clauses of `serve`, at the store that the bank began with; where memory is refused for it, nothing was served.
-use Rattle.std.proofs.Common.{◌≡◌, refl}
-use Rattle.sample_service.specs.Serving.{IsSampleServed}
+use Rattle.std.proofs.Common.{refl}
 use Rattle.sample_service.specs.Standing.{standing_at}
 use Rattle.sample_service.proofs.Opening.{opening_opens, opening_store, opens_with}
 use Rattle.sample_service.proofs.service.serve_sample.Goals as goal
