@@ -1,84 +1,92 @@
-ghost use Rattle.std.specs.Prelude.{◌≡◌, ◌≤◌, ◌⊎◌, IfOk};
-ghost use Rattle.bank_cli.specs.Lines.{line_of};
+ghost use Rattle.std.specs.Prelude.{map};
+ghost use Rattle.bank_cli.specs.Acted.{IsActed, IsAnswered, IsExplained, IsUnread};
+ghost use Rattle.sample_service.specs.Streams.{stream_at, streams_at};
 
-use crate::badges::SampleBadges;
-use crate::clock::Fixed;
-use crate::moment::Moment;
-use crate::words::Action;
-use counter_api::{ServeFault, Served, serve};
+use crate::words::{Action, read_words};
+use clap::Error;
+use clap::error::ErrorKind;
 use money::Tallied;
-use sample_bank::sample_world;
+use sample_service::{ServeFault, answer_sample, fail, show, tell};
 use std::alloc::Global;
+use std::io;
 use std::io::{Read, Write};
-use store_rows::{Bank, ListStore};
 
-/// The status of a program that did what it was asked for.
-pub const DONE: u8 = 0;
+/// The status of a program whose words are refused.
+pub const REFUSED_WORDS: u8 = 2;
 
-/// The status of a program that was kept from it by a stream or by want of memory.
-pub const FAILED: u8 = 3;
-
-/// The most messages that are answered on standard input.
-const MOST_MESSAGES: u32 = 1_000_000;
+/// Does what the words behind the program's name ask for, and answers the status. Help goes to `output`, and why words
+/// are refused to `errors`.
+pub fn answer<R: Read, W: Write, E: Write>(
+    rt: &HostRuntime,
+    words: &[&str],
+    input: &mut Tallied<R>,
+    output: &mut Tallied<W>,
+    errors: &mut Tallied<E>,
+) -> u8
+    ensures { IsAnswered (map (λ w. w.now) words.now)
+        (streams_at R.remaining W.contents input.old output.old)
+        (streams_at R.remaining W.contents input.new output.new)
+        (stream_at E.contents errors.old) (stream_at E.contents errors.new) result }
+{
+    match read_words(rt.alloc(), words) {
+        Ok(action) => act(rt, action, input, output, errors),
+        Err(error) => explain(rt.alloc(), &error, output, errors),
+    }
+}
 
 /// Does what the program is asked for, and answers its status: `DONE`, or `FAILED` after one line on `errors` that says
 /// what failed.
 pub fn act<R: Read, W: Write, E: Write>(
     rt: &HostRuntime,
     action: Action,
-    input: &mut R,
-    output: &mut W,
-    errors: &mut E,
+    input: &mut Tallied<R>,
+    output: &mut Tallied<W>,
+    errors: &mut Tallied<E>,
 ) -> u8
-    ensures { (result ≡ 0) ⊎ (result ≡ 3) }
+    ensures { IsActed action
+        (streams_at R.remaining W.contents input.old output.old)
+        (streams_at R.remaining W.contents input.new output.new)
+        (stream_at E.contents errors.old) (stream_at E.contents errors.new) result }
 {
-    let served = match action {
-        Action::Sample { moment } => serve_sample(rt.alloc(), moment, input, output),
-    };
-    match served {
-        Ok(_) => DONE,
-        Err(fault) => fail(errors, line_of(fault)),
+    match action {
+        Action::Sample { moment } => answer_sample(rt.alloc(), moment, input, output, errors),
     }
 }
 
-/// Writes the line of a failure, and answers the status of one. A line that can't be written is left out.
-pub fn fail<E: Write>(errors: &mut E, line: &str) -> u8
-    ensures { result ≡ 3 }
-{
-    let _ = writeln!(errors, "{line}");
-    FAILED
-}
-
-/// What standard error says of a fault.
-fn line_of(fault: ServeFault) -> &'static str
-    ensures { result.now ≡ line_of fault }
-{
-    match fault {
-        ServeFault::Cut => "stream: cut",
-        ServeFault::Memory => "memory",
-        ServeFault::Read | ServeFault::Write | ServeFault::Report => "stream: broken",
-    }
-}
-
-/// Serves a stream over the sample bank as its books are opened, with one moment for every message.
-fn serve_sample<R: Read, W: Write>(
+/// Tells why words name no action, and answers the status: `DONE` where they ask for help, `REFUSED_WORDS` where they are
+/// refused, and `FAILED` where memory is, or help can't be written.
+fn explain<W: Write, E: Write>(
     alloc: Global,
-    moment: Moment,
-    input: &mut R,
-    output: &mut W,
-) -> Result<Served, ServeFault>
-    ensures most { IfOk result (λ served. served.messages ≤ 1000000) }
+    error: &Error,
+    output: &mut Tallied<W>,
+    errors: &mut Tallied<E>,
+) -> u8
+    ensures { IsExplained error.now
+        (stream_at W.contents output.old) (stream_at W.contents output.new)
+        (stream_at E.contents errors.old) (stream_at E.contents errors.new) result }
 {
-    let mut bank = Bank {
-        store: ListStore::new(sample_world(alloc)?),
+    if error.kind() == ErrorKind::OutOfMemory {
+        return fail(errors, ServeFault::Memory);
+    }
+    let Ok(text) = format!(in alloc; "{error}") else {
+        return fail(errors, ServeFault::Memory);
     };
-    serve(
-        alloc,
-        &mut Tallied::new(input),
-        &mut Tallied::new(output),
-        &mut bank,
-        &SampleBadges,
-        &mut Fixed { moment },
-        MOST_MESSAGES,
-    )
+    if error.use_stderr() {
+        tell(errors, text.as_str());
+        REFUSED_WORDS
+    } else {
+        show(output, errors, text.as_str())
+    }
+}
+
+/// Tells why the words could not be read: they are no text, or memory is refused for them. Answers the status.
+pub fn unread<E: Write>(errors: &mut Tallied<E>, kind: io::ErrorKind) -> u8
+    ensures { IsUnread kind (stream_at E.contents errors.old) (stream_at E.contents errors.new) result }
+{
+    if kind == io::ErrorKind::InvalidData {
+        tell(errors, "error: a word is no text\n");
+        REFUSED_WORDS
+    } else {
+        fail(errors, ServeFault::Memory)
+    }
 }

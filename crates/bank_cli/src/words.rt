@@ -3,10 +3,10 @@ ghost use Rattle.clap.specs.Words.{app_of, fault_of, found_of, rows_of, rule_of,
 ghost use Rattle.clap.specs.declared.builder.Command.TheViews.{out-Command as fields_of};
 ghost use Rattle.bank_cli.specs.Commands.{IsNamedBy, IsNamedIn, IsRefusal, bank_app, number_in, number_rule, sample_app, top_app};
 
-use crate::moment::{LAST_MOMENT, Moment};
 use clap::builder::ValueParser;
 use clap::error::ErrorKind;
 use clap::{Arg, ArgMatches, Command, Error};
+use sample_service::{LAST_MOMENT, Moment};
 use std::alloc::{AllocError, Global};
 
 /// What the program is asked to do.

@@ -9,9 +9,9 @@ pub struct Fixed {
 }
 
 impl Clock for Fixed {
-    ghost use Rattle.std.specs.Prelude.{◌≡◌};
+    ghost use Rattle.sample_service.specs.Standing.{gives_its_own};
 
-    ghost may_give = { λ old n new. (n ≡ old.moment) × (new ≡ old) };
+    ghost may_give = { gives_its_own };
 
     fn moment(&mut self) -> u64 {
         self.moment.seconds()

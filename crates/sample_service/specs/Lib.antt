@@ -1,0 +1,5 @@
+pub mod Ends
+pub mod Lines
+pub mod Serving
+pub mod Standing
+pub mod Streams
