@@ -4,9 +4,6 @@ use Rattle.std.specs.List.{filter, find}
 use Rattle.std.proofs.lemmas.Bool.{and_parts, le-ltb, lt-ltb, ltb-true}
 use Rattle.std.proofs.lemmas.List.Elements.{All-head, All-tail}
 use Rattle.bank_books.specs.Records.{account_record_of}
-use Rattle.bank_books.specs.WorldLists.{WorldLists}
-use Rattle.bank_books.specs.declared.rows.Account.{Account}
-use Rattle.bank_books.specs.declared.records.AccountRecord.{AccountRecord}
 use Rattle.row_reads.specs.Laws.{ShownGoesOn}
 use Rattle.row_reads.proofs.Rising.{Rises, rises}
 
