@@ -46,7 +46,7 @@ fn release_count(world: &World, user: u32) -> u64
     world
         .releases()
         .iter()
-        .filter(|row| row.user == user)
+        .filter(|release| release.user == user)
         .count() as u64
 }
 
@@ -58,7 +58,7 @@ pub fn triple_count(world: &World, user: u32) -> u64
         .policy()
         .triples()
         .iter()
-        .filter(|row| row.user == user)
+        .filter(|triple| triple.user == user)
         .count() as u64
 }
 

@@ -72,7 +72,7 @@ fn entry_row(rt: &impl Abort, branch: u32, number: u32, turn: u32, undoes: u32) 
         number,
         account: 101,
         turn,
-        teller: 10 * branch + 1,
+        teller: if branch == 1 { 11 } else { 21 },
         delta: Delta::new(delta).expect(rt, "an amount to add"),
         moment: 9,
         day: 1,
