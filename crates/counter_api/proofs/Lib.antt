@@ -1,3 +1,4 @@
+pub mod CarriedOut
 pub mod CounterLemmas
 pub mod ExitLemmas
 pub mod FramingLemmas

@@ -5,11 +5,11 @@ ghost use Rattle.money.specs.declared.fault.Fault.TheVariants.{Memory};
 ghost use Rattle.decide.specs.Operations.{is_served};
 ghost use Rattle.decide.specs.Sums.{IsProper};
 ghost use Rattle.messages.specs.Failures.{CountsByCall};
-ghost use Rattle.store_rows.specs.Status.{mark_of};
+ghost use Rattle.store_rows.specs.Status.{Answers, mark_of};
 ghost use Rattle.counter_api.specs.Request.{IsServedAsked, request_of, served};
 ghost use Rattle.counter_api.specs.Routes.{asked_procedure};
 ghost use Rattle.counter_api.specs.Run.{IsHandled, RefusesRequest, framed, parts_or_fault};
-ghost use Rattle.counter_api.specs.CarriedOut.{IsCarriedOut};
+ghost use Rattle.counter_api.specs.CarriedOut.{LeavesBoth, Moves, Replies, Settles};
 
 use crate::clock::Clock;
 use crate::fields::who_of;
@@ -89,7 +89,11 @@ fn carried_out<S: Store>(
 ) -> Result<Response, Fault>
     requires served { IsServedAsked request.now.asked }
     requires proper { IsProper request.now }
-    ensures carried_out { IsCarriedOut (S.status bank.old.store) (S.status bank.new.store) request.now result }
+    ensures answers { Answers (S.status bank.old.store) (S.status bank.new.store) (mark_of result) }
+    ensures moved { Moves (S.status bank.old.store) (S.status bank.new.store) request.now (mark_of result) }
+    ensures replied { Replies (S.status bank.old.store) (S.status bank.new.store) request.now result }
+    ensures crash { LeavesBoth (S.status bank.old.store) (S.status bank.new.store) request.now }
+    ensures settled { Settles (S.status bank.old.store) (S.status bank.new.store) request.now (mark_of result) }
     ensures refused { IsSome request.now.who.user → RefusesRequest (S.status bank.old.store).is_stopped (mark_of result) }
     ensures stranger { IsNone request.now.who.user → IsOkUnless result Memory }
 {

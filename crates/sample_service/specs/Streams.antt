@@ -1,7 +1,7 @@
 -- Streams as their caller sees them, before a call and after it.
 use Rattle.std.specs.Prelude.{◌≡◌, ◌⊎◌, ℕ, List, Option}
 use Rattle.std.specs.Io.KnownBytes.{Appends}
-use Rattle.money.specs.Counted.{AppendsBeginning, CountsFailure, failure_count, stream_of}
+use Rattle.money.specs.Counted.{AppendsBeginning, CountsFailure, counted_once_more, failure_count, stream_of}
 use Rattle.money.specs.declared.tallied.Tallied.{Tallied}
 
 -- the bytes that a reader has left or that a writer has, where they are known, and how many of its calls failed
@@ -22,6 +22,14 @@ streams_at remaining contents reader writer = record {
   input = stream_at remaining reader;
   output = stream_at contents writer;
 }
+
+-- no call of it failed
+abbrev pub FailsNever : Stream → Stream → Type 0
+FailsNever old new = new.failures ≡ old.failures
+
+-- one call of it failed, up to the greatest count
+abbrev pub FailsOnce : Stream → Stream → Type 0
+FailsOnce old new = new.failures ≡ counted_once_more old.failures
 
 -- a call of it failed
 abbrev pub Fails : Stream → Stream → Type 0

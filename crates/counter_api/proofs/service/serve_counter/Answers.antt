@@ -3,10 +3,10 @@ use Rattle.counter_api.proofs.CounterLemmas.{counter_exits}
 use Rattle.counter_api.proofs.service.serve_counter.Goals as goal
 
 pub returns-clause-exit : goal.returns-clause-exit
-returns-clause-exit g c = (counter_exits g.S.Store.status g.G.Gate.users g.C.Clock.may_give c.args.most _ _ c.serve_messages.result c.serve_messages.ensures.exit).0
+returns-clause-exit g c = (counter_exits g.S.Stands.status g.G.Gate.users g.C.Clock.may_give c.args.most _ _ c.serve_messages.result c.serve_messages.ensures.exit).0
 
 pub returns-clause-same_bank : goal.returns-clause-same_bank
-returns-clause-same_bank g c = (counter_exits g.S.Store.status g.G.Gate.users g.C.Clock.may_give c.args.most _ _ c.serve_messages.result c.serve_messages.ensures.exit).1.bank
+returns-clause-same_bank g c = (counter_exits g.S.Stands.status g.G.Gate.users g.C.Clock.may_give c.args.most _ _ c.serve_messages.result c.serve_messages.ensures.exit).1.bank
 
 pub returns-clause-same_clock : goal.returns-clause-same_clock
-returns-clause-same_clock g c = (counter_exits g.S.Store.status g.G.Gate.users g.C.Clock.may_give c.args.most _ _ c.serve_messages.result c.serve_messages.ensures.exit).1.clock
+returns-clause-same_clock g c = (counter_exits g.S.Stands.status g.G.Gate.users g.C.Clock.may_give c.args.most _ _ c.serve_messages.result c.serve_messages.ensures.exit).1.clock

@@ -1,0 +1,27 @@
+-- What a crash may leave of a request that was decided and carried out.
+use Rattle.std.proofs.Common.{◌≡◌, ◌⊎◌, inl, inr, None, ap, sym, ◌∙◌}
+use Rattle.bank_books.specs.WorldLists.{WorldLists}
+use Rattle.store_rows.specs.Status.{Keeps, Status, Tells}
+use Rattle.decide.specs.Permit.{CarriesOut, IsLeave, IsPermitOf, IsReplied}
+use Rattle.decide.specs.Requests.{effect, executes, first}
+use Rattle.decide.specs.Run.{if_allowed, step}
+use Rattle.decide.specs.declared.permit.Permit.{Permit}
+use Rattle.decide.specs.declared.permit.Reply.{Reply}
+use Rattle.decide.specs.declared.request.Request.{Request}
+use Rattle.counter_api.specs.CarriedOut.{Settles}
+
+module _ {S : Type 0} where
+  -- the effect of what was permitted is the step of what was asked
+  step_is : (w : WorldLists) (q : Request) (p : Permit S) → IsPermitOf w q p → effect w (executes p.execution) ≡ step w q
+  step_is w q p permit = sym (ap (λ o. if_allowed o (effect w (executes p.execution)) w) permit.leave.allowed) ∙ ap (step w) permit.asked
+
+  pub settles : (old mid new : Status) (q : Request) (p : Permit S) (r : Reply S) → Keeps old mid None → Tells old mid (λ w. IsPermitOf w q p) → CarriesOut mid new p None
+      → (new.is_honest → (w : WorldLists) → IsLeave w p → mid.holds w → IsReplied mid new w p r) → Settles old new q None
+  settles old mid new q p r kept decided carried replied none honest w holds =
+      let before = carried.answers.honest honest in
+      let permit = decided before w holds in
+      let is = step_is w q p permit in
+      elim (replied honest w permit.leave (kept.kept w holds)).settled [
+        | inl alone ↦ inl (λ left may. alone left may ∙ is)
+        | inr same ↦ inr (sym is ∙ same.0, λ left may. kept.crash before left (same.1 left may))
+      ]
