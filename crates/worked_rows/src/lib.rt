@@ -5,9 +5,13 @@
 #[cfg(test)]
 mod books;
 #[cfg(test)]
+mod by_rows;
+#[cfg(test)]
 mod opening;
 #[cfg(test)]
 mod policy_rows;
+#[cfg(test)]
+mod reads;
 #[cfg(test)]
 mod requests;
 #[cfg(test)]
