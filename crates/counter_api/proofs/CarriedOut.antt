@@ -1,9 +1,9 @@
 -- What a crash may leave of a request that was decided and carried out.
-use Rattle.std.proofs.Common.{◌≡◌, ◌⊎◌, inl, inr, None, ap, sym, ◌∙◌}
+use Rattle.std.proofs.Common.{◌≡◌, inl, inr, None, ap, sym, ◌∙◌}
 use Rattle.bank_books.specs.WorldLists.{WorldLists}
 use Rattle.store_rows.specs.Status.{Keeps, Status, Tells}
 use Rattle.decide.specs.Permit.{CarriesOut, IsLeave, IsPermitOf, IsReplied}
-use Rattle.decide.specs.Requests.{effect, executes, first}
+use Rattle.decide.specs.Requests.{effect, executes}
 use Rattle.decide.specs.Run.{if_allowed, step}
 use Rattle.decide.specs.declared.permit.Permit.{Permit}
 use Rattle.decide.specs.declared.permit.Reply.{Reply}

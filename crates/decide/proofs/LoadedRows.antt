@@ -8,7 +8,7 @@ use Rattle.decide.specs.Executions.{signature_of}
 use Rattle.decide.specs.Loaded.{IsLoadedFor, loaded_grounds}
 use Rattle.decide.specs.Meaning.{by_books}
 use Rattle.decide.specs.Operations.{meaning_of}
-use Rattle.decide.specs.PolicyRules.{Grounds, first_of_policy, grounds}
+use Rattle.decide.specs.PolicyRules.{first_of_policy, grounds}
 use Rattle.decide.specs.Requests.{executes, first}
 use Rattle.decide.specs.declared.execution.Execution.{Execution}
 use Rattle.decide.specs.declared.by_rows.Loaded.{Loaded}

@@ -99,7 +99,12 @@ impl PolicyReads for ListStore {
         Ok(is_set(&self.world, number))
     }
 
-    fn certifier(&mut self, _alloc: Global, user: u32, procedure: Procedure) -> Result<bool, Fault> {
+    fn certifier(
+        &mut self,
+        _alloc: Global,
+        user: u32,
+        procedure: Procedure,
+    ) -> Result<bool, Fault> {
         Ok(is_certifier(&self.world, user, procedure))
     }
 

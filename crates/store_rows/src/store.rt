@@ -1,4 +1,4 @@
-ghost use Rattle.std.specs.Prelude.{◌≡◌, None, Some};
+ghost use Rattle.std.specs.Prelude.{◌≡◌};
 ghost use Rattle.bank_books.specs.Records.{account_record, branch_record, teller_record};
 ghost use Rattle.bank_books.specs.Effects.{applied};
 ghost use Rattle.bank_policy.specs.HeldRows.{relations_of, triples_of};
@@ -66,12 +66,7 @@ pub trait PolicyReads: Stands {
         ensures { ReadsRow (Self.status self.old) (Self.status self.new) result (λ w is. is ≡ is_certifier w user procedure) };
 
     /// The release of this number of a user, or none where it isn't there.
-    fn release(
-        &mut self,
-        alloc: Global,
-        user: u32,
-        number: u32,
-    ) -> Result<Option<Release>, Fault>
+    fn release(&mut self, alloc: Global, user: u32, number: u32) -> Result<Option<Release>, Fault>
         ensures { ReadsRow (Self.status self.old) (Self.status self.new) result (λ w row. row ≡ release w user number) };
 }
 

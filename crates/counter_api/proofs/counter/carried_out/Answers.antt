@@ -1,4 +1,4 @@
-use Rattle.std.proofs.Common.{rules, ◌≡◌, None, subst, sym, ◌∙◌}
+use Rattle.std.proofs.Common.{rules, ◌≡◌, None, subst, sym}
 use Rattle.store_rows.specs.declared.bank.Bank.{Bank}
 use Rattle.decide.specs.Permit.{reply_bank}
 use Rattle.decide.specs.declared.request.Asked.{Asked}
@@ -21,8 +21,8 @@ returns-in-Ok-Done-clause-settled g c =
     let end = g.S.Stands.status (reply_bank c.in-Ok-Done.field-0).now.store in
     let q : Asked → Request = λ a. record { who = c.args.request.now.who; moment = c.args.request.now.moment; asked = a } in
     let of_operation : Settles start end (q (asked.Operation c.in-Operation.op)) None =
-        settles start (g.S.Stands.status c.in-Ok-Allowed.permit.bank.now.store) end (q (asked.Operation c.in-Operation.op)) c.in-Ok-Allowed.permit c.in-Ok-Done.field-0 kept decided
-        c.in-Ok-Done.ensures.effect c.in-Ok-Done.ensures.replied in
+    settles start (g.S.Stands.status c.in-Ok-Allowed.permit.bank.now.store) end (q (asked.Operation c.in-Operation.op)) c.in-Ok-Allowed.permit c.in-Ok-Done.field-0 kept decided
+    c.in-Ok-Done.ensures.effect c.in-Ok-Done.ensures.replied in
     let of_request : Settles start end c.args.request.now None = subst (λ a. Settles start end (q a) None) (sym c.in-Operation.is) of_operation in
     at_end (λ (b : Bank g.row.S.Denot). Settles start (g.S.Stands.status b.store) c.args.request.now None) _ (reply_bank c.in-Ok-Done.field-0).now
     (search rules) of_request

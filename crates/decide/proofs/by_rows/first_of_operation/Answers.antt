@@ -1,4 +1,4 @@
-use Rattle.std.proofs.Common.{◌≡◌, Some, None, ap, sym, subst, ◌∙◌}
+use Rattle.std.proofs.Common.{sym, ◌∙◌}
 use Rattle.decide.proofs.LoadedRows.{denied_by_policy, denied_by_books}
 use Rattle.decide.proofs.by_rows.first_of_operation.Goals as goal
 

@@ -21,7 +21,7 @@ returns-in-Ok-Triple g c = record {
       let before = c.prepare_by_books.ensures.kept.answers.honest honest in
       let leave = sym (c.in_ok-rule.ensures.told before w holds) ∙ c.in-Ok-Triple.is in
       let books = subst (λ b. IfOk c.prepare_by_books.result (IsJudged (λ v. by_books (meaning_of c.args.execution.now.op b v)) w)) c.signature.ensures
-        (c.prepare_by_books.ensures.told honest w (c.in_ok-rule.ensures.kept.kept w holds)) in
+      (c.prepare_by_books.ensures.told honest w (c.in_ok-rule.ensures.kept.kept w holds)) in
       IfOk-weaker c.prepare_by_books.result _ _ (λ r h. judged w c.args.execution.now c.in-Ok-Triple.field-0 r leave h) books;
   kept = search rules;
   refused = search rules;
