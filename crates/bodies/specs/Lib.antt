@@ -1,2 +1,15 @@
+pub mod Accounts
+pub mod Balance
 pub mod Body
+pub mod CloseDay
+pub mod Correct
+pub mod DrawerOff
+pub mod DrawerOn
+pub mod MoveCash
+pub mod NewAccount
 pub mod Operation
+pub mod Post
+pub mod Proof
+pub mod Release
+pub mod Statement
+pub mod Transfer

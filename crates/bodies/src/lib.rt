@@ -1,12 +1,20 @@
 //! The operations that the bodies of requests state.
 #![tactic(auto)]
 
-mod branches;
-mod drawers;
-mod inquiries;
+mod accounts;
+mod balance;
+mod close_day;
+mod correct;
+mod drawer_off;
+mod drawer_on;
 mod members;
-mod postings;
+mod move_cash;
+mod new_account;
+mod post;
+mod proof;
 mod read;
-mod releases;
+mod release;
+mod statement;
+mod transfer;
 
 pub use read::read_op;

@@ -4,13 +4,21 @@ ghost use Rattle.serde_json.specs.View.{view};
 ghost use Rattle.money.specs.declared.fault.Fault.TheVariants.{Memory};
 ghost use Rattle.counter_ops.specs.Op.{procedure_of};
 ghost use Rattle.bodies.specs.Operation.{op_of, stated_op};
-ghost use Rattle.counter_ops.specs.Ranges.{IsOp};
+ghost use Rattle.counter_ops.specs.Operations.{IsOp};
 
-use crate::branches::{close_day, new_account};
-use crate::drawers::{drawer_off, drawer_on, move_cash};
-use crate::inquiries::{accounts, balance, proof, statement};
-use crate::postings::{correct, post, transfer};
-use crate::releases::release;
+use crate::accounts::accounts_stated;
+use crate::balance::balance_stated;
+use crate::close_day::close_day_stated;
+use crate::correct::correct_stated;
+use crate::drawer_off::drawer_off_stated;
+use crate::drawer_on::drawer_on_stated;
+use crate::move_cash::move_cash_stated;
+use crate::new_account::new_account_stated;
+use crate::post::post_stated;
+use crate::proof::proof_stated;
+use crate::release::release_stated;
+use crate::statement::statement_stated;
+use crate::transfer::transfer_stated;
 use bank_policy::Procedure;
 use counter_ops::Op;
 use money::Fault;
@@ -24,19 +32,19 @@ fn op_stated(procedure: Procedure, body: &Value) -> Option<Op>
     ensures procedure { IfSome result (λ op. procedure_of op ≡ procedure) }
 {
     match procedure {
-        Procedure::Post => Some(Op::Post(post(body, 0)?)),
-        Procedure::Transfer => Some(Op::Transfer(transfer(body, 0)?)),
-        Procedure::Correct => Some(Op::Correct(correct(body, 0)?)),
-        Procedure::DrawerOn => Some(Op::DrawerOn(drawer_on(body, 0)?)),
-        Procedure::DrawerOff => Some(Op::DrawerOff(drawer_off(body)?)),
-        Procedure::MoveCash => Some(Op::MoveCash(move_cash(body, 0)?)),
-        Procedure::NewAccount => Some(Op::NewAccount(new_account(body)?)),
-        Procedure::Release => Some(Op::Release(release(body)?)),
-        Procedure::Balance => Some(Op::Balance(balance(body)?)),
-        Procedure::Statement => Some(Op::Statement(statement(body)?)),
-        Procedure::Accounts => Some(Op::Accounts(accounts(body)?)),
-        Procedure::Proof => Some(Op::Proof(proof(body)?)),
-        Procedure::CloseDay => Some(Op::CloseDay(close_day(body)?)),
+        Procedure::Post => Some(Op::Post(post_stated(body, 0)?)),
+        Procedure::Transfer => Some(Op::Transfer(transfer_stated(body, 0)?)),
+        Procedure::Correct => Some(Op::Correct(correct_stated(body, 0)?)),
+        Procedure::DrawerOn => Some(Op::DrawerOn(drawer_on_stated(body, 0)?)),
+        Procedure::DrawerOff => Some(Op::DrawerOff(drawer_off_stated(body)?)),
+        Procedure::MoveCash => Some(Op::MoveCash(move_cash_stated(body, 0)?)),
+        Procedure::NewAccount => Some(Op::NewAccount(new_account_stated(body)?)),
+        Procedure::Release => Some(Op::Release(release_stated(body)?)),
+        Procedure::Balance => Some(Op::Balance(balance_stated(body)?)),
+        Procedure::Statement => Some(Op::Statement(statement_stated(body)?)),
+        Procedure::Accounts => Some(Op::Accounts(accounts_stated(body)?)),
+        Procedure::Proof => Some(Op::Proof(proof_stated(body)?)),
+        Procedure::CloseDay => Some(Op::CloseDay(close_day_stated(body)?)),
     }
 }
 

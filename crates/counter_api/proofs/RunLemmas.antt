@@ -10,7 +10,7 @@ use Rattle.decide.specs.Sums.{AreProper, IsProper}
 use Rattle.decide.proofs.RunSums.{sums_always_agree}
 use Rattle.decide.specs.declared.request.Request.{Request}
 use Rattle.counter_api.specs.Response.{ResponseParts}
-use Rattle.counter_api.specs.Run.{AreOrderly, IsHandled, IsPending, IsRun, MarkedMessage, after_message, faults_of, framed, marked, marks_of, pending_after, reply_to, requests_of, stated_by, stopped_after}
+use Rattle.counter_api.specs.Run.{AreOrderly, IsHandled, IsPending, IsRun, MarkedMessage, after_message, failed_after, faults_of, framed, marked, marks_of, pending_after, reply_to, requests_of, stated_by, stopped_after}
 
 rose_then : (m n a b c : ℕ) → RoseBy m a b → RoseBy n b c → RoseBy (m + n) a c
 rose_then m n a b c (inl p) (inl q) = inl (omega arith)
@@ -64,6 +64,7 @@ none_ran users s = record {
     orderly = tt;
     counted = inl (omega arith);
     no_more = omega arith;
+    failed = refl;
     moved = λ clean w held. held;
     replied = λ clean w held. refl;
     leaves = λ clean w held left may. inr may;
@@ -83,6 +84,7 @@ one_more users old mid new m ms parts out here behind =
         orderly = (here.refused, here.answers.was_stopped, here.bears, subst (AreOrderly users ms) here.answers.state behind.run.orderly);
         counted = rose_then (counts m.mark) (faults_of ms) old.fault_count mid.fault_count new.fault_count here.answers.counted behind.run.counted;
         no_more = along (counts_at_most m.mark) (marks_of ms) old.fault_count mid.fault_count new.fault_count here.answers.no_more behind.run.no_more;
+        failed = behind.run.failed ∙ ap (failed_after ms) here.answers.failed;
         moved = λ clean w held.
             let honest = behind.run.honest clean in
             subst (λ v. new.holds v) (after_marked w (stated_by users m) m.mark (requests_of users ms)) (behind.run.moved clean _ (here.moved honest w held));

@@ -8,7 +8,7 @@ use Rattle.heads.specs.Framing.{asks_head, closes}
 use Rattle.heads.specs.declared.fault.MessageFault.{MessageFault}
 use Rattle.messages.specs.Parts.{MessageParts}
 use Rattle.messages.specs.Reply.{reply_bytes}
-use Rattle.store_rows.specs.Status.{Answers, RoseBy, Status, Tells, counts, counts_at_most, stops}
+use Rattle.store_rows.specs.Status.{Answers, RoseBy, Status, Tells, counts, counts_at_most, failures_after, stops}
 use Rattle.decide.specs.Meaning.{ReplyText}
 use Rattle.decide.specs.Run.{Marked, reply, step, world_after}
 use Rattle.decide.specs.Sums.{IsProper, PassesChecks, SumsAgree}
@@ -117,6 +117,11 @@ abbrev pub marks_of : List MarkedMessage → ℕ
 marks_of [] = 0
 marks_of (m ∷ ms) = counts_at_most m.mark + marks_of ms
 
+-- the count of a store's failures after them: marks of Size, Disk and Stopped alone count
+abbrev pub failed_after : List MarkedMessage → ℕ → ℕ
+failed_after [] count = count
+failed_after (m ∷ ms) count = failed_after ms (failures_after m.mark count)
+
 -- What messages and the bytes of their replies make of a store, of each World that it stood for: it stands for the World
 -- after their requests, and the bytes are the replies to them.
 pub record IsRun (users : List ℕ → Option ℕ) (old new : Status) (ms : List MarkedMessage) (out : List ℕ) : Type 0 where
@@ -125,6 +130,7 @@ pub record IsRun (users : List ℕ → Option ℕ) (old new : Status) (ms : List
   pub orderly : AreOrderly users ms old.is_stopped
   pub counted : RoseBy (faults_of ms) old.fault_count new.fault_count
   pub no_more : new.fault_count ≤ old.fault_count + marks_of ms
+  pub failed : new.failure_count ≡ failed_after ms old.failure_count
   pub moved : Tells old new (λ w. new.holds (world_after w (requests_of users ms)))
   pub replied : Tells old new (λ w. out ≡ replies_to users w ms)
   -- A crash leaves the World that stands, or one that is pending: no change that was carried out is undone.

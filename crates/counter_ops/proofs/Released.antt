@@ -3,9 +3,10 @@ use Rattle.std.proofs.Common.{◌≡◌, [], ◌∷◌, ℤ, pos}
 use Rattle.bank_policy.specs.Procedure.{number_of}
 use Rattle.bank_policy.specs.declared.procedure.Procedure.{Procedure}
 use Rattle.counter_ops.specs.Op.{procedure_of}
-use Rattle.counter_ops.specs.Rows.{places, op_of, op_numbers, releasable_numbers}
-use Rattle.counter_ops.specs.declared.op.Releasable.{Releasable}
-use Rattle.counter_ops.specs.declared.op.Releasable.TheVariants as releasable
+use Rattle.counter_ops.specs.Rows.{places, op_numbers}
+use Rattle.counter_ops.specs.Releasable.{op_of, releasable_numbers}
+use Rattle.counter_ops.specs.declared.releasable.Releasable.{Releasable}
+use Rattle.counter_ops.specs.declared.releasable.Releasable.TheVariants as releasable
 
 pub release_stands : (o : Releasable) (user form : ℤ) (p : Procedure) (a b c d e f : ℤ) → pos (number_of p) ≡ form → procedure_of (op_of o) ≡ p → places (op_numbers (op_of o)) ≡ a ∷ b ∷ c ∷ d ∷ e ∷ f ∷ pos 0 ∷ pos 0 ∷ [] → places (user ∷ pos (number_of (procedure_of (op_of o))) ∷ releasable_numbers o) ≡ user ∷ form ∷ a ∷ b ∷ c ∷ d ∷ e ∷ f ∷ []
 release_stands (releasable.Post _) user form p a b c d e f is_form is_p is = cc

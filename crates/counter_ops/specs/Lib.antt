@@ -1,3 +1,15 @@
+pub mod Accounts
+pub mod Correct
+pub mod DrawerOff
+pub mod DrawerOn
+pub mod MoveCash
+pub mod NewAccount
 pub mod Op
+pub mod Operations
+pub mod Post
 pub mod Ranges
+pub mod Releasable
+pub mod Release
 pub mod Rows
+pub mod Statement
+pub mod Transfer

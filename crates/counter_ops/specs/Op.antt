@@ -1,9 +1,6 @@
--- The procedure that an operation is an execution of, and the branch of one that a release may be for.
-use Rattle.std.specs.Prelude.{ℕ}
+-- The procedure that an operation is an execution of.
 use Rattle.bank_policy.specs.declared.procedure.Procedure.{Procedure}
 use Rattle.bank_policy.specs.declared.procedure.Procedure.TheVariants as procedure
-use Rattle.counter_ops.specs.declared.op.Releasable.{Releasable}
-use Rattle.counter_ops.specs.declared.op.Releasable.TheVariants as releasable
 use Rattle.counter_ops.specs.declared.op.Op.{Op}
 use Rattle.counter_ops.specs.declared.op.Op.TheVariants as op
 
@@ -21,11 +18,3 @@ procedure_of (op.Statement _) = procedure.Statement
 procedure_of (op.Accounts _) = procedure.Accounts
 procedure_of (op.Proof _) = procedure.Proof
 procedure_of (op.CloseDay _) = procedure.CloseDay
-
--- the branch of it, whose day a release for it bears
-abbrev pub branch_of : Releasable → ℕ
-branch_of (releasable.Post post) = post.branch
-branch_of (releasable.Transfer transfer) = transfer.branch
-branch_of (releasable.Correct correct) = correct.branch
-branch_of (releasable.DrawerOn drawer_on) = drawer_on.branch
-branch_of (releasable.MoveCash move_cash) = move_cash.branch

@@ -1,15 +1,27 @@
 ghost use Rattle.std.specs.Prelude.{◌≡◌, Some, IfSome};
 ghost use Rattle.counter_ops.specs.Op.{procedure_of};
-ghost use Rattle.counter_ops.specs.Ranges.{IsOp, IsReleasable};
-ghost use Rattle.counter_ops.specs.Rows.{op_of, row_of};
+ghost use Rattle.counter_ops.specs.Operations.{IsOp};
+ghost use Rattle.counter_ops.specs.Releasable.{IsReleasable, op_of};
+ghost use Rattle.counter_ops.specs.Rows.{row_of};
 ghost use Rattle.counter_ops.specs.declared.op.Op.{Op as AnOp};
-ghost use Rattle.counter_ops.specs.declared.op.Releasable.{Releasable as AReleasable};
+ghost use Rattle.counter_ops.specs.declared.releasable.Releasable.{Releasable as AReleasable};
 
-use crate::op::{Balance, CloseDay, Op, Proof, Releasable};
-use crate::row_forms::{
-    accounts, correct, drawer_off, drawer_on, key_alone, move_cash, new_account, post, release,
-    statement, transfer,
-};
+use crate::accounts::accounts_from_places;
+use crate::balance::Balance;
+use crate::close_day::CloseDay;
+use crate::correct::correct_from_places;
+use crate::drawer_off::drawer_off_from_places;
+use crate::drawer_on::drawer_on_from_places;
+use crate::move_cash::move_cash_from_places;
+use crate::new_account::new_account_from_places;
+use crate::op::Op;
+use crate::post::post_from_places;
+use crate::proof::Proof;
+use crate::releasable::Releasable;
+use crate::release::release_from_places;
+use crate::row_key::key_alone;
+use crate::statement::statement_from_places;
+use crate::transfer::transfer_from_places;
 use bank_policy::{OperationRow, Procedure};
 
 impl Op {
@@ -21,19 +33,19 @@ impl Op {
     {
         let members = &row.members;
         match row.form {
-            Procedure::Post => Some(Op::Post(post(members)?)),
-            Procedure::Transfer => Some(Op::Transfer(transfer(members)?)),
-            Procedure::Correct => Some(Op::Correct(correct(members)?)),
-            Procedure::DrawerOn => Some(Op::DrawerOn(drawer_on(members)?)),
-            Procedure::DrawerOff => Some(Op::DrawerOff(drawer_off(members)?)),
-            Procedure::MoveCash => Some(Op::MoveCash(move_cash(members)?)),
-            Procedure::NewAccount => Some(Op::NewAccount(new_account(members)?)),
-            Procedure::Release => Some(Op::Release(release(members)?)),
+            Procedure::Post => Some(Op::Post(post_from_places(members)?)),
+            Procedure::Transfer => Some(Op::Transfer(transfer_from_places(members)?)),
+            Procedure::Correct => Some(Op::Correct(correct_from_places(members)?)),
+            Procedure::DrawerOn => Some(Op::DrawerOn(drawer_on_from_places(members)?)),
+            Procedure::DrawerOff => Some(Op::DrawerOff(drawer_off_from_places(members)?)),
+            Procedure::MoveCash => Some(Op::MoveCash(move_cash_from_places(members)?)),
+            Procedure::NewAccount => Some(Op::NewAccount(new_account_from_places(members)?)),
+            Procedure::Release => Some(Op::Release(release_from_places(members)?)),
             Procedure::Balance => Some(Op::Balance(Balance {
                 account: key_alone(members)?,
             })),
-            Procedure::Statement => Some(Op::Statement(statement(members)?)),
-            Procedure::Accounts => Some(Op::Accounts(accounts(members)?)),
+            Procedure::Statement => Some(Op::Statement(statement_from_places(members)?)),
+            Procedure::Accounts => Some(Op::Accounts(accounts_from_places(members)?)),
             Procedure::Proof => Some(Op::Proof(Proof {
                 branch: key_alone(members)?,
             })),
@@ -53,11 +65,11 @@ impl Releasable {
     {
         let members = &row.members;
         match row.form {
-            Procedure::Post => Some(Releasable::Post(post(members)?)),
-            Procedure::Transfer => Some(Releasable::Transfer(transfer(members)?)),
-            Procedure::Correct => Some(Releasable::Correct(correct(members)?)),
-            Procedure::DrawerOn => Some(Releasable::DrawerOn(drawer_on(members)?)),
-            Procedure::MoveCash => Some(Releasable::MoveCash(move_cash(members)?)),
+            Procedure::Post => Some(Releasable::Post(post_from_places(members)?)),
+            Procedure::Transfer => Some(Releasable::Transfer(transfer_from_places(members)?)),
+            Procedure::Correct => Some(Releasable::Correct(correct_from_places(members)?)),
+            Procedure::DrawerOn => Some(Releasable::DrawerOn(drawer_on_from_places(members)?)),
+            Procedure::MoveCash => Some(Releasable::MoveCash(move_cash_from_places(members)?)),
             _ => None,
         }
     }

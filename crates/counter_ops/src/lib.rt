@@ -1,16 +1,41 @@
 //! The operations that a counter asks of the bank, and their rows.
 #![tactic(auto)]
 
+mod accounts;
+mod balance;
+mod close_day;
+mod correct;
+mod drawer_off;
+mod drawer_on;
 mod from_row;
+mod move_cash;
+mod new_account;
 mod op;
-mod row_forms;
+mod post;
+mod proof;
+mod releasable;
+mod release;
+mod row_key;
 mod row_numbers;
 mod row_places;
+mod statement;
 #[cfg(test)]
 mod tests;
 mod to_row;
+mod transfer;
 
-pub use op::{
-    Accounts, Balance, CloseDay, Correct, DrawerOff, DrawerOn, MoveCash, NewAccount, Op, Post,
-    Proof, Releasable, Release, Statement, Transfer,
-};
+pub use accounts::Accounts;
+pub use balance::Balance;
+pub use close_day::CloseDay;
+pub use correct::Correct;
+pub use drawer_off::DrawerOff;
+pub use drawer_on::DrawerOn;
+pub use move_cash::MoveCash;
+pub use new_account::NewAccount;
+pub use op::Op;
+pub use post::Post;
+pub use proof::Proof;
+pub use releasable::Releasable;
+pub use release::Release;
+pub use statement::Statement;
+pub use transfer::Transfer;

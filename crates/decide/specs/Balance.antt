@@ -10,7 +10,7 @@ use Rattle.bank_policy.specs.declared.rule.Rule.TheVariants as rule
 use Rattle.bank_books.specs.Records.{account_record}
 use Rattle.bank_books.specs.WorldLists.{WorldLists}
 use Rattle.bank_books.specs.declared.records.AccountRecord.{AccountRecord}
-use Rattle.counter_ops.specs.declared.op.Balance.{Balance}
+use Rattle.counter_ops.specs.declared.balance.Balance.{Balance}
 use Rattle.decide.specs.Denial.{cents}
 use Rattle.decide.specs.Meaning.{Meaning, json}
 

@@ -6,7 +6,7 @@ use Rattle.serde_json.specs.Data.{Data, object, member, no_members}
 use Rattle.bank_books.specs.WorldLists.{WorldLists}
 use Rattle.bank_books.specs.declared.records.AccountRecord.{AccountRecord}
 use Rattle.bank_books.specs.declared.signature.Signature.{Signature}
-use Rattle.counter_ops.specs.declared.op.Post.{Post}
+use Rattle.counter_ops.specs.declared.post.Post.{Post}
 use Rattle.postings.specs.Post.{post_denies, post_effect, post_rows}
 use Rattle.postings.specs.declared.ledger.Ledger.{Ledger}
 use Rattle.postings.specs.declared.post.PostRows.{PostRows}

@@ -1,6 +1,6 @@
 ghost use Rattle.std.specs.Prelude.{◌≡◌, IsSome, true};
 ghost use Rattle.counter_ops.specs.Op.{procedure_of};
-ghost use Rattle.counter_ops.specs.Ranges.{IsOp};
+ghost use Rattle.counter_ops.specs.Operations.{IsOp};
 ghost use Rattle.store_rows.specs.Status.{Reads};
 ghost use Rattle.decide.specs.Judged.{IsJudged};
 ghost use Rattle.decide.specs.Meaning.{by_books};

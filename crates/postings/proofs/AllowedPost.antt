@@ -7,7 +7,7 @@ use Rattle.std.proofs.lemmas.Int.{ints}
 use Rattle.money.specs.Ordered.{add_row}
 use Rattle.money.specs.Range.{IsCents, is_cents}
 use Rattle.bank_books.specs.Range.{IsUser}
-use Rattle.counter_ops.specs.declared.op.Post.{Post}
+use Rattle.counter_ops.specs.declared.post.Post.{Post}
 use Rattle.counter_ops.specs.Ranges.{IsKeyOrZero}
 use Rattle.bank_books.specs.Balances.{account_balance, account_deltas, account_opening, account_row, branch_balance, branch_deltas, branch_opening, branch_row, teller_balance, teller_deltas, teller_opening, teller_row}
 use Rattle.bank_books.specs.Books.{Books}

@@ -5,7 +5,7 @@ use Rattle.std.specs.List.{find}
 use Rattle.money.specs.Ordered.{add_row}
 use Rattle.bank_policy.specs.declared.rule.Rule.{Rule}
 use Rattle.bank_policy.specs.declared.rule.Rule.TheVariants as rule
-use Rattle.counter_ops.specs.declared.op.Post.{Post}
+use Rattle.counter_ops.specs.declared.post.Post.{Post}
 use Rattle.bank_books.specs.Records.{account_record, branch_record, teller_record}
 use Rattle.bank_books.specs.declared.records.AccountRecord.{AccountRecord}
 use Rattle.bank_books.specs.Keys.{entry_key}

@@ -1,23 +1,8 @@
--- A loop that adds what a function makes of each row that passes a test, up to so many.
-use Rattle.std.proofs.Common.{◌≡◌, ℕ, ◌+◌, ◌<◌, List, [], ◌∷◌, ◌++◌, Bool, true, false, cond, map, take, drop, length, get_or, ap, sym, ◌∙◌, append-nil, take-append-drop}
+-- What a loop keeps of the rows that pass a test, up to so many.
+use Rattle.std.proofs.Common.{◌≡◌, ℕ, List, Bool, map, take, drop, length, ap, sym, ◌∙◌, take-append-drop}
 use Rattle.std.specs.List.{filter}
-use Rattle.std.proofs.lemmas.List.{map-append, take_at, length-map}
-use Rattle.std.proofs.lemmas.List.Elements.{filter-append, filter_more}
-
--- the row passes, and what is made of it was added
-pub kept_more : {X Y : Type 0} (f : X → Y) (p : X → Bool) (rows : List X) (i : ℕ) (x : X) (before made : List Y) (y : Y) → i < length rows → x ≡ get_or rows i x →
-    p x ≡ true → y ≡ f x → before ≡ map f (filter p (take i rows)) → made ≡ before ++ y ∷ [] → made ≡ map f (filter p (take (i + 1) rows))
-kept_more f p rows i x before made y within is passes y_is before_is made_is =
-    made_is ∙ ap (λ ys. ys ++ y ∷ []) before_is ∙ ap (λ z. map f (filter p (take i rows)) ++ z ∷ []) (y_is ∙ ap f is)
-    ∙ sym (map-append f (filter p (take i rows)) (get_or rows i x ∷ []))
-    ∙ ap (λ b. map f (filter p (take i rows) ++ cond b (get_or rows i x ∷ []) [])) (sym (ap p (sym is) ∙ passes))
-    ∙ ap (map f) (sym (filter_more p rows i x within))
-
--- the row does not pass, and nothing was added
-pub passed_over : {X Y : Type 0} (f : X → Y) (p : X → Bool) (rows : List X) (i : ℕ) (x : X) (made : List Y) → i < length rows → x ≡ get_or rows i x →
-    p x ≡ false → made ≡ map f (filter p (take i rows)) → made ≡ map f (filter p (take (i + 1) rows))
-passed_over f p rows i x made within is fails made_is =
-    made_is ∙ sym (ap (map f) (filter_more p rows i x within ∙ ap (λ b. filter p (take i rows) ++ cond b (get_or rows i x ∷ []) []) (ap p (sym is) ∙ fails) ∙ append-nil (filter p (take i rows))))
+use Rattle.std.proofs.lemmas.List.{take_at, length-map}
+use Rattle.std.proofs.lemmas.List.Elements.{filter-append}
 
 -- there are so many, and no further row is asked for
 pub kept_enough : {X Y : Type 0} (f : X → Y) (p : X → Bool) (rows : List X) (i count : ℕ) (made : List Y) → made ≡ map f (filter p (take i rows)) → length made ≡ count →

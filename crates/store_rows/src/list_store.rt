@@ -34,6 +34,7 @@ impl ListStore {
         ensures honest { (list_status result).is_honest }
         ensures works { (list_status result).is_stopped ≡ false }
         ensures none { (list_status result).fault_count ≡ 0 }
+        ensures no_failure { (list_status result).failure_count ≡ 0 }
     {
         ListStore { world, faults: 0 }
     }

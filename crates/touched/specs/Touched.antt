@@ -3,12 +3,12 @@
 use Rattle.std.specs.Prelude.{ℕ, ◌==◌, ◌||◌, List, [], ◌∷◌, ◌++◌, unsigned_abs, if◌then◌else◌}
 use Rattle.bank_policy.specs.declared.item.Cdi.{Cdi}
 use Rattle.bank_policy.specs.declared.item.Kind.TheVariants as kind
-use Rattle.counter_ops.specs.declared.op.Post.{Post}
-use Rattle.counter_ops.specs.declared.op.Transfer.{Transfer}
-use Rattle.counter_ops.specs.declared.op.Correct.{Correct}
-use Rattle.counter_ops.specs.declared.op.MoveCash.{MoveCash}
-use Rattle.counter_ops.specs.declared.op.Releasable.{Releasable}
-use Rattle.counter_ops.specs.declared.op.Releasable.TheVariants as releasable
+use Rattle.counter_ops.specs.declared.post.Post.{Post}
+use Rattle.counter_ops.specs.declared.transfer.Transfer.{Transfer}
+use Rattle.counter_ops.specs.declared.correct.Correct.{Correct}
+use Rattle.counter_ops.specs.declared.move_cash.MoveCash.{MoveCash}
+use Rattle.counter_ops.specs.declared.releasable.Releasable.{Releasable}
+use Rattle.counter_ops.specs.declared.releasable.Releasable.TheVariants as releasable
 use Rattle.counter_ops.specs.declared.op.Op.{Op}
 use Rattle.counter_ops.specs.declared.op.Op.TheVariants as op
 

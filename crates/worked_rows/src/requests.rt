@@ -1,6 +1,8 @@
 ghost use Rattle.std.specs.Prelude.{◌≡◌, true};
 ghost use Rattle.counter_ops.specs.Op.{procedure_of};
-ghost use Rattle.counter_ops.specs.Ranges.{IsKey, IsOp, IsPost};
+ghost use Rattle.counter_ops.specs.Ranges.{IsKey};
+ghost use Rattle.counter_ops.specs.Operations.{IsOp};
+ghost use Rattle.counter_ops.specs.Post.{IsPost};
 ghost use Rattle.decide.specs.Operations.{is_served};
 
 use crate::opening::opening_at;

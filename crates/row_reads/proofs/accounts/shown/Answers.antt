@@ -4,7 +4,8 @@ use Rattle.bank_policy.specs.HeldRows.{triples_of}
 use Rattle.bank_policy.specs.declared.procedure.Procedure.TheVariants as procedure
 use Rattle.bank_books.specs.Records.{account_record_of}
 use Rattle.row_reads.specs.BookReads.{is_account_after}
-use Rattle.row_reads.proofs.Kept.{kept_enough, kept_more, passed_over}
+use Rattle.bank_policy.proofs.KeptRows.{kept_more, passed_over}
+use Rattle.row_reads.proofs.Kept.{kept_enough}
 use Rattle.row_reads.proofs.accounts.shown.Goals as goal
 use Rattle.row_reads.proofs.accounts.shown.Goals.{then-is_account_after+in_ok-push, else-is_account_after}
 

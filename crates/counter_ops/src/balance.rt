@@ -1,0 +1,6 @@
+/// The balance of an account, asked for.
+#[derive(Clone, Copy, Debug, PartialEq, Eq)]
+pub struct Balance {
+    /// The account, 1 to 999,999,999.
+    pub account: u32,
+}

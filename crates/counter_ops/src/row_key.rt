@@ -1,0 +1,22 @@
+ghost use Rattle.std.specs.Prelude.{◌≡◌, IfSome};
+ghost use Rattle.counter_ops.specs.Ranges.{IsKey};
+ghost use Rattle.counter_ops.specs.Rows.{StandsIn, IsOnlyIn, key_numbers, places};
+
+use crate::row_numbers::key;
+use crate::row_places::one;
+
+/// The key of a form with one member, in the places of a row.
+pub fn places_of_key(key: u32) -> [i64; 8]
+    ensures { result ≡ places (key_numbers key) }
+{
+    [i64::from(key), 0, 0, 0, 0, 0, 0, 0]
+}
+
+/// The key that stands alone in the places.
+pub fn key_alone(members: &[i64; 8]) -> Option<u32>
+    ensures some { IfSome result (StandsIn IsKey key_numbers members.now) }
+    ensures only { IsOnlyIn IsKey key_numbers members.now result }
+{
+    let alone = one(members)?;
+    key(alone)
+}
