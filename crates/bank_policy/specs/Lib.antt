@@ -4,11 +4,6 @@ pub mod Items
 pub mod Laws
 pub mod Policy
 pub mod PolicyKeys
-pub mod PolicyVerdict
-pub mod Procedure
-pub mod Rule
-pub mod Separation
 pub mod SetRow
-pub mod Soundness
 pub mod Tests
 pub mod Triples

@@ -1,7 +1,7 @@
 ghost use Rattle.std.specs.List.Sorted.{IsNonDecreasingBy};
 
 use crate::rows::{Certifier, ItemSet, Relation, Triple, User};
-use money::{Keyed, insert_row};
+use keyed_rows::{Keyed, insert_row};
 use std::alloc::{AllocError, Global};
 use std::marker::Model;
 
@@ -87,7 +87,7 @@ impl Model for Policy {
 
 impl Policy {
     ghost use Rattle.std.specs.Prelude.{◌≡◌, [], OnOk, OnErr};
-    ghost use Rattle.money.specs.Ordered.{add_row};
+    ghost use Rattle.keyed_rows.specs.Ordered.{add_row};
     ghost use Rattle.bank_policy.specs.PolicyKeys.{user_key, set_key, relation_key, triple_key, certifier_key};
 
     /// A policy with no rows: no one may do anything.

@@ -2,12 +2,12 @@
 use Rattle.std.specs.Prelude.{Option, Some, None, option_and_then, option_map, codes, if◌then◌else◌}
 use Rattle.serde_json.specs.Data.{Data}
 use Rattle.serde_json.specs.Find.{get, as_str}
-use Rattle.bank_policy.specs.Procedure.{procedure_named}
+use Rattle.bank_terms.specs.Procedure.{procedure_named}
 use Rattle.counter_ops.specs.declared.releasable.Releasable.{Releasable}
 use Rattle.counter_ops.specs.declared.release.Release.{Release}
 use Rattle.counter_ops.specs.declared.releasable.Releasable.TheVariants as releasable
-use Rattle.bank_policy.specs.declared.procedure.Procedure.{Procedure}
-use Rattle.bank_policy.specs.declared.procedure.Procedure.TheVariants as procedure
+use Rattle.bank_terms.specs.declared.procedure.Procedure.{Procedure}
+use Rattle.bank_terms.specs.declared.procedure.Procedure.TheVariants as procedure
 use Rattle.bodies.specs.Post.{post_of}
 use Rattle.bodies.specs.Transfer.{transfer_of}
 use Rattle.bodies.specs.Correct.{correct_of}

@@ -19,7 +19,7 @@ use crate::proof::proof_stated;
 use crate::release::release_stated;
 use crate::statement::statement_stated;
 use crate::transfer::transfer_stated;
-use bank_policy::Procedure;
+use bank_terms::Procedure;
 use counter_ops::Op;
 use money::Fault;
 use serde_json::{Error, Value};

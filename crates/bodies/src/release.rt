@@ -10,7 +10,7 @@ use crate::members::{is_object_of, natural};
 use crate::move_cash::move_cash_stated;
 use crate::post::post_stated;
 use crate::transfer::transfer_stated;
-use bank_policy::Procedure;
+use bank_terms::Procedure;
 use counter_ops::{Releasable, Release};
 use serde_json::Value;
 

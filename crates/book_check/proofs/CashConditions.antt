@@ -4,7 +4,7 @@ use Rattle.std.specs.Prelude.{if◌then◌else◌}
 use Rattle.std.proofs.lemmas.Int.{ints}
 use Rattle.std.proofs.lemmas.Bool.Decides.{nat_tests}
 use Rattle.money.specs.Range.{IsCents, is_cents}
-use Rattle.money.specs.Totals.{total}
+use Rattle.keyed_rows.specs.Totals.{total}
 use Rattle.bank_books.specs.declared.records.AccountRecord.{AccountRecord}
 use Rattle.bank_books.specs.declared.records.BranchRecord.{BranchRecord}
 use Rattle.bank_books.specs.declared.records.TellerRecord.{TellerRecord}
@@ -12,13 +12,13 @@ use Rattle.bank_books.specs.Conditions.{CashAgrees, TotalsAgree}
 use Rattle.bank_books.specs.Keys.{line_key}
 use Rattle.bank_books.specs.Range.{IsBranchInRange, IsCash, IsInRange}
 use Rattle.bank_books.specs.Records.{KeptLists}
-use Rattle.book_check.specs.Numbers.{BranchesBearNumbers}
+use Rattle.book_range.specs.Numbers.{BranchesBearNumbers}
 use Rattle.book_check.specs.RowConditions.{AmountsAgree, BranchesOfCash, TellersOfLines, amount_of, balance_part, teller_sum}
 use Rattle.bank_books.specs.WorldLists.{WorldLists}
 use Rattle.book_sums.specs.Shares.{group_total}
 use Rattle.book_sums.specs.declared.shares.Part.{Part}
 use Rattle.book_sums.proofs.SharesLemmas.{of_rows, same_totals}
-use Rattle.book_check.proofs.Numbered.{AreNamed, branches_from_numbered, branches_numbered}
+use Rattle.book_range.proofs.Numbered.{AreNamed, branches_from_numbered, branches_numbered}
 use Rattle.std.specs.List.Sorted.{IsPermutation}
 
 is_amount : (z : ℤ) → IsCents z → is_cents z ≡ true

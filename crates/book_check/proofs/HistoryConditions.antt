@@ -5,7 +5,7 @@ use Rattle.std.specs.List.Sorted.{IsPermutation}
 use Rattle.std.specs.Option.{option_map_or}
 use Rattle.std.proofs.lemmas.Bool.{cases_lt, eqb-true}
 use Rattle.std.proofs.lemmas.List.Sorted.{Contains-permutation, IsPermutation-sym}
-use Rattle.money.specs.Ordered.{AreDistinct}
+use Rattle.keyed_rows.specs.Ordered.{AreDistinct}
 use Rattle.bank_books.specs.declared.records.AccountRecord.{AccountRecord}
 use Rattle.bank_books.specs.declared.records.EntryRecord.{EntryRecord}
 use Rattle.bank_books.specs.declared.rows.Account.{Account}
@@ -16,7 +16,7 @@ use Rattle.bank_books.specs.Numbering.{AreNumbered}
 use Rattle.bank_books.specs.Range.{IsAccount, IsBranch, IsEntryInRange, IsInRange}
 use Rattle.bank_books.specs.Records.{KeptLists}
 use Rattle.bank_books.specs.WorldLists.{WorldLists}
-use Rattle.book_check.specs.Numbers.{BranchesBearNumbers}
+use Rattle.book_range.specs.Numbers.{BranchesBearNumbers}
 use Rattle.book_check.specs.RowConditions.{AccountsOfHistory, BranchesOfHistory, EntriesOfHistory, TellersOfHistory, TurnsOfHistory}
 use Rattle.book_check.specs.Turns.{IsAccountInTurns, turn_balance}
 use Rattle.book_sums.specs.Shares.{total_up_to}
@@ -25,8 +25,8 @@ use Rattle.book_sums.specs.declared.shares.Part.{Part}
 use Rattle.book_sums.specs.declared.sums.Sums.{Sums}
 use Rattle.book_sums.proofs.Counting.{both_true, counted_row, made_of, source_of}
 use Rattle.book_check.proofs.CashConditions.{amount_in_range}
-use Rattle.book_check.proofs.FoundRows.{finds_itself}
-use Rattle.book_check.proofs.Numbered.{AreNamed, branches_from_numbered, branches_numbered}
+use Rattle.book_range.proofs.FoundRows.{finds_itself}
+use Rattle.book_range.proofs.Numbered.{AreNamed, branches_from_numbered, branches_numbered}
 use Rattle.book_check.proofs.TurnParts.{balance_given, parts_from_turns, turns_from_parts}
 
 -- what is asked of all rows that are told of a branch

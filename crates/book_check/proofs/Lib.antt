@@ -1,15 +1,7 @@
-pub mod BesideRows
 pub mod CashConditions
 pub mod FirstFailing
-pub mod FoundRows
-pub mod GroupKeys
 pub mod HistoryConditions
-pub mod Judged
 pub mod KeptNumbers
 pub mod KeptRows
-pub mod NamedParts
-pub mod Numbered
-pub mod RangeJoined
-pub mod SameCounts
 pub mod TurnParts
 pub mod TurnWalk

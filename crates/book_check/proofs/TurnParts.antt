@@ -4,7 +4,7 @@ use Rattle.std.specs.Prelude.{nat_le, pos, if◌then◌else◌}
 use Rattle.std.specs.List.Sorted.{IsPermutation}
 use Rattle.std.specs.Option.{option_map_or}
 use Rattle.std.proofs.lemmas.List.Sorted.{Contains-permutation, IsPermutation-refl, IsPermutation-sym}
-use Rattle.money.specs.Ordered.{AreDistinct}
+use Rattle.keyed_rows.specs.Ordered.{AreDistinct}
 use Rattle.bank_books.specs.declared.records.EntryRecord.{EntryRecord}
 use Rattle.bank_books.specs.declared.rows.Account.{Account}
 use Rattle.bank_books.specs.declared.rows.Entry.{Entry}
@@ -20,7 +20,7 @@ use Rattle.book_sums.specs.declared.sums.Sums.{Sums}
 use Rattle.book_sums.proofs.Counting.{made_of, source_of}
 use Rattle.book_sums.proofs.SharesLemmas.{count_of_rows, of_rows}
 use Rattle.book_check.specs.Turns.{AreBeside, turn_balance}
-use Rattle.book_check.proofs.FoundRows.{finds_itself}
+use Rattle.book_range.proofs.FoundRows.{finds_itself}
 
 -- rows are numbered where what is made of them is
 rows_numbered : {X Y : Type 0} (part : X → Y) (group number : Y → ℕ) (rows : List X) (made : List Y) (key : ℕ) → IsPermutation (map part rows) made → AreNumbered group number made key →

@@ -8,9 +8,9 @@ use Rattle.std.proofs.lemmas.Int.{ints}
 use Rattle.std.proofs.lemmas.List.{get_or_default}
 use Rattle.std.proofs.lemmas.List.Elements.{Contains-get_or}
 use Rattle.std.proofs.lemmas.List.Sums.{length-filter}
-use Rattle.money.specs.Totals.{total}
-use Rattle.money.proofs.DistinctKeys.{apart-from_AreDistinct}
-use Rattle.money.proofs.TotalLemmas.{total-take_more}
+use Rattle.keyed_rows.specs.Totals.{total}
+use Rattle.keyed_rows.proofs.DistinctKeys.{apart-from_AreDistinct}
+use Rattle.keyed_rows.proofs.TotalLemmas.{total-take_more}
 use Rattle.bank_books.specs.declared.rows.Account.{Account}
 use Rattle.bank_books.specs.Numbering.{AreNumbered}
 use Rattle.book_sums.specs.declared.shares.Part.{Part}
@@ -19,7 +19,7 @@ use Rattle.book_sums.proofs.Counting.{both_true}
 use Rattle.book_sums.proofs.GroupRows.{from_filter, in_filter}
 use Rattle.book_sums.proofs.SharesBetween.{PassBetween, total-PassBetween, where_passes}
 use Rattle.book_check.specs.Turns.{AreBalancesAfter, AreBeside, IsAccountInTurns}
-use Rattle.book_check.proofs.GroupKeys.{distinct_from_once}
+use Rattle.book_range.proofs.GroupKeys.{distinct_from_once}
 
 abbrev pub of_group : ℕ → List Part → List Part
 of_group g parts = filter (λ p. p.group == g) parts

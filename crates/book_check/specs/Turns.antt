@@ -1,6 +1,6 @@
 -- The turns of an account, and the balances that are kept beside them.
 use Rattle.std.specs.Prelude.{ℕ, ℤ, ◌≡◌, ◌<◌, ◌+◌, ◌+ℤ◌, ◌==◌, List, length, map, take, slice_index_or, count_by, Contains}
-use Rattle.money.specs.Totals.{total}
+use Rattle.keyed_rows.specs.Totals.{total}
 use Rattle.bank_books.specs.declared.records.EntryRecord.{EntryRecord}
 use Rattle.bank_books.specs.declared.rows.Account.{Account}
 use Rattle.bank_books.specs.Numbering.{AreNumbered}

@@ -4,7 +4,8 @@ ghost use Rattle.book_check.specs.RowConditions.{AmountsAgree, amount_of};
 
 use bank_books::{AccountRecord, BranchRecord, TellerRecord};
 use book_sums::{Kept, Part, Parts};
-use money::{MAX_CENTS, Tally, sum_of};
+use keyed_rows::{Tally, sum_of};
+use money::MAX_CENTS;
 
 /// A kept number as an amount, and 0 for one that is none.
 pub(crate) fn amount_of(number: i128) -> i64

@@ -1,12 +1,12 @@
 ghost use Rattle.std.specs.List.Sorted.{IsNonDecreasingBy};
 ghost use Rattle.book_check.specs.Least.{IsFirstFailing};
-ghost use Rattle.book_check.specs.Numbers.{BranchesBearNumbers};
+ghost use Rattle.book_range.specs.Numbers.{BranchesBearNumbers};
 
 use crate::least::{Condition, least_failing};
-use crate::numbers::{Numbered, bear_numbers};
+use book_range::{Numbered, bear_numbers};
 use bank_books::BranchRecord;
 use book_sums::{Kept, rows_of_group};
-use money::Keyed;
+use keyed_rows::Keyed;
 
 /// The least branch with a row whose number is not from 1 to how many rows the branch has, or none.
 pub(crate) fn first_of_other_numbers<T: Keyed + Numbered>(kept: &Kept, rows: &[T]) -> Option<u32>
@@ -24,7 +24,7 @@ struct BranchNumbers<'r, T: Keyed + Numbered> {
 }
 
 impl<'r, T: Keyed + Numbered> Condition<BranchRecord> for BranchNumbers<'r, T> {
-    ghost use Rattle.book_check.specs.Numbers.{BearNumbers};
+    ghost use Rattle.book_range.specs.Numbers.{BearNumbers};
     ghost use Rattle.book_sums.specs.Groups.{rows_of_group};
 
     ghost holds = { λ q kept _. BearNumbers T.number (rows_of_group T.key kept.row.branch q.rows.now) };

@@ -13,7 +13,7 @@ use crate::amounts::{TellerBalances, totals_agree};
 use crate::cash_book::first_of_other_cash;
 use crate::history::first_of_other_history;
 use crate::least::{Condition, least_failing};
-use crate::range::is_in_range;
+use book_range::is_in_range;
 use crate::turns::TurnBalances;
 use bank_books::{BranchRecord, World};
 use book_sums::{Kept, Records, Shares, Sums};

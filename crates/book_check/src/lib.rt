@@ -2,17 +2,11 @@
 #![tactic(auto)]
 
 mod amounts;
-mod beside;
 mod branch_numbers;
 mod cash_book;
 mod check;
 mod history;
 mod least;
-mod named;
-mod numbering;
-mod numbers;
-mod range;
-mod range_rows;
 mod turns;
 
 pub use check::{BooksFault, check_books};

@@ -4,7 +4,7 @@ use Rattle.std.specs.List.{count_by, list_any}
 use Rattle.std.proofs.lemmas.Bool.Decides.{nat_tests}
 use Rattle.std.proofs.lemmas.List.{get_or-map, get_or_default, length-map}
 use Rattle.std.proofs.lemmas.List.Sums.{sum_by-cons}
-use Rattle.money.specs.Ordered.{AreDistinct}
+use Rattle.keyed_rows.specs.Ordered.{AreDistinct}
 
 -- the first row of a list, and the others
 contains_first : {X : Type 0} (x : X) (xs : List X) → Contains (x ∷ xs) x

@@ -5,7 +5,7 @@ use Rattle.std.specs.List.{All}
 use Rattle.std.proofs.lemmas.Bool.{cases_lt}
 use Rattle.std.proofs.lemmas.Int.{ints}
 use Rattle.std.proofs.lemmas.List.{get_or_append_left, get_or_push, length-take-le, length_push, take-take, take_all}
-use Rattle.money.specs.Totals.{total}
+use Rattle.keyed_rows.specs.Totals.{total}
 use Rattle.book_sums.specs.declared.shares.Part.{Part}
 use Rattle.book_sums.specs.Shares.{AreRunningSums, AreShares, IsPart, count_between, group_count, group_total, is_between, total_at, total_between, total_up_to}
 use Rattle.book_sums.proofs.SharesBetween.{EndsAt, EndsBelow, between_places, count_by-PassBetween, total-PassBetween, within_amounts}

@@ -5,7 +5,7 @@ use Rattle.std.specs.List.{All, count_by}
 use Rattle.std.proofs.lemmas.Bool.{and_from, and_parts, eq-eqb, eqb-true, le-leb, leb-true}
 use Rattle.std.proofs.lemmas.List.Elements.{All-head, All-tail}
 use Rattle.std.proofs.lemmas.List.Sums.{sum_by-cons}
-use Rattle.money.specs.Totals.{total}
+use Rattle.keyed_rows.specs.Totals.{total}
 use Rattle.book_sums.specs.declared.shares.Part.{Part}
 use Rattle.book_sums.specs.Shares.{IsPart, is_between, part_key}
 use Rattle.book_sums.proofs.Counting.{one_if}

@@ -2,7 +2,7 @@
 use Rattle.std.specs.Prelude.{◌≡◌, ℕ, ◌+◌, ◌*◌, ◌^◌, ◌<◌, ◌≤◌, nat_le, ℤ, pos, neg_ℤ, ◌<ℤ◌, ◌≤ℤ◌, List, length, map, take, slice_index_or, ◌==◌, ◌&&◌, count_by, if◌then◌else◌, Bool}
 use Rattle.std.specs.List.{All}
 use Rattle.std.specs.List.Sorted.{IsNonDecreasingBy}
-use Rattle.money.specs.Totals.{total}
+use Rattle.keyed_rows.specs.Totals.{total}
 use Rattle.book_sums.specs.declared.shares.Part.{Part}
 
 -- by group, then number

@@ -2,7 +2,7 @@ ghost use Rattle.std.specs.Prelude.{◌≡◌};
 ghost use Rattle.std.specs.List.Sorted.{IsNonDecreasingBy};
 ghost use Rattle.book_sums.specs.Groups.{rows_of_group};
 
-use money::{Keyed, rows_between};
+use keyed_rows::{Keyed, rows_between};
 
 /// The rows of a group, where a key is the group times 2 to the 32 and a number within the group.
 /// The rows stand in order of their keys, so each look halves those that are left.

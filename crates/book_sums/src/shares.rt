@@ -5,7 +5,7 @@ ghost use Rattle.book_sums.specs.declared.shares.Part.{Part as APart};
 ghost use Rattle.book_sums.specs.Shares.{AreRunningSums, IsPart, part_key};
 
 use crate::groups::rows_of_group;
-use money::Keyed;
+use keyed_rows::Keyed;
 use std::alloc::{AllocError, Global};
 use std::marker::Model;
 

@@ -8,7 +8,7 @@ use Rattle.std.proofs.lemmas.List.Sums.{AllPass-from_list_all}
 use Rattle.std.proofs.lemmas.Slice.Eq.{bytes_eq-Decides}
 use Rattle.std.proofs.lemmas.Str.{IsUtf8-from_ascii}
 use Rattle.std.proofs.lemmas.Str.Ascii.{IsAscii-from_all}
-use Rattle.bank_policy.specs.declared.procedure.Procedure.{Procedure}
+use Rattle.bank_terms.specs.declared.procedure.Procedure.{Procedure}
 use Rattle.matchit.specs.Rows.{RowsOf, param_token, catch_all_token}
 use Rattle.matchit.specs.Seek.{own, step, or_else, seek, param_step, first, same_text, has_slash}
 use Rattle.matchit.specs.Router.{RouteOf}

@@ -1,7 +1,7 @@
 -- The request that a message states, or why it states none.
 use Rattle.std.specs.Prelude.{ℕ, ◌≡◌, true, List, Option, Some, None, Result, Ok, Err, if◌then◌else◌}
 use Rattle.std.specs.Option.{option_map_or}
-use Rattle.bank_policy.specs.declared.procedure.Procedure.{Procedure}
+use Rattle.bank_terms.specs.declared.procedure.Procedure.{Procedure}
 use Rattle.bodies.specs.Operation.{stated_op}
 use Rattle.counter_ops.specs.Op.{procedure_of}
 use Rattle.decide.specs.Operations.{is_served}

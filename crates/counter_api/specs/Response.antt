@@ -1,7 +1,7 @@
 -- What a message is answered: the status (RFC 9110, section 15), the type of the content, and the body: an object of RFC 8259, or plain text.
 use Rattle.std.specs.Prelude.{ℕ, List, if◌then◌else◌}
-use Rattle.bank_policy.specs.Rule.{is_forbidden}
-use Rattle.bank_policy.specs.declared.rule.Rule.{Rule}
+use Rattle.bank_terms.specs.Rule.{is_forbidden}
+use Rattle.bank_terms.specs.declared.rule.Rule.{Rule}
 use Rattle.decide.specs.Denial.{denial_text}
 use Rattle.decide.specs.Meaning.{ReplyText, content_type_of}
 use Rattle.decide.specs.declared.reply_kind.ReplyKind.TheVariants as kind

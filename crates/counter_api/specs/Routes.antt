@@ -1,8 +1,8 @@
 -- The operations that messages may ask for, by our own table of paths; which of them are served is said elsewhere.
 use Rattle.std.specs.Prelude.{ℕ, List, [], ◌∷◌, Option, None, codes, option_map, if◌then◌else◌, bytes_eq}
 use Rattle.std.specs.List.{find}
-use Rattle.bank_policy.specs.declared.procedure.Procedure.{Procedure}
-use Rattle.bank_policy.specs.declared.procedure.Procedure.TheVariants.{Post, Transfer, Correct, DrawerOn, DrawerOff, MoveCash, NewAccount, Release, Balance, Statement, Accounts, Proof, CloseDay}
+use Rattle.bank_terms.specs.declared.procedure.Procedure.{Procedure}
+use Rattle.bank_terms.specs.declared.procedure.Procedure.TheVariants.{Post, Transfer, Correct, DrawerOn, DrawerOff, MoveCash, NewAccount, Release, Balance, Statement, Accounts, Proof, CloseDay}
 
 -- the paths of the operations, each with its procedure, in the order of the alphabet
 abbrev pub paths : List (List ℕ × Procedure)

@@ -16,7 +16,7 @@ use crate::fields::who_of;
 use crate::gate::Gate;
 use crate::response::Response;
 use crate::routes::Routes;
-use bank_policy::Procedure;
+use bank_terms::Procedure;
 use bodies::read_op;
 use decide::{Asked, Decision, Reply, Request, carry_out, decide, is_served};
 use heads::MessageFault;

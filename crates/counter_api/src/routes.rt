@@ -5,7 +5,7 @@ ghost use Rattle.matchit.specs.Order.{placed};
 ghost use Rattle.matchit.specs.Router.{nearest, route_from};
 ghost use Rattle.counter_api.specs.Routes.{asked_procedure, procedure_at};
 
-use bank_policy::Procedure;
+use bank_terms::Procedure;
 use http::Method;
 use matchit::{InsertError, Router};
 use std::alloc::{AllocError, Global};

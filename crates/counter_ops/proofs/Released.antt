@@ -1,7 +1,7 @@
 -- The places of a release, behind the first two of which those of the operation stand that it is for.
 use Rattle.std.proofs.Common.{◌≡◌, [], ◌∷◌, ℤ, pos}
-use Rattle.bank_policy.specs.Procedure.{number_of}
-use Rattle.bank_policy.specs.declared.procedure.Procedure.{Procedure}
+use Rattle.bank_terms.specs.Procedure.{number_of}
+use Rattle.bank_terms.specs.declared.procedure.Procedure.{Procedure}
 use Rattle.counter_ops.specs.Op.{procedure_of}
 use Rattle.counter_ops.specs.Rows.{places, op_numbers}
 use Rattle.counter_ops.specs.Releasable.{op_of, releasable_numbers}

@@ -1,7 +1,7 @@
 -- A release: the ranges of its members, and its numbers in the order in which its form names them.
 use Rattle.std.specs.Prelude.{ℤ, pos, List, ◌∷◌}
 use Rattle.counter_ops.specs.declared.release.Release.{Release}
-use Rattle.bank_policy.specs.Procedure.{number_of}
+use Rattle.bank_terms.specs.Procedure.{number_of}
 use Rattle.counter_ops.specs.Op.{procedure_of}
 use Rattle.counter_ops.specs.Ranges.{IsWithin}
 use Rattle.counter_ops.specs.Releasable.{IsReleasable, releasable_numbers, op_of}

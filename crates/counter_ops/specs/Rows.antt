@@ -3,7 +3,7 @@
 use Rattle.std.specs.Prelude.{ℕ, ℤ, pos, ◌≡◌, ◌-◌, List, [], ◌∷◌, ◌++◌, length, replicate, Option, Some}
 use Rattle.counter_ops.specs.declared.op.Op.{Op}
 use Rattle.counter_ops.specs.declared.op.Op.TheVariants as op
-use Rattle.bank_policy.specs.declared.operation_row.OperationRow.{OperationRow}
+use Rattle.bank_terms.specs.declared.operation_row.OperationRow.{OperationRow}
 use Rattle.counter_ops.specs.Op.{procedure_of}
 use Rattle.counter_ops.specs.Post.{post_numbers}
 use Rattle.counter_ops.specs.Transfer.{transfer_numbers}

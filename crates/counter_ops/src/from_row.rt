@@ -22,7 +22,7 @@ use crate::release::release_from_places;
 use crate::row_key::key_alone;
 use crate::statement::statement_from_places;
 use crate::transfer::transfer_from_places;
-use bank_policy::{OperationRow, Procedure};
+use bank_terms::{OperationRow, Procedure};
 
 impl Op {
     /// The operation, with all its members in their ranges, whose row this is, or none where there

@@ -14,7 +14,7 @@ use crate::proof::Proof;
 use crate::release::Release;
 use crate::statement::Statement;
 use crate::transfer::Transfer;
-use bank_policy::Procedure;
+use bank_terms::Procedure;
 
 /// What a counter asks of the bank.
 #[derive(Clone, Copy, Debug, PartialEq, Eq)]

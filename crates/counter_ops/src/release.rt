@@ -1,5 +1,5 @@
 ghost use Rattle.std.specs.Prelude.{◌≡◌, pos, Some, IfSome};
-ghost use Rattle.bank_policy.specs.Procedure.{number_of};
+ghost use Rattle.bank_terms.specs.Procedure.{number_of};
 ghost use Rattle.counter_ops.specs.Op.{procedure_of};
 ghost use Rattle.counter_ops.specs.Release.{IsRelease, release_numbers};
 ghost use Rattle.counter_ops.specs.Rows.{StandsIn, IsOnlyIn, places};
@@ -8,7 +8,7 @@ ghost use Rattle.counter_ops.specs.declared.releasable.Releasable.{Releasable as
 
 use crate::releasable::Releasable;
 use crate::row_numbers::number;
-use bank_policy::{OperationRow, Procedure};
+use bank_terms::{OperationRow, Procedure};
 
 /// Leave for one operation of another user.
 #[derive(Clone, Copy, Debug, PartialEq, Eq)]

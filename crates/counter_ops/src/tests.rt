@@ -2,7 +2,7 @@ use crate::{
     Accounts, Balance, CloseDay, Correct, DrawerOff, DrawerOn, MoveCash, NewAccount, Op, Post,
     Proof, Releasable, Release, Statement, Transfer,
 };
-use bank_policy::{OperationRow, Procedure};
+use bank_terms::{OperationRow, Procedure};
 use money::{Cents, Delta};
 use std::process::Abort;
 use std::test::Fail;

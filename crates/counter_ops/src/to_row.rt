@@ -15,7 +15,7 @@ use crate::release::places_of_release;
 use crate::row_key::places_of_key;
 use crate::statement::places_of_statement;
 use crate::transfer::places_of_transfer;
-use bank_policy::OperationRow;
+use bank_terms::OperationRow;
 
 impl Op {
     /// The operation as a row holds it.

@@ -2,8 +2,8 @@
 use Rattle.std.proofs.Common.{◌≡◌, Bool, true, false, List, [], ◌∷◌, ◌++◌, All, Some, None, refl, sym, ap, subst, ◌⊎◌, inl, inr}
 use Rattle.std.specs.List.{find}
 use Rattle.std.proofs.lemmas.List.Elements.{All-cons, All-nil}
-use Rattle.bank_policy.specs.declared.rule.Rule.{Rule}
-use Rattle.bank_policy.specs.declared.rule.Rule.TheVariants.{Identity, NotCertified, NoTriple, Limit, Release, Unknown, Branch, Drawer, SecondPerson, Entry, Floor, Cash, Range, Taken, Day, Full, Officer, Certifier, Separation, PolicyUnknown, PolicyState}
+use Rattle.bank_terms.specs.declared.rule.Rule.{Rule}
+use Rattle.bank_terms.specs.declared.rule.Rule.TheVariants.{Identity, NotCertified, NoTriple, Limit, Release, Unknown, Branch, Drawer, SecondPerson, Entry, Floor, Cash, Range, Taken, Day, Full, Officer, Certifier, Separation, PolicyUnknown, PolicyState}
 use Rattle.bank_books.specs.WorldLists.{WorldLists}
 use Rattle.decide.specs.Laws.{FirstByPlace, HasOnePlace, IsFirstRule}
 use Rattle.decide.specs.Requests.{denies, first, rules}

@@ -1,6 +1,6 @@
 -- What the policy and the books say of an operation, joined.
 use Rattle.std.proofs.Common.{◌≡◌, Some, Result, Ok, Err, ◌∙◌}
-use Rattle.bank_policy.specs.declared.rule.Rule.{Rule}
+use Rattle.bank_terms.specs.declared.rule.Rule.{Rule}
 use Rattle.bank_books.specs.WorldLists.{WorldLists}
 use Rattle.decide.specs.Executions.{books_meaning}
 use Rattle.decide.specs.Judged.{IsJudged, IsPrepared}

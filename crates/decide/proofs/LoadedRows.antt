@@ -1,6 +1,6 @@
 -- What rows that were loaded tell of the first rule against an operation.
 use Rattle.std.proofs.Common.{◌≡◌, Option, Some, None, ap, sym, ◌∙◌}
-use Rattle.bank_policy.specs.declared.rule.Rule.{Rule}
+use Rattle.bank_terms.specs.declared.rule.Rule.{Rule}
 use Rattle.bank_books.specs.WorldLists.{WorldLists}
 use Rattle.bank_books.specs.declared.signature.Signature.{Signature}
 use Rattle.touched.specs.Touched.{amount, touched}

@@ -5,8 +5,8 @@ use Rattle.std.specs.Fmt.{signed_decimal}
 use Rattle.std.specs.List.{find}
 use Rattle.serde_json.specs.Data.{Data, object, member, no_members}
 use Rattle.money.specs.Range.{is_cents}
-use Rattle.bank_policy.specs.declared.rule.Rule.{Rule}
-use Rattle.bank_policy.specs.declared.rule.Rule.TheVariants as rule
+use Rattle.bank_terms.specs.declared.rule.Rule.{Rule}
+use Rattle.bank_terms.specs.declared.rule.Rule.TheVariants as rule
 use Rattle.bank_books.specs.Records.{account_record}
 use Rattle.bank_books.specs.WorldLists.{WorldLists}
 use Rattle.bank_books.specs.declared.records.AccountRecord.{AccountRecord}

@@ -3,8 +3,8 @@
 use Rattle.std.specs.Prelude.{ℕ, ℤ, List, ◌++◌, codes, decimal}
 use Rattle.serde_json.specs.Data.{Data, number, unsigned, string, object, member, no_members}
 use Rattle.serde_json.specs.Find.{of_integer}
-use Rattle.bank_policy.specs.Rule.{name_of, number_of}
-use Rattle.bank_policy.specs.declared.rule.Rule.{Rule}
+use Rattle.bank_terms.specs.Rule.{name_of, number_of}
+use Rattle.bank_terms.specs.declared.rule.Rule.{Rule}
 
 -- the reply to what a rule denies
 unfoldable pub denial_text : Rule → List ℕ

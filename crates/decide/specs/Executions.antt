@@ -1,7 +1,7 @@
 -- What the rules say of an operation that is asked for, what it leaves and what it is answered.
 use Rattle.std.specs.Prelude.{Bool, true, false, if◌then◌else◌}
-use Rattle.bank_policy.specs.declared.rule.Rule.{Rule}
-use Rattle.bank_policy.specs.declared.rule.Rule.TheVariants as rule
+use Rattle.bank_terms.specs.declared.rule.Rule.{Rule}
+use Rattle.bank_terms.specs.declared.rule.Rule.TheVariants as rule
 use Rattle.bank_books.specs.WorldLists.{WorldLists}
 use Rattle.bank_books.specs.declared.signature.Signature.{Signature}
 use Rattle.decide.specs.Meaning.{Meaning}

@@ -1,6 +1,6 @@
 -- What a judge of an operation answers.
 use Rattle.std.specs.Prelude.{◌≡◌, Some, None, Result, Ok, Err}
-use Rattle.bank_policy.specs.declared.rule.Rule.{Rule}
+use Rattle.bank_terms.specs.declared.rule.Rule.{Rule}
 use Rattle.bank_books.specs.Effects.{applied}
 use Rattle.bank_books.specs.WorldLists.{WorldLists}
 use Rattle.decide.specs.Meaning.{Verdict, json}

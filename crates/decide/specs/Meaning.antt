@@ -1,8 +1,8 @@
 -- What a request is in one World: the rules against it, its effect and its reply.
 use Rattle.std.specs.Prelude.{Bool, false, List, ℕ, [], ◌∷◌, codes, Option}
 use Rattle.std.specs.List.{find}
-use Rattle.bank_policy.specs.declared.rule.Rule.{Rule}
-use Rattle.bank_policy.specs.declared.rule.Rule.TheVariants as rule
+use Rattle.bank_terms.specs.declared.rule.Rule.{Rule}
+use Rattle.bank_terms.specs.declared.rule.Rule.TheVariants as rule
 use Rattle.bank_books.specs.WorldLists.{WorldLists}
 use Rattle.decide.specs.declared.reply_kind.ReplyKind.{ReplyKind}
 use Rattle.decide.specs.declared.reply_kind.ReplyKind.TheVariants as kind

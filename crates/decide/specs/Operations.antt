@@ -1,7 +1,7 @@
 -- The operations: one line a form, in each table.
 use Rattle.std.specs.Prelude.{Bool, true, false}
-use Rattle.bank_policy.specs.declared.procedure.Procedure.{Procedure}
-use Rattle.bank_policy.specs.declared.procedure.Procedure.TheVariants as procedure
+use Rattle.bank_terms.specs.declared.procedure.Procedure.{Procedure}
+use Rattle.bank_terms.specs.declared.procedure.Procedure.TheVariants as procedure
 use Rattle.bank_books.specs.WorldLists.{WorldLists}
 use Rattle.bank_books.specs.declared.signature.Signature.{Signature}
 use Rattle.counter_ops.specs.declared.op.Op.{Op}

@@ -12,7 +12,8 @@ use crate::operations::{OpeningRows, rule_against_balance, rule_against_new_acco
 use crate::policy_rules::{is_certified_for, is_identified, rule_of_triples};
 use crate::request::{Asked, Request};
 use bank_books::AccountRecord;
-use bank_policy::{CertifiedRow, HeldRow, Rule, Standing};
+use bank_policy::{CertifiedRow, HeldRow, Standing};
+use bank_terms::Rule;
 use counter_ops::Op;
 use postings::{PostRows, rule_against_post};
 use touched::{amount, touches};

@@ -13,7 +13,7 @@ use crate::operations::{prepare_balance, prepare_new_account, prepare_post};
 use crate::policy_rules::policy_leave;
 use crate::prepared::Prepared;
 use bank_books::Signature;
-use bank_policy::Rule;
+use bank_terms::Rule;
 use counter_ops::Op;
 use money::Fault;
 use std::alloc::Global;

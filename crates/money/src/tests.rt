@@ -1,8 +1,6 @@
 use crate::{
-    Cents, Delta, Fault, Grouped, Keyed, MAX_CENTS, MAX_DELTA, Tallied, Tally, WriteStopped, add,
-    are_in_order, cents_text, find_row, has_distinct_keys, has_small_groups, insert_row,
-    insert_row_reserved, is_there, place_of, plus, rows_between, sum_of, write_cents, write_parts,
-    write_whole,
+    Cents, Delta, Fault, MAX_CENTS, MAX_DELTA, Tallied, WriteStopped, add, cents_text, plus,
+    write_cents, write_parts, write_whole,
 };
 use std::alloc::{AllocError, Global};
 use std::io;
@@ -112,112 +110,6 @@ fn faults_have_messages(rt: HostRuntime) -> Result<(), Fail> {
         assert_eq!(rt; format!(in alloc; "{fault}")?.as_str(), message);
     }
     Ok(())
-}
-
-/// A key, and a mark that tells rows of one key apart.
-#[derive(Clone, Copy, Debug, PartialEq, Eq)]
-struct Marked(u128, char);
-
-impl Keyed for Marked {
-    ghost key = { λ m. m.0 };
-
-    fn key(&self) -> u128 {
-        self.0
-    }
-}
-
-#[test]
-fn rows_go_behind_those_of_their_key(rt: HostRuntime) -> Result<(), Fail> {
-    let mut rows = Vec::new(rt.alloc());
-    for row in [
-        Marked(2, 'a'),
-        Marked(1, 'b'),
-        Marked(2, 'c'),
-        Marked(u128::MAX, 'd'),
-    ] {
-        insert_row(&mut rows, row)?;
-    }
-    rows.reserve(1)?;
-    assert!(rt; rows.len() < rows.capacity());
-    insert_row_reserved(&mut rows, Marked(1, 'e'));
-    let ordered = [
-        Marked(1, 'b'),
-        Marked(1, 'e'),
-        Marked(2, 'a'),
-        Marked(2, 'c'),
-        Marked(u128::MAX, 'd'),
-    ];
-    assert_eq!(rt; rows.as_slice(), ordered.as_slice());
-    for (key, place, first) in [
-        (0, 0, None),
-        (1, 2, Some('b')),
-        (2, 4, Some('a')),
-        (3, 4, None),
-        (u128::MAX, 5, Some('d')),
-    ] {
-        assert_eq!(rt; place_of(&rows, key), place);
-        assert_eq!(rt; is_there(&rows, key), first.is_some());
-        assert_eq!(rt; find_row(&rows, key).map(|row| row.1), first);
-    }
-    assert_eq!(rt; rows_between(&rows, 2, u128::MAX), &ordered[2..4]);
-    assert!(rt; !has_distinct_keys(&rows));
-    assert!(rt; has_distinct_keys(&ordered[1..3]));
-    assert!(rt; are_in_order(&rows));
-    assert!(rt; !are_in_order(&[Marked(2, 'a'), Marked(1, 'b')]));
-    Ok(())
-}
-
-impl Grouped for Marked {
-    ghost group = { λ m. m.1 };
-
-    fn group(&self) -> u32 {
-        u32::from(self.1)
-    }
-}
-
-#[test]
-fn groups_are_counted_each(rt: HostRuntime) {
-    let rows = [
-        Marked(1, 'a'),
-        Marked(2, 'b'),
-        Marked(3, 'b'),
-        Marked(4, 'c'),
-        Marked(5, 'c'),
-    ];
-    for (most, stands) in [(0, false), (1, false), (2, true), (5, true)] {
-        assert_eq!(rt; has_small_groups(&rows, most), stands);
-    }
-    assert!(rt; has_small_groups(&rows[..2], 1));
-    assert!(rt; has_small_groups::<Marked>(&[], 0));
-}
-
-/// The amounts of one owner.
-struct OwnedBy(u32);
-
-impl Tally<(u32, i64)> for OwnedBy {
-    ghost use Rattle.std.specs.Prelude.{pos, ◌==◌, if◌then◌else◌};
-
-    ghost share = { λ q row. (if row.0 == q.0 then row.1 else pos 0) };
-
-    fn share(&self, row: &(u32, i64)) -> i64 {
-        if row.0 == self.0 { row.1 } else { 0 }
-    }
-}
-
-#[test]
-fn sums_are_exact(rt: HostRuntime) {
-    let rows = [
-        (7, i64::MAX),
-        (8, 5),
-        (7, i64::MAX),
-        (9, i64::MIN),
-        (9, i64::MIN),
-        (8, -12),
-    ];
-    assert_eq!(rt; sum_of(&OwnedBy(7), &rows), 18_446_744_073_709_551_614);
-    assert_eq!(rt; sum_of(&OwnedBy(8), &rows), -7);
-    assert_eq!(rt; sum_of(&OwnedBy(9), &rows), -18_446_744_073_709_551_616);
-    assert_eq!(rt; sum_of(&OwnedBy(6), &rows), 0);
 }
 
 #[test]

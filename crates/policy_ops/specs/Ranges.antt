@@ -3,7 +3,7 @@
 -- and a set; E3 of who may ask at all; and E4, that the list of what is certified for what is changed by its certifier alone, who then
 -- may not execute it.
 use Rattle.std.specs.Prelude.{ℕ, ◌≤◌}
-use Rattle.bank_policy.specs.Soundness.{IsName, IsNumber, IsSetSound}
+use Rattle.policy_check.specs.Soundness.{IsName, IsNumber, IsSetSound}
 use Rattle.bank_policy.specs.declared.rows.Certifier.{Certifier}
 use Rattle.bank_policy.specs.declared.rows.Triple.{Triple}
 use Rattle.policy_ops.specs.declared.policy_op.Enrolment.{Enrolment}

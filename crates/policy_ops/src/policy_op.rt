@@ -2,7 +2,8 @@ ghost use Rattle.std.specs.Prelude.{◌≡◌};
 ghost use Rattle.policy_ops.specs.PolicyOp.{command_of};
 
 use crate::command::Command;
-use bank_policy::{Certifier, ItemSet, Name, Procedure, Triple};
+use bank_policy::{Certifier, ItemSet, Name, Triple};
+use bank_terms::Procedure;
 
 /// A relation, without who certified it.
 #[derive(Clone, Copy, Debug, PartialEq, Eq)]

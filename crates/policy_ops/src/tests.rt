@@ -1,5 +1,6 @@
 use crate::{Command, Enrolment, PolicyOp, RelationKey, TripleKey, UserKey};
-use bank_policy::{Certifier, ItemSet, Kind, Member, Name, Procedure, Triple};
+use bank_policy::{Certifier, ItemSet, Member, Name, Triple};
+use bank_terms::{Kind, Procedure};
 use std::alloc::{AllocError, Global};
 use std::test::Fail;
 

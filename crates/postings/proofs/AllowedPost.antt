@@ -4,7 +4,7 @@ use Rattle.std.specs.Prelude.{◌≤ℤ◌, is_none, nat_le, option_and_then, op
 use Rattle.std.specs.Option.{option_map_or}
 use Rattle.std.proofs.lemmas.Bool.{and_parts, eq-eqb, eqb-true, leb-false, ne_eqb, not-false, or_parts}
 use Rattle.std.proofs.lemmas.Int.{ints}
-use Rattle.money.specs.Ordered.{add_row}
+use Rattle.keyed_rows.specs.Ordered.{add_row}
 use Rattle.money.specs.Range.{IsCents, is_cents}
 use Rattle.bank_books.specs.Range.{IsUser}
 use Rattle.counter_ops.specs.declared.post.Post.{Post}

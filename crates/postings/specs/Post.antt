@@ -2,9 +2,9 @@
 use Rattle.std.specs.Prelude.{◌+◌, ◌==◌, ◌||◌, ◌&&◌, Bool, true, false, not, is_none, List, [], ◌∷◌, Option, option_map, option_and_then}
 use Rattle.std.specs.Option.{option_map_or}
 use Rattle.std.specs.List.{find}
-use Rattle.money.specs.Ordered.{add_row}
-use Rattle.bank_policy.specs.declared.rule.Rule.{Rule}
-use Rattle.bank_policy.specs.declared.rule.Rule.TheVariants as rule
+use Rattle.keyed_rows.specs.Ordered.{add_row}
+use Rattle.bank_terms.specs.declared.rule.Rule.{Rule}
+use Rattle.bank_terms.specs.declared.rule.Rule.TheVariants as rule
 use Rattle.counter_ops.specs.declared.post.Post.{Post}
 use Rattle.bank_books.specs.Records.{account_record, branch_record, teller_record}
 use Rattle.bank_books.specs.declared.records.AccountRecord.{AccountRecord}

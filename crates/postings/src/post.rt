@@ -12,7 +12,7 @@ use crate::rules::{
 use bank_books::{
     AccountRecord, BranchRecord, Entry, EntryForm, Plan, RowWrite, Signature, TellerRecord,
 };
-use bank_policy::Rule;
+use bank_terms::Rule;
 use counter_ops::Post;
 use money::Fault;
 use std::alloc::Global;

@@ -7,7 +7,7 @@ use Rattle.std.proofs.lemmas.List.Elements.{All-append, All-cons, All-head, All-
 use Rattle.bank_policy.specs.Policy.{PolicyLists}
 use Rattle.bank_policy.specs.PolicyKeys.{ArePolicyRowsInOrder, certifier_key, relation_key, set_key, triple_key, user_key}
 use Rattle.bank_policy.specs.SetRow.{SetRow}
-use Rattle.bank_policy.specs.Soundness.{IsPolicySound, IsSetSound}
+use Rattle.policy_check.specs.Soundness.{IsPolicySound, IsSetSound}
 use Rattle.bank_policy.specs.declared.rows.Member.{Member}
 use Rattle.row_reads.specs.Laws.{NextLineFollows}
 use Rattle.row_reads.specs.PolicyListing.{is_before, key_of, kind_of, lines_behind_users, placed_member, policy_rows, set_members}

@@ -4,7 +4,7 @@ use Rattle.std.specs.List.{list_any}
 use Rattle.std.specs.List.Sorted.{IsNonDecreasingBy}
 use Rattle.std.proofs.lemmas.Bool.{eq-eqb, false≢true}
 use Rattle.std.proofs.lemmas.List.Elements.{All-append, All-from_get_or, All-head, All-tail}
-use Rattle.money.specs.Ordered.{AreDistinct}
+use Rattle.keyed_rows.specs.Ordered.{AreDistinct}
 
 -- each row's key lies above those of the rows before it
 abbrev pub Rises : {X : Type 0} → (X → ℕ) → List X → Type 0

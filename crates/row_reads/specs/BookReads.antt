@@ -4,8 +4,8 @@ use Rattle.std.specs.List.{filter, find, list_any, range_with_len}
 use Rattle.std.specs.Option.{option_map_or}
 use Rattle.bank_policy.specs.HeldRows.{HeldTriple, triples_of}
 use Rattle.bank_policy.specs.Tests.{is_within}
-use Rattle.bank_policy.specs.declared.item.Kind.TheVariants as kind
-use Rattle.bank_policy.specs.declared.procedure.Procedure.TheVariants as procedure
+use Rattle.bank_terms.specs.declared.item.Kind.TheVariants as kind
+use Rattle.bank_terms.specs.declared.procedure.Procedure.TheVariants as procedure
 use Rattle.bank_books.specs.Records.{account_record_of, branch_record, entry_record_of, teller_record, teller_record_of}
 use Rattle.bank_books.specs.WorldLists.{WorldLists}
 use Rattle.bank_books.specs.declared.records.AccountRecord.{AccountRecord}

@@ -2,12 +2,12 @@
 use Rattle.std.specs.Prelude.{ℕ, ◌+◌, ◌<◌, ◌≡◌, ◌∷◌, length, map, Some, None}
 use Rattle.std.specs.List.{slice_get}
 use Rattle.std.specs.List.Sorted.{IsNonDecreasingBy}
-use Rattle.money.specs.Ordered.{AreDistinct}
+use Rattle.keyed_rows.specs.Ordered.{AreDistinct}
 use Rattle.bank_books.specs.Keys.{account_key}
 use Rattle.bank_books.specs.declared.records.AccountRecord.{AccountRecord}
 use Rattle.bank_books.specs.WorldLists.{WorldLists}
 use Rattle.bank_policy.specs.PolicyKeys.{ArePolicyRowsInOrder}
-use Rattle.bank_policy.specs.Soundness.{IsPolicySound}
+use Rattle.policy_check.specs.Soundness.{IsPolicySound}
 use Rattle.row_reads.specs.declared.policy_row.PolicyRow.{PolicyRow}
 use Rattle.row_reads.specs.BookReads.{entries_of, entry_at, next_shown, shown}
 use Rattle.row_reads.specs.PolicyListing.{key_of, next_policy, policy_rows}

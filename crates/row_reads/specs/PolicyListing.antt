@@ -2,7 +2,7 @@
 use Rattle.std.specs.Prelude.{ℕ, ◌+◌, ◌*◌, ◌^◌, ◌==◌, ◌&&◌, ◌||◌, Bool, true, nat_lt, List, ◌++◌, map, Option, Some, None}
 use Rattle.std.specs.List.{enumerate_from, find, flat_map}
 use Rattle.bank_policy.specs.Policy.{PolicyLists}
-use Rattle.bank_policy.specs.Procedure.{number_of}
+use Rattle.bank_terms.specs.Procedure.{number_of}
 use Rattle.bank_policy.specs.SetRow.{SetRow}
 use Rattle.bank_policy.specs.declared.rows.Member.{Member}
 use Rattle.bank_books.specs.WorldLists.{WorldLists}

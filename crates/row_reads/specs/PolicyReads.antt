@@ -2,8 +2,8 @@
 use Rattle.std.specs.Prelude.{ℕ, ◌==◌, ◌&&◌, Bool, length, count_by, Option, option_map}
 use Rattle.std.specs.List.{list_any}
 use Rattle.bank_policy.specs.HeldRows.{standing_of, user_row}
-use Rattle.bank_policy.specs.Procedure.{number_of}
-use Rattle.bank_policy.specs.declared.procedure.Procedure.{Procedure}
+use Rattle.bank_terms.specs.Procedure.{number_of}
+use Rattle.bank_terms.specs.declared.procedure.Procedure.{Procedure}
 use Rattle.bank_policy.specs.declared.rows.Certifier.{Certifier}
 use Rattle.bank_policy.specs.declared.rows.User.{User}
 use Rattle.bank_books.specs.Records.{release_count}

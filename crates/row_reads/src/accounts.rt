@@ -2,11 +2,12 @@ ghost use Rattle.std.specs.Prelude.{◌≡◌, IfOk};
 ghost use Rattle.std.specs.List.{find, list_any};
 ghost use Rattle.std.specs.Option.{option_copied};
 ghost use Rattle.bank_policy.specs.Tests.{is_within};
-ghost use Rattle.bank_policy.specs.declared.item.Kind.TheVariants as kind;
+ghost use Rattle.bank_terms.specs.declared.item.Kind.TheVariants as kind;
 ghost use Rattle.row_reads.specs.BookReads.{is_account_after, is_account_of, next_shown, shown};
 
 use bank_books::{Account, AccountRecord, World, account_record_of};
-use bank_policy::{HeldRow, Kind, Member, Procedure, triples_of};
+use bank_policy::{HeldRow, Member, triples_of};
+use bank_terms::{Kind, Procedure};
 use std::alloc::{AllocError, Global};
 
 /// The accounts above a number that lie in the set of some one of the user's triples for the list

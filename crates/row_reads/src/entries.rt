@@ -6,7 +6,7 @@ ghost use Rattle.bank_books.specs.Records.{entry_record_of};
 ghost use Rattle.row_reads.specs.BookReads.{entries_of, entry, entry_at, is_entry, undoes_entry, undone};
 
 use bank_books::{Entry, EntryRecord, World, account_opening};
-use money::{Tally, sum_of};
+use keyed_rows::{Tally, sum_of};
 use std::alloc::{AllocError, Global};
 
 /// The entry of this number in the history of a branch, or none where it isn't there. It takes no

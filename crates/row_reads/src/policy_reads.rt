@@ -7,7 +7,8 @@ ghost use Rattle.row_reads.specs.PolicyReads.{is_certifier, is_set, set_count, t
 
 use crate::records::UserRecord;
 use bank_books::World;
-use bank_policy::{Procedure, Standing, user_row};
+use bank_policy::{Standing, user_row};
+use bank_terms::Procedure;
 
 /// The release of a user that bears this number, or none where it isn't there. It takes no memory.
 pub fn release(world: &World, user: u32, number: u32) -> Option<bank_books::Release>

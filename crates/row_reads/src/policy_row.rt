@@ -1,7 +1,8 @@
 ghost use Rattle.std.specs.Prelude.{◌≡◌};
 ghost use Rattle.row_reads.specs.PolicyListing.{columns_of, is_before, is_behind, key_of, kind_of};
 
-use bank_policy::{Certifier, Member, Procedure, Relation, Triple, User};
+use bank_policy::{Certifier, Member, Relation, Triple, User};
+use bank_terms::Procedure;
 
 /// A member of a set, at its place.
 #[derive(Clone, Copy, Debug, PartialEq, Eq)]

@@ -6,10 +6,8 @@ use crate::{
 use bank_books::{
     Account, Branch, CashLine, Entry, EntryForm, LineForm, Lists, Release, Teller, World,
 };
-use bank_policy::{
-    Certifier, ItemSet, Kind, Member, Name, OperationRow, Policy, Procedure, Relation, Standing,
-    Triple, User,
-};
+use bank_policy::{Certifier, ItemSet, Member, Name, Policy, Relation, Standing, Triple, User};
+use bank_terms::{Kind, OperationRow, Procedure};
 use money::{Cents, Delta};
 use std::alloc::{AllocError, Global};
 use std::process::Abort;

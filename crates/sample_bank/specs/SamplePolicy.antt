@@ -1,12 +1,12 @@
 -- The policy of the sample bank, each list in order of its key.
 use Rattle.std.specs.Prelude.{ℕ, Bool, false, true, List, [], ◌∷◌, ◌++◌, codes, map}
 use Rattle.bank_policy.specs.Policy.{PolicyLists}
-use Rattle.bank_policy.specs.Procedure.{procedures}
+use Rattle.bank_terms.specs.Procedure.{procedures}
 use Rattle.bank_policy.specs.SetRow.{SetRow}
-use Rattle.bank_policy.specs.declared.item.Kind.{Kind}
-use Rattle.bank_policy.specs.declared.item.Kind.TheVariants.{Account, Teller, Branch, History, Drawer, Vault}
-use Rattle.bank_policy.specs.declared.procedure.Procedure.{Procedure}
-use Rattle.bank_policy.specs.declared.procedure.Procedure.TheVariants.{Post, Transfer, Correct, DrawerOn, DrawerOff, MoveCash, NewAccount, Release, Balance, Statement, Accounts, Proof, CloseDay}
+use Rattle.bank_terms.specs.declared.item.Kind.{Kind}
+use Rattle.bank_terms.specs.declared.item.Kind.TheVariants.{Account, Teller, Branch, History, Drawer, Vault}
+use Rattle.bank_terms.specs.declared.procedure.Procedure.{Procedure}
+use Rattle.bank_terms.specs.declared.procedure.Procedure.TheVariants.{Post, Transfer, Correct, DrawerOn, DrawerOff, MoveCash, NewAccount, Release, Balance, Statement, Accounts, Proof, CloseDay}
 use Rattle.bank_policy.specs.declared.rows.Certifier.{Certifier}
 use Rattle.bank_policy.specs.declared.rows.Member.{Member}
 use Rattle.bank_policy.specs.declared.rows.Relation.{Relation}

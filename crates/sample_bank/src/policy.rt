@@ -1,11 +1,10 @@
 ghost use Rattle.std.specs.Prelude.{◌≡◌, [], IfOk, OnOk, fold};
-ghost use Rattle.money.specs.Ordered.{add_row};
+ghost use Rattle.keyed_rows.specs.Ordered.{add_row};
 ghost use Rattle.bank_policy.specs.PolicyKeys.{certifier_key, relation_key, triple_key};
 ghost use Rattle.sample_bank.specs.SamplePolicy.{at_the_counter, certifier, certifiers, everything, first_branch, listed, member, relation, relations, sample_policy, sets, triple, triples, user, users};
 
-use bank_policy::{
-    Certifier, ItemSet, Kind, Member, Name, Policy, Procedure, Relation, Triple, User,
-};
+use bank_policy::{Certifier, ItemSet, Member, Name, Policy, Relation, Triple, User};
+use bank_terms::{Kind, Procedure};
 use std::alloc::{AllocError, Global};
 
 /// The policy of the sample bank. The only error is that memory is refused.

@@ -8,7 +8,8 @@ use bank_books::{
     AccountRecord, BranchRecord, Entry, EntryRecord, Release, RowWrite, TellerRecord, World,
     account_record, branch_record, teller_record,
 };
-use bank_policy::{CertifiedRow, HeldRow, Procedure, relations_of, triples_of};
+use bank_policy::{CertifiedRow, HeldRow, relations_of, triples_of};
+use bank_terms::Procedure;
 use money::Fault;
 use row_reads::{
     DrawerRecord, PolicyKey, PolicyRow, UserRecord, drawer, entries_of, entry, entry_at,

@@ -10,7 +10,8 @@ ghost use Rattle.store_rows.specs.Status.{Changes, ReadsRow, Refuses, Status, co
 use bank_books::{
     AccountRecord, BranchRecord, Entry, EntryRecord, Release, RowWrite, TellerRecord,
 };
-use bank_policy::{CertifiedRow, HeldRow, Procedure};
+use bank_policy::{CertifiedRow, HeldRow};
+use bank_terms::Procedure;
 use money::Fault;
 use row_reads::{DrawerRecord, PolicyKey, PolicyRow, UserRecord};
 use std::alloc::Global;

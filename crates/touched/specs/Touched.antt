@@ -1,8 +1,8 @@
 -- What an operation touches and what it comes to, of the operation alone: the constrained data items that Clark and
 -- Wilson's rules E1 and E2 ask about, and the amount that a limit is compared with.
 use Rattle.std.specs.Prelude.{ℕ, ◌==◌, ◌||◌, List, [], ◌∷◌, ◌++◌, unsigned_abs, if◌then◌else◌}
-use Rattle.bank_policy.specs.declared.item.Cdi.{Cdi}
-use Rattle.bank_policy.specs.declared.item.Kind.TheVariants as kind
+use Rattle.bank_terms.specs.declared.item.Cdi.{Cdi}
+use Rattle.bank_terms.specs.declared.item.Kind.TheVariants as kind
 use Rattle.counter_ops.specs.declared.post.Post.{Post}
 use Rattle.counter_ops.specs.declared.transfer.Transfer.{Transfer}
 use Rattle.counter_ops.specs.declared.correct.Correct.{Correct}

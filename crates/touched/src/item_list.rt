@@ -1,6 +1,6 @@
 ghost use Rattle.std.specs.Prelude.{◌≡◌, ◌+◌, ◌<◌, ◌≤◌, [], ◌∷◌, ◌++◌, length};
 
-use bank_policy::{Cdi, Kind};
+use bank_terms::{Cdi, Kind};
 use std::marker::Model;
 
 /// How many items an operation touches at most.
@@ -17,7 +17,7 @@ pub struct ItemList {
 
 impl Model for ItemList {
     ghost use Rattle.std.specs.Prelude.{◌≤◌, List, take};
-    ghost use Rattle.bank_policy.specs.declared.item.Cdi.{Cdi as TheItem};
+    ghost use Rattle.bank_terms.specs.declared.item.Cdi.{Cdi as TheItem};
 
     ghost Value = { List TheItem };
 

@@ -1,5 +1,5 @@
 use crate::{amount, touches};
-use bank_policy::{Cdi, Kind};
+use bank_terms::{Cdi, Kind};
 use counter_ops::{
     Accounts, CloseDay, Correct, DrawerOn, MoveCash, NewAccount, Op, Post, Releasable, Release,
     Statement, Transfer,

@@ -2,7 +2,7 @@ ghost use Rattle.std.specs.Prelude.{◌≡◌, ◌≤◌, ◌++◌, length, unsi
 ghost use Rattle.touched.specs.Touched.{account_item, teller_item, branch_item, history_item, drawer_item, vault_item, touched, touched_by_post, touched_by_transfer, touched_by_correct, touched_by_move_cash, touched_by_drawer, touched_by_books, touched_by_releasable, touched_at, touched_place, amount as amount_of, amount_of_releasable};
 
 use crate::item_list::ItemList;
-use bank_policy::{Cdi, Kind};
+use bank_terms::{Cdi, Kind};
 use counter_ops::{Correct, MoveCash, Op, Post, Releasable, Transfer};
 use money::Delta;
 

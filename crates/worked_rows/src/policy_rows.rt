@@ -1,7 +1,5 @@
-use bank_policy::{
-    Cdi, Certifier, HeldRow, ItemSet, Kind, Member, Name, Policy, Procedure, Relation, Rule,
-    Triple, User, best_limit, covers, is_certified, relations_of, triples_of,
-};
+use bank_policy::{Certifier, HeldRow, ItemSet, Member, Name, Policy, Relation, Triple, User, best_limit, covers, is_certified, relations_of, triples_of};
+use bank_terms::{Cdi, Kind, Procedure, Rule};
 use sample_bank::sample_world;
 use std::alloc::Global;
 use std::process::Abort;

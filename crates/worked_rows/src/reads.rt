@@ -1,4 +1,4 @@
-use bank_policy::Procedure;
+use bank_terms::Procedure;
 use sample_bank::sample_world;
 use store_rows::{BookReads, ListStore, PolicyReads, PolicyRow, ReportReads, Stands};
 

@@ -9,7 +9,7 @@ ghost use Rattle.decide.specs.Meaning.{by_books};
 use crate::prepared::Prepared;
 use crate::text::compact;
 use bank_books::AccountRecord;
-use bank_policy::Rule;
+use bank_terms::Rule;
 use counter_ops::Balance;
 use money::{Cents, Fault};
 use serde_json::{Value, json};

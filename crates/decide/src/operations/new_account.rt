@@ -8,7 +8,7 @@ ghost use Rattle.decide.specs.NewAccount.{first_against_new_account, new_account
 use crate::prepared::Prepared;
 use crate::text::compact;
 use bank_books::{Account, AccountRecord, BranchRecord, RowWrite};
-use bank_policy::Rule;
+use bank_terms::Rule;
 use counter_ops::NewAccount;
 use money::{Cents, Fault};
 use serde_json::{Value, json};

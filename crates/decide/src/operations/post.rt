@@ -9,7 +9,7 @@ ghost use Rattle.decide.specs.Post.{post_meaning, posted_data, posted_of, posted
 use crate::prepared::Prepared;
 use crate::text::compact;
 use bank_books::Signature;
-use bank_policy::Rule;
+use bank_terms::Rule;
 use counter_ops::Post;
 use money::{Cents, Fault};
 use postings::{PostRows, balance_after, plan_post};

@@ -1,7 +1,7 @@
 use Rattle.std.proofs.Common.{◌≡◌, List, Contains, subst}
 use Rattle.bank_books.specs.declared.records.BranchRecord.{BranchRecord}
 use Rattle.book_check.specs.Least.{IsFirstFailing}
-use Rattle.book_check.specs.Numbers.{BearNumbers}
+use Rattle.book_range.specs.Numbers.{BearNumbers}
 use Rattle.book_sums.specs.Groups.{rows_of_group}
 use Rattle.book_check.proofs.KeptRows.{by_themselves}
 use Rattle.book_check.proofs.branch_numbers.first_of_other_numbers.Goals as goal

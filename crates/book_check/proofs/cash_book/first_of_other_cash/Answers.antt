@@ -4,7 +4,7 @@ use Rattle.bank_books.specs.Conditions.{CashAgrees}
 use Rattle.book_check.specs.Least.{IsFirstFailing, lesser_of}
 use Rattle.bank_books.specs.declared.rows.CashLine.{CashLine}
 use Rattle.bank_books.specs.Keys.{line_key}
-use Rattle.book_check.specs.Numbers.{BranchesBearNumbers}
+use Rattle.book_range.specs.Numbers.{BranchesBearNumbers}
 use Rattle.book_check.specs.RowConditions.{BranchesOfCash, TellersOfLines}
 use Rattle.book_check.proofs.FirstFailing.{both, reworded}
 use Rattle.book_check.proofs.CashConditions.{RowsOfCash, cash_by_rows, rows_by_cash}

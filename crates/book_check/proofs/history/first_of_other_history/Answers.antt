@@ -4,7 +4,7 @@ use Rattle.bank_books.specs.declared.rows.Entry.{Entry}
 use Rattle.bank_books.specs.Conditions.{HistoryAgrees}
 use Rattle.bank_books.specs.Keys.{entry_key}
 use Rattle.book_check.specs.Least.{IsFirstFailing, lesser_of}
-use Rattle.book_check.specs.Numbers.{BranchesBearNumbers}
+use Rattle.book_range.specs.Numbers.{BranchesBearNumbers}
 use Rattle.book_check.specs.RowConditions.{AccountsOfHistory, BranchesOfHistory, EntriesOfHistory, TellersOfHistory, TurnsOfHistory}
 use Rattle.book_check.proofs.FirstFailing.{both, reworded}
 use Rattle.book_check.proofs.HistoryConditions.{RowsAgree, agrees_by_rows, rows_by_agreement}

@@ -1,6 +1,6 @@
 -- the balances so far
 use Rattle.std.proofs.Common.{◌≡◌, ℕ, ◌<◌, ◌+◌, ◌+ℤ◌, get_or, map, take}
-use Rattle.money.specs.Totals.{total}
+use Rattle.keyed_rows.specs.Totals.{total}
 use Rattle.book_sums.specs.declared.shares.Part.{Part}
 use Rattle.book_check.proofs.turns.are_balances_after.Given as goal
 

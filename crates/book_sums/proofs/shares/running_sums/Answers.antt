@@ -1,7 +1,7 @@
 use Rattle.std.proofs.Common.{◌≡◌, get_or, pos, arith}
 use Rattle.std.proofs.lemmas.Int.{ints}
 use Rattle.std.proofs.lemmas.List.{get_or_default}
-use Rattle.money.proofs.TotalLemmas.{total-take_more}
+use Rattle.keyed_rows.proofs.TotalLemmas.{total-take_more}
 use Rattle.book_sums.specs.declared.shares.Part.{Part}
 use Rattle.book_sums.proofs.SharesCalls.{AreRunningSums-more}
 use Rattle.book_sums.proofs.shares.running_sums.Goals as goal

@@ -1,7 +1,7 @@
 use Rattle.std.proofs.Common.{Some, option_map, ap, ◌∙◌}
 use Rattle.std.specs.List.{find}
 use Rattle.bank_policy.specs.HeldRows.{triples_of}
-use Rattle.bank_policy.specs.declared.procedure.Procedure.TheVariants as procedure
+use Rattle.bank_terms.specs.declared.procedure.Procedure.TheVariants as procedure
 use Rattle.bank_books.specs.Records.{account_record_of}
 use Rattle.row_reads.specs.BookReads.{is_account_after}
 use Rattle.row_reads.proofs.accounts.next_shown.Goals as goal

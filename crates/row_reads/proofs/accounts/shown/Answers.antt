@@ -1,7 +1,7 @@
 use Rattle.std.proofs.Common.{◌≡◌, length, map, take, ap, ◌∙◌, sym, arith}
 use Rattle.std.specs.List.{filter}
 use Rattle.bank_policy.specs.HeldRows.{triples_of}
-use Rattle.bank_policy.specs.declared.procedure.Procedure.TheVariants as procedure
+use Rattle.bank_terms.specs.declared.procedure.Procedure.TheVariants as procedure
 use Rattle.bank_books.specs.Records.{account_record_of}
 use Rattle.row_reads.specs.BookReads.{is_account_after}
 use Rattle.bank_policy.proofs.KeptRows.{kept_more, passed_over}

@@ -1,5 +1,5 @@
 use Rattle.std.proofs.Common.{◌≡◌, take, fold}
-use Rattle.money.specs.Ordered.{add_row}
+use Rattle.keyed_rows.specs.Ordered.{add_row}
 use Rattle.bank_policy.specs.PolicyKeys.{triple_key}
 use Rattle.sample_bank.specs.SamplePolicy.{triple}
 use Rattle.sample_bank.proofs.policy.write_triples.Given as goal

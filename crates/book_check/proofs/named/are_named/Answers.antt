@@ -1,8 +1,0 @@
-use Rattle.book_check.specs.Named.{IsNamed}
-use Rattle.book_check.proofs.NamedParts.{same_as_before}
-use Rattle.book_check.proofs.named.are_named.Goals as goal
-
-pub loop-index-preserved-then-names_same : goal.loop-index-preserved-then-names_same
-loop-index-preserved-then-names_same c =
-    same_as_before (IsNamed c.args.world.now c.args.named) c.parts-parts.result.now c.loop-index.index _ _ c.if-index-gt0.true c.loop-index-test.true
-    (c.names_same.ensures c.if-names_same.true c.args.world.now) c.loop-index.invariant

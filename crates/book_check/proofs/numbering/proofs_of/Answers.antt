@@ -1,5 +1,0 @@
-use Rattle.book_check.proofs.Numbered.{proofs_found}
-use Rattle.book_check.proofs.numbering.proofs_of.Goals as goal
-
-pub returns : goal.returns
-returns c = proofs_found c.args.world.now c.proofs.result.now c.rows_of_group.result.now c.args.branch c.requires c.proofs.ensures.value c.rows_of_group.ensures c.proofs.ensures.in_order

@@ -1,5 +1,0 @@
-use Rattle.book_check.proofs.Numbered.{releases_found}
-use Rattle.book_check.proofs.numbering.release_count.Goals as goal
-
-pub returns : goal.returns
-returns c = releases_found c.args.world.now c.releases.result.now c.rows_of_group.result.now c.args.user c.requires c.releases.ensures.value c.rows_of_group.ensures c.releases.ensures.in_order

@@ -1,0 +1,215 @@
+ghost use Rattle.std.specs.Prelude.{◌≡◌, ◌↔◌, ◌≤◌, ◌≤ℤ◌, IfSome, IsTrue, negsuc, pos};
+ghost use Rattle.money.specs.Range.{IsCents};
+ghost use Rattle.counter_ops.specs.Ranges.{IsKey, IsWithin};
+ghost use Rattle.book_sums.specs.Shares.{group_count};
+ghost use Rattle.book_sums.specs.Sums.{AreSumsOf};
+ghost use Rattle.bank_books.specs.Range.{HasDistinctKeys, HoldsReleasable, IsAccountInRange, IsBranchInRange, IsCash, IsDay, IsProofInRange, IsTellerInRange, IsUserNumber};
+ghost use Rattle.book_range.specs.RangeParts.{AreCashBooksInRange, IsEntryLimited, IsLineLimited, IsReleaseAlone};
+
+use crate::named::{is_branch, is_user};
+use crate::numbering::has_numbered_days;
+use bank_books::{
+    Account, AccountRecord, Branch, BranchRecord, CashLine, EntryRecord, Proof, Release,
+    TellerRecord, World,
+};
+use bank_policy::User;
+use book_sums::Sums;
+use counter_ops::Releasable;
+use money::MAX_CENTS;
+
+/// The greatest key of an account, a teller, a branch, an entry or a turn.
+const MAX_KEY: u32 = 999_999_999;
+
+/// The greatest moment, in seconds.
+const MAX_MOMENT: u64 = 99_999_999_999;
+
+/// Whether what is kept of a branch is within its limits, and its proofs are those of the days
+/// before its present one.
+pub(crate) fn is_branch_in_range(world: &World, sums: &Sums, branch: &BranchRecord) -> bool
+    requires distinct { HasDistinctKeys world.now }
+    requires days { AreCashBooksInRange world.now }
+    requires sums { AreSumsOf world.now sums.now }
+    ensures { IsTrue result ↔ IsBranchInRange world.now branch.now }
+{
+    is_branch_row_in_range(&branch.row)
+        && are_balances_in_range(branch)
+        && are_totals_in_range(branch)
+        && are_counts_in_range(branch)
+        && has_numbered_days(world, &branch.row)
+        && sums.by_home.count_of(branch.row.branch) <= 100_000
+}
+
+fn is_branch_row_in_range(row: &Branch) -> bool
+    ensures { IsTrue result ↔ (IsKey row.now.branch × IsDay row.now.day × IsCash row.now.cash) }
+{
+    is_key(row.branch) && is_day(row.day) && is_cash(i128::from(row.cash.get()))
+}
+
+fn are_balances_in_range(branch: &BranchRecord) -> bool
+    ensures { IsTrue result ↔ (IsCents branch.now.balance × IsCash branch.now.vault × IsCents branch.now.history) }
+{
+    is_cents(branch.balance) && is_cash(branch.vault) && is_cents(branch.history)
+}
+
+fn are_totals_in_range(branch: &BranchRecord) -> bool
+    ensures { IsTrue result ↔ (IsCents branch.now.drawers × IsCents branch.now.cash_entries × IsCents branch.now.differences) }
+{
+    is_cents(branch.drawers) && is_cents(branch.cash_entries) && is_cents(branch.differences)
+}
+
+fn are_counts_in_range(branch: &BranchRecord) -> bool
+    ensures { IsTrue result ↔ ((branch.now.entries ≤ 999999999) × (branch.now.lines ≤ 999999999) × (branch.now.accounts ≤ 100000)) }
+{
+    branch.entries <= MAX_KEY as u64 && branch.lines <= MAX_KEY as u64 && branch.accounts <= 100_000
+}
+
+/// What is kept of a row, or a row, that has limits.
+pub(crate) trait Limited {
+    ghost use Rattle.bank_books.specs.WorldLists.{WorldLists};
+
+    ghost has_limits: { WorldLists → Self → Type 0 };
+
+    /// Whether it is within its limits, and the rows that it names are there.
+    fn is_within_limits(&self, world: &World) -> bool
+        ensures { IsTrue result ↔ has_limits world.now self.now };
+}
+
+impl Limited for TellerRecord {
+    ghost has_limits = { IsTellerInRange };
+
+    fn is_within_limits(&self, world: &World) -> bool {
+        is_key(self.row.teller)
+            && is_branch(world, self.row.branch)
+            && is_cents(self.balance)
+            && is_cash(self.cash)
+            && is_holder(self.holder)
+    }
+}
+
+impl Limited for AccountRecord {
+    ghost has_limits = { IsAccountInRange };
+
+    fn is_within_limits(&self, world: &World) -> bool {
+        is_key(self.row.account)
+            && is_branch(world, self.row.home)
+            && is_floor(&self.row)
+            && is_cents(self.balance)
+            && i128::from(self.row.floor.get()) <= self.balance
+            && self.turns <= MAX_KEY as u64
+    }
+}
+
+/// The branch, account and teller that an entry names are looked up beside.
+impl Limited for EntryRecord {
+    ghost has_limits = { IsEntryLimited };
+
+    fn is_within_limits(&self, world: &World) -> bool {
+        is_key(self.row.number)
+            && is_key(self.row.turn)
+            && self.row.moment <= MAX_MOMENT
+            && is_day(self.row.day)
+            && self.row.partner <= MAX_KEY
+            && self.row.undoes <= MAX_KEY
+            && is_cents(self.balance_after)
+            && is_user(world, self.row.user)
+    }
+}
+
+/// The branch and the place that a line names are looked up beside.
+impl Limited for CashLine {
+    ghost has_limits = { IsLineLimited };
+
+    fn is_within_limits(&self, world: &World) -> bool {
+        is_key(self.number)
+            && self.moment <= MAX_MOMENT
+            && is_day(self.day)
+            && is_user(world, self.user)
+    }
+}
+
+impl Limited for Proof {
+    ghost has_limits = { IsProofInRange };
+
+    fn is_within_limits(&self, world: &World) -> bool {
+        is_branch(world, self.branch) && is_day(self.day) && self.entries <= MAX_KEY
+    }
+}
+
+/// How releases are numbered is looked up beside.
+impl Limited for Release {
+    ghost has_limits = { IsReleaseAlone };
+
+    fn is_within_limits(&self, world: &World) -> bool {
+        is_user(world, self.user)
+            && is_within(self.number, 1, 100_000)
+            && is_user(world, self.giver)
+            && is_branch(world, self.branch)
+            && is_day(self.day)
+            && holds_releasable(self)
+    }
+}
+
+impl Limited for User {
+    ghost has_limits = { λ _ u. u.session ≤ 999999999 };
+
+    fn is_within_limits(&self, _: &World) -> bool {
+        self.session <= MAX_KEY
+    }
+}
+
+/// Whether the row of a release holds an operation that may be released, at its branch.
+fn holds_releasable(release: &Release) -> bool
+    ensures { IsTrue result ↔ HoldsReleasable release.now }
+{
+    match Releasable::from_row(&release.operation) {
+        Some(operation) => operation.branch() == release.branch,
+        None => false,
+    }
+}
+
+/// Whether the floor of an account is within its limits, and not above its opening.
+fn is_floor(account: &Account) -> bool
+    ensures { IsTrue result ↔ ((negsuc 999999998 ≤ℤ account.now.floor) × (account.now.floor ≤ℤ pos 0) × (account.now.floor ≤ℤ account.now.opening)) }
+{
+    let floor = account.floor.get();
+    -999_999_999 <= floor && floor <= 0 && floor <= account.opening.get()
+}
+
+fn is_holder(holder: Option<u32>) -> bool
+    ensures { IsTrue result ↔ IfSome holder IsUserNumber }
+{
+    match holder {
+        Some(user) => is_within(user, 1, 9_999),
+        None => true,
+    }
+}
+
+fn is_key(number: u32) -> bool
+    ensures { IsTrue result ↔ IsKey number }
+{
+    is_within(number, 1, MAX_KEY)
+}
+
+fn is_day(number: u32) -> bool
+    ensures { IsTrue result ↔ IsDay number }
+{
+    is_within(number, 1, 999_999)
+}
+
+fn is_within(number: u32, low: u32, high: u32) -> bool
+    ensures { IsTrue result ↔ IsWithin low high number }
+{
+    low <= number && number <= high
+}
+
+fn is_cents(amount: i128) -> bool
+    ensures { IsTrue result ↔ IsCents amount }
+{
+    -i128::from(MAX_CENTS) <= amount && amount <= i128::from(MAX_CENTS)
+}
+
+fn is_cash(amount: i128) -> bool
+    ensures { IsTrue result ↔ IsCash amount }
+{
+    0 <= amount && amount <= i128::from(MAX_CENTS)
+}

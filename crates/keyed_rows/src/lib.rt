@@ -1,0 +1,12 @@
+//! Rows in order of their keys: looking them up, adding them, counting them by group, and exact sums over them.
+#![tactic(auto)]
+
+mod groups;
+mod ordered;
+mod sums;
+#[cfg(test)]
+mod tests;
+
+pub use groups::{Grouped, has_small_groups};
+pub use ordered::{Keyed, are_in_order, find_row, has_distinct_keys, insert_row, insert_row_reserved, is_there, place_of, rows_between};
+pub use sums::{Tally, sum_of};

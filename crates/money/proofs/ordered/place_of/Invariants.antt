@@ -1,5 +1,0 @@
-use Rattle.money.proofs.Places.{PassedBelow}
-use Rattle.money.proofs.ordered.place_of.Given as goal
-
-abbrev pub invariant-loop-row : goal.invariant-loop-row
-invariant-loop-row g l = PassedBelow g.T.Keyed.key l.key l.rows l.row-index l.place

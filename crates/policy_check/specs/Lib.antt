@@ -1,0 +1,3 @@
+pub mod PolicyVerdict
+pub mod Separation
+pub mod Soundness

@@ -1,0 +1,169 @@
+ghost use Rattle.std.specs.Prelude.{◌↔◌, ◌≤◌, All, IsTrue, map};
+ghost use Rattle.keyed_rows.specs.Ordered.{AreDistinct};
+ghost use Rattle.bank_policy.specs.PolicyKeys.{certifier_key, relation_key, triple_key};
+ghost use Rattle.policy_check.specs.Soundness.{AreCertifiersSound, AreRelationsSound, AreTriplesSound, HasFewOfEachProcedure, HasFewOfEachUser, IsNumber, IsRelated, IsSet, IsUser};
+
+use bank_policy::Policy;
+use bank_terms::Procedure;
+use bank_policy::{Relation, Triple};
+use crate::soundness::is_number;
+use keyed_rows::{Grouped, has_distinct_keys, has_small_groups, is_there};
+
+/// The relations of a procedure are a group.
+impl Grouped for Relation {
+    ghost use Rattle.bank_terms.specs.Procedure.{number_of};
+
+    ghost group = { λ row. number_of row.procedure };
+
+    fn group(&self) -> u32 {
+        self.procedure.number() as u32
+    }
+}
+
+/// The triples of a user are a group.
+impl Grouped for Triple {
+    ghost group = { λ row. row.user };
+
+    fn group(&self) -> u32 {
+        self.user
+    }
+}
+
+pub(crate) fn are_relations_sound(policy: &Policy) -> bool
+    ensures { IsTrue result ↔ AreRelationsSound policy.now }
+{
+    has_distinct_relations(policy)
+        && has_numbers_of_relations(policy)
+        && has_few_of_each_procedure(policy)
+        && has_sets_of_relations(policy)
+        && has_users_of_relations(policy)
+}
+
+fn has_distinct_relations(policy: &Policy) -> bool
+    ensures { IsTrue result ↔ AreDistinct (map relation_key policy.now.relations) }
+{
+    has_distinct_keys(policy.relations())
+}
+
+fn has_numbers_of_relations(policy: &Policy) -> bool
+    ensures { IsTrue result ↔ All (λ row. IsNumber row.set) policy.now.relations }
+{
+    policy.relations().iter().all(|row| is_number(row.set))
+}
+
+// Below 2 ^ 32 the sets leave the relations in order of their procedures.
+fn has_few_of_each_procedure(policy: &Policy) -> bool
+    requires { All (λ row. IsNumber row.set) policy.now.relations }
+    ensures { IsTrue result ↔ HasFewOfEachProcedure policy.now.relations }
+{
+    has_small_groups(policy.relations(), 1_000)
+}
+
+fn has_sets_of_relations(policy: &Policy) -> bool
+    ensures { IsTrue result ↔ All (λ row. IsSet policy.now row.set) policy.now.relations }
+{
+    policy.relations().iter().all(|row| is_set(policy, row.set))
+}
+
+fn has_users_of_relations(policy: &Policy) -> bool
+    ensures { IsTrue result ↔ All (λ row. IsUser policy.now row.by) policy.now.relations }
+{
+    policy.relations().iter().all(|row| is_user(policy, row.by))
+}
+
+pub(crate) fn are_triples_sound(policy: &Policy) -> bool
+    ensures { IsTrue result ↔ AreTriplesSound policy.now }
+{
+    has_distinct_triples(policy)
+        && has_numbers_of_triples(policy)
+        && has_few_of_each_user(policy)
+        && has_users_of_triples(policy)
+        && has_relations_of_triples(policy)
+        && has_limits_of_triples(policy)
+}
+
+fn has_distinct_triples(policy: &Policy) -> bool
+    ensures { IsTrue result ↔ AreDistinct (map triple_key policy.now.triples) }
+{
+    has_distinct_keys(policy.triples())
+}
+
+fn has_numbers_of_triples(policy: &Policy) -> bool
+    ensures { IsTrue result ↔ All (λ row. IsNumber row.set) policy.now.triples }
+{
+    policy.triples().iter().all(|row| is_number(row.set))
+}
+
+// Below 2 ^ 32 the sets leave the triples in order of their users.
+fn has_few_of_each_user(policy: &Policy) -> bool
+    requires { All (λ row. IsNumber row.set) policy.now.triples }
+    ensures { IsTrue result ↔ HasFewOfEachUser policy.now.triples }
+{
+    has_small_groups(policy.triples(), 1_000)
+}
+
+fn has_users_of_triples(policy: &Policy) -> bool
+    ensures { IsTrue result ↔ All (λ row. IsUser policy.now row.user) policy.now.triples }
+{
+    policy.triples().iter().all(|row| is_user(policy, row.user))
+}
+
+fn has_relations_of_triples(policy: &Policy) -> bool
+    ensures { IsTrue result ↔ All (λ row. IsRelated policy.now row.procedure row.set) policy.now.triples }
+{
+    policy
+        .triples()
+        .iter()
+        .all(|row| is_related(policy, row.procedure, row.set))
+}
+
+fn has_limits_of_triples(policy: &Policy) -> bool
+    ensures { IsTrue result ↔ All (λ row. row.limit ≤ 999999999) policy.now.triples }
+{
+    policy.triples().iter().all(|row| row.limit <= 999_999_999)
+}
+
+pub(crate) fn are_certifiers_sound(policy: &Policy) -> bool
+    ensures { IsTrue result ↔ AreCertifiersSound policy.now }
+{
+    has_distinct_certifiers(policy) && has_users_of_certifiers(policy)
+}
+
+fn has_distinct_certifiers(policy: &Policy) -> bool
+    ensures { IsTrue result ↔ AreDistinct (map certifier_key policy.now.certifiers) }
+{
+    has_distinct_keys(policy.certifiers())
+}
+
+fn has_users_of_certifiers(policy: &Policy) -> bool
+    ensures { IsTrue result ↔ All (λ row. IsUser policy.now row.user) policy.now.certifiers }
+{
+    policy
+        .certifiers()
+        .iter()
+        .all(|row| is_user(policy, row.user))
+}
+
+#[tactic(auto, unfolding(crate::specs::Soundness::IsUser))]
+fn is_user(policy: &Policy, user: u32) -> bool
+    ensures { IsTrue result ↔ IsUser policy.now user }
+{
+    is_there(policy.users(), user as u128)
+}
+
+#[tactic(auto, unfolding(crate::specs::Soundness::IsSet))]
+fn is_set(policy: &Policy, set: u32) -> bool
+    ensures { IsTrue result ↔ IsSet policy.now set }
+{
+    is_there(policy.sets(), set as u128)
+}
+
+#[tactic(auto, unfolding(crate::specs::Soundness::IsRelated))]
+fn is_related(policy: &Policy, procedure: Procedure, set: u32) -> bool
+    ensures { IsTrue result ↔ IsRelated policy.now procedure set }
+{
+    policy
+        .relations()
+        .iter()
+        .any(|row| row.procedure == procedure && row.set == set)
+}
