@@ -2,6 +2,7 @@
 #![tactic(auto)]
 
 mod coverage;
+mod groups;
 mod held_rows;
 pub mod laws;
 mod policy;

@@ -3,8 +3,8 @@ ghost use Rattle.book_check.specs.Least.{IsFirstFailing};
 ghost use Rattle.book_range.specs.Numbers.{BranchesBearNumbers};
 
 use crate::least::{Condition, least_failing};
-use book_range::{Numbered, bear_numbers};
 use bank_books::BranchRecord;
+use book_range::{Numbered, bear_numbers};
 use book_sums::{Kept, rows_of_group};
 use keyed_rows::Keyed;
 

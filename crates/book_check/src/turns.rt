@@ -2,8 +2,8 @@ ghost use Rattle.std.specs.Prelude.{◌≡◌, ◌↔◌, ◌+ℤ◌, IfSome, Is
 ghost use Rattle.book_check.specs.Turns.{AreBalancesAfter, AreBeside, IsAccountInTurns};
 
 use crate::amounts::amount_of;
-use book_range::are_numbered;
 use bank_books::{Account, EntryRecord};
+use book_range::are_numbered;
 use book_sums::{Part, Parts, Shares};
 
 /// The balances that are kept beside entries, by account and turn.

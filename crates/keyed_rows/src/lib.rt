@@ -8,5 +8,8 @@ mod sums;
 mod tests;
 
 pub use groups::{Grouped, has_small_groups};
-pub use ordered::{Keyed, are_in_order, find_row, has_distinct_keys, insert_row, insert_row_reserved, is_there, place_of, rows_between};
+pub use ordered::{
+    Keyed, are_in_order, find_row, has_distinct_keys, insert_row, insert_row_reserved, is_there,
+    place_of, rows_between,
+};
 pub use sums::{Tally, sum_of};

@@ -1,9 +1,9 @@
 ghost use Rattle.policy_check.specs.PolicyVerdict.{IsPolicyVerdict};
 
-use bank_policy::Policy;
 use crate::policy_fault::PolicyFault;
 use crate::separation::{first_break, first_officer};
 use crate::soundness::is_policy_sound;
+use bank_policy::Policy;
 
 /// Checks that none of the policy's rows dangles, that no officer holds anything, and that no one may execute what he
 /// certifies, in this order: the fault is that of the first test that fails, with the least user and of him the procedure

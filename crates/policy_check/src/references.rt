@@ -3,31 +3,10 @@ ghost use Rattle.keyed_rows.specs.Ordered.{AreDistinct};
 ghost use Rattle.bank_policy.specs.PolicyKeys.{certifier_key, relation_key, triple_key};
 ghost use Rattle.policy_check.specs.Soundness.{AreCertifiersSound, AreRelationsSound, AreTriplesSound, HasFewOfEachProcedure, HasFewOfEachUser, IsNumber, IsRelated, IsSet, IsUser};
 
-use bank_policy::Policy;
-use bank_terms::Procedure;
-use bank_policy::{Relation, Triple};
 use crate::soundness::is_number;
-use keyed_rows::{Grouped, has_distinct_keys, has_small_groups, is_there};
-
-/// The relations of a procedure are a group.
-impl Grouped for Relation {
-    ghost use Rattle.bank_terms.specs.Procedure.{number_of};
-
-    ghost group = { λ row. number_of row.procedure };
-
-    fn group(&self) -> u32 {
-        self.procedure.number() as u32
-    }
-}
-
-/// The triples of a user are a group.
-impl Grouped for Triple {
-    ghost group = { λ row. row.user };
-
-    fn group(&self) -> u32 {
-        self.user
-    }
-}
+use bank_policy::{Policy, Relation, Triple};
+use bank_terms::Procedure;
+use keyed_rows::{has_distinct_keys, has_small_groups, is_there};
 
 pub(crate) fn are_relations_sound(policy: &Policy) -> bool
     ensures { IsTrue result ↔ AreRelationsSound policy.now }

@@ -3,9 +3,8 @@ ghost use Rattle.policy_check.specs.PolicyVerdict.{IsLeastBreak, IsLeastOfficer}
 ghost use Rattle.policy_check.specs.Soundness.{IsPolicySound};
 ghost use Rattle.policy_check.specs.Separation.{BreaksSeparation, Certifies, HasCertified, Holds, IsCertifier, OfficerHolds};
 
-use bank_policy::Policy;
+use bank_policy::{Policy, User};
 use bank_terms::Procedure;
-use bank_policy::User;
 
 /// The least officer who has a triple, is a certifier or has certified a relation.
 pub(crate) fn first_officer(policy: &Policy) -> Option<u32>

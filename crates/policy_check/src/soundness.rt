@@ -1,9 +1,8 @@
 ghost use Rattle.std.specs.Prelude.{◌↔◌, IsTrue};
 ghost use Rattle.policy_check.specs.Soundness.{AreSetsSound, AreUsersSound, IsMemberSound, IsName, IsNumber, IsPolicySound, IsSetSound, IsUserSound};
 
-use bank_policy::Policy;
 use crate::references::{are_certifiers_sound, are_relations_sound, are_triples_sound};
-use bank_policy::{ItemSet, Member, Name, User};
+use bank_policy::{ItemSet, Member, Name, Policy, User};
 use keyed_rows::has_distinct_keys;
 
 /// Whether no row of the policy dangles.

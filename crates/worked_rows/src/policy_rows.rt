@@ -1,4 +1,7 @@
-use bank_policy::{Certifier, HeldRow, ItemSet, Member, Name, Policy, Relation, Triple, User, best_limit, covers, is_certified, relations_of, triples_of};
+use bank_policy::{
+    Certifier, HeldRow, ItemSet, Member, Name, Policy, Relation, Triple, User, best_limit, covers,
+    is_certified, relations_of, triples_of,
+};
 use bank_terms::{Cdi, Kind, Procedure, Rule};
 use sample_bank::sample_world;
 use std::alloc::Global;
