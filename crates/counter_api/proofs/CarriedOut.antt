@@ -3,11 +3,11 @@ use Rattle.std.proofs.Common.{◌≡◌, inl, inr, None, ap, sym, ◌∙◌}
 use Rattle.bank_books.specs.WorldLists.{WorldLists}
 use Rattle.store_rows.specs.Status.{Keeps, Status, Tells}
 use Rattle.decide.specs.Permit.{CarriesOut, IsLeave, IsPermitOf, IsReplied}
-use Rattle.decide.specs.Requests.{effect, executes}
-use Rattle.decide.specs.Run.{if_allowed, step}
+use Rattle.bank_run.specs.Requests.{effect, executes}
+use Rattle.bank_run.specs.Run.{if_allowed, step}
 use Rattle.decide.specs.declared.permit.Permit.{Permit}
 use Rattle.decide.specs.declared.permit.Reply.{Reply}
-use Rattle.decide.specs.declared.request.Request.{Request}
+use Rattle.bank_run.specs.declared.request.Request.{Request}
 use Rattle.counter_api.specs.CarriedOut.{Settles}
 
 module _ {S : Type 0} where

@@ -5,10 +5,10 @@ use Rattle.money.specs.declared.fault.Fault.{Fault}
 use Rattle.bank_books.specs.WorldLists.{WorldLists}
 use Rattle.heads.specs.declared.fault.MessageFault.{MessageFault}
 use Rattle.store_rows.specs.Status.{RoseBy, Status, counts, counts_at_most}
-use Rattle.decide.specs.Run.{Marked, world_after}
-use Rattle.decide.specs.Sums.{AreProper, IsProper}
-use Rattle.decide.proofs.RunSums.{sums_always_agree}
-use Rattle.decide.specs.declared.request.Request.{Request}
+use Rattle.bank_run.specs.Run.{Marked, world_after}
+use Rattle.bank_run.specs.Sums.{AreProper, IsProper}
+use Rattle.bank_run.proofs.RunSums.{sums_always_agree}
+use Rattle.bank_run.specs.declared.request.Request.{Request}
 use Rattle.counter_api.specs.Response.{ResponseParts}
 use Rattle.counter_api.specs.Run.{AreOrderly, IsHandled, IsPending, IsRun, MarkedMessage, after_message, failed_after, faults_of, framed, marked, marks_of, pending_after, reply_to, requests_of, stated_by, stopped_after}
 

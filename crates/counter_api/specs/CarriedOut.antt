@@ -3,8 +3,8 @@ use Rattle.std.specs.Prelude.{◌≡◌, ◌⊎◌, Option, None, Result, IfOk}
 use Rattle.money.specs.declared.fault.Fault.{Fault}
 use Rattle.bank_books.specs.WorldLists.{WorldLists}
 use Rattle.store_rows.specs.Status.{Status, Tells, after_mark}
-use Rattle.decide.specs.Run.{reply, step}
-use Rattle.decide.specs.declared.request.Request.{Request}
+use Rattle.bank_run.specs.Run.{reply, step}
+use Rattle.bank_run.specs.declared.request.Request.{Request}
 use Rattle.counter_api.specs.Response.{ResponseParts}
 use Rattle.counter_api.specs.Run.{told_parts}
 

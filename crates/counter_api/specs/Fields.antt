@@ -5,7 +5,7 @@ use Rattle.std.specs.Int.{is_in_range}
 use Rattle.std.specs.List.{list_all}
 use Rattle.std.specs.Str.{all_ascii_digits}
 use Rattle.std.specs.Str.Parse.{digits_value}
-use Rattle.decide.specs.declared.who.Who.{Who}
+use Rattle.bank_run.specs.declared.who.Who.{Who}
 use Rattle.heads.specs.declared.fault.MessageFault.{MessageFault}
 use Rattle.heads.specs.declared.fault.MessageFault.TheVariants.{BadContent}
 use Rattle.heads.specs.Fields.{values_named}

@@ -4,11 +4,11 @@ use Rattle.std.specs.Option.{option_map_or}
 use Rattle.bank_terms.specs.declared.procedure.Procedure.{Procedure}
 use Rattle.bodies.specs.Operation.{stated_op}
 use Rattle.counter_ops.specs.Op.{procedure_of}
-use Rattle.decide.specs.Operations.{is_served}
-use Rattle.decide.specs.declared.request.Asked.{Asked}
-use Rattle.decide.specs.declared.request.Asked.TheVariants as asked
-use Rattle.decide.specs.declared.request.Request.{Request}
-use Rattle.decide.specs.declared.who.Who.{Who}
+use Rattle.bank_run.specs.Operations.{is_served}
+use Rattle.bank_run.specs.declared.request.Asked.{Asked}
+use Rattle.bank_run.specs.declared.request.Asked.TheVariants as asked
+use Rattle.bank_run.specs.declared.request.Request.{Request}
+use Rattle.bank_run.specs.declared.who.Who.{Who}
 use Rattle.heads.specs.declared.fault.MessageFault.{MessageFault}
 use Rattle.heads.specs.declared.fault.MessageFault.TheVariants.{BadContent, NoSuchRoute}
 use Rattle.messages.specs.Parts.{MessageParts}

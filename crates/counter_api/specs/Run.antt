@@ -9,10 +9,10 @@ use Rattle.heads.specs.declared.fault.MessageFault.{MessageFault}
 use Rattle.messages.specs.Parts.{MessageParts}
 use Rattle.messages.specs.Reply.{reply_bytes}
 use Rattle.store_rows.specs.Status.{Answers, RoseBy, Status, Tells, counts, counts_at_most, failures_after, stops}
-use Rattle.decide.specs.Meaning.{ReplyText}
-use Rattle.decide.specs.Run.{Marked, reply, step, world_after}
-use Rattle.decide.specs.Sums.{IsProper, PassesChecks, SumsAgree}
-use Rattle.decide.specs.declared.request.Request.{Request}
+use Rattle.bank_run.specs.Meaning.{ReplyText}
+use Rattle.bank_run.specs.Run.{Marked, reply, step, world_after}
+use Rattle.bank_run.specs.Sums.{IsProper, PassesChecks, SumsAgree}
+use Rattle.bank_run.specs.declared.request.Request.{Request}
 use Rattle.counter_api.specs.Request.{request_of}
 use Rattle.counter_api.specs.Response.{ResponseParts, denied_parts, done_parts, faulted_parts, refused_parts}
 

@@ -2,8 +2,8 @@ ghost use Rattle.std.specs.Prelude.{◌≡◌, ◌≤◌, true, IfOk, IfSome, Is
 ghost use Rattle.std.specs.Io.KnownBytes.{Appends};
 ghost use Rattle.money.specs.Counted.{AppendsBeginning, stream_of};
 ghost use Rattle.money.specs.declared.fault.Fault.TheVariants.{Memory};
-ghost use Rattle.decide.specs.Operations.{is_served};
-ghost use Rattle.decide.specs.Sums.{IsProper};
+ghost use Rattle.bank_run.specs.Operations.{is_served};
+ghost use Rattle.bank_run.specs.Sums.{IsProper};
 ghost use Rattle.messages.specs.Failures.{CountsByCall};
 ghost use Rattle.store_rows.specs.Status.{Answers, mark_of};
 ghost use Rattle.counter_api.specs.Request.{IsServedAsked, request_of, served};

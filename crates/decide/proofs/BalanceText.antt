@@ -2,7 +2,7 @@
 use Rattle.std.proofs.Common.{◌≡◌, ℤ, false, append_assoc}
 use Rattle.serde_json.specs.Written.{compact_text, has_float}
 use Rattle.serde_json.proofs.OnLiterals.{serde_json_on_literals}
-use Rattle.decide.specs.Balance.{balance_data, balance_text}
+use Rattle.bank_run.specs.Balance.{balance_data, balance_text}
 use Rattle.decide.proofs.WholeNumbers.{text_of_whole, whole}
 
 pub balance_no_float : (z : ℤ) → has_float (balance_data z) ≡ false

@@ -4,7 +4,7 @@ use Rattle.serde_json.specs.Written.{compact_text, has_float}
 use Rattle.serde_json.proofs.OnLiterals.{serde_json_on_literals}
 use Rattle.bank_terms.specs.declared.rule.Rule.{Rule}
 use Rattle.bank_terms.specs.declared.rule.Rule.TheVariants.{Identity, NotCertified, NoTriple, Limit, Release, Unknown, Branch, Drawer, SecondPerson, Entry, Floor, Cash, Range, Taken, Day, Full, Officer, Certifier, Separation, PolicyUnknown, PolicyState}
-use Rattle.decide.specs.Denial.{denial_data, denial_text}
+use Rattle.bank_run.specs.Denial.{denial_data, denial_text}
 
 pub denial_has_no_float : (r : Rule) → has_float (denial_data r) ≡ false
 denial_has_no_float r = refl

@@ -2,15 +2,15 @@
 use Rattle.std.proofs.Common.{◌≡◌, Some, Result, Ok, Err, ◌∙◌}
 use Rattle.bank_terms.specs.declared.rule.Rule.{Rule}
 use Rattle.bank_books.specs.WorldLists.{WorldLists}
-use Rattle.decide.specs.Executions.{books_meaning}
+use Rattle.bank_run.specs.Executions.{books_meaning}
 use Rattle.decide.specs.Judged.{IsJudged, IsPrepared}
-use Rattle.decide.specs.Meaning.{by_books}
-use Rattle.decide.specs.PolicyRules.{grounds, leave_by_policy}
-use Rattle.decide.specs.Requests.{executes, first, verdict}
-use Rattle.decide.specs.declared.execution.Execution.{Execution}
-use Rattle.decide.specs.declared.leave.Leave.{Leave}
+use Rattle.bank_run.specs.Meaning.{by_books}
+use Rattle.bank_run.specs.PolicyRules.{grounds, leave_by_policy}
+use Rattle.bank_run.specs.Requests.{executes, first, verdict}
+use Rattle.bank_run.specs.declared.execution.Execution.{Execution}
+use Rattle.bank_run.specs.declared.leave.Leave.{Leave}
 use Rattle.decide.specs.declared.prepared.Prepared.{Prepared}
-use Rattle.decide.proofs.PolicyLemmas.{books_decide, leave_given}
+use Rattle.bank_run.proofs.PolicyLemmas.{books_decide, leave_given}
 
 -- where the policy gives leave, what the books say is all that is said
 pub denied_by_books : (w : WorldLists) (x : Execution) (l : Leave) (r : Rule) → leave_by_policy (grounds w x) ≡ Ok l → (by_books (books_meaning w x)).first ≡ Some r → first w (executes x) ≡ Some r

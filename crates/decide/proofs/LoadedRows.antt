@@ -4,15 +4,15 @@ use Rattle.bank_terms.specs.declared.rule.Rule.{Rule}
 use Rattle.bank_books.specs.WorldLists.{WorldLists}
 use Rattle.bank_books.specs.declared.signature.Signature.{Signature}
 use Rattle.touched.specs.Touched.{amount, touched}
-use Rattle.decide.specs.Executions.{signature_of}
+use Rattle.bank_run.specs.Executions.{signature_of}
 use Rattle.decide.specs.Loaded.{IsLoadedFor, loaded_grounds}
-use Rattle.decide.specs.Meaning.{by_books}
-use Rattle.decide.specs.Operations.{meaning_of}
-use Rattle.decide.specs.PolicyRules.{first_of_policy, grounds}
-use Rattle.decide.specs.Requests.{executes, first}
-use Rattle.decide.specs.declared.execution.Execution.{Execution}
+use Rattle.bank_run.specs.Meaning.{by_books}
+use Rattle.bank_run.specs.Operations.{meaning_of}
+use Rattle.bank_run.specs.PolicyRules.{first_of_policy, grounds}
+use Rattle.bank_run.specs.Requests.{executes, first}
+use Rattle.bank_run.specs.declared.execution.Execution.{Execution}
 use Rattle.decide.specs.declared.by_rows.Loaded.{Loaded}
-use Rattle.decide.proofs.PolicyLemmas.{books_decide, policy_decides}
+use Rattle.bank_run.proofs.PolicyLemmas.{books_decide, policy_decides}
 
 same_grounds : (w : WorldLists) (x : Execution) (l : Loaded) → IsLoadedFor w x l → loaded_grounds l.policy x ≡ grounds w x
 same_grounds w x l loaded =

@@ -1,7 +1,7 @@
 -- Rows of the books are loaded for exactly the forms that are served.
 use Rattle.std.proofs.Common.{refl}
 use Rattle.counter_ops.specs.declared.op.Op.TheVariants as op
-use Rattle.decide.specs.Laws.{LoadedWhereServed}
+use Rattle.decide.specs.Loaded.{LoadedWhereServed}
 
 pub loaded_where_served : LoadedWhereServed
 loaded_where_served w (op.Post form) = refl

@@ -3,7 +3,7 @@ use Rattle.std.specs.Prelude.{◌≡◌, Some, None, Result, Ok, Err}
 use Rattle.bank_terms.specs.declared.rule.Rule.{Rule}
 use Rattle.bank_books.specs.Effects.{applied}
 use Rattle.bank_books.specs.WorldLists.{WorldLists}
-use Rattle.decide.specs.Meaning.{Verdict, json}
+use Rattle.bank_run.specs.Meaning.{Verdict, json}
 use Rattle.decide.specs.declared.prepared.Prepared.{Prepared}
 
 -- no rule denies, the plan makes the effect, and the text is the reply

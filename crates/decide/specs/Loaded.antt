@@ -1,5 +1,5 @@
 -- Rows that were loaded for an operation.
-use Rattle.std.specs.Prelude.{ℕ, ◌≡◌, Option, Some, None, option_and_then}
+use Rattle.std.specs.Prelude.{ℕ, ◌≡◌, Option, Some, None, is_some, option_and_then}
 use Rattle.bank_policy.specs.HeldRows.{relations_of, standing, triples_of}
 use Rattle.bank_books.specs.Records.{account_record}
 use Rattle.bank_books.specs.WorldLists.{WorldLists}
@@ -8,17 +8,18 @@ use Rattle.counter_ops.specs.declared.op.Op.{Op}
 use Rattle.counter_ops.specs.declared.op.Op.TheVariants as op
 use Rattle.postings.specs.Post.{post_rows}
 use Rattle.touched.specs.Touched.{amount, touched}
-use Rattle.decide.specs.NewAccount.{opening_rows}
-use Rattle.decide.specs.PolicyRules.{Grounds, asker}
-use Rattle.decide.specs.declared.execution.Execution.{Execution}
+use Rattle.bank_run.specs.NewAccount.{opening_rows}
+use Rattle.bank_run.specs.Operations.{is_served}
+use Rattle.bank_run.specs.PolicyRules.{Grounds, asker}
+use Rattle.bank_run.specs.declared.execution.Execution.{Execution}
 use Rattle.decide.specs.declared.by_rows.BookRows.{BookRows}
 use Rattle.decide.specs.declared.by_rows.BookRows.TheVariants as rows
 use Rattle.decide.specs.declared.by_rows.Loaded.{Loaded}
 use Rattle.decide.specs.declared.by_rows.PolicyRows.{PolicyRows}
-use Rattle.decide.specs.declared.request.Asked.{Asked}
-use Rattle.decide.specs.declared.request.Asked.TheVariants as asked
-use Rattle.decide.specs.declared.request.Request.{Request}
-use Rattle.decide.specs.declared.who.Who.{Who}
+use Rattle.bank_run.specs.declared.request.Asked.{Asked}
+use Rattle.bank_run.specs.declared.request.Asked.TheVariants as asked
+use Rattle.bank_run.specs.declared.request.Request.{Request}
+use Rattle.bank_run.specs.declared.who.Who.{Who}
 
 -- the rows of the books in a World by which an operation is judged, one line a form; none where the form is not served
 abbrev pub book_rows : WorldLists → Op → Option BookRows
@@ -65,3 +66,7 @@ loaded_grounds rows x = record {
   amount = amount x.op;
   release = x.who.release;
 }
+
+-- Rows of the books are loaded for exactly the forms that are served.
+abbrev pub LoadedWhereServed : Type 0
+LoadedWhereServed = (w : WorldLists) (op : Op) → is_some (book_rows w op) ≡ is_served (procedure_of op)

@@ -6,6 +6,5 @@ mod new_account;
 mod post;
 
 pub(crate) use balance::{prepare_balance, rule_against_balance};
-pub use new_account::OpeningRows;
 pub(crate) use new_account::{prepare_new_account, rule_against_new_account};
 pub(crate) use post::prepare_post;

@@ -3,7 +3,7 @@ ghost use Rattle.counter_ops.specs.Op.{procedure_of};
 ghost use Rattle.counter_ops.specs.Ranges.{IsKey};
 ghost use Rattle.counter_ops.specs.Operations.{IsOp};
 ghost use Rattle.counter_ops.specs.Post.{IsPost};
-ghost use Rattle.decide.specs.Operations.{is_served};
+ghost use Rattle.bank_run.specs.Operations.{is_served};
 
 use crate::opening::opening_at;
 use bank_books::{account_balance, branch_balance, teller_balance};

@@ -2,9 +2,9 @@ ghost use Rattle.std.specs.Prelude.{◌≡◌, None, Some, is_some, true, IfErr,
 ghost use Rattle.money.specs.Range.{is_cents};
 ghost use Rattle.serde_json.specs.View.{view};
 ghost use Rattle.store_rows.specs.Status.{Reads};
-ghost use Rattle.decide.specs.Balance.{balance_data, balance_meaning, balance_text, first_against_balance};
+ghost use Rattle.bank_run.specs.Balance.{balance_data, balance_meaning, balance_text, first_against_balance};
 ghost use Rattle.decide.specs.Judged.{IsJudged};
-ghost use Rattle.decide.specs.Meaning.{by_books};
+ghost use Rattle.bank_run.specs.Meaning.{by_books};
 
 use crate::prepared::Prepared;
 use crate::text::compact;

@@ -1,13 +1,14 @@
-ghost use Rattle.std.specs.Prelude.{◌≡◌, IfOk, option_map};
+ghost use Rattle.std.specs.Prelude.{◌≡◌, IfOk};
 ghost use Rattle.serde_json.specs.View.{view};
 ghost use Rattle.store_rows.specs.Status.{Reads};
 ghost use Rattle.decide.specs.Judged.{IsJudged};
-ghost use Rattle.decide.specs.Meaning.{by_books};
-ghost use Rattle.decide.specs.NewAccount.{first_against_new_account, new_account_meaning, opened, opened_data, opened_text, opening_rows};
+ghost use Rattle.bank_run.specs.Meaning.{by_books};
+ghost use Rattle.bank_run.specs.NewAccount.{first_against_new_account, new_account_meaning, opened, opened_data, opened_text, opening_rows};
 
 use crate::prepared::Prepared;
 use crate::text::compact;
-use bank_books::{Account, AccountRecord, BranchRecord, RowWrite};
+use bank_books::{Account, RowWrite};
+use bank_run::OpeningRows;
 use bank_terms::Rule;
 use counter_ops::NewAccount;
 use money::{Cents, Fault};
@@ -17,27 +18,6 @@ use store_rows::BookReads;
 
 /// The most accounts that may have a branch as their home.
 const MOST_ACCOUNTS: u64 = 100_000;
-
-/// The rows that opening an account is judged on, as far as they are there.
-#[derive(Clone, Copy, Debug, PartialEq, Eq)]
-pub struct OpeningRows {
-    /// The account of its number.
-    pub account: Option<AccountRecord>,
-    /// How many accounts have its branch as their home; none where the branch isn't there.
-    pub homed: Option<u64>,
-}
-
-impl OpeningRows {
-    /// Of the rows as a store answers them.
-    pub fn of(account: Option<AccountRecord>, branch: Option<BranchRecord>) -> OpeningRows
-        ensures { result ≡ record { account = account; homed = option_map (λ b. b.accounts) branch } }
-    {
-        OpeningRows {
-            account,
-            homed: branch.map(|branch| branch.accounts),
-        }
-    }
-}
 
 fn load_opening_rows<B: BookReads>(
     alloc: Global,

@@ -3,15 +3,16 @@ ghost use Rattle.serde_json.specs.View.{view};
 ghost use Rattle.postings.specs.Post.{is_full, is_in_range, is_unknown, post_rows};
 ghost use Rattle.store_rows.specs.Status.{Reads};
 ghost use Rattle.decide.specs.Judged.{IsJudged};
-ghost use Rattle.decide.specs.Meaning.{by_books};
-ghost use Rattle.decide.specs.Post.{post_meaning, posted_data, posted_of, posted_text};
+ghost use Rattle.bank_run.specs.Meaning.{by_books};
+ghost use Rattle.bank_run.specs.Post.{post_meaning, posted_data, posted_of, posted_text};
 
 use crate::prepared::Prepared;
 use crate::text::compact;
 use bank_books::Signature;
+use bank_run::Posted;
 use bank_terms::Rule;
 use counter_ops::Post;
-use money::{Cents, Fault};
+use money::Fault;
 use postings::{PostRows, balance_after, plan_post};
 use serde_json::{Value, json};
 use std::alloc::{AllocError, Global};
@@ -48,17 +49,6 @@ pub(crate) fn prepare_post<B: BookReads>(
         }
         Err(rule) => Ok(Err(rule)),
     }
-}
-
-/// What a post leaves.
-#[derive(Clone, Copy)]
-pub(crate) struct Posted {
-    /// The balance of the account after it.
-    pub(crate) balance: Cents,
-    /// The branch in whose history the entry stands.
-    pub(crate) branch: u32,
-    /// The number of the entry there.
-    pub(crate) entry: u32,
 }
 
 /// What a post leaves that no rule denies.

@@ -1,9 +1,9 @@
 use Rattle.std.proofs.Common.{rules, ◌≡◌, None, subst, sym}
 use Rattle.store_rows.specs.declared.bank.Bank.{Bank}
 use Rattle.decide.specs.Permit.{reply_bank}
-use Rattle.decide.specs.declared.request.Asked.{Asked}
-use Rattle.decide.specs.declared.request.Asked.TheVariants as asked
-use Rattle.decide.specs.declared.request.Request.{Request}
+use Rattle.bank_run.specs.declared.request.Asked.{Asked}
+use Rattle.bank_run.specs.declared.request.Asked.TheVariants as asked
+use Rattle.bank_run.specs.declared.request.Request.{Request}
 use Rattle.counter_api.specs.CarriedOut.{Settles}
 use Rattle.counter_api.proofs.CarriedOut.{settles}
 use Rattle.counter_api.proofs.counter.carried_out.Goals as goal

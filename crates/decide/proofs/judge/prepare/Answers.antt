@@ -2,10 +2,10 @@ use Rattle.std.proofs.Common.{rules, sym, subst, ◌∙◌}
 use Rattle.std.specs.Prelude.{IfOk}
 use Rattle.std.proofs.lemmas.Result.{IfOk-weaker}
 use Rattle.decide.specs.Judged.{IsJudged}
-use Rattle.decide.specs.Meaning.{by_books}
-use Rattle.decide.specs.Operations.{meaning_of}
+use Rattle.bank_run.specs.Meaning.{by_books}
+use Rattle.bank_run.specs.Operations.{meaning_of}
 use Rattle.decide.proofs.JoinedVerdict.{judged}
-use Rattle.decide.proofs.PolicyLemmas.{leave_refused}
+use Rattle.bank_run.proofs.PolicyLemmas.{leave_refused}
 use Rattle.decide.proofs.judge.prepare.Goals as goal
 
 pub returns-in-Err : goal.returns-in-Err

@@ -1,0 +1,75 @@
+-- What holds of every decision: the rule that is named is the first that denies, the tests of the policy ask what Clark and
+-- Wilson's rules E1 and E2 ask, and an account that is opened keeps the books.
+use Rattle.std.specs.Prelude.{ℕ, ◌≡◌, ◌≢◌, ◌↔◌, ◌==◌, ◌≤◌, ◌++◌, true, false, Some, None, List, ◌∷◌, All, count_by}
+use Rattle.bank_policy.specs.Execution.{Certified, Held}
+use Rattle.bank_policy.specs.HeldRows.{standing}
+use Rattle.bank_terms.specs.Rule.{number_of}
+use Rattle.bank_policy.specs.declared.rows.Standing.{Standing}
+use Rattle.bank_terms.specs.declared.rule.Rule.{Rule}
+use Rattle.bank_terms.specs.declared.rule.Rule.TheVariants as rule
+use Rattle.bank_books.specs.Books.{Books}
+use Rattle.bank_books.specs.WorldLists.{WorldLists}
+use Rattle.counter_ops.specs.Op.{procedure_of}
+use Rattle.counter_ops.specs.NewAccount.{IsNewAccount}
+use Rattle.counter_ops.specs.declared.new_account.NewAccount.{NewAccount}
+use Rattle.counter_ops.specs.declared.op.Op.{Op}
+use Rattle.touched.specs.Touched.{amount, touched}
+use Rattle.bank_run.specs.NewAccount.{first_against_new_account, new_account_effect, opening_rows}
+use Rattle.bank_run.specs.PolicyRules.{asker}
+use Rattle.bank_run.specs.Meaning.{by_books}
+use Rattle.bank_run.specs.Requests.{denies, executes, first, rules}
+use Rattle.bank_run.specs.Executions.{books_meaning}
+use Rattle.bank_run.specs.declared.execution.Execution.{Execution}
+use Rattle.bank_run.specs.declared.request.Request.{Request}
+use Rattle.bank_run.specs.declared.who.Who.{Who}
+
+-- The rule that is named denies, it stands in the list of rules, and none that stands before it denies; where none is named, none
+-- denies.
+pub record IsFirstRule (w : WorldLists) (q : Request) : Type 0 where
+  pub named : (r : Rule) → first w q ≡ Some r → denies r w q ≡ true
+  pub place : (r : Rule) → first w q ≡ Some r → (before : List Rule) × (after : List Rule) × (rules ≡ before ++ r ∷ after) × All (λ earlier. denies earlier w q ≡ false) before
+  pub none : first w q ≡ None → (r : Rule) → denies r w q ≡ false
+
+-- each rule has one place
+abbrev pub HasOnePlace : Rule → Type 0
+HasOnePlace r = count_by (λ other. number_of other == number_of r) rules ≡ 1
+
+abbrev pub FirstByPlace : Type 0
+FirstByPlace = ((r : Rule) → HasOnePlace r) × ((w : WorldLists) (q : Request) → IsFirstRule w q)
+
+-- some one triple of the user holds all that is touched, up to the amount at least
+abbrev pub InLimit : WorldLists → ℕ → Op → Type 0
+InLimit w user op = (limit : ℕ) × (Held w.policy user (procedure_of op) (touched op) limit × amount op ≤ limit)
+
+-- who asks is known: the gate names him, he is there and not suspended, and the session that he names is open and his present one
+pub record IsIdentified (w : WorldLists) (who : Who) : Type 0 where
+  pub user : ℕ
+  pub row : Standing
+  pub named : who.user ≡ Some user
+  pub there : standing w.policy user ≡ Some row
+  pub active : row.suspended ≡ false
+  pub on : row.on ≡ true
+  pub present : row.session ≡ who.session
+  pub given : who.session ≢ 0
+
+-- What it is that a rule of the policy does not deny, in the words of the model. Where the limit denies and a release is named, it is
+-- the release that is told; none counts yet.
+pub record IsPolicyJudged (w : WorldLists) (x : Execution) : Type 0 where
+  pub identified : denies rule.Identity w (executes x) ≡ false ↔ IsIdentified w x.who
+  pub certified : denies rule.NotCertified w (executes x) ≡ false ↔ Certified w.policy (procedure_of x.op) (touched x.op)
+  pub held : denies rule.NoTriple w (executes x) ≡ false ↔ ((limit : ℕ) × Held w.policy (asker x.who) (procedure_of x.op) (touched x.op) limit)
+  pub in_limit : ((denies rule.Limit w (executes x) ≡ false) × (denies rule.Release w (executes x) ≡ false)) ↔ InLimit w (asker x.who) x.op
+  pub limit_told : x.who.release ≡ 0 → denies rule.Release w (executes x) ≡ false
+
+abbrev pub PolicyIsJudged : Type 0
+PolicyIsJudged = (w : WorldLists) (x : Execution) → IsPolicyJudged w x
+
+-- An operation is allowed exactly when its user is known, its procedure is certified for what it touches,
+-- some one triple of his holds all of that, up to the amount at least, and no rule of the books denies it.
+abbrev pub AllowedExactlyWhenHeld : Type 0
+AllowedExactlyWhenHeld = (w : WorldLists) (x : Execution) → first w (executes x) ≡ None
+    ↔ (IsIdentified w x.who × Certified w.policy (procedure_of x.op) (touched x.op) × InLimit w (asker x.who) x.op × ((by_books (books_meaning w x)).first ≡ None))
+
+-- An account that is opened is a well-formed transaction, too: of books that hold it makes books that hold.
+abbrev pub NewAccountKeepsBooks : Type 0
+NewAccountKeepsBooks = (w : WorldLists) (form : NewAccount) → Books w → IsNewAccount form → first_against_new_account (opening_rows w form) ≡ None → Books (new_account_effect w form)

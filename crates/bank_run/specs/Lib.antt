@@ -1,0 +1,12 @@
+pub mod Balance
+pub mod Denial
+pub mod Executions
+pub mod Laws
+pub mod Meaning
+pub mod NewAccount
+pub mod Operations
+pub mod PolicyRules
+pub mod Post
+pub mod Requests
+pub mod Run
+pub mod Sums

@@ -1,0 +1,52 @@
+-- What the rules say of a request, what it leaves and what it is replied.
+use Rattle.std.specs.Prelude.{ℕ, Bool, List, ◌∷◌, Option}
+use Rattle.std.specs.List.{find}
+use Rattle.bank_terms.specs.declared.rule.Rule.{Rule}
+use Rattle.bank_terms.specs.declared.rule.Rule.TheVariants as rule
+use Rattle.bank_books.specs.WorldLists.{WorldLists}
+use Rattle.bank_run.specs.Executions.{execution_meaning}
+use Rattle.bank_run.specs.Meaning.{Meaning, ReplyText, Verdict, no_meaning, rules_of_books}
+use Rattle.bank_run.specs.declared.execution.Execution.{Execution}
+use Rattle.bank_run.specs.declared.request.Asked.{Asked}
+use Rattle.bank_run.specs.declared.request.Asked.TheVariants as asked
+use Rattle.bank_run.specs.declared.request.Request.{Request}
+use Rattle.bank_run.specs.declared.who.Who.{Who}
+
+-- the request for an operation
+abbrev pub executes : Execution → Request
+executes x = record { who = x.who; moment = x.moment; asked = asked.Operation x.op }
+
+-- what it is that is asked for, in a World; sessions, commands and the listing are not served yet
+abbrev pub asked_meaning : Asked → Who → ℕ → WorldLists → Meaning
+asked_meaning (asked.Operation op) who moment w = execution_meaning w (record { who = who; moment = moment; op = op })
+asked_meaning asked.Opening who moment w = no_meaning w
+asked_meaning asked.Ending who moment w = no_meaning w
+asked_meaning (asked.Command command) who moment w = no_meaning w
+asked_meaning asked.Listing who moment w = no_meaning w
+
+abbrev pub meaning : WorldLists → Request → Meaning
+meaning w q = asked_meaning q.asked q.who q.moment w
+
+-- the rule denies the request
+abbrev pub denies : Rule → WorldLists → Request → Bool
+denies r w q = (meaning w q).denies r
+
+-- All rules, in their order. Which of two comes first is said by their places in this list, and not by their numbers.
+abbrev pub rules : List Rule
+rules = rule.Identity ∷ rule.NotCertified ∷ rule.NoTriple ∷ rule.Limit ∷ rule.Release ∷ rules_of_books
+
+-- the first rule that denies a request, or none
+abbrev pub first : WorldLists → Request → Option Rule
+first w q = find (λ r. denies r w q) rules
+
+-- the World after a request that no rule denies
+abbrev pub effect : WorldLists → Request → WorldLists
+effect w q = (meaning w q).effect
+
+-- and what it is replied
+abbrev pub reply_text : WorldLists → Request → ReplyText
+reply_text w q = (meaning w q).reply
+
+-- all of this at once
+abbrev pub verdict : Request → WorldLists → Verdict
+verdict q w = record { first = first w q; effect = effect w q; reply = reply_text w q }

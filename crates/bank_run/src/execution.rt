@@ -1,0 +1,29 @@
+ghost use Rattle.std.specs.Prelude.{◌≡◌};
+ghost use Rattle.bank_run.specs.Executions.{signature_of};
+
+use crate::who::Who;
+use bank_books::Signature;
+use counter_ops::Op;
+
+/// An operation that is asked for: by whom, and when. What else may be asked for is a `Request`.
+#[derive(Clone, Copy, Debug, PartialEq, Eq)]
+pub struct Execution {
+    /// Who asks.
+    pub who: Who,
+    /// The moment that it bears, in seconds, 0 to 99,999,999,999.
+    pub moment: u64,
+    /// What is asked for.
+    pub op: Op,
+}
+
+impl Execution {
+    /// What the rows that it adds bear: its user, 0 where the gate names none, and its moment.
+    pub fn signature(&self) -> Signature
+        ensures { result ≡ signature_of self.now }
+    {
+        Signature {
+            user: self.who.user.unwrap_or(0),
+            moment: self.moment,
+        }
+    }
+}

@@ -1,0 +1,39 @@
+//! What holds of every decision, of a new account, and along every list of requests. The functions do nothing; their contracts are the laws.
+
+ghost use Rattle.bank_run.specs.Laws.{AllowedExactlyWhenHeld, FirstByPlace, NewAccountKeepsBooks, PolicyIsJudged};
+ghost use Rattle.bank_run.specs.Sums.{NoOneExecutesWhatHeCertifies, SumsAlwaysAgree};
+
+/// The rule that a denial names is the first that denies, by its place in the list of rules, in which each stands once; and
+/// where none is named, none denies.
+pub fn first_by_place()
+    ensures { FirstByPlace }
+{}
+
+/// The rules of the policy do not deny exactly where who asks is known, some relation, some one triple,
+/// and one up to the amount holds all that is touched.
+pub fn policy_is_judged()
+    ensures { PolicyIsJudged }
+{}
+
+/// An operation is allowed exactly when its user is known, some one triple of his holds all that it
+/// touches, up to its amount, the procedure is certified for that, and no rule of the books denies it.
+pub fn allowed_exactly_when_held()
+    ensures { AllowedExactlyWhenHeld }
+{}
+
+/// Where the books hold, they hold after an account is opened that no rule of the books denies, too.
+pub fn new_account_keeps_books()
+    ensures { NewAccountKeepsBooks }
+{}
+
+/// In a policy that separates them, no one is let execute a procedure that he certifies.
+pub fn no_one_executes_what_he_certifies()
+    ensures { NoOneExecutesWhatHeCertifies }
+{}
+
+/// Of every World that passes both checks, and after each request of every list of proper ones, with
+/// any marks: the checks pass, each branch has gained the deltas of the accepted posts at its tellers,
+/// and entries, cash lines and proofs were added alone.
+pub fn sums()
+    ensures { SumsAlwaysAgree }
+{}

@@ -1,5 +1,0 @@
-use Rattle.decide.proofs.FirstRule.{first_by_place}
-use Rattle.decide.proofs.laws.first_by_place.Goals as goal
-
-pub returns : goal.returns
-returns c = first_by_place
