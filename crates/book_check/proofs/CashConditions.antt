@@ -1,5 +1,5 @@
 -- What is asked of the rows that are told of a branch is what its cash, and what the sums of tellers, ask of the branch.
-use Rattle.std.proofs.Common.{◌≡◌, List, refl, ℕ, ℤ, pos, negsuc, ◌+ℤ◌, map, true, ◌==◌, ap, arith, sym, ◌∙◌}
+use Rattle.std.proofs.Common.{◌≡◌, List, refl, ℕ, ℤ, pos, negsuc, ◌+ℤ◌, map, true, ◌==◌, ap, arith, sym, ◌∙◌, subst}
 use Rattle.std.specs.Prelude.{if◌then◌else◌}
 use Rattle.std.proofs.lemmas.Int.{ints}
 use Rattle.std.proofs.lemmas.Bool.Decides.{nat_tests}
@@ -8,15 +8,17 @@ use Rattle.keyed_rows.specs.Totals.{total}
 use Rattle.bank_books.specs.declared.records.AccountRecord.{AccountRecord}
 use Rattle.bank_books.specs.declared.records.BranchRecord.{BranchRecord}
 use Rattle.bank_books.specs.declared.records.TellerRecord.{TellerRecord}
-use Rattle.bank_books.specs.Conditions.{CashAgrees, TotalsAgree}
+use Rattle.bank_books.specs.declared.rows.Branch.{Branch}
+use Rattle.bank_books.specs.Conditions.{CashAgrees, IsBranchOfLines, IsCashBalanced, TotalsAgree}
 use Rattle.bank_books.specs.Keys.{line_key}
 use Rattle.bank_books.specs.Range.{IsBranchInRange, IsCash, IsInRange}
-use Rattle.bank_books.specs.Records.{KeptLists}
+use Rattle.bank_books.specs.Records.{KeptLists, branch_record_of}
 use Rattle.book_range.specs.Numbers.{BranchesBearNumbers}
 use Rattle.book_check.specs.RowConditions.{AmountsAgree, BranchesOfCash, TellersOfLines, amount_of, balance_part, teller_sum}
 use Rattle.bank_books.specs.WorldLists.{WorldLists}
 use Rattle.book_sums.specs.Shares.{group_total}
 use Rattle.book_sums.specs.declared.shares.Part.{Part}
+use Rattle.book_sums.proofs.Counting.{made_of, source_of}
 use Rattle.book_sums.proofs.SharesLemmas.{of_rows, same_totals}
 use Rattle.book_range.proofs.NumberedRows.{AreNamed, branches_from_numbered, branches_numbered}
 use Rattle.std.specs.List.Sorted.{IsPermutation}
@@ -46,12 +48,12 @@ same_equation : (v v' d d' c e e' f f' : ℤ) → v' ≡ v → d' ≡ d → e' �
 same_equation v v' d d' c e e' f f' same_v same_d same_e same_f sum =
     ap (λ x. x +ℤ d) (sym same_v) ∙ ap (λ x. v' +ℤ x) (sym same_d) ∙ sum ∙ ap (λ x. c +ℤ (x +ℤ f')) same_e ∙ ap (λ x. c +ℤ (e +ℤ x)) same_f
 
-whole_from_cut : (w : WorldLists) (b : BranchRecord) → IsBranchInRange w b → Cut b → Whole b
+whole_from_cut : (w : WorldLists) (b : BranchRecord) → IsBranchInRange w.accounts w.proofs b → Cut b → Whole b
 whole_from_cut w b in_range =
     same_equation _ _ _ _ _ _ _ _ _ (amount_in_range b.vault (cash_is_amount b.vault in_range.vault)) (amount_in_range b.drawers in_range.drawers)
     (amount_in_range b.cash_entries in_range.cash_entries) (amount_in_range b.differences in_range.differences)
 
-cut_from_whole : (w : WorldLists) (b : BranchRecord) → IsBranchInRange w b → Whole b → Cut b
+cut_from_whole : (w : WorldLists) (b : BranchRecord) → IsBranchInRange w.accounts w.proofs b → Whole b → Cut b
 cut_from_whole w b in_range =
     same_equation _ _ _ _ _ _ _ _ _ (sym (amount_in_range b.vault (cash_is_amount b.vault in_range.vault))) (sym (amount_in_range b.drawers in_range.drawers))
     (sym (amount_in_range b.cash_entries in_range.cash_entries)) (sym (amount_in_range b.differences in_range.differences))
@@ -59,20 +61,37 @@ cut_from_whole w b in_range =
 lines_named : (w : WorldLists) (kept : KeptLists) → IsInRange w kept → AreNamed w (λ l. l.branch) (λ l. l.number) w.lines
 lines_named w kept in_range l there = let line = in_range.lines l there in (line.branch, omega (arith, line.number.1))
 
+-- what a branch keeps and what its lines give add up alike
+given_from_kept : (w : WorldLists) (b : BranchRecord) → IsBranchOfLines b (branch_record_of w b.row) → Whole b → Whole (branch_record_of w b.row)
+given_from_kept w b of = same_equation _ _ _ _ _ _ _ _ _ of.vault of.drawers of.cash_entries of.differences
+
+kept_from_given : (w : WorldLists) (b : BranchRecord) → IsBranchOfLines b (branch_record_of w b.row) → Whole (branch_record_of w b.row) → Whole b
+kept_from_given w b of = same_equation _ _ _ _ _ _ _ _ _ (sym of.vault) (sym of.drawers) (sym of.cash_entries) (sym of.differences)
+
+balanced_by_rows : (w : WorldLists) (kept : KeptLists) (branch : ℕ) → IsInRange w kept → BranchesOfCash w kept branch → IsCashBalanced w.branches w.lines branch
+balanced_by_rows w kept branch in_range each row there told =
+    let source = source_of (λ (b : BranchRecord). b.row) kept.branches w.branches row in_range.rows.branches there in
+    let b = source.0 in
+    let of = each b source.1.0 (ap (λ r. r.branch) source.1.1 ∙ told) in
+    let P : Branch → Type 0 = λ r. Whole (branch_record_of w r) in
+    subst P source.1.1 (given_from_kept w b of.lines (whole_from_cut w b (in_range.branches b source.1.0) of.equation))
+
 pub cash_by_rows : (w : WorldLists) (kept : KeptLists) (branch : ℕ) → IsInRange w kept → RowsOfCash w kept branch → CashAgrees w kept branch
 cash_by_rows w kept branch in_range rows = record {
-  branches = λ b there told. (rows.0.0 b there told).lines;
-  tellers = rows.0.1;
+  given = record { branches = λ b there told. (rows.0.0 b there told).lines; tellers = rows.0.1 };
   numbers = branches_numbered w kept line_key (λ l. l.branch) (λ l. l.number) (λ _. refl) w.lines branch in_range.rows in_range.keys.lines (lines_named w kept in_range) rows.1;
-  equation = λ b there told. whole_from_cut w b (in_range.branches b there) (rows.0.0 b there told).equation;
+  equation = balanced_by_rows w kept branch in_range rows.0.0;
 }
+
+branch_by_cash : (w : WorldLists) (kept : KeptLists) (branch : ℕ) → IsInRange w kept → CashAgrees w kept branch → BranchesOfCash w kept branch
+branch_by_cash w kept branch in_range agrees b there told =
+    let of = agrees.given.branches b there told in
+    let row = made_of (λ (r : BranchRecord). r.row) kept.branches w.branches b in_range.rows.branches there in
+    record { lines = of; equation = cut_from_whole w b (in_range.branches b there) (kept_from_given w b of (agrees.equation b.row row told)) }
 
 pub rows_by_cash : (w : WorldLists) (kept : KeptLists) (branch : ℕ) → IsInRange w kept → CashAgrees w kept branch → RowsOfCash w kept branch
 rows_by_cash w kept branch in_range agrees = (
-  (
-    λ b there told. record { lines = agrees.branches b there told; equation = cut_from_whole w b (in_range.branches b there) (agrees.equation b there told) },
-    agrees.tellers,
-  ),
+  (branch_by_cash w kept branch in_range agrees, agrees.given.tellers),
   branches_from_numbered w kept line_key (λ l. l.branch) (λ l. l.number) (λ _. refl) w.lines branch (lines_named w kept in_range) agrees.numbers,
 )
 

@@ -36,29 +36,29 @@ RowsAgree w kept branch =
     × BranchesBearNumbers entry_key (λ e. e.number) w.entries kept branch
 
 -- what is kept of an entry is in range
-entry_in_range : (w : WorldLists) (kept : KeptLists) → IsInRange w kept → (e : Entry) → Contains w.entries e → (r : EntryRecord) × (IsEntryInRange w r × (r.row ≡ e))
+entry_in_range : (w : WorldLists) (kept : KeptLists) → IsInRange w kept → (e : Entry) → Contains w.entries e → (r : EntryRecord) × (IsEntryInRange w.branches w.tellers w.accounts w.entries w.policy.users r × (r.row ≡ e))
 entry_in_range w kept in_range e there =
     let source = source_of (λ (r : EntryRecord). r.row) kept.entries w.entries e in_range.rows.entries there in
     (source.0, (in_range.entries source.0 source.1.0, source.1.1))
 
 entries_named : (w : WorldLists) (kept : KeptLists) → IsInRange w kept → AreNamed w (λ e. e.branch) (λ e. e.number) w.entries
 entries_named w kept in_range e there =
-    let P : Entry → Type 0 = λ row. IsBranch w row.branch × (row.number < 2 ^ 32) in
+    let P : Entry → Type 0 = λ row. IsBranch w.branches row.branch × (row.number < 2 ^ 32) in
     let found = entry_in_range w kept in_range e there in
     subst P found.1.1 (found.1.0.branch, omega (arith, found.1.0.number.1))
 
 -- the account of an entry is there
-names_account : (w : WorldLists) (kept : KeptLists) → IsInRange w kept → (e : Entry) → Contains w.entries e → IsAccount w e.account
+names_account : (w : WorldLists) (kept : KeptLists) → IsInRange w kept → (e : Entry) → Contains w.entries e → IsAccount w.accounts e.account
 names_account w kept in_range e there =
-    let P : Entry → Type 0 = λ row. IsAccount w row.account in
+    let P : Entry → Type 0 = λ row. IsAccount w.accounts row.account in
     let found = entry_in_range w kept in_range e there in
     subst P found.1.1 found.1.0.account
 
 -- an account that is there is found by its key
-home_found : (w : WorldLists) (row : Account) → AreDistinct (map account_key w.accounts) → Contains w.accounts row → home_of w row.account ≡ row.home
+home_found : (w : WorldLists) (row : Account) → AreDistinct (map account_key w.accounts) → Contains w.accounts row → home_of w.accounts row.account ≡ row.home
 home_found w row distinct there = ap (λ o. option_map_or (λ a. a.home) o 0) (finds_itself account_key w.accounts row distinct there)
 
-turns_agree : (w : WorldLists) (kept : KeptLists) (branch : ℕ) → IsInRange w kept → TurnsOfHistory w kept branch → (account : ℕ) → home_of w account ≡ branch →
+turns_agree : (w : WorldLists) (kept : KeptLists) (branch : ℕ) → IsInRange w kept → TurnsOfHistory w kept branch → (account : ℕ) → home_of w.accounts account ≡ branch →
     AreNumbered (λ e. e.account) (λ e. e.turn) w.entries account
 turns_agree w kept branch in_range each account home = record {
   low = λ e there is. (here e there is).low e there is;
@@ -77,29 +77,28 @@ turns_agree w kept branch in_range each account home = record {
         let row = names_account w kept in_range e there in
         let same : row.0.account ≡ account = row.1.1 ∙ is in
         let source = source_of (λ (a : AccountRecord). a.row) kept.accounts w.accounts row.0 in_range.rows.accounts row.1.0 in
-        let told : source.0.row.home ≡ branch = ap (λ a. a.home) source.1.1 ∙ sym (home_found w row.0 in_range.keys.accounts row.1.0) ∙ ap (home_of w) same ∙ home in
+        let told : source.0.row.home ≡ branch = ap (λ a. a.home) source.1.1 ∙ sym (home_found w row.0 in_range.keys.accounts row.1.0) ∙ ap (home_of w.accounts) same ∙ home in
         let P : ℕ → Type 0 = λ k. AreNumbered (λ e. e.account) (λ e. e.turn) w.entries k in
         subst P (ap (λ a. a.account) source.1.1 ∙ same) (each source.0 source.1.0 told)
 
 turns_by_agreement : (w : WorldLists) (kept : KeptLists) (branch : ℕ) → IsInRange w kept → HistoryAgrees w kept branch → TurnsOfHistory w kept branch
 turns_by_agreement w kept branch in_range agrees a there told =
     let row = made_of (λ (r : AccountRecord). r.row) kept.accounts w.accounts a in_range.rows.accounts there in
-    agrees.turns a.row.account (home_found w a.row in_range.keys.accounts row ∙ told)
+    agrees.numbered.turns a.row.account (home_found w a.row in_range.keys.accounts row ∙ told)
 
 pub agrees_by_rows : (w : WorldLists) (kept : KeptLists) (branch : ℕ) → IsInRange w kept → RowsAgree w kept branch → HistoryAgrees w kept branch
 agrees_by_rows w kept branch in_range rows = record {
-  branches = rows.0.0.0;
-  tellers = rows.0.0.1;
-  accounts = rows.0.1.0;
-  entries = rows.0.1.1.0;
-  numbers = branches_numbered w kept entry_key (λ e. e.branch) (λ e. e.number) (λ _. refl) w.entries branch in_range.rows in_range.keys.entries (entries_named w kept in_range) rows.1;
-  turns = turns_agree w kept branch in_range rows.0.1.1.1;
+  given = record { branches = rows.0.0.0; tellers = rows.0.0.1; accounts = rows.0.1.0; entries = rows.0.1.1.0 };
+  numbered = record {
+    numbers = branches_numbered w kept entry_key (λ e. e.branch) (λ e. e.number) (λ _. refl) w.entries branch in_range.rows in_range.keys.entries (entries_named w kept in_range) rows.1;
+    turns = turns_agree w kept branch in_range rows.0.1.1.1;
+  };
 }
 
 pub rows_by_agreement : (w : WorldLists) (kept : KeptLists) (branch : ℕ) → IsInRange w kept → HistoryAgrees w kept branch → RowsAgree w kept branch
 rows_by_agreement w kept branch in_range agrees = (
-  ((agrees.branches, agrees.tellers), (agrees.accounts, (agrees.entries, turns_by_agreement w kept branch in_range agrees))),
-  branches_from_numbered w kept entry_key (λ e. e.branch) (λ e. e.number) (λ _. refl) w.entries branch (entries_named w kept in_range) agrees.numbers,
+  ((agrees.given.branches, agrees.given.tellers), (agrees.given.accounts, (agrees.given.entries, turns_by_agreement w kept branch in_range agrees))),
+  branches_from_numbered w kept entry_key (λ e. e.branch) (λ e. e.number) (λ _. refl) w.entries branch (entries_named w kept in_range) agrees.numbered.numbers,
 )
 
 -- what is judged of the accounts that are told of a branch
@@ -113,7 +112,7 @@ turns_by_accounts w kept s balances branch in_range sums moved each = (
   λ e there told.
       let named = (in_range.entries e there).account in
       let source = source_of (λ (a : AccountRecord). a.row) kept.accounts w.accounts named.0 in_range.rows.accounts named.1.0 in
-      let home : source.0.row.home ≡ branch = ap (λ a. a.home) source.1.1 ∙ sym (home_found w named.0 in_range.keys.accounts named.1.0) ∙ ap (home_of w) named.1.1 ∙ told in
+      let home : source.0.row.home ≡ branch = ap (λ a. a.home) source.1.1 ∙ sym (home_found w named.0 in_range.keys.accounts named.1.0) ∙ ap (home_of w.accounts) named.1.1 ∙ told in
       let P : Account → Type 0 = λ a. IsAccountInTurns s.by_turn balances a in
       let judged = subst P source.1.1 (each source.0 source.1.0 home) in
       let part = Contains-permutation (map turn_balance kept.entries) balances (turn_balance e) moved (made_of turn_balance kept.entries (map turn_balance kept.entries) e refl there) in
@@ -134,6 +133,6 @@ accounts_by_turns w kept s balances branch in_range sums moved (entries, turns) 
           let row = made_of (λ (r : AccountRecord). r.row) kept.accounts w.accounts a in_range.rows.accounts there in
           let same : e.row.account ≡ a.row.account = ap (λ q. q.group) source.1.1 ∙ of in
           sym (ap (λ q. q.amount) source.1.1) ∙ amount_in_range e.balance_after (in_range.entries e source.1.0).balance_after
-          ∙ entries e source.1.0 (ap (home_of w) same ∙ home_found w a.row in_range.keys.accounts row ∙ told)
+          ∙ entries e source.1.0 (ap (home_of w.accounts) same ∙ home_found w a.row in_range.keys.accounts row ∙ told)
           ∙ balance_given w s a.row e.row sums in_range.keys.accounts row (sym same) ∙ ap (λ n. a.row.opening +ℤ total_up_to a.row.account n s.by_turn) (ap (λ q. q.number) source.1.1);
     }

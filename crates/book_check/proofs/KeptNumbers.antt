@@ -27,11 +27,11 @@ lists_same k l branches tellers accounts entries users = search (rules, branches
 pub kept_is_computed : (w : WorldLists) (kept : KeptLists) → IsInRange w kept → ((b : ℕ) → HistoryAgrees w kept b) → ((b : ℕ) → CashAgrees w kept b) → kept ≡ kept_of w
 kept_is_computed w kept in_range history cash = lists_same kept (kept_of w)
     (made_of_sources (λ (b : BranchRecord). b.row) (branch_record_of w) kept.branches w.branches in_range.rows.branches
-    (λ b there. branch_same b (branch_record_of w b.row) refl ((history b.row.branch).branches b there refl) ((cash b.row.branch).branches b there refl)))
+    (λ b there. branch_same b (branch_record_of w b.row) refl ((history b.row.branch).given.branches b there refl) ((cash b.row.branch).given.branches b there refl)))
     (made_of_sources (λ (t : TellerRecord). t.row) (teller_record_of w) kept.tellers w.tellers in_range.rows.tellers
-    (λ t there. teller_same t (teller_record_of w t.row) refl ((history t.row.branch).tellers t there refl) ((cash t.row.branch).tellers t there refl)))
+    (λ t there. teller_same t (teller_record_of w t.row) refl ((history t.row.branch).given.tellers t there refl) ((cash t.row.branch).given.tellers t there refl)))
     (made_of_sources (λ (a : AccountRecord). a.row) (account_record_of w) kept.accounts w.accounts in_range.rows.accounts
-    (λ a there. account_same a (account_record_of w a.row) refl ((history a.row.home).accounts a there refl)))
+    (λ a there. account_same a (account_record_of w a.row) refl ((history a.row.home).given.accounts a there refl)))
     (made_of_sources (λ (e : EntryRecord). e.row) (entry_record_of w) kept.entries w.entries in_range.rows.entries
-    (λ e there. entry_same e (entry_record_of w e.row) refl ((history (home_of w e.row.account)).entries e there refl)))
+    (λ e there. entry_same e (entry_record_of w e.row) refl ((history (home_of w.accounts e.row.account)).given.entries e there refl)))
     in_range.rows.users

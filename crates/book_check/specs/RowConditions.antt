@@ -25,7 +25,7 @@ abbrev pub AccountsOfHistory : WorldLists → KeptLists → ℕ → Type 0
 AccountsOfHistory w kept branch = (a : AccountRecord) → Contains kept.accounts a → a.row.home ≡ branch → IsAccountOfHistory a (account_record_of w a.row)
 
 abbrev pub EntriesOfHistory : WorldLists → KeptLists → ℕ → Type 0
-EntriesOfHistory w kept branch = (e : EntryRecord) → Contains kept.entries e → home_of w e.row.account ≡ branch → e.balance_after ≡ (entry_record_of w e.row).balance_after
+EntriesOfHistory w kept branch = (e : EntryRecord) → Contains kept.entries e → home_of w.accounts e.row.account ≡ branch → e.balance_after ≡ (entry_record_of w e.row).balance_after
 
 abbrev pub TurnsOfHistory : WorldLists → KeptLists → ℕ → Type 0
 TurnsOfHistory w kept branch = (a : AccountRecord) → Contains kept.accounts a → a.row.home ≡ branch → AreNumbered (λ e. e.account) (λ e. e.turn) w.entries a.row.account

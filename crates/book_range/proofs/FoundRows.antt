@@ -9,7 +9,6 @@ use Rattle.keyed_rows.proofs.DistinctKeys.{apart-from_AreDistinct}
 use Rattle.bank_books.specs.declared.rows.Teller.{Teller}
 use Rattle.bank_books.specs.Keys.{teller_key}
 use Rattle.bank_books.specs.Range.{IsTellerOf}
-use Rattle.bank_books.specs.WorldLists.{WorldLists}
 
 same_passes : (a b : ℕ) → a ≡ b → (a == b) ≡ true
 same_passes a b same = grind (arith, nat_tests)
@@ -51,24 +50,24 @@ finds_itself {X} key (x ∷ xs) row distinct (suc k, below, is) =
     go true fails rest = cc
 
 -- the row that a teller's key finds is the only one that could be of the branch
-finds_teller : (w : WorldLists) (branch key : ℕ) (found : Option Teller) → AreDistinct (map teller_key w.tellers) → found ≡ find (λ row. teller_key row == key) w.tellers → (of : IsTellerOf w branch key) → found ≡ Some of.0
-finds_teller w branch key found distinct is (row, there) =
-    let P : ℕ → Type 0 = λ k. find (λ r. teller_key r == k) w.tellers ≡ Some row in
-    is ∙ subst P there.1 (finds_itself teller_key w.tellers row distinct there.0)
+finds_teller : (tellers : List Teller) (branch key : ℕ) (found : Option Teller) → AreDistinct (map teller_key tellers) → found ≡ find (λ row. teller_key row == key) tellers → (of : IsTellerOf tellers branch key) → found ≡ Some of.0
+finds_teller tellers branch key found distinct is (row, there) =
+    let P : ℕ → Type 0 = λ k. find (λ r. teller_key r == k) tellers ≡ Some row in
+    is ∙ subst P there.1 (finds_itself teller_key tellers row distinct there.0)
 
-pub teller_found : (w : WorldLists) (branch key : ℕ) (row : Teller) → AreDistinct (map teller_key w.tellers) → Some row ≡ find (λ r. teller_key r == key) w.tellers →
-    (IsTrue (row.branch == branch) → IsTellerOf w branch key) × (IsTellerOf w branch key → IsTrue (row.branch == branch))
-teller_found w branch key row distinct is = (
+pub teller_found : (tellers : List Teller) (branch key : ℕ) (row : Teller) → AreDistinct (map teller_key tellers) → Some row ≡ find (λ r. teller_key r == key) tellers →
+    (IsTrue (row.branch == branch) → IsTellerOf tellers branch key) × (IsTellerOf tellers branch key → IsTrue (row.branch == branch))
+teller_found tellers branch key row distinct is = (
   λ same.
-      let found = found_row (λ r. teller_key r == key) w.tellers row (sym is) in
+      let found = found_row (λ r. teller_key r == key) tellers row (sym is) in
       (row, (found.0, from_pass _ _ found.1, from_pass _ _ same)),
   λ of.
-      let one : row ≡ of.0 = (let e = finds_teller w branch key (Some row) distinct is of in cc) in
+      let one : row ≡ of.0 = (let e = finds_teller tellers branch key (Some row) distinct is of in cc) in
       same_passes _ _ (ap (λ r. r.branch) one ∙ of.1.2),
 )
 
-pub teller_not_found : (w : WorldLists) (branch key : ℕ) → AreDistinct (map teller_key w.tellers) → None ≡ find (λ r. teller_key r == key) w.tellers → IsTellerOf w branch key → ⊥
-teller_not_found w branch key distinct is of = let e = finds_teller w branch key None distinct is of in cc
+pub teller_not_found : (tellers : List Teller) (branch key : ℕ) → AreDistinct (map teller_key tellers) → None ≡ find (λ r. teller_key r == key) tellers → IsTellerOf tellers branch key → ⊥
+teller_not_found tellers branch key distinct is of = let e = finds_teller tellers branch key None distinct is of in cc
 
 -- what is found in a list that equals the rows
 pub found_in : {X : Type 0} (key : X → ℕ) (p : X → Bool) (seen rows : List X) (found : Option X) → seen ≡ rows → (IsNonDecreasingBy key seen → found ≡ find p seen) → IsNonDecreasingBy key rows → found ≡ find p rows

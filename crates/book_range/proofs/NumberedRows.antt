@@ -43,7 +43,7 @@ from_numbered {X} group number rows found of same is x there =
 
 -- each row names a branch that is there, and its number fits the key
 abbrev pub AreNamed : {X : Type 0} → WorldLists → (X → ℕ) → (X → ℕ) → List X → Type 0
-AreNamed {X} w group number rows = (x : X) → Contains rows x → IsBranch w (group x) × (number x < 2 ^ 32)
+AreNamed {X} w group number rows = (x : X) → Contains rows x → IsBranch w.branches (group x) × (number x < 2 ^ 32)
 
 -- the rows of each branch are numbered where those of each kept branch bear numbers
 pub branches_numbered : {X : Type 0} (w : WorldLists) (kept : KeptLists) (key group number : X → ℕ) → ((x : X) → key x ≡ 2 ^ 32 * group x + number x) → (rows : List X) (branch : ℕ) →
@@ -85,15 +85,15 @@ releases_numbered w distinct each r there = record {
 pub releases_from_numbered : (w : WorldLists) → AreReleasesNumbered w → (r : Release) → Contains w.releases r → IsNumberedRelease w r
 releases_from_numbered w numbered r there = ((numbered r there).low r there refl, (numbered r there).high r there refl)
 
-pub releases_joined : (w : WorldLists) → AreReleasesAlone w → AreReleasesNumbered w → (r : Release) → Contains w.releases r → IsReleaseInRange w r
+pub releases_joined : (w : WorldLists) → AreReleasesAlone w → AreReleasesNumbered w → (r : Release) → Contains w.releases r → IsReleaseInRange w.branches w.releases w.policy.users r
 releases_joined w alone numbered r there =
     let a = alone.each r there in
     record { user = a.user; number = a.number; numbered = numbered r there; giver = a.giver; branch = a.branch; day = a.day; operation = a.operation }
 
-pub releases_alone : (w : WorldLists) → ((r : Release) → Contains w.releases r → IsReleaseInRange w r) → AreReleasesAlone w
+pub releases_alone : (w : WorldLists) → ((r : Release) → Contains w.releases r → IsReleaseInRange w.branches w.releases w.policy.users r) → AreReleasesAlone w
 releases_alone w all = record { each = λ r there. one (all r there) }
   where
-    one : {r : Release} → IsReleaseInRange w r → IsReleaseAlone w r
+    one : {r : Release} → IsReleaseInRange w.branches w.releases w.policy.users r → IsReleaseAlone w.branches w.policy.users r
     one a = record { user = a.user; number = a.number; giver = a.giver; branch = a.branch; day = a.day; operation = a.operation }
 
 pub proofs_found : (w : WorldLists) (seen found : List Proof) (branch : ℕ) → AreCashBooksInRange w → seen ≡ w.proofs →

@@ -36,7 +36,7 @@ parts_of_range w kept all = record {
 
 -- the entries, which are kept beside their rows
 pub entries_joined : (w : WorldLists) (kept : List EntryRecord) → map (λ e. e.row) kept ≡ w.entries → ((e : Entry) → Contains w.entries e → IsEntryNamed w e) →
-    ((e : EntryRecord) → Contains kept e → IsEntryLimited w e) → (e : EntryRecord) → Contains kept e → IsEntryInRange w e
+    ((e : EntryRecord) → Contains kept e → IsEntryLimited w.entries w.policy.users e) → (e : EntryRecord) → Contains kept e → IsEntryInRange w.branches w.tellers w.accounts w.entries w.policy.users e
 entries_joined w kept same named limited e there =
     let names = named e.row (made_of (λ k. k.row) kept w.entries e same there) in
     let limits = limited e there in
@@ -50,18 +50,20 @@ entries_joined w kept same named limited e there =
       day = limits.day;
       user = limits.user;
       partner = limits.partner;
+      partner_there = limits.partner_there;
       undoes = limits.undoes;
+      undone_there = limits.undone_there;
       balance_after = limits.balance_after;
     }
 
-pub entries_named : (w : WorldLists) (kept : List EntryRecord) → map (λ e. e.row) kept ≡ w.entries → ((e : EntryRecord) → Contains kept e → IsEntryInRange w e) →
+pub entries_named : (w : WorldLists) (kept : List EntryRecord) → map (λ e. e.row) kept ≡ w.entries → ((e : EntryRecord) → Contains kept e → IsEntryInRange w.branches w.tellers w.accounts w.entries w.policy.users e) →
     (e : Entry) → Contains w.entries e → IsEntryNamed w e
 entries_named w kept same all e there =
     let source = source_of (λ (k : EntryRecord). k.row) kept w.entries e same there in
     let in_range = all source.0 source.1.0 in
     subst (IsEntryNamed w) source.1.1 record { branch = in_range.branch; account = in_range.account; teller = in_range.teller }
 
-pub entry_limits : (w : WorldLists) (e : EntryRecord) → IsEntryInRange w e → IsEntryLimited w e
+pub entry_limits : (w : WorldLists) (e : EntryRecord) → IsEntryInRange w.branches w.tellers w.accounts w.entries w.policy.users e → IsEntryLimited w.entries w.policy.users e
 entry_limits w e all = record {
   number = all.number;
   turn = all.turn;
@@ -69,18 +71,20 @@ entry_limits w e all = record {
   day = all.day;
   user = all.user;
   partner = all.partner;
+  partner_there = all.partner_there;
   undoes = all.undoes;
+  undone_there = all.undone_there;
   balance_after = all.balance_after;
 }
 
 -- the lines
-pub line_joined : (w : WorldLists) (l : CashLine) → IsLineNamed w l → IsLineLimited w l → IsLineInRange w l
+pub line_joined : (w : WorldLists) (l : CashLine) → IsLineNamed w l → IsLineLimited w.policy.users l → IsLineInRange w.branches w.tellers w.policy.users l
 line_joined w l names limits = record { branch = names.branch; number = limits.number; place = names.place; moment = limits.moment; day = limits.day; user = limits.user }
 
 -- the releases, each by itself
 pub releases_told : (w : WorldLists) (seen : List Release) (r : Bool) → seen ≡ w.releases →
-    (IsTrue r → (x : Release) → Contains seen x → IsReleaseAlone w x) × (((x : Release) → Contains seen x → IsReleaseAlone w x) → IsTrue r) →
+    (IsTrue r → (x : Release) → Contains seen x → IsReleaseAlone w.branches w.policy.users x) × (((x : Release) → Contains seen x → IsReleaseAlone w.branches w.policy.users x) → IsTrue r) →
     (IsTrue r → AreReleasesAlone w) × (AreReleasesAlone w → IsTrue r)
 releases_told w seen r same says =
-    let each = told (IsReleaseAlone w) seen w.releases r same says in
+    let each = told (IsReleaseAlone w.branches w.policy.users) seen w.releases r same says in
     (λ is. record { each = each.0 is }, λ all. each.1 all.each)

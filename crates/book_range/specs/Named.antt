@@ -10,17 +10,17 @@ use Rattle.book_sums.specs.declared.shares.Part.{Part}
 
 -- the rows that an entry names are there
 pub record IsEntryNamed (w : WorldLists) (e : Entry) : Type 0 where
-  pub branch : IsBranch w e.branch
-  pub account : IsAccount w e.account
-  pub teller : IsTellerOf w e.branch e.teller
+  pub branch : IsBranch w.branches e.branch
+  pub account : IsAccount w.accounts e.account
+  pub teller : IsTellerOf w.tellers e.branch e.teller
 
 -- those that a line names: its branch, and its place unless that is the vault
 pub record IsLineNamed (w : WorldLists) (l : CashLine) : Type 0 where
-  pub branch : IsBranch w l.branch
-  pub place : (l.place ≡ 0) ⊎ IsTellerOf w l.branch l.place
+  pub branch : IsBranch w.branches l.branch
+  pub place : (l.place ≡ 0) ⊎ IsTellerOf w.tellers l.branch l.place
 
 -- the same of the parts of rows: the account of an entry, its teller and branch, or the branch and place of a line
 abbrev pub IsNamed : WorldLists → Named → Part → Type 0
-IsNamed w named.Account part = IsAccount w part.group
-IsNamed w named.Teller part = IsBranch w part.number × IsTellerOf w part.number part.group
-IsNamed w named.Place part = IsBranch w part.group × ((part.number ≡ 0) ⊎ IsTellerOf w part.group part.number)
+IsNamed w named.Account part = IsAccount w.accounts part.group
+IsNamed w named.Teller part = IsBranch w.branches part.number × IsTellerOf w.tellers part.number part.group
+IsNamed w named.Place part = IsBranch w.branches part.group × ((part.number ≡ 0) ⊎ IsTellerOf w.tellers part.group part.number)

@@ -1,5 +1,5 @@
 -- What is asked of a bank's books, in the parts in which it is judged.
-use Rattle.std.specs.Prelude.{◌≤◌, Contains}
+use Rattle.std.specs.Prelude.{◌≤◌, List, Contains}
 use Rattle.bank_policy.specs.declared.rows.User.{User}
 use Rattle.money.specs.Range.{IsCents}
 use Rattle.counter_ops.specs.Ranges.{IsKey, IsKeyOrZero, IsWithin}
@@ -7,44 +7,48 @@ use Rattle.bank_books.specs.declared.records.AccountRecord.{AccountRecord}
 use Rattle.bank_books.specs.declared.records.BranchRecord.{BranchRecord}
 use Rattle.bank_books.specs.declared.records.EntryRecord.{EntryRecord}
 use Rattle.bank_books.specs.declared.records.TellerRecord.{TellerRecord}
+use Rattle.bank_books.specs.declared.rows.Branch.{Branch}
 use Rattle.bank_books.specs.declared.rows.CashLine.{CashLine}
+use Rattle.bank_books.specs.declared.rows.Entry.{Entry}
 use Rattle.bank_books.specs.declared.rows.Proof.{Proof}
 use Rattle.bank_books.specs.declared.rows.Release.{Release}
 use Rattle.bank_books.specs.Numbering.{AreNumbered}
-use Rattle.bank_books.specs.Range.{HoldsReleasable, IsAccountInRange, IsBranch, IsBranchInRange, IsDay, IsEntryInRange, IsLineInRange, IsProofInRange, IsReleaseInRange, IsTellerInRange, IsUser}
+use Rattle.bank_books.specs.Range.{HoldsReleasable, IsAccountInRange, IsBranch, IsBranchInRange, IsDay, IsEntryInRange, IsEntryOrNone, IsLineInRange, IsProofInRange, IsReleaseInRange, IsTellerInRange, IsUser}
 use Rattle.bank_books.specs.Records.{KeptLists}
 use Rattle.bank_books.specs.WorldLists.{WorldLists}
 
--- the numbers of an entry are within their limits, and its user is there
-pub record IsEntryLimited (w : WorldLists) (e : EntryRecord) : Type 0 where
+-- the numbers of an entry are within their limits, and its user and the entries that it names are there
+pub record IsEntryLimited (entries : List Entry) (users : List User) (e : EntryRecord) : Type 0 where
   pub number : IsKey e.row.number
   pub turn : IsKey e.row.turn
   pub moment : e.row.moment ≤ 99999999999
   pub day : IsDay e.row.day
-  pub user : IsUser w e.row.user
+  pub user : IsUser users e.row.user
   pub partner : IsKeyOrZero e.row.partner
+  pub partner_there : IsEntryOrNone entries e.row.branch e.row.partner
   pub undoes : IsKeyOrZero e.row.undoes
+  pub undone_there : IsEntryOrNone entries e.row.branch e.row.undoes
   pub balance_after : IsCents e.balance_after
 
 -- and those of a line, and its user
-pub record IsLineLimited (w : WorldLists) (l : CashLine) : Type 0 where
+pub record IsLineLimited (users : List User) (l : CashLine) : Type 0 where
   pub number : IsKey l.number
   pub moment : l.moment ≤ 99999999999
   pub day : IsDay l.day
-  pub user : IsUser w l.user
+  pub user : IsUser users l.user
 
 -- what is asked of a release beside the others of its user
-pub record IsReleaseAlone (w : WorldLists) (r : Release) : Type 0 where
-  pub user : IsUser w r.user
+pub record IsReleaseAlone (branches : List Branch) (users : List User) (r : Release) : Type 0 where
+  pub user : IsUser users r.user
   pub number : IsWithin 1 100000 r.number
-  pub giver : IsUser w r.giver
-  pub branch : IsBranch w r.branch
+  pub giver : IsUser users r.giver
+  pub branch : IsBranch branches r.branch
   pub day : IsDay r.day
   pub operation : HoldsReleasable r
 
 -- of all of them
 pub record AreReleasesAlone (w : WorldLists) : Type 0 where
-  pub each : (r : Release) → Contains w.releases r → IsReleaseAlone w r
+  pub each : (r : Release) → Contains w.releases r → IsReleaseAlone w.branches w.policy.users r
 
 -- the releases of each user bear the numbers 1, 2, 3 and so on
 abbrev pub AreReleasesNumbered : WorldLists → Type 0
@@ -52,22 +56,22 @@ AreReleasesNumbered w = (r : Release) → Contains w.releases r → AreNumbered 
 
 -- of the places where money is: branches and tellers
 pub record ArePlacesInRange (w : WorldLists) (kept : KeptLists) : Type 0 where
-  pub branches : (b : BranchRecord) → Contains kept.branches b → IsBranchInRange w b
-  pub tellers : (t : TellerRecord) → Contains kept.tellers t → IsTellerInRange w t
+  pub branches : (b : BranchRecord) → Contains kept.branches b → IsBranchInRange w.accounts w.proofs b
+  pub tellers : (t : TellerRecord) → Contains kept.tellers t → IsTellerInRange w.branches t
 
 -- of accounts, and the entries that name them
 pub record AreLedgersInRange (w : WorldLists) (kept : KeptLists) : Type 0 where
-  pub accounts : (a : AccountRecord) → Contains kept.accounts a → IsAccountInRange w a
-  pub entries : (e : EntryRecord) → Contains kept.entries e → IsEntryInRange w e
+  pub accounts : (a : AccountRecord) → Contains kept.accounts a → IsAccountInRange w.branches a
+  pub entries : (e : EntryRecord) → Contains kept.entries e → IsEntryInRange w.branches w.tellers w.accounts w.entries w.policy.users e
 
 -- of the lines and proofs of branches
 pub record AreCashBooksInRange (w : WorldLists) : Type 0 where
-  pub lines : (l : CashLine) → Contains w.lines l → IsLineInRange w l
-  pub proofs : (p : Proof) → Contains w.proofs p → IsProofInRange w p
+  pub lines : (l : CashLine) → Contains w.lines l → IsLineInRange w.branches w.tellers w.policy.users l
+  pub proofs : (p : Proof) → Contains w.proofs p → IsProofInRange w.branches p
 
 -- of users, and the releases that they were given
 pub record AreUsersInRange (w : WorldLists) : Type 0 where
-  pub releases : (r : Release) → Contains w.releases r → IsReleaseInRange w r
+  pub releases : (r : Release) → Contains w.releases r → IsReleaseInRange w.branches w.releases w.policy.users r
   pub users : (u : User) → Contains w.policy.users u → u.session ≤ 999999999
 
 -- of all rows

@@ -1,7 +1,7 @@
 ghost use Rattle.std.specs.Prelude.{◌≡◌, ◌↔◌, ◌⊎◌, Contains, IsTrue, map};
 ghost use Rattle.keyed_rows.specs.Ordered.{AreDistinct};
 ghost use Rattle.bank_books.specs.Keys.{teller_key};
-ghost use Rattle.bank_books.specs.Range.{IsBranch, IsTellerOf, IsUser};
+ghost use Rattle.bank_books.specs.Range.{IsBranch, IsEntryOrNone, IsTellerOf, IsUser};
 ghost use Rattle.bank_books.specs.WorldLists.{WorldLists};
 ghost use Rattle.bank_books.specs.declared.rows.CashLine.{CashLine as ALine};
 ghost use Rattle.bank_books.specs.declared.rows.Entry.{Entry as AnEntry};
@@ -91,22 +91,33 @@ fn is_named(world: &World, named: Named, part: &Part) -> bool
 
 /// Whether a branch of that number is there.
 pub(crate) fn is_branch(world: &World, key: u32) -> bool
-    ensures { IsTrue result ↔ IsBranch world.now key }
+    ensures { IsTrue result ↔ IsBranch world.now.branches key }
 {
     is_there(world.branches(), key as u128)
 }
 
 /// Whether a user of that number is there.
 pub(crate) fn is_user(world: &World, key: u32) -> bool
-    ensures { IsTrue result ↔ IsUser world.now key }
+    ensures { IsTrue result ↔ IsUser world.now.policy.users key }
 {
     is_there(world.policy().users(), key as u128)
+}
+
+/// Whether no entry is named, by 0, or one of that number is there in the history of that branch.
+pub(crate) fn is_entry_or_none(world: &World, branch: u32, number: u32) -> bool
+    ensures { IsTrue result ↔ IsEntryOrNone world.now.entries branch number }
+{
+    number == 0
+        || is_there(
+            world.entries(),
+            branch as u128 * (1 << 32) + number as u128,
+        )
 }
 
 /// Whether a teller of that number is there, and of that branch.
 fn is_teller_of(world: &World, branch: u32, key: u32) -> bool
     requires { AreDistinct (map teller_key world.now.tellers) }
-    ensures { IsTrue result ↔ IsTellerOf world.now branch key }
+    ensures { IsTrue result ↔ IsTellerOf world.now.tellers branch key }
 {
     match find_row(world.tellers(), key as u128) {
         Some(row) => row.branch == branch,

@@ -93,7 +93,7 @@ fn are_branches_in_range(world: &World, sums: &Sums, branches: &[BranchRecord]) 
     requires distinct { HasDistinctKeys world.now }
     requires days { AreCashBooksInRange world.now }
     requires sums { AreSumsOf world.now sums.now }
-    ensures { IsTrue result ↔ ((b : ABranch) → Contains branches.now b → IsBranchInRange world.now b) }
+    ensures { IsTrue result ↔ ((b : ABranch) → Contains branches.now b → IsBranchInRange world.now.accounts world.now.proofs b) }
 {
     branches
         .iter()
@@ -104,7 +104,7 @@ fn are_entries_in_range(world: &World, kept: &Kept, sums: &Sums) -> bool
     requires rows { AreOfRows world.now kept.now }
     requires distinct { HasDistinctKeys world.now }
     requires sums { AreSumsOf world.now sums.now }
-    ensures { IsTrue result ↔ ((e : AnEntry) → Contains kept.now.entries e → IsEntryInRange world.now e) }
+    ensures { IsTrue result ↔ ((e : AnEntry) → Contains kept.now.entries e → IsEntryInRange world.now.branches world.now.tellers world.now.accounts world.now.entries world.now.policy.users e) }
 {
     are_entries_named(world, sums) && are_within_limits(world, kept.entries())
 }
@@ -112,14 +112,14 @@ fn are_entries_in_range(world: &World, kept: &Kept, sums: &Sums) -> bool
 fn are_lines_in_range(world: &World, sums: &Sums) -> bool
     requires distinct { HasDistinctKeys world.now }
     requires sums { AreSumsOf world.now sums.now }
-    ensures { IsTrue result ↔ ((l : ALine) → Contains world.now.lines l → IsLineInRange world.now l) }
+    ensures { IsTrue result ↔ ((l : ALine) → Contains world.now.lines l → IsLineInRange world.now.branches world.now.tellers world.now.policy.users l) }
 {
     are_lines_named(world, sums) && are_within_limits(world, world.lines())
 }
 
 fn are_releases_in_range(world: &World) -> bool
     requires { HasDistinctKeys world.now }
-    ensures { IsTrue result ↔ ((r : ARelease) → Contains world.now.releases r → IsReleaseInRange world.now r) }
+    ensures { IsTrue result ↔ ((r : ARelease) → Contains world.now.releases r → IsReleaseInRange world.now.branches world.now.releases world.now.policy.users r) }
 {
     are_within_limits(world, world.releases()) && are_releases_numbered(world)
 }

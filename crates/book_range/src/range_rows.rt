@@ -6,7 +6,7 @@ ghost use Rattle.book_sums.specs.Sums.{AreSumsOf};
 ghost use Rattle.bank_books.specs.Range.{HasDistinctKeys, HoldsReleasable, IsAccountInRange, IsBranchInRange, IsCash, IsDay, IsProofInRange, IsTellerInRange, IsUserNumber};
 ghost use Rattle.book_range.specs.RangeParts.{AreCashBooksInRange, IsEntryLimited, IsLineLimited, IsReleaseAlone};
 
-use crate::named::{is_branch, is_user};
+use crate::named::{is_branch, is_entry_or_none, is_user};
 use crate::numbering::has_numbered_days;
 use bank_books::{
     Account, AccountRecord, Branch, BranchRecord, CashLine, EntryRecord, Proof, Release,
@@ -29,7 +29,7 @@ pub(crate) fn is_branch_in_range(world: &World, sums: &Sums, branch: &BranchReco
     requires distinct { HasDistinctKeys world.now }
     requires days { AreCashBooksInRange world.now }
     requires sums { AreSumsOf world.now sums.now }
-    ensures { IsTrue result ↔ IsBranchInRange world.now branch.now }
+    ensures { IsTrue result ↔ IsBranchInRange world.now.accounts world.now.proofs branch.now }
 {
     is_branch_row_in_range(&branch.row)
         && are_balances_in_range(branch)
@@ -75,7 +75,7 @@ pub(crate) trait Limited {
 }
 
 impl Limited for TellerRecord {
-    ghost has_limits = { IsTellerInRange };
+    ghost has_limits = { λ w. IsTellerInRange w.branches };
 
     fn is_within_limits(&self, world: &World) -> bool {
         is_key(self.row.teller)
@@ -87,7 +87,7 @@ impl Limited for TellerRecord {
 }
 
 impl Limited for AccountRecord {
-    ghost has_limits = { IsAccountInRange };
+    ghost has_limits = { λ w. IsAccountInRange w.branches };
 
     fn is_within_limits(&self, world: &World) -> bool {
         is_key(self.row.account)
@@ -101,7 +101,7 @@ impl Limited for AccountRecord {
 
 /// The branch, account and teller that an entry names are looked up beside.
 impl Limited for EntryRecord {
-    ghost has_limits = { IsEntryLimited };
+    ghost has_limits = { λ w. IsEntryLimited w.entries w.policy.users };
 
     fn is_within_limits(&self, world: &World) -> bool {
         is_key(self.row.number)
@@ -112,12 +112,14 @@ impl Limited for EntryRecord {
             && self.row.undoes <= MAX_KEY
             && is_cents(self.balance_after)
             && is_user(world, self.row.user)
+            && is_entry_or_none(world, self.row.branch, self.row.partner)
+            && is_entry_or_none(world, self.row.branch, self.row.undoes)
     }
 }
 
 /// The branch and the place that a line names are looked up beside.
 impl Limited for CashLine {
-    ghost has_limits = { IsLineLimited };
+    ghost has_limits = { λ w. IsLineLimited w.policy.users };
 
     fn is_within_limits(&self, world: &World) -> bool {
         is_key(self.number)
@@ -128,7 +130,7 @@ impl Limited for CashLine {
 }
 
 impl Limited for Proof {
-    ghost has_limits = { IsProofInRange };
+    ghost has_limits = { λ w. IsProofInRange w.branches };
 
     fn is_within_limits(&self, world: &World) -> bool {
         is_branch(world, self.branch) && is_day(self.day) && self.entries <= MAX_KEY
@@ -137,7 +139,7 @@ impl Limited for Proof {
 
 /// How releases are numbered is looked up beside.
 impl Limited for Release {
-    ghost has_limits = { IsReleaseAlone };
+    ghost has_limits = { λ w. IsReleaseAlone w.branches w.policy.users };
 
     fn is_within_limits(&self, world: &World) -> bool {
         is_user(world, self.user)

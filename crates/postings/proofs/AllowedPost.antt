@@ -1,5 +1,5 @@
 -- What is known of a post that no rule denies: its rows are there, and its entry may come next.
-use Rattle.std.proofs.Common.{◌≡◌, ℕ, ◌+◌, ◌≤◌, ℤ, ◌+ℤ◌, Bool, true, false, cond, not, refl, ap, arith, sym, ◌∙◌, subst, ◌==◌, ◌||◌, ◌&&◌, Option, Some, None, int_lt}
+use Rattle.std.proofs.Common.{◌≡◌, ℕ, ◌+◌, ◌≤◌, ℤ, ◌+ℤ◌, Bool, true, false, cond, not, refl, ap, arith, sym, ◌∙◌, subst, ◌==◌, ◌||◌, ◌&&◌, Option, Some, None, inl, int_lt}
 use Rattle.std.specs.Prelude.{◌≤ℤ◌, is_none, nat_le, option_and_then, option_map}
 use Rattle.std.specs.Option.{option_map_or}
 use Rattle.std.proofs.lemmas.Bool.{and_parts, eq-eqb, eqb-true, leb-false, ne_eqb, not-false, or_parts}
@@ -106,7 +106,7 @@ has_room n e = omega (arith, leb-false 999999999 n e)
 none_named : IsKeyOrZero 0
 none_named = (omega arith, omega arith)
 
-pub post_is_next : (w : WorldLists) (post : Post) (there : AreThere w post) (by : Signature) → IsAllowed (post_rows w post) post → Books w → IsUser w by.user → by.moment ≤ 99999999999
+pub post_is_next : (w : WorldLists) (post : Post) (there : AreThere w post) (by : Signature) → IsAllowed (post_rows w post) post → Books w → IsUser w.policy.users by.user → by.moment ≤ 99999999999
     → IsNextEntry w (entry_of w post there by)
 post_is_next w post there by allowed books user_there moment_high =
     let branch_found = find-found (λ row. row.branch == post.branch) w.branches there.branch there.branch_is in
@@ -136,7 +136,9 @@ post_is_next w post there by allowed books user_there moment_high =
       day = (books.in_range.branches (branch_record_of w there.branch) (Contains-map (branch_record_of w) w.branches there.branch branch_found.0)).day;
       user = user_there;
       partner = none_named;
+      partner_there = inl refl;
       undoes = none_named;
+      undone_there = inl refl;
       above_floor = at_least _ _ floor;
       account_after = cents_from _ account;
       teller_after = cents_from _ teller;

@@ -7,7 +7,7 @@ pub returns-then-are_lines_named : goal.returns-then-are_lines_named
 returns-then-are_lines_named c =
     let w = c.args.world.now in
     then_tested c.if-are_lines_named.true c.are_lines_named.ensures
-    (told (IsLineLimited w) c.lines.result.now w.lines c.are_within_limits.result c.lines.ensures.value c.are_within_limits.ensures)
+    (told (IsLineLimited w.policy.users) c.lines.result.now w.lines c.are_within_limits.result c.lines.ensures.value c.are_within_limits.ensures)
     (λ named limited l there. line_joined w l (named l there) (limited l there))
     (λ all l there. record { number = (all l there).number; moment = (all l there).moment; day = (all l there).day; user = (all l there).user })
 
