@@ -59,7 +59,7 @@ fn release_count(world: &World, user: u32) -> u64
 }
 
 /// Whether parts of one group are numbered 1, 2, 3 and so on, each once.
-pub(crate) fn are_numbered(parts: &[Part]) -> bool
+pub fn are_numbered(parts: &[Part]) -> bool
     requires { IsNonDecreasingBy part_key parts.now }
     ensures { IsTrue result ↔ (AreDistinct (map part_key parts.now) × BearNumbers (λ p. p.number) parts.now) }
 {

@@ -5,7 +5,7 @@ use bank_books::{CashLine, Entry, Proof};
 use book_sums::Part;
 
 /// A row that bears a number within its group.
-pub(crate) trait Numbered {
+pub trait Numbered {
     ghost number: { Self → ℕ };
 
     /// The number.
@@ -46,7 +46,7 @@ impl Numbered for Part {
 }
 
 /// Whether each of the rows bears a number from 1 to how many they are.
-pub(crate) fn bear_numbers<T: Numbered>(rows: &[T]) -> bool
+pub fn bear_numbers<T: Numbered>(rows: &[T]) -> bool
     ensures { IsTrue result ↔ BearNumbers T.number rows.now }
 {
     let count = rows.len() as u64;

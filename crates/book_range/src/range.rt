@@ -20,7 +20,7 @@ use keyed_rows::has_distinct_keys;
 
 /// Whether every number is within its limits, no key stands twice, and each row names rows that are
 /// there, of the rows and of the numbers kept beside them. It takes no memory.
-pub(crate) fn is_in_range(world: &World, kept: &Kept, computed: &Records, sums: &Sums) -> bool
+pub fn is_in_range(world: &World, kept: &Kept, computed: &Records, sums: &Sums) -> bool
     requires computed { AreRecordsOf world.now computed.now }
     requires sums { AreSumsOf world.now sums.now }
     ensures { IsTrue result ↔ IsInRange world.now kept.now }
