@@ -1,3 +1,4 @@
+use crate::policy_keys::{relation_number, triple_number};
 use crate::policy_write::{PolicyWrite, RelationKey, Session};
 use crate::rows::{Certifier, ItemSet, Relation, Triple, User};
 use keyed_rows::{Keyed, change_rows, insert_row_reserved, remove_rows};
@@ -63,11 +64,16 @@ impl PolicyRows {
             PolicyWrite::Set(set) => insert_row_reserved(&mut self.sets, set),
             PolicyWrite::Relation(relation) => insert_row_reserved(&mut self.relations, relation),
             PolicyWrite::NoRelation(key) => {
-                remove_rows(&mut self.relations, key.number());
+                remove_rows(&mut self.relations, relation_number(key.procedure, key.set));
                 remove_triples(&mut self.triples, key);
             }
             PolicyWrite::Triple(triple) => insert_row_reserved(&mut self.triples, triple),
-            PolicyWrite::NoTriple(key) => remove_rows(&mut self.triples, key.number()),
+            PolicyWrite::NoTriple(key) => {
+                remove_rows(
+                    &mut self.triples,
+                    triple_number(key.user, key.procedure, key.set),
+                )
+            }
             PolicyWrite::Certifier(certifier) => {
                 insert_row_reserved(&mut self.certifiers, certifier)
             }

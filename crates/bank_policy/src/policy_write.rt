@@ -1,6 +1,5 @@
 ghost use Rattle.std.specs.Prelude.{◌≡◌};
 
-use crate::policy_keys::{relation_number, triple_number};
 use crate::rows::{Certifier, ItemSet, Relation, Triple, User};
 use bank_terms::Procedure;
 use keyed_rows::Change;
@@ -66,28 +65,6 @@ pub enum PolicyWrite {
     NoCertifier(Certifier),
     /// A user who is suspended or restored. Either way the session is closed.
     Suspended(Suspension),
-}
-
-impl RelationKey {
-    ghost use Rattle.bank_policy.specs.PolicyWrites.{key_of_relation};
-
-    /// As one number: the key of the relation.
-    pub fn number(self) -> u128
-        ensures { result ≡ key_of_relation self }
-    {
-        relation_number(self.procedure, self.set)
-    }
-}
-
-impl TripleKey {
-    ghost use Rattle.bank_policy.specs.PolicyWrites.{key_of_triple};
-
-    /// As one number: the key of the triple.
-    pub fn number(self) -> u128
-        ensures { result ≡ key_of_triple self }
-    {
-        triple_number(self.user, self.procedure, self.set)
-    }
 }
 
 impl Change<User> for Session {
