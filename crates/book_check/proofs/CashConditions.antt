@@ -18,7 +18,7 @@ use Rattle.bank_books.specs.WorldLists.{WorldLists}
 use Rattle.book_sums.specs.Shares.{group_total}
 use Rattle.book_sums.specs.declared.shares.Part.{Part}
 use Rattle.book_sums.proofs.SharesLemmas.{of_rows, same_totals}
-use Rattle.book_range.proofs.Numbered.{AreNamed, branches_from_numbered, branches_numbered}
+use Rattle.book_range.proofs.NumberedRows.{AreNamed, branches_from_numbered, branches_numbered}
 use Rattle.std.specs.List.Sorted.{IsPermutation}
 
 is_amount : (z : ℤ) → IsCents z → is_cents z ≡ true

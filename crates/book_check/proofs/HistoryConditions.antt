@@ -26,7 +26,7 @@ use Rattle.book_sums.specs.declared.sums.Sums.{Sums}
 use Rattle.book_sums.proofs.Counting.{both_true, counted_row, made_of, source_of}
 use Rattle.book_check.proofs.CashConditions.{amount_in_range}
 use Rattle.book_range.proofs.FoundRows.{finds_itself}
-use Rattle.book_range.proofs.Numbered.{AreNamed, branches_from_numbered, branches_numbered}
+use Rattle.book_range.proofs.NumberedRows.{AreNamed, branches_from_numbered, branches_numbered}
 use Rattle.book_check.proofs.TurnParts.{balance_given, parts_from_turns, turns_from_parts}
 
 -- what is asked of all rows that are told of a branch

@@ -3,6 +3,6 @@ pub mod FoundRows
 pub mod GroupKeys
 pub mod Judged
 pub mod NamedParts
-pub mod Numbered
+pub mod NumberedRows
 pub mod RangeJoined
 pub mod SameCounts

@@ -5,7 +5,7 @@ use Rattle.book_sums.specs.declared.shares.Part.{Part}
 use Rattle.book_sums.specs.Shares.{part_key}
 use Rattle.book_range.proofs.GroupKeys.{distinct_from_once, once_from_distinct}
 use Rattle.book_range.proofs.Judged.{not_passed}
-use Rattle.book_range.proofs.Numbered.{from_numbered, numbered}
+use Rattle.book_range.proofs.NumberedRows.{from_numbered, numbered}
 use Rattle.book_check.proofs.TurnWalk.{by_walk, of_group, same_walk, walk_by}
 use Rattle.book_check.proofs.turns.is_in_turns.Goals as goal
 

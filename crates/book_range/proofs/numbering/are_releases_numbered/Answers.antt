@@ -1,7 +1,7 @@
 use Rattle.std.proofs.Common.{rules}
 use Rattle.std.proofs.lemmas.Iterator.{YieldsList-from_slice, cases_from_all}
 use Rattle.book_range.proofs.Judged.{judged, told}
-use Rattle.book_range.proofs.Numbered.{IsNumberedRelease, releases_from_numbered, releases_numbered}
+use Rattle.book_range.proofs.NumberedRows.{IsNumberedRelease, releases_from_numbered, releases_numbered}
 use Rattle.book_range.proofs.numbering.are_releases_numbered.Goals as goal
 
 pub returns : goal.returns

@@ -1,7 +1,7 @@
 use Rattle.std.proofs.Common.{◌+◌, length, refl, ap, sym, ◌∙◌}
 use Rattle.bank_books.specs.Keys.{proof_key}
 use Rattle.book_range.proofs.GroupKeys.{once}
-use Rattle.book_range.proofs.Numbered.{from_numbered, numbered, other_last_day, proofs_counted}
+use Rattle.book_range.proofs.NumberedRows.{from_numbered, numbered, other_last_day, proofs_counted}
 use Rattle.book_range.proofs.numbering.has_numbered_days.Goals as goal
 
 pub returns-then-proofs-branch : goal.returns-then-proofs-branch

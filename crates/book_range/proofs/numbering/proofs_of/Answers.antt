@@ -1,4 +1,4 @@
-use Rattle.book_range.proofs.Numbered.{proofs_found}
+use Rattle.book_range.proofs.NumberedRows.{proofs_found}
 use Rattle.book_range.proofs.numbering.proofs_of.Goals as goal
 
 pub returns : goal.returns

@@ -1,4 +1,4 @@
-use Rattle.book_range.proofs.Numbered.{releases_found}
+use Rattle.book_range.proofs.NumberedRows.{releases_found}
 use Rattle.book_range.proofs.numbering.release_count.Goals as goal
 
 pub returns : goal.returns

@@ -1,5 +1,5 @@
 use Rattle.book_range.proofs.Judged.{not_passed, then_tested}
-use Rattle.book_range.proofs.Numbered.{releases_alone, releases_joined}
+use Rattle.book_range.proofs.NumberedRows.{releases_alone, releases_joined}
 use Rattle.book_range.proofs.RangeJoined.{releases_told}
 use Rattle.book_range.proofs.range.are_releases_in_range.Goals as goal
 
