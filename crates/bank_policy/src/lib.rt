@@ -18,7 +18,7 @@ pub use bank_terms::{Cdi, Kind, OperationRow, Procedure, Rule};
 pub use coverage::{best_limit, covers, is_certified};
 pub use held_rows::{CertifiedRow, HeldRow};
 pub use policy::Policy;
-pub use policy_keys::{relation_number, triple_number};
+pub use policy_keys::{certifier_number, relation_number, triple_number};
 pub use policy_rows::PolicyRows;
 pub use policy_write::{PolicyWrite, RelationKey, Session, Suspension, TripleKey};
 pub use reading::{relations_of, standing, triples_of, user_row};

@@ -1,5 +1,5 @@
 ghost use Rattle.std.specs.Prelude.{◌≡◌};
-ghost use Rattle.bank_policy.specs.PolicyKeys.{relation_number, triple_number};
+ghost use Rattle.bank_policy.specs.PolicyKeys.{certifier_number, relation_number, triple_number};
 
 use crate::rows::{Certifier, ItemSet, Relation, Triple, User};
 use bank_terms::Procedure;
@@ -17,6 +17,13 @@ pub fn triple_number(user: u32, procedure: Procedure, set: u32) -> u128
     ensures { result ≡ triple_number user procedure set }
 {
     user as u128 * (1 << 64) + relation_number(procedure, set)
+}
+
+/// The key of a certifier: by user, then procedure.
+pub fn certifier_number(user: u32, procedure: Procedure) -> u128
+    ensures { result ≡ certifier_number user procedure }
+{
+    user as u128 * (1 << 32) + procedure.number() as u128
 }
 
 impl Keyed for User {
@@ -65,6 +72,6 @@ impl Keyed for Certifier {
     ghost key = { certifier_key };
 
     fn key(&self) -> u128 {
-        self.user as u128 * (1 << 32) + self.procedure.number() as u128
+        certifier_number(self.user, self.procedure)
     }
 }
