@@ -4,6 +4,8 @@ pub mod Items
 pub mod Laws
 pub mod Policy
 pub mod PolicyKeys
+pub mod PolicyRoom
+pub mod PolicyWrites
 pub mod SetRow
 pub mod Tests
 pub mod Triples

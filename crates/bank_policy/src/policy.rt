@@ -1,70 +1,17 @@
 ghost use Rattle.std.specs.List.Sorted.{IsNonDecreasingBy};
 
+use crate::policy_rows::PolicyRows;
+use crate::policy_write::Session;
 use crate::rows::{Certifier, ItemSet, Relation, Triple, User};
-use keyed_rows::{Keyed, insert_row};
+use keyed_rows::{change_rows, insert_row};
 use std::alloc::{AllocError, Global};
 use std::marker::Model;
 
-impl Keyed for User {
-    ghost use Rattle.bank_policy.specs.PolicyKeys.{user_key};
-
-    ghost key = { user_key };
-
-    fn key(&self) -> u128 {
-        self.user as u128
-    }
-}
-
-impl Keyed for ItemSet {
-    ghost use Rattle.bank_policy.specs.PolicyKeys.{set_key};
-
-    ghost key = { set_key };
-
-    fn key(&self) -> u128 {
-        self.set() as u128
-    }
-}
-
-impl Keyed for Relation {
-    ghost use Rattle.bank_policy.specs.PolicyKeys.{relation_key};
-
-    ghost key = { relation_key };
-
-    fn key(&self) -> u128 {
-        self.procedure.number() as u128 * (1 << 32) + self.set as u128
-    }
-}
-
-impl Keyed for Triple {
-    ghost use Rattle.bank_policy.specs.PolicyKeys.{triple_key};
-
-    ghost key = { triple_key };
-
-    fn key(&self) -> u128 {
-        self.user as u128 * (1 << 64)
-            + self.procedure.number() as u128 * (1 << 32)
-            + self.set as u128
-    }
-}
-
-impl Keyed for Certifier {
-    ghost use Rattle.bank_policy.specs.PolicyKeys.{certifier_key};
-
-    ghost key = { certifier_key };
-
-    fn key(&self) -> u128 {
-        self.user as u128 * (1 << 32) + self.procedure.number() as u128
-    }
-}
-
-/// The rows of the policy: plain lists, each in order of its key.
+/// The rows of the policy: plain lists, each in order of its key. What changes many of them at once takes
+/// the rows out, whose room in memory it can see, and puts them back.
 #[derive(Drop)]
 pub struct Policy {
-    users: Vec<User>,
-    sets: Vec<ItemSet>,
-    relations: Vec<Relation>,
-    triples: Vec<Triple>,
-    certifiers: Vec<Certifier>,
+    rows: PolicyRows,
 }
 
 impl Model for Policy {
@@ -72,35 +19,50 @@ impl Model for Policy {
 
     ghost Value = { PolicyLists };
 
-    ghost view = { λ p. record {
-      users = p.users.items;
-      sets = p.sets.items;
-      relations = p.relations.items;
-      triples = p.triples.items;
-      certifiers = p.certifiers.items;
-    } };
+    ghost use Rattle.bank_policy.specs.PolicyRoom.{AreRowsInOrder, policy_of};
 
-    ghost use Rattle.bank_policy.specs.PolicyKeys.{ArePolicyRowsInOrder};
+    ghost view = { λ p. policy_of p.rows };
 
-    ghost invariant = { λ p. ArePolicyRowsInOrder p.users.items p.sets.items p.relations.items p.triples.items p.certifiers.items };
+    ghost invariant = { λ p. AreRowsInOrder p.rows };
 }
 
 impl Policy {
     ghost use Rattle.std.specs.Prelude.{◌≡◌, [], OnOk, OnErr};
     ghost use Rattle.keyed_rows.specs.Ordered.{add_row};
     ghost use Rattle.bank_policy.specs.PolicyKeys.{user_key, set_key, relation_key, triple_key, certifier_key};
+    ghost use Rattle.bank_policy.specs.PolicyRoom.{AreRowsInOrder, policy_of};
+    ghost use Rattle.bank_policy.specs.PolicyWrites.{with_session};
 
     /// A policy with no rows: no one may do anything.
     pub fn new(alloc: Global) -> Policy
         ensures { result ≡ record { users = []; sets = []; relations = []; triples = []; certifiers = [] } }
     {
         Policy {
-            users: Vec::new(alloc),
-            sets: Vec::new(alloc),
-            relations: Vec::new(alloc),
-            triples: Vec::new(alloc),
-            certifiers: Vec::new(alloc),
+            rows: PolicyRows::new(alloc),
         }
+    }
+
+    /// The policy of these rows, each list of which stands in order of its key.
+    pub fn from_rows(rows: PolicyRows) -> Policy
+        requires { AreRowsInOrder rows }
+        ensures { result ≡ policy_of rows }
+    {
+        Policy { rows }
+    }
+
+    /// Its rows, to be changed.
+    pub fn into_rows(self) -> PolicyRows
+        ensures value { policy_of result ≡ self }
+        ensures in_order { AreRowsInOrder result }
+    {
+        self.rows
+    }
+
+    /// Makes this the latest session of its user, if there is such a user. It takes no memory.
+    pub fn set_session(&mut self, to: Session)
+        ensures { self.new ≡ record self.old { users = with_session to self.old.users } }
+    {
+        change_rows(&mut self.rows.users, to.user as u128, &to);
     }
 
     /// The users, by number.
@@ -108,7 +70,7 @@ impl Policy {
         ensures value { result.now ≡ self.now.users }
         ensures in_order { IsNonDecreasingBy user_key self.now.users }
     {
-        &self.users
+        &self.rows.users
     }
 
     /// The sets, by number.
@@ -116,7 +78,7 @@ impl Policy {
         ensures value { result.now ≡ self.now.sets }
         ensures in_order { IsNonDecreasingBy set_key self.now.sets }
     {
-        &self.sets
+        &self.rows.sets
     }
 
     /// The certified relations, by procedure, then set.
@@ -124,7 +86,7 @@ impl Policy {
         ensures value { result.now ≡ self.now.relations }
         ensures in_order { IsNonDecreasingBy relation_key self.now.relations }
     {
-        &self.relations
+        &self.rows.relations
     }
 
     /// The triples, by user, then procedure, then set.
@@ -132,7 +94,7 @@ impl Policy {
         ensures value { result.now ≡ self.now.triples }
         ensures in_order { IsNonDecreasingBy triple_key self.now.triples }
     {
-        &self.triples
+        &self.rows.triples
     }
 
     /// The certifiers, by user, then procedure.
@@ -140,7 +102,7 @@ impl Policy {
         ensures value { result.now ≡ self.now.certifiers }
         ensures in_order { IsNonDecreasingBy certifier_key self.now.certifiers }
     {
-        &self.certifiers
+        &self.rows.certifiers
     }
 
     /// Writes a user at his place. Where memory is refused the policy stays as it was.
@@ -148,7 +110,7 @@ impl Policy {
         ensures ok { OnOk result (self.new ≡ record self.old { users = add_row user_key user self.old.users }) }
         ensures err { OnErr result (self.new ≡ self.old) }
     {
-        insert_row(&mut self.users, user)
+        insert_row(&mut self.rows.users, user)
     }
 
     /// Writes a set at its place. Where memory is refused the policy stays as it was.
@@ -156,7 +118,7 @@ impl Policy {
         ensures ok { OnOk result (self.new ≡ record self.old { sets = add_row set_key set self.old.sets }) }
         ensures err { OnErr result (self.new ≡ self.old) }
     {
-        insert_row(&mut self.sets, set)
+        insert_row(&mut self.rows.sets, set)
     }
 
     /// Writes a certified relation at its place. Where memory is refused the policy stays as it was.
@@ -164,7 +126,7 @@ impl Policy {
         ensures ok { OnOk result (self.new ≡ record self.old { relations = add_row relation_key relation self.old.relations }) }
         ensures err { OnErr result (self.new ≡ self.old) }
     {
-        insert_row(&mut self.relations, relation)
+        insert_row(&mut self.rows.relations, relation)
     }
 
     /// Writes a triple at its place. Where memory is refused the policy stays as it was.
@@ -172,7 +134,7 @@ impl Policy {
         ensures ok { OnOk result (self.new ≡ record self.old { triples = add_row triple_key triple self.old.triples }) }
         ensures err { OnErr result (self.new ≡ self.old) }
     {
-        insert_row(&mut self.triples, triple)
+        insert_row(&mut self.rows.triples, triple)
     }
 
     /// Writes a certifier at his place. Where memory is refused the policy stays as it was.
@@ -180,6 +142,6 @@ impl Policy {
         ensures ok { OnOk result (self.new ≡ record self.old { certifiers = add_row certifier_key certifier self.old.certifiers }) }
         ensures err { OnErr result (self.new ≡ self.old) }
     {
-        insert_row(&mut self.certifiers, certifier)
+        insert_row(&mut self.rows.certifiers, certifier)
     }
 }

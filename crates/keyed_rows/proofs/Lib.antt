@@ -3,6 +3,7 @@ pub mod DistinctKeys
 pub mod FirstRow
 pub mod GroupCounts
 pub mod LookUps
+pub mod MadeRows
 pub mod Places
 pub mod RowsBetween
 pub mod TotalLemmas

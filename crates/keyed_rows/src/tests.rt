@@ -1,7 +1,9 @@
 use crate::{
-    Grouped, Keyed, Tally, are_in_order, find_row, has_distinct_keys, has_small_groups, insert_row,
-    insert_row_reserved, is_there, place_of, rows_between, sum_of,
+    Change, Grouped, Keyed, Tally, are_in_order, change_rows, find_row, has_distinct_keys,
+    has_small_groups, insert_row, insert_row_reserved, is_there, place_of, remove_rows,
+    rows_between, sum_of,
 };
+use std::alloc::{AllocError, Global};
 use std::test::Fail;
 
 /// A key, and a mark that tells rows of one key apart.
@@ -54,6 +56,60 @@ fn rows_go_behind_those_of_their_key(rt: HostRuntime) -> Result<(), Fail> {
     assert!(rt; has_distinct_keys(&ordered[1..3]));
     assert!(rt; are_in_order(&rows));
     assert!(rt; !are_in_order(&[Marked(2, 'a'), Marked(1, 'b')]));
+    Ok(())
+}
+
+/// A row that is to bear another mark.
+#[derive(Clone, Copy, Debug, PartialEq, Eq)]
+struct Noted {
+    number: u32,
+    mark: char,
+}
+
+impl Keyed for Noted {
+    ghost key = { λ row. row.number };
+
+    fn key(&self) -> u128 {
+        u128::from(self.number)
+    }
+}
+
+/// The mark that it is to bear.
+struct Mark(char);
+
+impl Change<Noted> for Mark {
+    ghost use Rattle.std.specs.Prelude.{refl};
+
+    ghost made = { λ change row. record row { mark = change.0 } };
+
+    ghost keeps_key = { λ change row. refl };
+
+    fn change(&self, row: &mut Noted) {
+        row.mark = self.0;
+    }
+}
+
+/// A row of each number, with this mark where the number is 2.
+fn marked_at_two(alloc: Global, at_two: char) -> Result<Vec<Noted>, AllocError> {
+    let row = |number, mark| Noted { number, mark };
+    Ok(vec![in alloc; row(1, 'a'), row(2, at_two), row(2, at_two), row(3, 'd')]?)
+}
+
+#[test]
+fn rows_of_one_key_are_changed_and_removed(rt: HostRuntime) -> Result<(), Fail> {
+    let alloc = rt.alloc();
+    let mut rows = marked_at_two(alloc, 'b')?;
+    for absent in [0, 4, u128::MAX] {
+        change_rows(&mut rows, absent, &Mark('z'));
+        remove_rows(&mut rows, absent);
+    }
+    assert_eq!(rt; rows, marked_at_two(alloc, 'b')?);
+    change_rows(&mut rows, 2, &Mark('z'));
+    assert_eq!(rt; rows, marked_at_two(alloc, 'z')?);
+    remove_rows(&mut rows, 2);
+    assert_eq!(rt; rows.iter().map(|row| row.number).sum::<u32>(), 4);
+    assert!(rt; !is_there(&rows, 2));
+    assert_eq!(rt; rows.len(), 2);
     Ok(())
 }
 
