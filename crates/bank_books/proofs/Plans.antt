@@ -2,7 +2,8 @@
 use Rattle.std.proofs.Common.{◌≡◌, ℕ, ◌+◌, ◌≤◌, Bool, true, false, not, ◌||◌, nat_lt, List, [], ◌∷◌, ◌++◌, refl, ap, subst, sym, ◌∙◌, arith}
 use Rattle.std.proofs.lemmas.List.Folds.{list_any-append}
 use Rattle.bank_books.specs.Effects.{all_written, applied, written}
-use Rattle.bank_books.specs.Version.{changes_policy, greatest_version, has_version_for, is_of_policy, with_version}
+use Rattle.bank_books.specs.Version.{changes_policy, has_version_for, is_of_policy, with_version}
+use Rattle.bank_terms.specs.Limits.{max_version}
 use Rattle.bank_books.specs.WorldLists.{WorldLists}
 use Rattle.bank_books.specs.declared.row_write.RowWrite.{RowWrite}
 use Rattle.bank_books.specs.declared.row_write.RowWrite.TheVariants as write
@@ -58,18 +59,18 @@ all_written-version (row ∷ rows) w = all_written-version rows (written row w) 
     same (write.Policy p) = refl
 
 -- a plan that the version has room for leaves it in its limits
-pub version_stays : (rows : List RowWrite) (w : WorldLists) → w.version ≤ greatest_version → has_version_for rows w.version ≡ true → (applied rows w).version ≤ greatest_version
+pub version_stays : (rows : List RowWrite) (w : WorldLists) → w.version ≤ max_version → has_version_for rows w.version ≡ true → (applied rows w).version ≤ max_version
 version_stays rows w within room = by (changes_policy rows) refl
   where
-    raised : (v u : ℕ) → u ≡ v → nat_lt v greatest_version ≡ true → u + 1 ≤ greatest_version
+    raised : (v u : ℕ) → u ≡ v → nat_lt v max_version ≡ true → u + 1 ≤ max_version
     raised v u same h = grind arith
 
-    kept : (v u : ℕ) → u ≡ v → v ≤ greatest_version → u ≤ greatest_version
+    kept : (v u : ℕ) → u ≡ v → v ≤ max_version → u ≤ max_version
     kept v u same h = omega arith
 
-    by : (b : Bool) → changes_policy rows ≡ b → (applied rows w).version ≤ greatest_version
+    by : (b : Bool) → changes_policy rows ≡ b → (applied rows w).version ≤ max_version
     by true is =
-        subst (λ b. (with_version b (all_written rows w)).version ≤ greatest_version) (sym is)
-        (raised w.version _ (all_written-version rows w) (subst (λ b. (not b || nat_lt w.version greatest_version) ≡ true) is room))
+        subst (λ b. (with_version b (all_written rows w)).version ≤ max_version) (sym is)
+        (raised w.version _ (all_written-version rows w) (subst (λ b. (not b || nat_lt w.version max_version) ≡ true) is room))
     by false is =
-        subst (λ b. (with_version b (all_written rows w)).version ≤ greatest_version) (sym is) (kept w.version _ (all_written-version rows w) within)
+        subst (λ b. (with_version b (all_written rows w)).version ≤ max_version) (sym is) (kept w.version _ (all_written-version rows w) within)

@@ -1,7 +1,8 @@
 -- What holds of every plan.
 use Rattle.std.specs.Prelude.{◌≡◌, ◌≤◌, true, false, List, [], ◌∷◌, ◌++◌}
 use Rattle.bank_books.specs.Effects.{applied, written}
-use Rattle.bank_books.specs.Version.{greatest_version, has_version_for, is_of_policy}
+use Rattle.bank_books.specs.Version.{has_version_for, is_of_policy}
+use Rattle.bank_terms.specs.Limits.{max_version}
 use Rattle.bank_books.specs.WorldLists.{WorldLists}
 use Rattle.bank_books.specs.declared.row_write.RowWrite.{RowWrite}
 
@@ -13,4 +14,4 @@ PlanGrows = (rows : List RowWrite) (row : RowWrite) (w : WorldLists) →
 -- a version that is in its limits, and has room for the plan, is in its limits after it
 abbrev pub VersionStays : Type 0
 VersionStays = (rows : List RowWrite) (w : WorldLists) →
-    w.version ≤ greatest_version → has_version_for rows w.version ≡ true → (applied rows w).version ≤ greatest_version
+    w.version ≤ max_version → has_version_for rows w.version ≡ true → (applied rows w).version ≤ max_version

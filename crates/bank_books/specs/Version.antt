@@ -1,12 +1,10 @@
 -- The version of the policy: how many plans have changed it.
 use Rattle.std.specs.Prelude.{ℕ, ◌+◌, ◌||◌, not, nat_lt, Bool, true, false, List}
 use Rattle.std.specs.List.{list_any}
+use Rattle.bank_terms.specs.Limits.{max_version}
 use Rattle.bank_books.specs.WorldLists.{WorldLists}
 use Rattle.bank_books.specs.declared.row_write.RowWrite.{RowWrite}
 use Rattle.bank_books.specs.declared.row_write.RowWrite.TheVariants as write
-
-abbrev pub greatest_version : ℕ
-greatest_version = 999999999999
 
 -- a change of the policy; a session is none
 abbrev pub is_of_policy : RowWrite → Bool
@@ -31,4 +29,4 @@ with_version false w = w
 
 -- a plan that changes the policy finds a version that is not the greatest
 abbrev pub has_version_for : List RowWrite → ℕ → Bool
-has_version_for plan version = not (changes_policy plan) || nat_lt version greatest_version
+has_version_for plan version = not (changes_policy plan) || nat_lt version max_version

@@ -1,5 +1,6 @@
 -- The commands of the program, as `clap` reads them, and the action that words name.
 use Rattle.std.specs.Prelude.{◌≡◌, ◌⊎◌, ℕ, List, [], Option, Some, None, codes, option_map, true}
+use Rattle.bank_terms.specs.Limits.{max_moment}
 use Rattle.std.specs.Str.Parse.{digits_value, without_leading_plus}
 use Rattle.clap.specs.Words.{App, HasKind, Row, Rule, Text, fault_of, kind_of, new_app, new_rule, one_of, with_rule, with_subcommand}
 use Rattle.clap.specs.declared.builder.ValueParser.TheVariants as parser
@@ -19,7 +20,7 @@ number_rule id low high = record (new_rule id) {
 
 -- `sample --moment N`, where N is 0 to 99,999,999,999
 abbrev pub sample_app : App
-sample_app = with_rule (new_app (codes "sample")) (number_rule (codes "moment") 0 99999999999)
+sample_app = with_rule (new_app (codes "sample")) (number_rule (codes "moment") 0 max_moment)
 
 -- the program with no command: its words begin behind its name, and a command must be among them
 abbrev pub top_app : App

@@ -6,7 +6,7 @@ ghost use Rattle.bank_cli.specs.Commands.{IsNamedBy, IsNamedIn, IsRefusal, bank_
 use clap::builder::ValueParser;
 use clap::error::ErrorKind;
 use clap::{Arg, ArgMatches, Command, Error};
-use sample_service::{LAST_MOMENT, Moment};
+use sample_service::{MAX_MOMENT, Moment};
 use std::alloc::{AllocError, Global};
 
 /// What the program is asked to do.
@@ -35,7 +35,7 @@ fn sample_command<'a>(alloc: Global) -> Result<Command<'a>, AllocError>
     ensures app { IfOk result (λ c. app_of c ≡ sample_app) }
     ensures local { IfOk result (λ c. (fields_of c).has_globals ≡ false) }
 {
-    let moment = number(alloc, "moment", 0, LAST_MOMENT).help(
+    let moment = number(alloc, "moment", 0, MAX_MOMENT).help(
         "The moment of every message, in seconds from 0 to 99999999999",
     );
     Command::new(alloc, "sample")

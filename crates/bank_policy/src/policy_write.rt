@@ -1,5 +1,3 @@
-ghost use Rattle.std.specs.Prelude.{◌≡◌};
-
 use crate::rows::{Certifier, ItemSet, Relation, Triple, User};
 use bank_terms::Procedure;
 use keyed_rows::Change;

@@ -1,5 +1,6 @@
 -- An account that is opened: the rows that it is judged on, the rules of the books against it, its effect, its reply and its meaning.
 use Rattle.std.specs.Prelude.{ℕ, pos, Bool, false, nat_le, is_none, is_some, List, [], ◌∷◌, ◌++◌, codes, decimal, Option, option_map}
+use Rattle.bank_terms.specs.Limits.{max_accounts}
 use Rattle.std.specs.Option.{option_map_or}
 use Rattle.std.specs.List.{find}
 use Rattle.serde_json.specs.Data.{Data, object, member, no_members}
@@ -23,7 +24,7 @@ opening_rows w form = record { account = account_record w form.account; homed = 
 abbrev pub new_account_denies : Rule → OpeningRows → Bool
 new_account_denies rule.Unknown rows = is_none rows.homed
 new_account_denies rule.Taken rows = is_some rows.account
-new_account_denies rule.Full rows = option_map_or (λ n. nat_le 100000 n) rows.homed false
+new_account_denies rule.Full rows = option_map_or (λ n. nat_le max_accounts n) rows.homed false
 new_account_denies _ rows = false
 
 -- the first of them that denies

@@ -1,5 +1,6 @@
 -- What holds along every list of requests: the checks pass, the sums agree, and what is written stays.
 use Rattle.std.specs.Prelude.{ℕ, ℤ, pos, ◌≡◌, ◌≤◌, ◌⊎◌, ◌+◌, ◌+ℤ◌, ◌==◌, ⊤, List, [], ◌∷◌, All, map, take, None, if◌then◌else◌}
+use Rattle.bank_terms.specs.Limits.{max_moment}
 use Rattle.std.specs.List.{sum_by}
 use Rattle.keyed_rows.specs.Totals.{total}
 use Rattle.policy_check.specs.Separation.{Certifies, Separated}
@@ -37,7 +38,7 @@ IsAsked asked.Listing = ⊤
 -- these and its moment are in their ranges
 pub record IsProper (r : Request) : Type 0 where
   pub asked : IsAsked r.asked
-  pub moment : r.moment ≤ 99999999999
+  pub moment : r.moment ≤ max_moment
 
 -- as a counter hands them on: those that are made are proper
 abbrev pub AreProper : List Marked → Type 0

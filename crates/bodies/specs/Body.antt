@@ -1,5 +1,7 @@
 -- What the bytes of a body state: a value of JSON (RFC 8259), an object's members, and the whole numbers among them.
-use Rattle.std.specs.Prelude.{ℕ, ℤ, pos, negsuc, ◌==◌, ◌&&◌, List, Bool, false, Option, Some, None, option_and_then, option_map, unwrap_or, unsigned_abs, if◌then◌else◌, int_le}
+use Rattle.std.specs.Prelude.{ℕ, ℤ, pos, ◌==◌, ◌&&◌, List, Bool, false, Option, Some, None, option_and_then, option_map, unwrap_or, unsigned_abs, if◌then◌else◌, int_le}
+use Rattle.money.specs.Range.{max_delta, min_delta}
+use Rattle.bank_terms.specs.Limits.{max_key}
 use Rattle.std.specs.Str.{is_utf8}
 use Rattle.serde_json.specs.Data.{Data}
 use Rattle.serde_json.specs.Events.{members_len}
@@ -36,8 +38,8 @@ natural_member name low high value = option_map unsigned_abs (number_member name
 
 -- a key: of an account, a teller, a branch, an entry or a turn
 abbrev pub key_member : List ℕ → Data → Option ℕ
-key_member name value = natural_member name 1 999999999 value
+key_member name value = natural_member name 1 max_key value
 
 -- what one entry adds, as the benchmark's Delta
 abbrev pub delta_member : List ℕ → Data → Option ℤ
-delta_member name value = number_member name (negsuc 999998) (pos 999999) value
+delta_member name value = number_member name min_delta max_delta value

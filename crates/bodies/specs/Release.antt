@@ -1,5 +1,6 @@
 -- The release that a value states: whom it is for, and an object that names a procedure beside the members of its form.
 use Rattle.std.specs.Prelude.{Option, Some, None, option_and_then, option_map, codes, if◌then◌else◌}
+use Rattle.bank_terms.specs.Limits.{max_user}
 use Rattle.serde_json.specs.Data.{Data}
 use Rattle.serde_json.specs.Find.{get, as_str}
 use Rattle.bank_terms.specs.Procedure.{procedure_named}
@@ -41,6 +42,6 @@ releasable_of value = do
 -- leave for one operation of another user
 abbrev pub release_of : Data → Option Release
 release_of value = if has_members 2 value then (do
-  beneficiary ← natural_member (codes "beneficiary") 1 9999 value
+  beneficiary ← natural_member (codes "beneficiary") 1 max_user value
   operation ← option_and_then releasable_of (get (codes "operation") value)
   Some (record { beneficiary = beneficiary; operation = operation })) else None

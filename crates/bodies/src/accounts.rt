@@ -3,7 +3,8 @@ ghost use Rattle.serde_json.specs.View.{view};
 ghost use Rattle.bodies.specs.Accounts.{accounts_of};
 ghost use Rattle.counter_ops.specs.Accounts.{IsAccounts};
 
-use crate::members::{MAX_KEY, is_object_of, natural};
+use crate::members::{is_object_of, natural};
+use bank_terms::{MAX_KEY, MAX_LISTED};
 use counter_ops::Accounts;
 use serde_json::Value;
 
@@ -17,6 +18,6 @@ pub fn accounts_stated(body: &Value) -> Option<Accounts>
     }
     Some(Accounts {
         after: natural(body, "after", 0, MAX_KEY)?,
-        count: natural(body, "count", 1, 1_000)?,
+        count: natural(body, "count", 1, MAX_LISTED)?,
     })
 }

@@ -3,7 +3,8 @@ ghost use Rattle.serde_json.specs.View.{view};
 ghost use Rattle.bodies.specs.Correct.{correct_of};
 ghost use Rattle.counter_ops.specs.Correct.{IsCorrect};
 
-use crate::members::{MAX_KEY, delta, is_object_of, key, natural};
+use crate::members::{delta, is_object_of, key, natural};
+use bank_terms::MAX_KEY;
 use counter_ops::Correct;
 use serde_json::Value;
 

@@ -4,6 +4,7 @@ ghost use Rattle.bodies.specs.DrawerOn.{drawer_on_of};
 ghost use Rattle.counter_ops.specs.DrawerOn.{IsDrawerOn};
 
 use crate::members::{is_object_of, key, natural};
+use bank_terms::MAX_LIMIT;
 use counter_ops::DrawerOn;
 use serde_json::Value;
 
@@ -20,6 +21,6 @@ pub fn drawer_on_stated(body: &Value, extra: usize) -> Option<DrawerOn>
     Some(DrawerOn {
         teller: key(body, "teller")?,
         branch: key(body, "branch")?,
-        cash: natural(body, "cash", 0, 999_999_999)?,
+        cash: natural(body, "cash", 0, MAX_LIMIT)?,
     })
 }

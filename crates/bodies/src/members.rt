@@ -4,11 +4,9 @@ ghost use Rattle.money.specs.Range.{IsDelta};
 ghost use Rattle.bodies.specs.Body.{has_members, number_member, natural_member, key_member, delta_member};
 ghost use Rattle.counter_ops.specs.Ranges.{IsKey};
 
+use bank_terms::MAX_KEY;
 use money::{Delta, MAX_DELTA};
 use serde_json::Value;
-
-/// The greatest key of an account, a teller, a branch, an entry or a turn; the least is 1.
-pub const MAX_KEY: u32 = 999_999_999;
 
 /// Whether the value is an object with this many members.
 pub fn is_object_of(body: &Value, count: usize) -> bool

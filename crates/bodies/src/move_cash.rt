@@ -3,7 +3,8 @@ ghost use Rattle.serde_json.specs.View.{view};
 ghost use Rattle.bodies.specs.MoveCash.{move_cash_of};
 ghost use Rattle.counter_ops.specs.MoveCash.{IsMoveCash};
 
-use crate::members::{MAX_KEY, is_object_of, key, natural};
+use crate::members::{is_object_of, key, natural};
+use bank_terms::{MAX_KEY, MAX_LIMIT};
 use counter_ops::MoveCash;
 use serde_json::Value;
 
@@ -21,7 +22,7 @@ pub fn move_cash_stated(body: &Value, extra: usize) -> Option<MoveCash>
         source: natural(body, "source", 0, MAX_KEY)?,
         target: natural(body, "target", 0, MAX_KEY)?,
         branch: key(body, "branch")?,
-        amount: natural(body, "amount", 1, 999_999_999)?,
+        amount: natural(body, "amount", 1, MAX_LIMIT)?,
     };
     if move_cash.source == move_cash.target {
         return None;

@@ -4,6 +4,7 @@ ghost use Rattle.bodies.specs.NewAccount.{new_account_of};
 ghost use Rattle.counter_ops.specs.NewAccount.{IsNewAccount};
 
 use crate::members::{is_object_of, key, member};
+use bank_terms::MIN_FLOOR;
 use counter_ops::NewAccount;
 use serde_json::Value;
 
@@ -18,6 +19,6 @@ pub fn new_account_stated(body: &Value) -> Option<NewAccount>
     Some(NewAccount {
         account: key(body, "account")?,
         branch: key(body, "branch")?,
-        floor: member(body, "floor", -999_999_999, 0)? as i32,
+        floor: member(body, "floor", i64::from(MIN_FLOOR), 0)? as i32,
     })
 }

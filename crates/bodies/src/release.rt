@@ -10,7 +10,7 @@ use crate::members::{is_object_of, natural};
 use crate::move_cash::move_cash_stated;
 use crate::post::post_stated;
 use crate::transfer::transfer_stated;
-use bank_terms::Procedure;
+use bank_terms::{MAX_USER, Procedure};
 use counter_ops::{Releasable, Release};
 use serde_json::Value;
 
@@ -40,7 +40,7 @@ pub fn release_stated(body: &Value) -> Option<Release>
         return None;
     }
     Some(Release {
-        beneficiary: natural(body, "beneficiary", 1, 9_999)?,
+        beneficiary: natural(body, "beneficiary", 1, MAX_USER)?,
         operation: releasable_stated(body.get("operation")?)?,
     })
 }

@@ -4,6 +4,7 @@ ghost use Rattle.bodies.specs.Statement.{statement_of};
 ghost use Rattle.counter_ops.specs.Statement.{IsStatement};
 
 use crate::members::{is_object_of, key, natural};
+use bank_terms::MAX_LISTED;
 use counter_ops::Statement;
 use serde_json::Value;
 
@@ -18,6 +19,6 @@ pub fn statement_stated(body: &Value) -> Option<Statement>
     Some(Statement {
         account: key(body, "account")?,
         start: key(body, "start")?,
-        count: natural(body, "count", 1, 1_000)?,
+        count: natural(body, "count", 1, MAX_LISTED)?,
     })
 }

@@ -4,6 +4,7 @@ ghost use Rattle.bodies.specs.Transfer.{transfer_of};
 ghost use Rattle.counter_ops.specs.Transfer.{IsTransfer};
 
 use crate::members::{is_object_of, key, natural};
+use bank_terms::MAX_TRANSFER;
 use counter_ops::Transfer;
 use serde_json::Value;
 
@@ -22,7 +23,7 @@ pub fn transfer_stated(body: &Value, extra: usize) -> Option<Transfer>
         target: key(body, "target")?,
         teller: key(body, "teller")?,
         branch: key(body, "branch")?,
-        amount: natural(body, "amount", 1, 999_999)?,
+        amount: natural(body, "amount", 1, MAX_TRANSFER)?,
     };
     if transfer.source == transfer.target {
         return None;

@@ -1,4 +1,4 @@
-ghost use Rattle.std.specs.Prelude.{◌≡◌, ◌↔◌, IfOk, IsOkUnless, IsTrue, map};
+ghost use Rattle.std.specs.Prelude.{◌↔◌, IfOk, IsOkUnless, IsTrue, map};
 ghost use Rattle.std.specs.List.Sorted.{IsPermutation};
 ghost use Rattle.book_check.specs.Verdict.{IsVerdict};
 ghost use Rattle.bank_books.specs.Conditions.{TellersAgree, TotalsAgree};

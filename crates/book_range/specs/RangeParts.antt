@@ -1,5 +1,6 @@
 -- What is asked of a bank's books, in the parts in which it is judged.
 use Rattle.std.specs.Prelude.{◌≤◌, List, Contains}
+use Rattle.bank_terms.specs.Limits.{max_moment, max_releases}
 use Rattle.bank_policy.specs.declared.rows.User.{User}
 use Rattle.money.specs.Range.{IsCents}
 use Rattle.counter_ops.specs.Ranges.{IsKey, IsKeyOrZero, IsWithin}
@@ -21,7 +22,7 @@ use Rattle.bank_books.specs.WorldLists.{WorldLists}
 pub record IsEntryLimited (entries : List Entry) (users : List User) (e : EntryRecord) : Type 0 where
   pub number : IsKey e.row.number
   pub turn : IsKey e.row.turn
-  pub moment : e.row.moment ≤ 99999999999
+  pub moment : e.row.moment ≤ max_moment
   pub day : IsDay e.row.day
   pub user : IsUser users e.row.user
   pub partner : IsKeyOrZero e.row.partner
@@ -33,14 +34,14 @@ pub record IsEntryLimited (entries : List Entry) (users : List User) (e : EntryR
 -- and those of a line, and its user
 pub record IsLineLimited (users : List User) (l : CashLine) : Type 0 where
   pub number : IsKey l.number
-  pub moment : l.moment ≤ 99999999999
+  pub moment : l.moment ≤ max_moment
   pub day : IsDay l.day
   pub user : IsUser users l.user
 
 -- what is asked of a release beside the others of its user
 pub record IsReleaseAlone (branches : List Branch) (users : List User) (r : Release) : Type 0 where
   pub user : IsUser users r.user
-  pub number : IsWithin 1 100000 r.number
+  pub number : IsWithin 1 max_releases r.number
   pub giver : IsUser users r.giver
   pub branch : IsBranch branches r.branch
   pub day : IsDay r.day
@@ -72,7 +73,7 @@ pub record AreCashBooksInRange (w : WorldLists) : Type 0 where
 -- of users, and the releases that they were given
 pub record AreUsersInRange (w : WorldLists) : Type 0 where
   pub releases : (r : Release) → Contains w.releases r → IsReleaseInRange w.branches w.releases w.policy.users r
-  pub users : (u : User) → Contains w.policy.users u → u.session ≤ 999999999
+  pub users : (u : User) → Contains w.policy.users u → u.session ≤ max_key
 
 -- of all rows
 pub record AreAllInRange (w : WorldLists) (kept : KeptLists) : Type 0 where

@@ -1,6 +1,4 @@
-ghost use Rattle.std.specs.Prelude.{◌≡◌, ◌↔◌, Contains, IsTrue, map};
-ghost use Rattle.keyed_rows.specs.Ordered.{AreDistinct};
-ghost use Rattle.bank_books.specs.Keys.{account_key, branch_key, entry_key, line_key, proof_key, release_key, teller_key};
+ghost use Rattle.std.specs.Prelude.{◌↔◌, Contains, IsTrue};
 ghost use Rattle.bank_books.specs.Range.{AreOfRows, HasDistinctKeys, IsBranchInRange, IsEntryInRange, IsInRange, IsLineInRange, IsReleaseInRange};
 ghost use Rattle.book_range.specs.RangeParts.{AreAllInRange, AreCashBooksInRange, AreLedgersInRange, ArePlacesInRange, AreUsersInRange};
 ghost use Rattle.book_sums.specs.Records.{AreRecordsOf};

@@ -1,9 +1,10 @@
-ghost use Rattle.std.specs.Prelude.{◌≡◌, ◌↔◌, ◌≤◌, ◌≤ℤ◌, IfSome, IsTrue, negsuc, pos};
+ghost use Rattle.std.specs.Prelude.{◌↔◌, ◌≤◌, ◌≤ℤ◌, IfSome, IsTrue, pos};
+ghost use Rattle.bank_terms.specs.Limits.{max_key, max_accounts, min_floor};
 ghost use Rattle.money.specs.Range.{IsCents};
 ghost use Rattle.counter_ops.specs.Ranges.{IsKey, IsWithin};
-ghost use Rattle.book_sums.specs.Shares.{group_count};
 ghost use Rattle.book_sums.specs.Sums.{AreSumsOf};
-ghost use Rattle.bank_books.specs.Range.{HasDistinctKeys, HoldsReleasable, IsAccountInRange, IsBranchInRange, IsCash, IsDay, IsProofInRange, IsTellerInRange, IsUserNumber};
+ghost use Rattle.bank_books.specs.Range.{HasDistinctKeys, HoldsReleasable, IsAccountInRange, IsBranchInRange, IsDay, IsProofInRange, IsTellerInRange, IsUserNumber};
+ghost use Rattle.counter_ops.specs.Ranges.{IsCash};
 ghost use Rattle.book_range.specs.RangeParts.{AreCashBooksInRange, IsEntryLimited, IsLineLimited, IsReleaseAlone};
 
 use crate::named::{is_branch, is_entry_or_none, is_user};
@@ -13,15 +14,10 @@ use bank_books::{
     TellerRecord, World,
 };
 use bank_policy::User;
+use bank_terms::{MAX_ACCOUNTS, MAX_DAY, MAX_KEY, MAX_MOMENT, MAX_RELEASES, MAX_USER, MIN_FLOOR};
 use book_sums::Sums;
 use counter_ops::Releasable;
 use money::MAX_CENTS;
-
-/// The greatest key of an account, a teller, a branch, an entry or a turn.
-const MAX_KEY: u32 = 999_999_999;
-
-/// The greatest moment, in seconds.
-const MAX_MOMENT: u64 = 99_999_999_999;
 
 /// Whether what is kept of a branch is within its limits, and its proofs are those of the days
 /// before its present one.
@@ -36,7 +32,7 @@ pub(crate) fn is_branch_in_range(world: &World, sums: &Sums, branch: &BranchReco
         && are_totals_in_range(branch)
         && are_counts_in_range(branch)
         && has_numbered_days(world, &branch.row)
-        && sums.by_home.count_of(branch.row.branch) <= 100_000
+        && sums.by_home.count_of(branch.row.branch) <= MAX_ACCOUNTS
 }
 
 fn is_branch_row_in_range(row: &Branch) -> bool
@@ -58,9 +54,11 @@ fn are_totals_in_range(branch: &BranchRecord) -> bool
 }
 
 fn are_counts_in_range(branch: &BranchRecord) -> bool
-    ensures { IsTrue result ↔ ((branch.now.entries ≤ 999999999) × (branch.now.lines ≤ 999999999) × (branch.now.accounts ≤ 100000)) }
+    ensures { IsTrue result ↔ ((branch.now.entries ≤ max_key) × (branch.now.lines ≤ max_key) × (branch.now.accounts ≤ max_accounts)) }
 {
-    branch.entries <= MAX_KEY as u64 && branch.lines <= MAX_KEY as u64 && branch.accounts <= 100_000
+    branch.entries <= MAX_KEY as u64
+        && branch.lines <= MAX_KEY as u64
+        && branch.accounts <= MAX_ACCOUNTS
 }
 
 /// What is kept of a row, or a row, that has limits.
@@ -143,7 +141,7 @@ impl Limited for Release {
 
     fn is_within_limits(&self, world: &World) -> bool {
         is_user(world, self.user)
-            && is_within(self.number, 1, 100_000)
+            && is_within(self.number, 1, MAX_RELEASES)
             && is_user(world, self.giver)
             && is_branch(world, self.branch)
             && is_day(self.day)
@@ -152,7 +150,7 @@ impl Limited for Release {
 }
 
 impl Limited for User {
-    ghost has_limits = { λ _ u. u.session ≤ 999999999 };
+    ghost has_limits = { λ _ u. u.session ≤ max_key };
 
     fn is_within_limits(&self, _: &World) -> bool {
         self.session <= MAX_KEY
@@ -171,17 +169,17 @@ fn holds_releasable(release: &Release) -> bool
 
 /// Whether the floor of an account is within its limits, and not above its opening.
 fn is_floor(account: &Account) -> bool
-    ensures { IsTrue result ↔ ((negsuc 999999998 ≤ℤ account.now.floor) × (account.now.floor ≤ℤ pos 0) × (account.now.floor ≤ℤ account.now.opening)) }
+    ensures { IsTrue result ↔ ((min_floor ≤ℤ account.now.floor) × (account.now.floor ≤ℤ pos 0) × (account.now.floor ≤ℤ account.now.opening)) }
 {
     let floor = account.floor.get();
-    -999_999_999 <= floor && floor <= 0 && floor <= account.opening.get()
+    MIN_FLOOR <= floor && floor <= 0 && floor <= account.opening.get()
 }
 
 fn is_holder(holder: Option<u32>) -> bool
     ensures { IsTrue result ↔ IfSome holder IsUserNumber }
 {
     match holder {
-        Some(user) => is_within(user, 1, 9_999),
+        Some(user) => is_within(user, 1, MAX_USER),
         None => true,
     }
 }
@@ -195,7 +193,7 @@ fn is_key(number: u32) -> bool
 fn is_day(number: u32) -> bool
     ensures { IsTrue result ↔ IsDay number }
 {
-    is_within(number, 1, 999_999)
+    is_within(number, 1, MAX_DAY)
 }
 
 fn is_within(number: u32, low: u32, high: u32) -> bool

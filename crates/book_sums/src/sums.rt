@@ -33,7 +33,6 @@ impl Sums {
     ghost use Rattle.std.specs.Prelude.{◌≡◌, IfOk};
     ghost use Rattle.book_sums.specs.Sums.{AreSumsOf, account_record_from, branch_record_from, entry_record_from, release_count_from, teller_record_from};
     ghost use Rattle.bank_books.specs.Records.{branch_record_of};
-    ghost use Rattle.bank_books.specs.WorldLists.{WorldLists};
 
     /// The sums of this World. Only memory keeps them from an answer.
     pub fn of(alloc: Global, world: &World) -> Result<Sums, AllocError>

@@ -1,5 +1,6 @@
 -- Who asks, as the fields of a message say.
 use Rattle.std.specs.Prelude.{ℕ, Bool, ◌&&◌, nat_lt, nat_le, if◌then◌else◌, List, [], ◌∷◌, length, get_or, codes, Option, None, Result, Ok, Err}
+use Rattle.bank_terms.specs.Limits.{max_key}
 use Rattle.std.specs.Char.{is_ascii_graphic}
 use Rattle.std.specs.Int.{is_in_range}
 use Rattle.std.specs.List.{list_all}
@@ -16,7 +17,7 @@ is_badge value = nat_lt 0 (length value) && nat_le (length value) 64 && list_all
 
 -- the number of a session: digits that come to 999,999,999 at most, and the first is 1 to 9
 unfoldable pub is_session : List ℕ → Bool
-is_session value = is_in_range 49 57 (get_or value 0 0) && all_ascii_digits value && nat_le (digits_value 10 value) 999999999
+is_session value = is_in_range 49 57 (get_or value 0 0) && all_ascii_digits value && nat_le (digits_value 10 value) max_key
 
 -- the user whom the values of Bank-Badge fields name; a fault where there are two, or one that is no badge
 abbrev pub user_of : (List ℕ → Option ℕ) → List (List ℕ) → Result (Option ℕ) MessageFault

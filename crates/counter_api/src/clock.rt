@@ -1,4 +1,5 @@
 ghost use Rattle.std.specs.Prelude.{ℕ, ◌≤◌};
+ghost use Rattle.bank_terms.specs.Limits.{max_moment};
 
 /// Where the moments of messages come from.
 pub trait Clock {
@@ -8,6 +9,6 @@ pub trait Clock {
     /// The moment of the message that is answered next, in seconds, 0 to 99,999,999,999. It takes
     /// no memory.
     fn moment(&mut self) -> u64
-        ensures in_range { result ≤ 99999999999 }
+        ensures in_range { result ≤ max_moment }
         ensures given { may_give self.old result self.new };
 }

@@ -1,4 +1,5 @@
 ghost use Rattle.std.specs.Prelude.{◌≡◌, ◌≤◌, true, IfOk, IfSome, IsNone, IsOkUnless, IsSome, OnErr, OnOk};
+ghost use Rattle.bank_terms.specs.Limits.{max_moment};
 ghost use Rattle.std.specs.Io.KnownBytes.{Appends};
 ghost use Rattle.money.specs.Counted.{AppendsBeginning, stream_of};
 ghost use Rattle.money.specs.declared.fault.Fault.TheVariants.{Memory};
@@ -57,7 +58,7 @@ fn stated_request<G: Gate>(
     message: &Message<'_>,
     moment: u64,
 ) -> Result<Result<Request, MessageFault>, Fault>
-    requires { moment ≤ 99999999999 }
+    requires { moment ≤ max_moment }
     ensures stated { IfOk result (λ stated. stated ≡ request_of (G.users gate.now) moment message.now) }
     ensures proper { IfOk result (λ stated. IfOk stated IsProper) }
     ensures served { IfOk result (λ stated. IfOk stated (λ request. IsServedAsked request.asked)) }
@@ -119,7 +120,7 @@ fn handled<S: Store, G: Gate>(
     message: &Message<'_>,
     moment: u64,
 ) -> Result<Response, Fault>
-    requires { moment ≤ 99999999999 }
+    requires { moment ≤ max_moment }
     ensures { IsHandled (G.users gate.now) (S.status bank.old.store) (S.status bank.new.store) (record { message = message.now; moment = moment; mark = mark_of result }) (parts_or_fault result) }
 {
     let stated = match stated_request(alloc, routes, gate, message, moment) {

@@ -5,6 +5,7 @@ ghost use Rattle.heads.specs.Found.{IsFound};
 ghost use Rattle.counter_api.specs.Fields.{is_badge, is_session, user_of, session_of, who_of};
 
 use crate::gate::Gate;
+use bank_terms::MAX_KEY;
 use decide::Who;
 use heads::{Found, MessageFault};
 use messages::Message;
@@ -12,9 +13,6 @@ use std::str;
 
 /// The most bytes of a badge.
 const MAX_BADGE_LEN: usize = 64;
-
-/// The greatest number of a session.
-const MAX_SESSION: u32 = 999_999_999;
 
 /// Who asks, as the fields of a message say it, or the fault M6 where one of them is not of its form. The user is none
 /// where there is no badge, or one that the gate does not know, and the session is 0 where there is none. Releases are
@@ -71,7 +69,7 @@ fn parse_session(value: &[u8]) -> Option<u32>
         return None;
     }
     let session: u32 = str::from_utf8(value).ok()?.parse().ok()?;
-    if session <= MAX_SESSION {
+    if session <= MAX_KEY {
         Some(session)
     } else {
         None

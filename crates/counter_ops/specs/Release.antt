@@ -1,5 +1,6 @@
 -- A release: the ranges of its members, and its numbers in the order in which its form names them.
 use Rattle.std.specs.Prelude.{ℤ, pos, List, ◌∷◌}
+use Rattle.bank_terms.specs.Limits.{max_user}
 use Rattle.counter_ops.specs.declared.release.Release.{Release}
 use Rattle.bank_terms.specs.Procedure.{number_of}
 use Rattle.counter_ops.specs.Op.{procedure_of}
@@ -7,7 +8,7 @@ use Rattle.counter_ops.specs.Ranges.{IsWithin}
 use Rattle.counter_ops.specs.Releasable.{IsReleasable, releasable_numbers, op_of}
 
 pub record IsRelease (release : Release) : Type 0 where
-  pub beneficiary : IsWithin 1 9999 release.beneficiary
+  pub beneficiary : IsWithin 1 max_user release.beneficiary
   pub operation : IsReleasable release.operation
 
 -- whom it is for, then the procedure and the numbers of the operation that it is for

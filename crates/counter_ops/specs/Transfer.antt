@@ -1,5 +1,6 @@
 -- A transfer: the ranges of its members, and its numbers in the order in which its form names them.
 use Rattle.std.specs.Prelude.{◌≢◌, ℤ, pos, List, [], ◌∷◌}
+use Rattle.bank_terms.specs.Limits.{max_transfer}
 use Rattle.counter_ops.specs.declared.transfer.Transfer.{Transfer}
 use Rattle.counter_ops.specs.Ranges.{IsWithin, IsKey}
 
@@ -8,7 +9,7 @@ pub record IsTransfer (transfer : Transfer) : Type 0 where
   pub target : IsKey transfer.target
   pub teller : IsKey transfer.teller
   pub branch : IsKey transfer.branch
-  pub amount : IsWithin 1 999999 transfer.amount
+  pub amount : IsWithin 1 max_transfer transfer.amount
   pub two_accounts : transfer.source ≢ transfer.target
 
 abbrev pub transfer_numbers : Transfer → List ℤ

@@ -4,6 +4,7 @@ ghost use Rattle.counter_ops.specs.Rows.{StandsIn, IsOnlyIn, places};
 
 use crate::row_numbers::{key_or_zero, number};
 use crate::row_places::two;
+use bank_terms::MAX_LISTED;
 
 /// The accounts that the user may see, asked for.
 #[derive(Clone, Copy, Debug, PartialEq, Eq)]
@@ -38,6 +39,6 @@ pub fn accounts_from_places(members: &[i64; 8]) -> Option<Accounts>
     let (after, count) = two(members)?;
     Some(Accounts {
         after: key_or_zero(after)?,
-        count: number(count, 1, 1_000)?,
+        count: number(count, 1, MAX_LISTED)?,
     })
 }

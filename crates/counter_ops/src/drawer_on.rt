@@ -4,6 +4,7 @@ ghost use Rattle.counter_ops.specs.Rows.{StandsIn, IsOnlyIn, places};
 
 use crate::row_numbers::{key, number};
 use crate::row_places::three;
+use bank_terms::MAX_LIMIT;
 
 /// A drawer given to the user, with cash from the vault.
 #[derive(Clone, Copy, Debug, PartialEq, Eq)]
@@ -41,6 +42,6 @@ pub fn drawer_on_from_places(members: &[i64; 8]) -> Option<DrawerOn>
     Some(DrawerOn {
         teller: key(teller)?,
         branch: key(branch)?,
-        cash: number(cash, 0, 999_999_999)?,
+        cash: number(cash, 0, MAX_LIMIT)?,
     })
 }

@@ -1,5 +1,4 @@
 ghost use Rattle.std.specs.Prelude.{◌≡◌, Some, IfSome};
-ghost use Rattle.counter_ops.specs.Op.{procedure_of};
 ghost use Rattle.counter_ops.specs.Operations.{IsOp};
 ghost use Rattle.counter_ops.specs.Releasable.{IsReleasable, op_of};
 ghost use Rattle.counter_ops.specs.Rows.{row_of};

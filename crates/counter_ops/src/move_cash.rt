@@ -4,6 +4,7 @@ ghost use Rattle.counter_ops.specs.Rows.{StandsIn, IsOnlyIn, places};
 
 use crate::row_numbers::{key, key_or_zero, number};
 use crate::row_places::four;
+use bank_terms::MAX_LIMIT;
 
 /// Cash moved from one place of a branch to another.
 #[derive(Clone, Copy, Debug, PartialEq, Eq)]
@@ -47,6 +48,6 @@ pub fn move_cash_from_places(members: &[i64; 8]) -> Option<MoveCash>
         source: key_or_zero(from)?,
         target: key_or_zero(to)?,
         branch: key(branch)?,
-        amount: number(amount, 1, 999_999_999)?,
+        amount: number(amount, 1, MAX_LIMIT)?,
     })
 }

@@ -8,7 +8,7 @@ ghost use Rattle.counter_ops.specs.declared.releasable.Releasable.{Releasable as
 
 use crate::releasable::Releasable;
 use crate::row_numbers::number;
-use bank_terms::{OperationRow, Procedure};
+use bank_terms::{MAX_USER, OperationRow, Procedure};
 
 /// Leave for one operation of another user.
 #[derive(Clone, Copy, Debug, PartialEq, Eq)]
@@ -52,7 +52,7 @@ pub fn release_from_places(members: &[i64; 8]) -> Option<Release>
         fifth,
         sixth,
     ] = *members;
-    let beneficiary = number(beneficiary, 1, 9_999)?;
+    let beneficiary = number(beneficiary, 1, MAX_USER)?;
     let row = OperationRow {
         form: releasable_form(form)?,
         members: [first, second, third, fourth, fifth, sixth, 0, 0],

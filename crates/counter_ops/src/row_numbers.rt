@@ -2,10 +2,8 @@ ghost use Rattle.std.specs.Prelude.{◌≡◌, ℕ, ℤ, pos, Some, IfSome};
 ghost use Rattle.money.specs.Range.{IsDelta};
 ghost use Rattle.counter_ops.specs.Ranges.{IsCash, IsFloor, IsKey, IsKeyOrZero, IsWithin};
 
+use bank_terms::{MAX_KEY, MIN_FLOOR};
 use money::{Cents, Delta};
-
-/// The greatest key of an account, a teller, a branch, an entry or a turn; the least is 1.
-const MAX_KEY: u32 = 999_999_999;
 
 /// The number that stands in a place, or none where it is not from `low` to `high`.
 pub fn number(place: i64, low: u32, high: u32) -> Option<u32>
@@ -59,7 +57,7 @@ pub fn floor(place: i64) -> Option<i32>
     ensures some { IfSome result (λ z. IsFloor z × (z ≡ place)) }
     ensures only { (z : ℤ) → IsFloor z → z ≡ place → result ≡ Some z }
 {
-    if -999_999_999 <= place && place <= 0 {
+    if i64::from(MIN_FLOOR) <= place && place <= 0 {
         Some(place as i32)
     } else {
         None

@@ -4,6 +4,7 @@ ghost use Rattle.counter_ops.specs.Rows.{StandsIn, IsOnlyIn, places};
 
 use crate::row_numbers::{key, number};
 use crate::row_places::three;
+use bank_terms::MAX_LISTED;
 
 /// The entries of an account, asked for.
 #[derive(Clone, Copy, Debug, PartialEq, Eq)]
@@ -41,6 +42,6 @@ pub fn statement_from_places(members: &[i64; 8]) -> Option<Statement>
     Some(Statement {
         account: key(account)?,
         start: key(start)?,
-        count: number(count, 1, 1_000)?,
+        count: number(count, 1, MAX_LISTED)?,
     })
 }

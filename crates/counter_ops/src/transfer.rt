@@ -4,6 +4,7 @@ ghost use Rattle.counter_ops.specs.Rows.{StandsIn, IsOnlyIn, places};
 
 use crate::row_numbers::{key, number};
 use crate::row_places::five;
+use bank_terms::MAX_TRANSFER;
 
 /// An amount moved from one account to another.
 #[derive(Clone, Copy, Debug, PartialEq, Eq)]
@@ -50,6 +51,6 @@ pub fn transfer_from_places(members: &[i64; 8]) -> Option<Transfer>
         target: key(target)?,
         teller: key(teller)?,
         branch: key(branch)?,
-        amount: number(amount, 1, 999_999)?,
+        amount: number(amount, 1, MAX_TRANSFER)?,
     })
 }

@@ -1,6 +1,7 @@
 -- A policy with no dangling rows: each key stands once, each number and count is within its limits, and each row that
 -- another names is there (the primary and foreign keys of Codd's relational model).
 use Rattle.std.specs.Prelude.{ℕ, ◌≡◌, ◌==◌, ◌≤◌, List, length, map, All, Any, count_by}
+use Rattle.bank_terms.specs.Limits.{max_key, max_user, max_sets, max_relations, max_triples, max_limit}
 use Rattle.keyed_rows.specs.Ordered.{AreDistinct, HasRow}
 use Rattle.bank_policy.specs.Policy.{PolicyLists}
 use Rattle.bank_policy.specs.PolicyKeys.{user_key, set_key, relation_key, triple_key, certifier_key}
@@ -14,7 +15,7 @@ use Rattle.bank_policy.specs.declared.rows.Triple.{Triple}
 
 -- the number of an account, a teller, a branch or a set
 abbrev pub IsNumber : ℕ → Type 0
-IsNumber number = (1 ≤ number) × (number ≤ 999999999)
+IsNumber number = (1 ≤ number) × (number ≤ max_key)
 
 -- 1 to 20 bytes of printable ASCII, from the space (32) to the tilde (126)
 pub record IsName (name : List ℕ) : Type 0 where
@@ -24,13 +25,13 @@ pub record IsName (name : List ℕ) : Type 0 where
 
 pub record IsUserSound (row : User) : Type 0 where
   pub low : 1 ≤ row.user
-  pub high : row.user ≤ 9999
+  pub high : row.user ≤ max_user
   pub named : IsName row.name
 
 pub record IsMemberSound (member : Member) : Type 0 where
   pub low : 1 ≤ member.low
   pub ordered : member.low ≤ member.high
-  pub high : member.high ≤ 999999999
+  pub high : member.high ≤ max_key
 
 pub record IsSetSound (row : SetRow) : Type 0 where
   pub number : IsNumber row.set
@@ -44,7 +45,7 @@ pub record AreUsersSound (users : List User) : Type 0 where
 
 pub record AreSetsSound (sets : List SetRow) : Type 0 where
   pub distinct : AreDistinct (map set_key sets)
-  pub few : length sets ≤ 9999
+  pub few : length sets ≤ max_sets
   pub each : All IsSetSound sets
 
 -- the user is there
@@ -61,11 +62,11 @@ IsRelated policy procedure set = Any (λ row. (row.procedure ≡ procedure) × (
 
 -- at most 1,000 of one procedure
 unfoldable pub HasFewOfEachProcedure : List Relation → Type 0
-HasFewOfEachProcedure relations = (number : ℕ) → count_by (λ row. number_of row.procedure == number) relations ≤ 1000
+HasFewOfEachProcedure relations = (number : ℕ) → count_by (λ row. number_of row.procedure == number) relations ≤ max_relations
 
 -- at most 1,000 of one user
 unfoldable pub HasFewOfEachUser : List Triple → Type 0
-HasFewOfEachUser triples = (user : ℕ) → count_by (λ row. row.user == user) triples ≤ 1000
+HasFewOfEachUser triples = (user : ℕ) → count_by (λ row. row.user == user) triples ≤ max_triples
 
 pub record AreRelationsSound (policy : PolicyLists) : Type 0 where
   pub distinct : AreDistinct (map relation_key policy.relations)
@@ -80,7 +81,7 @@ pub record AreTriplesSound (policy : PolicyLists) : Type 0 where
   pub few : HasFewOfEachUser policy.triples
   pub users : All (λ row. IsUser policy row.user) policy.triples
   pub relations : All (λ row. IsRelated policy row.procedure row.set) policy.triples
-  pub limits : All (λ row. row.limit ≤ 999999999) policy.triples
+  pub limits : All (λ row. row.limit ≤ max_limit) policy.triples
 
 pub record AreCertifiersSound (policy : PolicyLists) : Type 0 where
   pub distinct : AreDistinct (map certifier_key policy.certifiers)

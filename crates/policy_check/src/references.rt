@@ -1,11 +1,12 @@
 ghost use Rattle.std.specs.Prelude.{◌↔◌, ◌≤◌, All, IsTrue, map};
+ghost use Rattle.bank_terms.specs.Limits.{max_limit};
 ghost use Rattle.keyed_rows.specs.Ordered.{AreDistinct};
 ghost use Rattle.bank_policy.specs.PolicyKeys.{certifier_key, relation_key, triple_key};
 ghost use Rattle.policy_check.specs.Soundness.{AreCertifiersSound, AreRelationsSound, AreTriplesSound, HasFewOfEachProcedure, HasFewOfEachUser, IsNumber, IsRelated, IsSet, IsUser};
 
 use crate::soundness::is_number;
-use bank_policy::{Policy, Relation, Triple};
-use bank_terms::Procedure;
+use bank_policy::Policy;
+use bank_terms::{MAX_LIMIT, MAX_RELATIONS, MAX_TRIPLES, Procedure};
 use keyed_rows::{has_distinct_keys, has_small_groups, is_there};
 
 pub(crate) fn are_relations_sound(policy: &Policy) -> bool
@@ -35,7 +36,7 @@ fn has_few_of_each_procedure(policy: &Policy) -> bool
     requires { All (λ row. IsNumber row.set) policy.now.relations }
     ensures { IsTrue result ↔ HasFewOfEachProcedure policy.now.relations }
 {
-    has_small_groups(policy.relations(), 1_000)
+    has_small_groups(policy.relations(), MAX_RELATIONS)
 }
 
 fn has_sets_of_relations(policy: &Policy) -> bool
@@ -78,7 +79,7 @@ fn has_few_of_each_user(policy: &Policy) -> bool
     requires { All (λ row. IsNumber row.set) policy.now.triples }
     ensures { IsTrue result ↔ HasFewOfEachUser policy.now.triples }
 {
-    has_small_groups(policy.triples(), 1_000)
+    has_small_groups(policy.triples(), MAX_TRIPLES)
 }
 
 fn has_users_of_triples(policy: &Policy) -> bool
@@ -97,9 +98,9 @@ fn has_relations_of_triples(policy: &Policy) -> bool
 }
 
 fn has_limits_of_triples(policy: &Policy) -> bool
-    ensures { IsTrue result ↔ All (λ row. row.limit ≤ 999999999) policy.now.triples }
+    ensures { IsTrue result ↔ All (λ row. row.limit ≤ max_limit) policy.now.triples }
 {
-    policy.triples().iter().all(|row| row.limit <= 999_999_999)
+    policy.triples().iter().all(|row| row.limit <= MAX_LIMIT)
 }
 
 pub(crate) fn are_certifiers_sound(policy: &Policy) -> bool

@@ -1,4 +1,4 @@
-ghost use Rattle.std.specs.Prelude.{◌≡◌, ◌↔◌, ◌<◌, ◌⊎◌, ℕ, Any, IsTrue, MatchOption};
+ghost use Rattle.std.specs.Prelude.{◌↔◌, ◌<◌, ℕ, IsTrue, MatchOption};
 ghost use Rattle.policy_check.specs.PolicyVerdict.{IsLeastBreak, IsLeastOfficer};
 ghost use Rattle.policy_check.specs.Soundness.{IsPolicySound};
 ghost use Rattle.policy_check.specs.Separation.{BreaksSeparation, Certifies, HasCertified, Holds, IsCertifier, OfficerHolds};

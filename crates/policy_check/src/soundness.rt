@@ -3,6 +3,7 @@ ghost use Rattle.policy_check.specs.Soundness.{AreSetsSound, AreUsersSound, IsMe
 
 use crate::references::{are_certifiers_sound, are_relations_sound, are_triples_sound};
 use bank_policy::{ItemSet, Member, Name, Policy, User};
+use bank_terms::{MAX_KEY, MAX_SETS, MAX_USER};
 use keyed_rows::has_distinct_keys;
 
 /// Whether no row of the policy dangles.
@@ -25,7 +26,7 @@ fn are_users_sound(policy: &Policy) -> bool
 fn is_user_sound(row: &User) -> bool
     ensures { IsTrue result ↔ IsUserSound row.now }
 {
-    1 <= row.user && row.user <= 9_999 && is_name(&row.name)
+    1 <= row.user && row.user <= MAX_USER && is_name(&row.name)
 }
 
 fn is_name(name: &Name) -> bool
@@ -39,7 +40,7 @@ fn are_sets_sound(policy: &Policy) -> bool
     ensures { IsTrue result ↔ AreSetsSound policy.now.sets }
 {
     has_distinct_keys(policy.sets())
-        && policy.sets().len() <= 9_999
+        && policy.sets().len() <= MAX_SETS
         && policy.sets().iter().all(|row| is_set_sound(row))
 }
 
@@ -55,11 +56,11 @@ fn is_set_sound(row: &ItemSet) -> bool
 fn is_member_sound(member: &Member) -> bool
     ensures { IsTrue result ↔ IsMemberSound member.now }
 {
-    1 <= member.low && member.low <= member.high && member.high <= 999_999_999
+    1 <= member.low && member.low <= member.high && member.high <= MAX_KEY
 }
 
 pub(crate) fn is_number(number: u32) -> bool
     ensures { IsTrue result ↔ IsNumber number }
 {
-    1 <= number && number <= 999_999_999
+    1 <= number && number <= MAX_KEY
 }

@@ -3,6 +3,7 @@
 -- and a set; E3 of who may ask at all; and E4, that the list of what is certified for what is changed by its certifier alone, who then
 -- may not execute it.
 use Rattle.std.specs.Prelude.{ℕ, ◌≤◌}
+use Rattle.bank_terms.specs.Limits.{max_user, max_limit}
 use Rattle.policy_check.specs.Soundness.{IsName, IsNumber, IsSetSound}
 use Rattle.bank_policy.specs.declared.rows.Certifier.{Certifier}
 use Rattle.bank_policy.specs.declared.rows.Triple.{Triple}
@@ -15,7 +16,7 @@ use Rattle.policy_ops.specs.declared.policy_op.UserKey.{UserKey}
 
 -- the number of a user
 abbrev pub IsUserNumber : ℕ → Type 0
-IsUserNumber user = (1 ≤ user) × (user ≤ 9999)
+IsUserNumber user = (1 ≤ user) × (user ≤ max_user)
 
 -- one of the relations of rules C2 and E1; who certifies it is who asks
 abbrev pub IsRelationKey : RelationKey → Type 0
@@ -25,7 +26,7 @@ IsRelationKey relation = IsNumber relation.set
 pub record IsTriple (triple : Triple) : Type 0 where
   pub user : IsUserNumber triple.user
   pub set : IsNumber triple.set
-  pub limit : triple.limit ≤ 999999999
+  pub limit : triple.limit ≤ max_limit
 
 -- one of the triples of rule E2, with whatever limit
 pub record IsTripleKey (triple : TripleKey) : Type 0 where

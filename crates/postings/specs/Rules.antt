@@ -1,5 +1,6 @@
 -- What the rules of the books ask of one row, as far as it is there: a rule that speaks of a row that is missing does not deny.
 use Rattle.std.specs.Prelude.{ℤ, ◌+ℤ◌, ◌&&◌, Bool, true, false, not, nat_le, int_lt, Option}
+use Rattle.bank_terms.specs.Limits.{max_key}
 use Rattle.std.specs.Option.{option_map_or}
 use Rattle.money.specs.Range.{is_cents}
 use Rattle.bank_books.specs.declared.records.AccountRecord.{AccountRecord}
@@ -28,7 +29,7 @@ ledger_in_range row delta = option_map_or (λ b. is_cents (b.balance +ℤ delta)
 
 -- the account or the history has the greatest number of entries already
 abbrev pub account_is_full : Option AccountRecord → Bool
-account_is_full row = option_map_or (λ a. nat_le 999999999 a.turns) row false
+account_is_full row = option_map_or (λ a. nat_le max_key a.turns) row false
 
 abbrev pub ledger_is_full : Option Ledger → Bool
-ledger_is_full row = option_map_or (λ b. nat_le 999999999 b.entries) row false
+ledger_is_full row = option_map_or (λ b. nat_le max_key b.entries) row false

@@ -1,4 +1,5 @@
 ghost use Rattle.std.specs.Prelude.{◌≡◌, ◌<◌, [], ◌∷◌, true, false, option_map, IfOk, IfSome, IsNone, MatchResult, OnOk, IsOkUnless};
+ghost use Rattle.bank_terms.specs.Limits.{max_key};
 ghost use Rattle.bank_books.specs.WorldLists.{WorldLists};
 ghost use Rattle.bank_books.specs.Effects.{applied};
 ghost use Rattle.postings.specs.Post.{is_full, is_in_range, is_of_branch, is_unknown, entry_after, first_against_post, post_effect, post_rows};
@@ -79,8 +80,8 @@ fn post_plan(
     post: &Post,
     by: Signature,
 ) -> Result<Plan, Fault>
-    requires turns { account.now.turns < 999999999 }
-    requires entries { branch.now.entries < 999999999 }
+    requires turns { account.now.turns < max_key }
+    requires entries { branch.now.entries < max_key }
     ensures entry { IfOk result (λ plan. plan.items ≡ RowWrite.Entry (entry_after account.now branch.now post.now by) ∷ []) }
     ensures memory { IsOkUnless result Fault.Memory }
 {
@@ -106,8 +107,8 @@ fn post_plan(
 /// The first rule of the books that denies the post, or none. It takes no memory.
 pub fn rule_against_post(rows: &PostRows, post: &Post) -> Option<Rule>
     ensures first { result ≡ first_against_post rows.now post.now }
-    ensures turns { IsNone result → IfSome rows.now.account (λ account. account.turns < 999999999) }
-    ensures entries { IsNone result → IfSome rows.now.branch (λ branch. branch.entries < 999999999) }
+    ensures turns { IsNone result → IfSome rows.now.account (λ account. account.turns < max_key) }
+    ensures entries { IsNone result → IfSome rows.now.branch (λ branch. branch.entries < max_key) }
     ensures known { IsNone result → is_unknown rows.now ≡ false }
     ensures in_range { IsNone result → is_in_range rows.now post.now ≡ true }
     ensures room { IsNone result → is_full rows.now ≡ false }

@@ -6,10 +6,8 @@ ghost use Rattle.postings.specs.Rules.{account_in_range, account_is_full, accoun
 
 use crate::ledger::Ledger;
 use bank_books::{AccountRecord, TellerRecord};
+use bank_terms::MAX_KEY;
 use money::{Cents, Delta, MAX_CENTS};
-
-/// The greatest number of an entry or a turn.
-const MAX_NUMBER: u64 = 999_999_999;
 
 /// A balance with a delta added to it, or none where it would leave the range of money.
 pub fn balance_after(balance: i128, delta: Delta) -> Option<Cents>
@@ -83,12 +81,12 @@ pub(crate) fn ledger_in_range(row: Option<Ledger>, delta: Delta) -> bool
 pub(crate) fn account_is_full(row: Option<AccountRecord>) -> bool
     ensures { result ≡ account_is_full row }
 {
-    row.is_some_and(|account| account.turns >= MAX_NUMBER)
+    row.is_some_and(|account| account.turns >= MAX_KEY as u64)
 }
 
 /// Whether a history has the greatest number of entries already.
 pub(crate) fn ledger_is_full(row: Option<Ledger>) -> bool
     ensures { result ≡ ledger_is_full row }
 {
-    row.is_some_and(|branch| branch.entries >= MAX_NUMBER)
+    row.is_some_and(|branch| branch.entries >= MAX_KEY as u64)
 }

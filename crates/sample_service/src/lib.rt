@@ -8,8 +8,9 @@ mod moment;
 mod service;
 
 pub use badges::SampleBadges;
+pub use bank_terms::MAX_MOMENT;
 pub use clock::Fixed;
 pub use counter_api::{ServeFault, Served};
 pub use ends::{DONE, FAILED, answer_sample, fail, line_of, show, tell};
-pub use moment::{LAST_MOMENT, Moment};
+pub use moment::Moment;
 pub use service::serve_sample;

@@ -1,9 +1,8 @@
 ghost use Rattle.std.specs.Prelude.{◌≡◌, ◌↔◌, ◌≤◌, IsSome, IfSome};
+ghost use Rattle.bank_terms.specs.Limits.{max_moment};
 
+use bank_terms::MAX_MOMENT;
 use std::marker::Model;
-
-/// The last moment, in seconds.
-pub const LAST_MOMENT: u64 = 99_999_999_999;
 
 /// A moment, in whole seconds from 0 to 99,999,999,999.
 #[derive(Clone, Copy, Debug, PartialEq, Eq)]
@@ -18,7 +17,7 @@ impl Model for Moment {
 
     ghost view = { λ m. m.seconds };
 
-    ghost invariant = { λ m. m.seconds ≤ 99999999999 };
+    ghost invariant = { λ m. m.seconds ≤ max_moment };
 
     ghost inverse = { λ n. record { seconds = n } };
 }
@@ -26,10 +25,10 @@ impl Model for Moment {
 impl Moment {
     /// The moment at these seconds, or none exactly where they lie behind the last moment.
     pub fn new(seconds: u64) -> Option<Moment>
-        ensures valid { IsSome result ↔ (seconds ≤ 99999999999) }
+        ensures valid { IsSome result ↔ (seconds ≤ max_moment) }
         ensures value { IfSome result (λ moment. moment ≡ seconds) }
     {
-        if seconds <= LAST_MOMENT {
+        if seconds <= MAX_MOMENT {
             Some(Moment { seconds })
         } else {
             None
@@ -39,7 +38,7 @@ impl Moment {
     /// Its seconds, at most 99,999,999,999.
     pub fn seconds(self) -> u64
         ensures value { result ≡ self }
-        ensures in_range { result ≤ 99999999999 }
+        ensures in_range { result ≤ max_moment }
     {
         self.seconds
     }

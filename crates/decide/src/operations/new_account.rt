@@ -9,15 +9,12 @@ use crate::prepared::Prepared;
 use crate::text::compact;
 use bank_books::{Account, RowWrite};
 use bank_run::OpeningRows;
-use bank_terms::Rule;
+use bank_terms::{MAX_ACCOUNTS, Rule};
 use counter_ops::NewAccount;
 use money::{Cents, Fault};
 use serde_json::{Value, json};
 use std::alloc::{AllocError, Global};
 use store_rows::BookReads;
-
-/// The most accounts that may have a branch as their home.
-const MOST_ACCOUNTS: u64 = 100_000;
 
 fn load_opening_rows<B: BookReads>(
     alloc: Global,
@@ -40,7 +37,7 @@ pub(crate) fn rule_against_new_account(rows: &OpeningRows) -> Option<Rule>
     };
     if rows.account.is_some() {
         Some(Rule::Taken)
-    } else if MOST_ACCOUNTS <= homed {
+    } else if MAX_ACCOUNTS <= homed {
         Some(Rule::Full)
     } else {
         None

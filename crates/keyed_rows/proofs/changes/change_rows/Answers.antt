@@ -1,4 +1,4 @@
-use Rattle.std.proofs.Common.{◌≡◌, ◌==◌, ◌+◌, true, sym, subst, ◌∙◌, arith}
+use Rattle.std.proofs.Common.{◌==◌, sym, subst, ◌∙◌, arith}
 use Rattle.std.specs.Prelude.{if◌then◌else◌}
 use Rattle.std.specs.List.Sorted.{IsNonDecreasingBy}
 use Rattle.keyed_rows.proofs.MadeRows.{IsNonDecreasingBy-made, key-changed, made_more, made_to-all}
