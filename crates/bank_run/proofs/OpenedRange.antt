@@ -140,4 +140,5 @@ keeps_range w a new old = record {
   proofs = old.proofs;
   releases = old.releases;
   users = old.users;
+  version = old.version;
 }
