@@ -1,5 +1,6 @@
-ghost use Rattle.std.specs.Prelude.{◌↔◌, Contains, IsTrue};
+ghost use Rattle.std.specs.Prelude.{◌≡◌, ◌↔◌, ◌≤◌, Contains, IsTrue, map};
 ghost use Rattle.bank_books.specs.Range.{AreOfRows, HasDistinctKeys, IsBranchInRange, IsEntryInRange, IsInRange, IsLineInRange, IsReleaseInRange};
+ghost use Rattle.bank_terms.specs.Limits.{max_version};
 ghost use Rattle.book_range.specs.RangeParts.{AreAllInRange, AreCashBooksInRange, AreLedgersInRange, ArePlacesInRange, AreUsersInRange};
 ghost use Rattle.book_sums.specs.Records.{AreRecordsOf};
 ghost use Rattle.book_sums.specs.Sums.{AreSumsOf};
@@ -12,7 +13,7 @@ use crate::beside::stand_beside;
 use crate::named::{are_entries_named, are_lines_named};
 use crate::numbering::are_releases_numbered;
 use crate::range_rows::{Limited, is_branch_in_range};
-use bank_books::{BranchRecord, World};
+use bank_books::{BranchRecord, MAX_VERSION, World};
 use book_sums::{Kept, Records, Sums};
 use keyed_rows::has_distinct_keys;
 
@@ -39,6 +40,7 @@ fn are_all_in_range(world: &World, kept: &Kept, sums: &Sums) -> bool
         && are_places_in_range(world, kept, sums)
         && are_ledgers_in_range(world, kept, sums)
         && are_users_in_range(world)
+        && is_version_in_range(world)
 }
 
 fn are_cash_books_in_range(world: &World, sums: &Sums) -> bool
@@ -72,6 +74,12 @@ fn are_users_in_range(world: &World) -> bool
     ensures { IsTrue result ↔ AreUsersInRange world.now }
 {
     are_releases_in_range(world) && are_within_limits(world, world.policy().users())
+}
+
+fn is_version_in_range(world: &World) -> bool
+    ensures { IsTrue result ↔ (world.now.version ≤ max_version) }
+{
+    world.version() <= MAX_VERSION
 }
 
 /// Whether no key stands twice.
