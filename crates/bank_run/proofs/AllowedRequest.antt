@@ -36,14 +36,14 @@ row_there None session is = absurd cc
 row_there (Some row) session is = (row, refl)
 
 user_there : (w : WorldLists) (user : Option ℕ) (session : ℕ) → is_identified (option_and_then (λ u. standing w.policy u) user) session ≡ true
-    → IsUser w (option_map_or (λ u. u) user 0)
+    → IsUser w.policy.users (option_map_or (λ u. u) user 0)
 user_there w None session is = absurd cc
 user_there w (Some user) session is =
     let row = row_there (user_row w.policy user) session is in
     let found = find-found (λ r. user_key r == user) w.policy.users row.0 row.1 in
     (row.0, (found.0, eqb-true (user_key row.0) user found.1))
 
-pub allowed_user : (w : WorldLists) (q : Execution) → first w (executes q) ≡ None → IsUser w (asker q.who)
+pub allowed_user : (w : WorldLists) (q : Execution) → first w (executes q) ≡ None → IsUser w.policy.users (asker q.who)
 allowed_user w q is = user_there w q.who.user q.who.session (not-false _ (passes w q rule.Identity refl is))
 
 -- ---- his triple

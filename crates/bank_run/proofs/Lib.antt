@@ -3,7 +3,6 @@ pub mod FirstRule
 pub mod JudgedPolicy
 pub mod OpenedAccount
 pub mod OpenedBooks
-pub mod OpenedHistory
 pub mod OpenedRange
 pub mod OpenedSums
 pub mod PolicyLemmas

@@ -29,7 +29,7 @@ with_account w a = record w { accounts = add_row account_key a w.accounts }
 -- Its numbers are in range, its home is there and has room, it opens with nothing, and nothing names it yet.
 pub record IsOpening (w : WorldLists) (a : Account) : Type 0 where
   pub key : IsKey a.account
-  pub home : IsBranch w a.home
+  pub home : IsBranch w.branches a.home
   pub floor : (negsuc 999999998 ≤ℤ a.floor) × (a.floor ≤ℤ pos 0)
   pub empty : a.opening ≡ pos 0
   pub room : account_count a.home w.accounts + 1 ≤ 100000
@@ -67,7 +67,7 @@ key_is_free w key none row there same =
 -- and no entry names it, since entries name accounts that are there
 unnamed_by : (w : WorldLists) (key : ℕ) → Books w → ((row : Account) → Contains w.accounts row → row.account ≢ key) → (e : Entry) → Contains w.entries e → e.account ≢ key
 unnamed_by w key books apart e there same =
-    let named : IsAccount w e.account = (books.in_range.entries (entry_record_of w e) (Contains-map (entry_record_of w) w.entries e there)).account in
+    let named : IsAccount w.accounts e.account = (books.in_range.entries (entry_record_of w e) (Contains-map (entry_record_of w) w.entries e there)).account in
     apart named.0 named.1.0 (named.1.1 ∙ same)
 
 pub is_opening : (w : WorldLists) (form : NewAccount) → Books w → IsNewAccount form → first_against_new_account (opening_rows w form) ≡ None → IsOpening w (opened form)

@@ -10,14 +10,14 @@ use Rattle.bank_books.specs.Balances.{account_count, account_opening, deltas_up_
 use Rattle.bank_books.specs.declared.rows.Account.{Account}
 use Rattle.bank_books.specs.declared.rows.Branch.{Branch}
 use Rattle.bank_books.specs.declared.rows.Entry.{Entry}
-use Rattle.bank_books.specs.declared.rows.Teller.{Teller}
 use Rattle.bank_books.specs.Keys.{account_key}
-use Rattle.bank_books.specs.Range.{IsAccountInRange, IsBranchInRange, IsEntryInRange, IsInRange, IsTellerInRange}
-use Rattle.bank_books.specs.Records.{account_record_of, branch_record_of, entry_record_of, kept_of, teller_record_of}
+use Rattle.bank_books.specs.Range.{IsAccountInRange, IsBranchInRange, IsEntryInRange, IsInRange}
+use Rattle.bank_books.specs.Records.{account_record_of, branch_record_of, entry_record_of, kept_of}
 use Rattle.bank_books.specs.WorldLists.{WorldLists}
-use Rattle.postings.proofs.GrownLists.{AreDistinct-add_row, Contains-add_row_cases, Contains-map, count_named, count_other, every_made, map-made}
+use Rattle.postings.proofs.GivenRows.{rows_given}
+use Rattle.postings.proofs.GrownLists.{AreDistinct-add_row, Contains-add_row_cases, Contains-map, HasRow-add_row, count_named, count_other, every_made}
 use Rattle.bank_run.proofs.OpenedAccount.{IsOpening, no_balance, no_turns, with_account}
-use Rattle.bank_run.proofs.RowAdded.{HasRow-add_row, find-add_row}
+use Rattle.bank_run.proofs.RowAdded.{find-add_row}
 
 -- ---- branches
 
@@ -41,9 +41,9 @@ homes_fit w a new branch before = go (cases_Bool (a.home == branch))
         (count_other account_key (λ r. r.home == branch) a w.accounts other) before
 
 branch_is_in_range : (w : WorldLists) (a : Account) → IsOpening w a → IsInRange w (kept_of w) → (row : Branch) → Contains w.branches row
-    → IsBranchInRange (with_account w a) (branch_record_of (with_account w a) row)
+    → IsBranchInRange (add_row account_key a w.accounts) w.proofs (branch_record_of (with_account w a) row)
 branch_is_in_range w a new old row there =
-    let was : IsBranchInRange w (branch_record_of w row) = old.branches (branch_record_of w row) (Contains-map (branch_record_of w) w.branches row there) in
+    let was = old.branches (branch_record_of w row) (Contains-map (branch_record_of w) w.branches row there) in
     record {
       key = was.key;
       day = was.day;
@@ -62,13 +62,6 @@ branch_is_in_range w a new old row there =
       last_day = was.last_day;
     }
 
--- ---- tellers
-
-teller_is_in_range : (w : WorldLists) (a : Account) → IsInRange w (kept_of w) → (row : Teller) → Contains w.tellers row → IsTellerInRange (with_account w a) (teller_record_of (with_account w a) row)
-teller_is_in_range w a old row there =
-    let was : IsTellerInRange w (teller_record_of w row) = old.tellers (teller_record_of w row) (Contains-map (teller_record_of w) w.tellers row there) in
-    record { key = was.key; branch = was.branch; balance = was.balance; cash = was.cash; holder = was.holder }
-
 -- ---- accounts
 
 nothing_is_cents : IsCents (pos 0)
@@ -78,7 +71,7 @@ none_fits : (n : ℕ) → n ≡ 0 → n ≤ 999999999
 none_fits n none = omega arith
 
 -- the one that is opened has nothing, which is its floor at least
-opened_is_in_range : (w : WorldLists) (a : Account) → IsOpening w a → IsAccountInRange (with_account w a) (account_record_of (with_account w a) a)
+opened_is_in_range : (w : WorldLists) (a : Account) → IsOpening w a → IsAccountInRange w.branches (account_record_of (with_account w a) a)
 opened_is_in_range w a new = record {
   key = new.key;
   home = new.home;
@@ -90,14 +83,12 @@ opened_is_in_range w a new = record {
 }
 
 account_is_in_range : (w : WorldLists) (a : Account) → IsOpening w a → IsInRange w (kept_of w) → (row : Account) → Contains (add_row account_key a w.accounts) row
-    → IsAccountInRange (with_account w a) (account_record_of (with_account w a) row)
+    → IsAccountInRange w.branches (account_record_of (with_account w a) row)
 account_is_in_range w a new old row there = go (Contains-add_row_cases account_key a w.accounts row there)
   where
-    go : (a ≡ row) ⊎ Contains w.accounts row → IsAccountInRange (with_account w a) (account_record_of (with_account w a) row)
-    go (inl is) = subst (λ r. IsAccountInRange (with_account w a) (account_record_of (with_account w a) r)) is (opened_is_in_range w a new)
-    go (inr before) =
-        let was : IsAccountInRange w (account_record_of w row) = old.accounts (account_record_of w row) (Contains-map (account_record_of w) w.accounts row before) in
-        record { key = was.key; home = was.home; floor = was.floor; opening = was.opening; balance = was.balance; above_floor = was.above_floor; turns = was.turns }
+    go : (a ≡ row) ⊎ Contains w.accounts row → IsAccountInRange w.branches (account_record_of (with_account w a) row)
+    go (inl is) = subst (λ r. IsAccountInRange w.branches (account_record_of (with_account w a) r)) is (opened_is_in_range w a new)
+    go (inr before) = old.accounts (account_record_of w row) (Contains-map (account_record_of w) w.accounts row before)
 
 -- ---- entries
 
@@ -107,9 +98,9 @@ opening_stays w a key apart =
     ap (λ o. option_map_or (λ row. row.opening) o (pos 0)) (find-add_row account_key (λ row. row.account == key) a w.accounts (ne_eqb a.account key (λ same. apart (sym same))))
 
 entry_is_in_range : (w : WorldLists) (a : Account) → IsOpening w a → IsInRange w (kept_of w) → (row : Entry) → Contains w.entries row
-    → IsEntryInRange (with_account w a) (entry_record_of (with_account w a) row)
+    → IsEntryInRange w.branches w.tellers (add_row account_key a w.accounts) w.entries w.policy.users (entry_record_of (with_account w a) row)
 entry_is_in_range w a new old row there =
-    let was : IsEntryInRange w (entry_record_of w row) = old.entries (entry_record_of w row) (Contains-map (entry_record_of w) w.entries row there) in
+    let was = old.entries (entry_record_of w row) (Contains-map (entry_record_of w) w.entries row there) in
     record {
       branch = was.branch;
       number = was.number;
@@ -120,20 +111,16 @@ entry_is_in_range w a new old row there =
       day = was.day;
       user = was.user;
       partner = was.partner;
+      partner_there = was.partner_there;
       undoes = was.undoes;
+      undone_there = was.undone_there;
       balance_after =
           subst (λ z. IsCents (z +ℤ deltas_up_to row.account row.turn w.entries)) (sym (opening_stays w a row.account (new.unnamed row there))) was.balance_after;
     }
 
 pub keeps_range : (w : WorldLists) (a : Account) → IsOpening w a → IsInRange w (kept_of w) → IsInRange (with_account w a) (kept_of (with_account w a))
 keeps_range w a new old = record {
-  rows = record {
-    branches = map-made (branch_record_of (with_account w a)) (λ b. b.row) (λ row. refl) w.branches;
-    tellers = map-made (teller_record_of (with_account w a)) (λ t. t.row) (λ row. refl) w.tellers;
-    accounts = map-made (account_record_of (with_account w a)) (λ r. r.row) (λ row. refl) (add_row account_key a w.accounts);
-    entries = map-made (entry_record_of (with_account w a)) (λ r. r.row) (λ row. refl) w.entries;
-    users = refl;
-  };
+  rows = rows_given (with_account w a);
   keys = record {
     branches = old.keys.branches;
     tellers = old.keys.tellers;
@@ -143,20 +130,14 @@ keeps_range w a new old = record {
     proofs = old.keys.proofs;
     releases = old.keys.releases;
   };
-  branches = every_made (branch_record_of (with_account w a)) (IsBranchInRange (with_account w a)) w.branches (branch_is_in_range w a new old);
-  tellers = every_made (teller_record_of (with_account w a)) (IsTellerInRange (with_account w a)) w.tellers (teller_is_in_range w a old);
-  accounts = every_made (account_record_of (with_account w a)) (IsAccountInRange (with_account w a)) (add_row account_key a w.accounts) (account_is_in_range w a new old);
-  entries = every_made (entry_record_of (with_account w a)) (IsEntryInRange (with_account w a)) w.entries (entry_is_in_range w a new old);
-  lines = λ l there. let was = old.lines l there in record { branch = was.branch; number = was.number; place = was.place; moment = was.moment; day = was.day; user = was.user };
-  proofs = λ p there. let was = old.proofs p there in record { branch = was.branch; day = was.day; entries = was.entries };
-  releases = λ r there. let was = old.releases r there in record {
-    user = was.user;
-    number = was.number;
-    numbered = was.numbered;
-    giver = was.giver;
-    branch = was.branch;
-    day = was.day;
-    operation = was.operation;
-  };
+  branches = every_made (branch_record_of (with_account w a)) (IsBranchInRange (add_row account_key a w.accounts) w.proofs) w.branches (branch_is_in_range w a new old);
+  tellers = old.tellers;
+  accounts = every_made (account_record_of (with_account w a)) (IsAccountInRange w.branches) (add_row account_key a w.accounts) (account_is_in_range w a new old);
+  entries =
+      every_made (entry_record_of (with_account w a)) (IsEntryInRange w.branches w.tellers (add_row account_key a w.accounts) w.entries w.policy.users) w.entries
+      (entry_is_in_range w a new old);
+  lines = old.lines;
+  proofs = old.proofs;
+  releases = old.releases;
   users = old.users;
 }

@@ -128,7 +128,7 @@ enters w post by is branch =
     subst (λ v. entry_count branch v.entries ≡ entry_count branch w.entries + entries_by branch (op.Post post)) (sym (effect_is w post there by))
     (count-add_row entry_key (λ e. e.branch == branch) (entry_of w post there by) w.entries)
 
-posts : (w : WorldLists) (post : Post) (by : Signature) → PassesChecks w → IsUser w by.user → by.moment ≤ 99999999999 → first_against_post (post_rows w post) post ≡ None
+posts : (w : WorldLists) (post : Post) (by : Signature) → PassesChecks w → IsUser w.policy.users by.user → by.moment ≤ 99999999999 → first_against_post (post_rows w post) post ≡ None
     → IsStep w (post_effect w post by) (λ branch. moved_by branch (op.Post post)) (λ branch. entries_by branch (op.Post post))
 posts w post by checks there high is = record {
   checks = passes w (post_effect w post by) checks (same_policy w (post_entry w post by)) (post_keeps_books w post by checks.books there high is);
@@ -146,7 +146,7 @@ opens w form checks proper is = record {
   added = record { entries = kept_same w.entries; lines = kept_same w.lines; proofs = kept_same w.proofs };
 }
 
-by_form : (w : WorldLists) (o : Op) (by : Signature) → PassesChecks w → IsOp o → IsUser w by.user → by.moment ≤ 99999999999 → (by_books (meaning_of o by w)).first ≡ None
+by_form : (w : WorldLists) (o : Op) (by : Signature) → PassesChecks w → IsOp o → IsUser w.policy.users by.user → by.moment ≤ 99999999999 → (by_books (meaning_of o by w)).first ≡ None
     → IsStep w (meaning_of o by w).effect (λ branch. moved_by branch o) (λ branch. entries_by branch o)
 by_form w (op.Post post) by checks proper there high is = posts w post by checks there high is
 by_form w (op.Transfer form) by checks proper there high is = stands w checks
