@@ -1,0 +1,39 @@
+//! What holds of every change of each kind. The functions do nothing; their contracts are the laws.
+
+ghost use Rattle.book_growth.specs.Laws.{BooksParts, EntryKeepsBooks, EntryKeepsLedger, EntryMoves, EntryStandsLast, LimitsMoved, MovedTwice};
+
+/// The books hold exactly where the ledger does and all that rows come to is within the limits.
+pub fn books_parts()
+    ensures { BooksParts }
+{}
+
+/// Limits that held, and that hold of what moved, hold.
+pub fn limits_moved()
+    ensures { LimitsMoved }
+{}
+
+/// What is moved twice is moved by both amounts together.
+pub fn moved_twice()
+    ensures { MovedTwice }
+{}
+
+/// An entry that may come next keeps the ledger, though the entries that it names are still to come.
+pub fn entry_keeps_ledger()
+    ensures { EntryKeepsLedger }
+{}
+
+/// An entry moves its branch, its teller and its account by its delta, and nothing else.
+pub fn entry_moves()
+    ensures { EntryMoves }
+{}
+
+/// The balance after the next entry is its account's, and those after earlier entries stay.
+pub fn entry_stands_last()
+    ensures { EntryStandsLast }
+{}
+
+/// Where the books hold, they hold with the next entry, if there is room for it and the entries that it
+/// names are there.
+pub fn entry_keeps_books()
+    ensures { EntryKeepsBooks }
+{}
