@@ -6,3 +6,4 @@ pub mod LimitsKept
 pub mod EntryAdded
 pub mod EntryMoved
 pub mod EntryBooks
+pub mod RuleTests

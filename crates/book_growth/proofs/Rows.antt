@@ -104,6 +104,10 @@ find-found {X = X} p (x ∷ xs) found is = go (p x) refl is (find-found p xs fou
 same_key : {X : Type 0} (key : X → ℕ) (x : X) (k : ℕ) → (key x == k) ≡ true → key x ≡ k
 same_key key x k e = eqb-true (key x) k e
 
+-- a row that is found by its key is there, and has it
+pub found_row : {X : Type 0} (key : X → ℕ) (k : ℕ) (xs : List X) (found : X) → find (λ x. key x == k) xs ≡ Some found → Contains xs found × (key found ≡ k)
+found_row key k xs found is = ((find-found (λ x. key x == k) xs found is).0, same_key key found k (find-found (λ x. key x == k) xs found is).1)
+
 -- the first row has no key of a row behind it
 first_apart : {X : Type 0} (key : X → ℕ) (x : X) (xs : List X) (y : X) → AreDistinct (map key (x ∷ xs)) → Contains xs y → key x ≢ key y
 first_apart key x xs y distinct (k, within, is) same = apart-from_AreDistinct key (x ∷ xs) 0 (suc k) y distinct (omega arith) (omega arith) (same ∙ ap key (sym is))
