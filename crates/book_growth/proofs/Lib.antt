@@ -7,3 +7,4 @@ pub mod EntryAdded
 pub mod EntryMoved
 pub mod EntryBooks
 pub mod RuleTests
+pub mod AccountAdded

@@ -46,6 +46,15 @@ Contains-add_row {X = X} key e (x ∷ xs) y there = go (nat_le (key x) (key e)) 
     go true (inr behind) rest = Contains-tail x (add_row key e xs) y (rest behind)
     go false at rest = Contains-tail e (x ∷ xs) y there
 
+-- and so is the new one
+pub Contains-add_row_new : {X : Type 0} (key : X → ℕ) (e : X) (xs : List X) → Contains (add_row key e xs) e
+Contains-add_row_new key e [] = Contains-head e []
+Contains-add_row_new {X = X} key e (x ∷ xs) = go (nat_le (key x) (key e)) (Contains-add_row_new key e xs)
+  where
+    go : (b : Bool) → Contains (add_row key e xs) e → Contains (cond b (x ∷ add_row key e xs) (e ∷ x ∷ xs)) e
+    go true rest = Contains-tail x (add_row key e xs) e rest
+    go false rest = Contains-head e (x ∷ xs)
+
 pub HasRow-add_row : {X : Type 0} (key : X → ℕ) (e : X) (xs : List X) (k : ℕ) → HasRow key xs k → HasRow key (add_row key e xs) k
 HasRow-add_row key e xs k (row, (there, is)) = (row, (Contains-add_row key e xs row there, is))
 

@@ -1,5 +1,6 @@
 -- What holds of every change of each kind.
-use Rattle.std.specs.Prelude.{ℕ, ℤ, ◌↔◌, ◌+ℤ◌}
+use Rattle.std.specs.Prelude.{ℕ, ℤ, ◌↔◌, ◌+◌, ◌≤◌, ◌+ℤ◌}
+use Rattle.bank_books.specs.Balances.{account_count}
 use Rattle.bank_books.specs.Books.{Books}
 use Rattle.bank_books.specs.Effects.{written}
 use Rattle.bank_books.specs.WorldLists.{WorldLists}
@@ -8,8 +9,8 @@ use Rattle.bank_books.specs.declared.rows.Account.{Account}
 use Rattle.bank_books.specs.declared.rows.Entry.{Entry}
 use Rattle.book_growth.specs.Ledger.{IsLedger, IsOpenLedger, NamesEntries}
 use Rattle.book_growth.specs.Limits.{AreMovedWithin, AreWithinLimits}
-use Rattle.book_growth.specs.Moves.{HasRoomFor, IsMovedAlone, IsMovedByEntry, StandsLast}
-use Rattle.book_growth.specs.Next.{IsNextEntry}
+use Rattle.book_growth.specs.Moves.{HasRoomFor, IsMovedAlone, IsMovedByAccount, IsMovedByEntry, StandsLast}
+use Rattle.book_growth.specs.Next.{IsNextAccount, IsNextEntry}
 
 -- the books are the ledger within its limits
 abbrev pub BooksParts : Type 0
@@ -39,3 +40,15 @@ EntryStandsLast = (w : WorldLists) (e : Entry) → IsNextEntry w e → IsOpenLed
 -- an entry alone: it may come next, the entries that it names are there, and there is room for it
 abbrev pub EntryKeepsBooks : Type 0
 EntryKeepsBooks = (w : WorldLists) (e : Entry) → IsNextEntry w e → NamesEntries w.entries e → HasRoomFor w e → Books w → Books (written (write.Entry e) w)
+
+-- ---- an account
+
+abbrev pub AccountKeepsLedger : Type 0
+AccountKeepsLedger = (w : WorldLists) (a : Account) → IsNextAccount w a → IsLedger w → IsLedger (written (write.Account a) w)
+
+abbrev pub AccountMoves : Type 0
+AccountMoves = (w : WorldLists) (a : Account) → IsNextAccount w a → IsOpenLedger w → IsMovedByAccount w a
+
+-- its home has room for it
+abbrev pub AccountKeepsBooks : Type 0
+AccountKeepsBooks = (w : WorldLists) (a : Account) → IsNextAccount w a → account_count a.home w.accounts + 1 ≤ 100000 → Books w → Books (written (write.Account a) w)

@@ -1,5 +1,5 @@
 -- What one change moves, and that it moves nothing else.
-use Rattle.std.specs.Prelude.{ℕ, ℤ, ◌≡◌, ◌≢◌, ◌+◌, ◌+ℤ◌, ◌==◌, Contains, Some, if◌then◌else◌}
+use Rattle.std.specs.Prelude.{ℕ, ℤ, pos, ◌≡◌, ◌≢◌, ◌+◌, ◌+ℤ◌, ◌==◌, Contains, Some, if◌then◌else◌}
 use Rattle.bank_books.specs.Balances.{account_balance, account_row, branch_balance, branch_row, teller_balance, teller_row}
 use Rattle.bank_books.specs.Effects.{written}
 use Rattle.bank_books.specs.Records.{account_record_of, branch_record_of, entry_record_of, teller_record_of}
@@ -54,3 +54,18 @@ pub record HasRoomFor (w : WorldLists) (e : Entry) : Type 0 where
   pub branch : (b : Branch) → branch_row e.branch w.branches ≡ Some b → IsHistoryWithin (branch_entered e.delta (branch_record_of w b))
   pub teller : (t : Teller) → teller_row e.teller w.tellers ≡ Some t → IsCents (teller_entered e.delta (teller_record_of w t)).balance
   pub account : (a : Account) → account_row e.account w.accounts ≡ Some a → IsAccountWithin (account_entered e.delta (account_record_of w a))
+
+-- ---- an account
+
+-- one account more has the branch as its home
+abbrev pub branch_homed : BranchRecord → BranchRecord
+branch_homed b = record b { accounts = b.accounts + 1 }
+
+-- an account that is opened moves the count of its home, and no balance and no cash; there is nothing in it
+pub record IsMovedByAccount (w : WorldLists) (a : Account) : Type 0 where
+  pub branches : (row : Branch) → branch_record_of (written (write.Account a) w) row
+      ≡ (if a.home == row.branch then branch_homed (branch_record_of w row) else branch_record_of w row)
+  pub accounts : (row : Account) → account_record_of (written (write.Account a) w) row ≡ account_record_of w row
+  pub entries : (row : Entry) → entry_record_of (written (write.Account a) w) row ≡ entry_record_of w row
+  pub new : account_record_of (written (write.Account a) w) a ≡ record { row = a; balance = pos 0; turns = 0 }
+  pub account_balances : (key : ℕ) → account_balance (written (write.Account a) w) key ≡ account_balance w key

@@ -1,6 +1,6 @@
 //! What holds of every change of each kind. The functions do nothing; their contracts are the laws.
 
-ghost use Rattle.book_growth.specs.Laws.{BooksParts, EntryKeepsBooks, EntryKeepsLedger, EntryMoves, EntryStandsLast, LimitsMoved, MovedTwice};
+ghost use Rattle.book_growth.specs.Laws.{AccountKeepsBooks, AccountKeepsLedger, AccountMoves, BooksParts, EntryKeepsBooks, EntryKeepsLedger, EntryMoves, EntryStandsLast, LimitsMoved, MovedTwice};
 
 /// The books hold exactly where the ledger does and all that rows come to is within the limits.
 pub fn books_parts()
@@ -36,4 +36,19 @@ pub fn entry_stands_last()
 /// names are there.
 pub fn entry_keeps_books()
     ensures { EntryKeepsBooks }
+{}
+
+/// An account that is not there yet and opens with nothing keeps the ledger.
+pub fn account_keeps_ledger()
+    ensures { AccountKeepsLedger }
+{}
+
+/// It moves the count of accounts of its home, no balance and no cash.
+pub fn account_moves()
+    ensures { AccountMoves }
+{}
+
+/// Where the books hold, they hold with the account, if its home has room for it.
+pub fn account_keeps_books()
+    ensures { AccountKeepsBooks }
 {}
