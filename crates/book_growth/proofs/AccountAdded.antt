@@ -130,8 +130,8 @@ account_keeps_limits w a new room ledger limits = limits_moved w (written (write
     | inl named ↦
         let was = limits.branches row there in
         inr (subst IsBranchWithin (sym (homes_move w a row true named)) (record {
-        history = record { balance = was.history.balance; history = was.history.history; entries = was.history.entries };
-        cash = record { vault = was.cash.vault; drawers = was.cash.drawers; cash_entries = was.cash.cash_entries; differences = was.cash.differences; lines = was.cash.lines };
+        history = was.history;
+        cash = was.cash;
         accounts = subst (λ k. account_count k w.accounts + 1 ≤ 100000) (eqb-true a.home row.branch named) room;
         }))
     | inr other ↦ inl (there, homes_move w a row false other)

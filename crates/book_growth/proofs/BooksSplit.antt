@@ -104,8 +104,14 @@ limits_of w books =
       branches = λ row there.
           let was = old.branches (branch_record_of w row) (Contains-map (branch_record_of w) w.branches row there) in
           record {
-            history = record { balance = was.balance; history = was.history; entries = was.entries };
-            cash = record { vault = was.vault; drawers = was.drawers; cash_entries = was.cash_entries; differences = was.differences; lines = was.lines };
+            history = record { balance_within = was.balance; history_within = was.history; entries_within = was.entries };
+            cash = record {
+              vault_within = was.vault;
+              drawers_within = was.drawers;
+              cash_entries_within = was.cash_entries;
+              differences_within = was.differences;
+              lines_within = was.lines;
+            };
             accounts = was.accounts;
           };
       tellers = λ row there.
@@ -136,7 +142,7 @@ number_high : (w : WorldLists) → IsOpenLedger w → AreWithinLimits w → (e :
 number_high w ledger limits e there =
     let branch = (ledger.entries.each e there).branch in
     up_to e.number (entry_count e.branch w.entries) 999999999 ((ledger.entries.numbers e.branch).high e there refl)
-    (subst (λ k. entry_count k w.entries ≤ 999999999) branch.1.1 (limits.branches branch.0 branch.1.0).history.entries)
+    (subst (λ k. entry_count k w.entries ≤ 999999999) branch.1.1 (limits.branches branch.0 branch.1.0).history.entries_within)
 
 turn_high : (w : WorldLists) → IsOpenLedger w → AreWithinLimits w → (e : Entry) → Contains w.entries e → e.turn ≤ 999999999
 turn_high w ledger limits e there =
@@ -148,7 +154,7 @@ line_high : (w : WorldLists) → IsOpenLedger w → AreWithinLimits w → (l : C
 line_high w ledger limits l there =
     let branch = (ledger.lines.each l there).branch in
     up_to l.number (line_count l.branch w.lines) 999999999 ((ledger.lines.numbers l.branch).high l there refl)
-    (subst (λ k. line_count k w.lines ≤ 999999999) branch.1.1 (limits.branches branch.0 branch.1.0).cash.lines)
+    (subst (λ k. line_count k w.lines ≤ 999999999) branch.1.1 (limits.branches branch.0 branch.1.0).cash.lines_within)
 
 keys_of : (w : WorldLists) → IsOpenLedger w → AreWithinLimits w → HasDistinctKeys w
 keys_of w ledger limits = record {
@@ -199,14 +205,14 @@ branch_in_range w ledger limits row there =
       key = was.key;
       day = was.day;
       opening_cash = was.opening_cash;
-      balance = within.history.balance;
-      vault = within.cash.vault;
-      history = within.history.history;
-      drawers = within.cash.drawers;
-      cash_entries = within.cash.cash_entries;
-      differences = within.cash.differences;
-      entries = within.history.entries;
-      lines = within.cash.lines;
+      balance = within.history.balance_within;
+      vault = within.cash.vault_within;
+      history = within.history.history_within;
+      drawers = within.cash.drawers_within;
+      cash_entries = within.cash.cash_entries_within;
+      differences = within.cash.differences_within;
+      entries = within.history.entries_within;
+      lines = within.cash.lines_within;
       accounts = within.accounts;
       homes = within.accounts;
       days = was.days;

@@ -43,10 +43,9 @@ branches_within : (w : WorldLists) (e : Entry) → HasRoomFor w e → IsOpenLedg
     → (Contains w.branches row × (branch_record_of (written (write.Entry e) w) row ≡ branch_record_of w row)) ⊎ IsBranchWithin (branch_record_of (written (write.Entry e) w) row)
 branches_within w e room ledger limits row there = elim (cases_Bool (e.branch == row.branch)) [
   | inl named ↦
-      let cash = (limits.branches row there).cash in
       inr (subst IsBranchWithin (sym ((entry_moves w e).branches row ∙ ap (λ b. if b then branch_entered e.delta (branch_record_of w row) else branch_record_of w row) named)) (record {
       history = room.branch row (find_of_key branch_key e.branch w.branches row ledger.branches.keys there (sym (eqb-true e.branch row.branch named)));
-      cash = record { vault = cash.vault; drawers = cash.drawers; cash_entries = cash.cash_entries; differences = cash.differences; lines = cash.lines };
+      cash = (limits.branches row there).cash;
       accounts = (limits.branches row there).accounts;
       }))
   | inr other ↦ inl (there, (entry_moves w e).branches row ∙ ap (λ b. if b then branch_entered e.delta (branch_record_of w row) else branch_record_of w row) other)

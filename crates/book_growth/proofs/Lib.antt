@@ -8,3 +8,4 @@ pub mod EntryMoved
 pub mod EntryBooks
 pub mod RuleTests
 pub mod AccountAdded
+pub mod ChangedRows

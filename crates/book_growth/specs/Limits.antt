@@ -1,5 +1,5 @@
 -- The limits of what rows come to.
-use Rattle.std.specs.Prelude.{◌≡◌, ◌≤◌, ◌≤ℤ◌, ◌⊎◌, Contains}
+use Rattle.std.specs.Prelude.{ℕ, ℤ, ◌≡◌, ◌≤◌, ◌≤ℤ◌, ◌⊎◌, Contains}
 use Rattle.money.specs.Range.{IsCents}
 use Rattle.bank_books.specs.Range.{IsCash}
 use Rattle.bank_books.specs.Records.{account_record_of, branch_record_of, entry_record_of, teller_record_of}
@@ -13,22 +13,22 @@ use Rattle.bank_books.specs.declared.rows.Entry.{Entry}
 use Rattle.bank_books.specs.declared.rows.Teller.{Teller}
 
 -- what the entries of a branch come to
-pub record IsHistoryWithin (b : BranchRecord) : Type 0 where
-  pub balance : IsCents b.balance
-  pub history : IsCents b.history
-  pub entries : b.entries ≤ 999999999
+pub record IsHistoryWithin (balance history : ℤ) (entries : ℕ) : Type 0 where
+  pub balance_within : IsCents balance
+  pub history_within : IsCents history
+  pub entries_within : entries ≤ 999999999
 
 -- what its lines come to
-pub record IsCashWithin (b : BranchRecord) : Type 0 where
-  pub vault : IsCash b.vault
-  pub drawers : IsCents b.drawers
-  pub cash_entries : IsCents b.cash_entries
-  pub differences : IsCents b.differences
-  pub lines : b.lines ≤ 999999999
+pub record IsCashWithin (vault drawers cash_entries differences : ℤ) (lines : ℕ) : Type 0 where
+  pub vault_within : IsCash vault
+  pub drawers_within : IsCents drawers
+  pub cash_entries_within : IsCents cash_entries
+  pub differences_within : IsCents differences
+  pub lines_within : lines ≤ 999999999
 
 pub record IsBranchWithin (b : BranchRecord) : Type 0 where
-  pub history : IsHistoryWithin b
-  pub cash : IsCashWithin b
+  pub history : IsHistoryWithin b.balance b.history b.entries
+  pub cash : IsCashWithin b.vault b.drawers b.cash_entries b.differences b.lines
   pub accounts : b.accounts ≤ 100000
 
 pub record IsTellerWithin (t : TellerRecord) : Type 0 where

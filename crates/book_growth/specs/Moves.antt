@@ -51,7 +51,8 @@ pub record StandsLast (w : WorldLists) (e : Entry) : Type 0 where
 
 -- with it, what its branch, its teller and its account come to is within the limits
 pub record HasRoomFor (w : WorldLists) (e : Entry) : Type 0 where
-  pub branch : (b : Branch) → branch_row e.branch w.branches ≡ Some b → IsHistoryWithin (branch_entered e.delta (branch_record_of w b))
+  pub branch : (b : Branch) → branch_row e.branch w.branches ≡ Some b →
+      let after = branch_entered e.delta (branch_record_of w b) in IsHistoryWithin after.balance after.history after.entries
   pub teller : (t : Teller) → teller_row e.teller w.tellers ≡ Some t → IsCents (teller_entered e.delta (teller_record_of w t)).balance
   pub account : (a : Account) → account_row e.account w.accounts ≡ Some a → IsAccountWithin (account_entered e.delta (account_record_of w a))
 

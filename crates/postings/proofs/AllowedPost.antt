@@ -118,9 +118,9 @@ has_room w post there by allowed =
       branch = λ row is.
           let cents = and_parts _ _ (subst (λ o. option_map_or (λ b. is_cents (b.balance +ℤ post.delta) && is_cents (b.history +ℤ post.delta)) (option_map ledger_of (option_map (branch_record_of w) o)) true ≡ true) is range.1) in
           record {
-            balance = cents_from _ cents.0;
-            history = cents_from _ cents.1;
-            entries = one_fits 999999999 _ (subst (λ o. option_map_or (λ b. nat_le 999999999 b.entries) (option_map ledger_of (option_map (branch_record_of w) o)) false ≡ false) is room.0);
+            balance_within = cents_from _ cents.0;
+            history_within = cents_from _ cents.1;
+            entries_within = one_fits 999999999 _ (subst (λ o. option_map_or (λ b. nat_le 999999999 b.entries) (option_map ledger_of (option_map (branch_record_of w) o)) false ≡ false) is room.0);
           };
       teller = λ row is. cents_from _ (subst (λ o. option_map_or (λ t. is_cents (t.balance +ℤ post.delta)) (option_map (teller_record_of w) o) true ≡ true) is others.1);
       account = λ row is. record {
