@@ -14,7 +14,7 @@ use Rattle.bank_policy.proofs.Tested.{held_by_some}
 use Rattle.bank_books.specs.Range.{IsUser}
 use Rattle.bank_books.specs.WorldLists.{WorldLists}
 use Rattle.counter_ops.specs.Op.{procedure_of}
-use Rattle.postings.proofs.GrownLists.{find-found}
+use Rattle.book_growth.proofs.Rows.{find-found}
 use Rattle.touched.specs.Touched.{touched}
 use Rattle.bank_run.specs.PolicyRules.{asker, first_of_policy, grounds, is_identified, policy_denies}
 use Rattle.bank_run.specs.Meaning.{by_books}

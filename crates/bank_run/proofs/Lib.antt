@@ -2,9 +2,5 @@ pub mod AllowedRequest
 pub mod FirstRule
 pub mod JudgedPolicy
 pub mod OpenedAccount
-pub mod OpenedBooks
-pub mod OpenedRange
-pub mod OpenedSums
 pub mod PolicyLemmas
-pub mod RowAdded
 pub mod RunSums

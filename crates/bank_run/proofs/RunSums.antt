@@ -24,10 +24,10 @@ use Rattle.counter_ops.specs.declared.new_account.NewAccount.{NewAccount}
 use Rattle.counter_ops.specs.declared.op.Op.{Op}
 use Rattle.counter_ops.specs.declared.op.Op.TheVariants as op
 use Rattle.counter_ops.specs.declared.post.Post.{Post}
-use Rattle.postings.specs.Laws.{IsMovedAlone}
+use Rattle.book_growth.specs.Moves.{IsMovedAlone}
 use Rattle.postings.specs.Post.{first_against_post, post_effect, post_entry, post_rows}
 use Rattle.postings.proofs.AllowedPost.{are_there, effect_is, entry_of, is_allowed, post_keeps_books, post_moves_its_branch}
-use Rattle.postings.proofs.GrownLists.{count-add_row}
+use Rattle.book_growth.proofs.Rows.{count-add_row}
 use Rattle.store_rows.specs.Status.{after_mark}
 use Rattle.bank_books.specs.declared.signature.Signature.{Signature}
 use Rattle.bank_run.specs.Meaning.{by_books}
@@ -43,7 +43,7 @@ use Rattle.bank_run.specs.declared.who.Who.{Who}
 use Rattle.bank_run.specs.Run.{Marked, accepted, after_request, if_allowed, is_accepted, world_after}
 use Rattle.bank_run.specs.Sums.{AreKept, AreProper, IsProper, OnlyAdds, PassesChecks, SumsAlwaysAgree, entries_at, entries_by, entries_of, moved_at, moved_by, moved_of}
 use Rattle.bank_run.proofs.AllowedRequest.{allowed_by_books, allowed_user}
-use Rattle.bank_run.proofs.OpenedBooks.{new_account_keeps_books}
+use Rattle.bank_run.proofs.OpenedAccount.{new_account_keeps_books}
 
 -- ---- what is kept
 

@@ -13,7 +13,8 @@ use crate::beside::stand_beside;
 use crate::named::{are_entries_named, are_lines_named};
 use crate::numbering::are_releases_numbered;
 use crate::range_rows::{Limited, is_branch_in_range};
-use bank_books::{BranchRecord, MAX_VERSION, World};
+use bank_books::{BranchRecord, World};
+use bank_terms::MAX_VERSION;
 use book_sums::{Kept, Records, Sums};
 use keyed_rows::has_distinct_keys;
 

@@ -1,4 +1,4 @@
-use Rattle.bank_run.proofs.OpenedBooks as proven
+use Rattle.bank_run.proofs.OpenedAccount as proven
 use Rattle.bank_run.proofs.laws.new_account_keeps_books.Goals as goal
 
 pub returns : goal.returns

@@ -4,7 +4,7 @@ use Rattle.bank_books.specs.Conditions.{IsAccountOfHistory, IsBranchOfHistory, I
 use Rattle.bank_books.specs.Range.{AreOfRows}
 use Rattle.bank_books.specs.Records.{account_record_of, branch_record_of, entry_record_of, kept_of, teller_record_of}
 use Rattle.bank_books.specs.WorldLists.{WorldLists}
-use Rattle.postings.proofs.GrownLists.{every_made, map-made}
+use Rattle.book_growth.proofs.Rows.{every_made, map-made}
 
 pub rows_given : (w : WorldLists) → AreOfRows w (kept_of w)
 rows_given w = record {

@@ -1,0 +1,11 @@
+pub mod AccountAdded
+pub mod BooksSplit
+pub mod ChangedRows
+pub mod EntryAdded
+pub mod EntryBooks
+pub mod EntryMoved
+pub mod GivenRows
+pub mod LimitsKept
+pub mod Numbered
+pub mod Rows
+pub mod RuleTests

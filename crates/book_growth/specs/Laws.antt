@@ -1,0 +1,54 @@
+-- What holds of every change of each kind.
+use Rattle.std.specs.Prelude.{ℕ, ℤ, ◌↔◌, ◌+◌, ◌≤◌, ◌+ℤ◌}
+use Rattle.bank_books.specs.Balances.{account_count}
+use Rattle.bank_books.specs.Books.{Books}
+use Rattle.bank_books.specs.Effects.{written}
+use Rattle.bank_books.specs.WorldLists.{WorldLists}
+use Rattle.bank_books.specs.declared.row_write.RowWrite.TheVariants as write
+use Rattle.bank_books.specs.declared.rows.Account.{Account}
+use Rattle.bank_books.specs.declared.rows.Entry.{Entry}
+use Rattle.book_growth.specs.Ledger.{IsLedger, IsOpenLedger, NamesEntries}
+use Rattle.book_growth.specs.Limits.{AreMovedWithin, AreWithinLimits}
+use Rattle.book_growth.specs.Moves.{HasRoomFor, IsMovedAlone, IsMovedByAccount, IsMovedByEntry, StandsLast}
+use Rattle.book_growth.specs.Next.{IsNextAccount, IsNextEntry}
+
+-- the books are the ledger within its limits
+abbrev pub BooksParts : Type 0
+BooksParts = (w : WorldLists) → Books w ↔ (IsLedger w × AreWithinLimits w)
+
+-- limits that held, and hold of all that moved, hold
+abbrev pub LimitsMoved : Type 0
+LimitsMoved = (before after : WorldLists) → AreWithinLimits before → AreMovedWithin before after → AreWithinLimits after
+
+-- what moved by one amount and then by another at the same key moved by both
+abbrev pub MovedTwice : Type 0
+MovedTwice = (before middle after : ℕ → ℤ) (key : ℕ) (first second : ℤ) → IsMovedAlone before middle key first → IsMovedAlone middle after key second
+    → IsMovedAlone before after key (first +ℤ second)
+
+-- ---- an entry
+
+-- an entry that may come next keeps the open ledger, though the entries that it names are still to come
+abbrev pub EntryKeepsLedger : Type 0
+EntryKeepsLedger = (w : WorldLists) (e : Entry) → IsNextEntry w e → IsOpenLedger w → IsOpenLedger (written (write.Entry e) w)
+
+abbrev pub EntryMoves : Type 0
+EntryMoves = (w : WorldLists) (e : Entry) → IsMovedByEntry w e
+
+abbrev pub EntryStandsLast : Type 0
+EntryStandsLast = (w : WorldLists) (e : Entry) → IsNextEntry w e → IsOpenLedger w → StandsLast w e
+
+-- an entry alone: it may come next, the entries that it names are there, and there is room for it
+abbrev pub EntryKeepsBooks : Type 0
+EntryKeepsBooks = (w : WorldLists) (e : Entry) → IsNextEntry w e → NamesEntries w.entries e → HasRoomFor w e → Books w → Books (written (write.Entry e) w)
+
+-- ---- an account
+
+abbrev pub AccountKeepsLedger : Type 0
+AccountKeepsLedger = (w : WorldLists) (a : Account) → IsNextAccount w a → IsLedger w → IsLedger (written (write.Account a) w)
+
+abbrev pub AccountMoves : Type 0
+AccountMoves = (w : WorldLists) (a : Account) → IsNextAccount w a → IsOpenLedger w → IsMovedByAccount w a
+
+-- its home has room for it
+abbrev pub AccountKeepsBooks : Type 0
+AccountKeepsBooks = (w : WorldLists) (a : Account) → IsNextAccount w a → account_count a.home w.accounts + 1 ≤ 100000 → Books w → Books (written (write.Account a) w)

@@ -1,0 +1,5 @@
+pub mod Laws
+pub mod Ledger
+pub mod Limits
+pub mod Moves
+pub mod Next

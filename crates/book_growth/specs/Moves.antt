@@ -1,0 +1,72 @@
+-- What one change moves, and that it moves nothing else.
+use Rattle.std.specs.Prelude.{ℕ, ℤ, pos, ◌≡◌, ◌≢◌, ◌+◌, ◌+ℤ◌, ◌==◌, Contains, Some, if◌then◌else◌}
+use Rattle.bank_books.specs.Balances.{account_balance, account_row, branch_balance, branch_row, teller_balance, teller_row}
+use Rattle.bank_books.specs.Effects.{written}
+use Rattle.bank_books.specs.Records.{account_record_of, branch_record_of, entry_record_of, teller_record_of}
+use Rattle.bank_books.specs.WorldLists.{WorldLists}
+use Rattle.bank_books.specs.declared.records.AccountRecord.{AccountRecord}
+use Rattle.bank_books.specs.declared.records.BranchRecord.{BranchRecord}
+use Rattle.bank_books.specs.declared.records.TellerRecord.{TellerRecord}
+use Rattle.bank_books.specs.declared.row_write.RowWrite.TheVariants as write
+use Rattle.bank_books.specs.declared.rows.Account.{Account}
+use Rattle.bank_books.specs.declared.rows.Branch.{Branch}
+use Rattle.bank_books.specs.declared.rows.Entry.{Entry}
+use Rattle.bank_books.specs.declared.rows.Teller.{Teller}
+use Rattle.book_growth.specs.Limits.{IsAccountWithin, IsHistoryWithin}
+use Rattle.money.specs.Range.{IsCents}
+
+-- a balance is moved by a delta at one key and kept at every other
+pub record IsMovedAlone (before after : ℕ → ℤ) (key : ℕ) (delta : ℤ) : Type 0 where
+  pub moved : after key ≡ before key +ℤ delta
+  pub kept : (other : ℕ) → other ≢ key → after other ≡ before other
+
+-- ---- an entry
+
+-- what an entry of this delta makes of what its branch, its teller and its account come to
+abbrev pub branch_entered : ℤ → BranchRecord → BranchRecord
+branch_entered delta b = record b { balance = b.balance +ℤ delta; history = b.history +ℤ delta; entries = b.entries + 1 }
+
+abbrev pub teller_entered : ℤ → TellerRecord → TellerRecord
+teller_entered delta t = record t { balance = t.balance +ℤ delta }
+
+abbrev pub account_entered : ℤ → AccountRecord → AccountRecord
+account_entered delta a = record a { balance = a.balance +ℤ delta; turns = a.turns + 1 }
+
+-- It moves the branch, the teller and the account that it names, and no other, wherever the account's home is; and no cash.
+pub record IsMovedByEntry (w : WorldLists) (e : Entry) : Type 0 where
+  pub branches : (row : Branch) → branch_record_of (written (write.Entry e) w) row
+      ≡ (if e.branch == row.branch then branch_entered e.delta (branch_record_of w row) else branch_record_of w row)
+  pub tellers : (row : Teller) → teller_record_of (written (write.Entry e) w) row
+      ≡ (if e.teller == row.teller then teller_entered e.delta (teller_record_of w row) else teller_record_of w row)
+  pub accounts : (row : Account) → account_record_of (written (write.Entry e) w) row
+      ≡ (if e.account == row.account then account_entered e.delta (account_record_of w row) else account_record_of w row)
+  pub branch_balances : IsMovedAlone (branch_balance w) (branch_balance (written (write.Entry e) w)) e.branch e.delta
+  pub teller_balances : IsMovedAlone (teller_balance w) (teller_balance (written (write.Entry e) w)) e.teller e.delta
+  pub account_balances : IsMovedAlone (account_balance w) (account_balance (written (write.Entry e) w)) e.account e.delta
+
+-- the balance after it is that of its account, and those after earlier entries stay
+pub record StandsLast (w : WorldLists) (e : Entry) : Type 0 where
+  pub new : (entry_record_of (written (write.Entry e) w) e).balance_after ≡ account_balance w e.account +ℤ e.delta
+  pub earlier : (row : Entry) → Contains w.entries row → entry_record_of (written (write.Entry e) w) row ≡ entry_record_of w row
+
+-- with it, what its branch, its teller and its account come to is within the limits
+pub record HasRoomFor (w : WorldLists) (e : Entry) : Type 0 where
+  pub branch : (b : Branch) → branch_row e.branch w.branches ≡ Some b →
+      let after = branch_entered e.delta (branch_record_of w b) in IsHistoryWithin after.balance after.history after.entries
+  pub teller : (t : Teller) → teller_row e.teller w.tellers ≡ Some t → IsCents (teller_entered e.delta (teller_record_of w t)).balance
+  pub account : (a : Account) → account_row e.account w.accounts ≡ Some a → IsAccountWithin (account_entered e.delta (account_record_of w a))
+
+-- ---- an account
+
+-- one account more has the branch as its home
+abbrev pub branch_homed : BranchRecord → BranchRecord
+branch_homed b = record b { accounts = b.accounts + 1 }
+
+-- an account that is opened moves the count of its home, and no balance and no cash; there is nothing in it
+pub record IsMovedByAccount (w : WorldLists) (a : Account) : Type 0 where
+  pub branches : (row : Branch) → branch_record_of (written (write.Account a) w) row
+      ≡ (if a.home == row.branch then branch_homed (branch_record_of w row) else branch_record_of w row)
+  pub accounts : (row : Account) → account_record_of (written (write.Account a) w) row ≡ account_record_of w row
+  pub entries : (row : Entry) → entry_record_of (written (write.Account a) w) row ≡ entry_record_of w row
+  pub new : account_record_of (written (write.Account a) w) a ≡ record { row = a; balance = pos 0; turns = 0 }
+  pub account_balances : (key : ℕ) → account_balance (written (write.Account a) w) key ≡ account_balance w key

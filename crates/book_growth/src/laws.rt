@@ -1,0 +1,54 @@
+//! What holds of every change of each kind. The functions do nothing; their contracts are the laws.
+
+ghost use Rattle.book_growth.specs.Laws.{AccountKeepsBooks, AccountKeepsLedger, AccountMoves, BooksParts, EntryKeepsBooks, EntryKeepsLedger, EntryMoves, EntryStandsLast, LimitsMoved, MovedTwice};
+
+/// The books hold exactly where the ledger does and all that rows come to is within the limits.
+pub fn books_parts()
+    ensures { BooksParts }
+{}
+
+/// Limits that held, and that hold of what moved, hold.
+pub fn limits_moved()
+    ensures { LimitsMoved }
+{}
+
+/// What is moved twice is moved by both amounts together.
+pub fn moved_twice()
+    ensures { MovedTwice }
+{}
+
+/// An entry that may come next keeps the ledger, though the entries that it names are still to come.
+pub fn entry_keeps_ledger()
+    ensures { EntryKeepsLedger }
+{}
+
+/// An entry moves its branch, its teller and its account by its delta, and nothing else.
+pub fn entry_moves()
+    ensures { EntryMoves }
+{}
+
+/// The balance after the next entry is its account's, and those after earlier entries stay.
+pub fn entry_stands_last()
+    ensures { EntryStandsLast }
+{}
+
+/// Where the books hold, they hold with the next entry, if there is room for it and the entries that it
+/// names are there.
+pub fn entry_keeps_books()
+    ensures { EntryKeepsBooks }
+{}
+
+/// An account that is not there yet and opens with nothing keeps the ledger.
+pub fn account_keeps_ledger()
+    ensures { AccountKeepsLedger }
+{}
+
+/// It moves the count of accounts of its home, no balance and no cash.
+pub fn account_moves()
+    ensures { AccountMoves }
+{}
+
+/// Where the books hold, they hold with the account, if its home has room for it.
+pub fn account_keeps_books()
+    ensures { AccountKeepsBooks }
+{}
