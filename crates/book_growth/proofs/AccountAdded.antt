@@ -1,5 +1,6 @@
 -- An account that is not there yet and opens with nothing: what it keeps, and what it moves.
 use Rattle.std.proofs.Common.{◌≡◌, ◌≢◌, ℕ, ◌+◌, ◌≤◌, ℤ, pos, ◌+ℤ◌, Bool, true, false, refl, ap, arith, sym, ◌∙◌, subst, ◌==◌, Option, None, Some, Contains, ◌⊎◌, inl, inr}
+use Rattle.bank_terms.specs.Limits.{max_accounts}
 use Rattle.std.specs.Prelude.{◌≤ℤ◌, if◌then◌else◌}
 use Rattle.std.specs.List.{find}
 use Rattle.std.specs.Option.{option_map_or}
@@ -124,15 +125,15 @@ account_keeps_ledger w a new ledger = record { rows = account_keeps_rows w a new
 nothing_within : (a : Account) → a.floor ≤ℤ pos 0 → IsAccountWithin (record { row = a; balance = pos 0; turns = 0 })
 nothing_within a floor = record { balance = (omega (arith, ints), omega (arith, ints)); above_floor = floor; turns = omega arith }
 
-account_keeps_limits : (w : WorldLists) (a : Account) → IsNextAccount w a → account_count a.home w.accounts + 1 ≤ 100000 → IsOpenLedger w → AreWithinLimits w → AreWithinLimits (written (write.Account a) w)
+account_keeps_limits : (w : WorldLists) (a : Account) → IsNextAccount w a → account_count a.home w.accounts + 1 ≤ max_accounts → IsOpenLedger w → AreWithinLimits w → AreWithinLimits (written (write.Account a) w)
 account_keeps_limits w a new room ledger limits = limits_moved w (written (write.Account a) w) limits (record {
   branches = λ row there. elim (cases_Bool (a.home == row.branch)) [
     | inl named ↦
         let was = limits.branches row there in
         inr (subst IsBranchWithin (sym (homes_move w a row true named)) (record {
-        history = was.history;
-        cash = was.cash;
-        accounts = subst (λ k. account_count k w.accounts + 1 ≤ 100000) (eqb-true a.home row.branch named) room;
+          history = was.history;
+          cash = was.cash;
+          accounts = subst (λ k. account_count k w.accounts + 1 ≤ max_accounts) (eqb-true a.home row.branch named) room;
         }))
     | inr other ↦ inl (there, homes_move w a row false other)
   ];

@@ -1,5 +1,6 @@
 -- The books are the ledger within its limits.
 use Rattle.std.proofs.Common.{◌≡◌, ℕ, ◌+◌, ◌*◌, ◌^◌, ◌<◌, ◌≤◌, pos, ◌==◌, ◌&&◌, map, refl, ap, arith, subst, sym, ◌∙◌, Contains, ◌⊎◌, inl, inr}
+use Rattle.bank_terms.specs.Limits.{max_key, max_releases}
 use Rattle.std.specs.Prelude.{◌↔◌, if◌then◌else◌}
 use Rattle.std.specs.List.{count_by}
 use Rattle.keyed_rows.specs.Totals.{total}
@@ -128,33 +129,33 @@ limits_of w books =
 up_to : (n c most : ℕ) → n ≤ c → c ≤ most → n ≤ most
 up_to n c most below high = omega arith
 
-fits : (n : ℕ) → n ≤ 999999999 → n < 2 ^ 32
+fits : (n : ℕ) → n ≤ max_key → n < 2 ^ 32
 fits n high = omega arith
 
 day_fits : (n : ℕ) → n ≤ 999999 → n < 2 ^ 32
 day_fits n high = omega arith
 
-release_fits : (n : ℕ) → n ≤ 100000 → n < 2 ^ 32
+release_fits : (n : ℕ) → n ≤ max_releases → n < 2 ^ 32
 release_fits n high = omega arith
 
 -- the number of an entry, its turn and the number of a line are within the counts of their branch and their account
-number_high : (w : WorldLists) → IsOpenLedger w → AreWithinLimits w → (e : Entry) → Contains w.entries e → e.number ≤ 999999999
+number_high : (w : WorldLists) → IsOpenLedger w → AreWithinLimits w → (e : Entry) → Contains w.entries e → e.number ≤ max_key
 number_high w ledger limits e there =
     let branch = (ledger.entries.each e there).branch in
-    up_to e.number (entry_count e.branch w.entries) 999999999 ((ledger.entries.numbers e.branch).high e there refl)
-    (subst (λ k. entry_count k w.entries ≤ 999999999) branch.1.1 (limits.branches branch.0 branch.1.0).history.entries_within)
+    up_to e.number (entry_count e.branch w.entries) max_key ((ledger.entries.numbers e.branch).high e there refl)
+    (subst (λ k. entry_count k w.entries ≤ max_key) branch.1.1 (limits.branches branch.0 branch.1.0).history.entries_within)
 
-turn_high : (w : WorldLists) → IsOpenLedger w → AreWithinLimits w → (e : Entry) → Contains w.entries e → e.turn ≤ 999999999
+turn_high : (w : WorldLists) → IsOpenLedger w → AreWithinLimits w → (e : Entry) → Contains w.entries e → e.turn ≤ max_key
 turn_high w ledger limits e there =
     let account = (ledger.entries.each e there).account in
-    up_to e.turn (turn_count e.account w.entries) 999999999 ((ledger.entries.turns e.account).high e there refl)
-    (subst (λ k. turn_count k w.entries ≤ 999999999) account.1.1 (limits.accounts account.0 account.1.0).turns)
+    up_to e.turn (turn_count e.account w.entries) max_key ((ledger.entries.turns e.account).high e there refl)
+    (subst (λ k. turn_count k w.entries ≤ max_key) account.1.1 (limits.accounts account.0 account.1.0).turns)
 
-line_high : (w : WorldLists) → IsOpenLedger w → AreWithinLimits w → (l : CashLine) → Contains w.lines l → l.number ≤ 999999999
+line_high : (w : WorldLists) → IsOpenLedger w → AreWithinLimits w → (l : CashLine) → Contains w.lines l → l.number ≤ max_key
 line_high w ledger limits l there =
     let branch = (ledger.lines.each l there).branch in
-    up_to l.number (line_count l.branch w.lines) 999999999 ((ledger.lines.numbers l.branch).high l there refl)
-    (subst (λ k. line_count k w.lines ≤ 999999999) branch.1.1 (limits.branches branch.0 branch.1.0).cash.lines_within)
+    up_to l.number (line_count l.branch w.lines) max_key ((ledger.lines.numbers l.branch).high l there refl)
+    (subst (λ k. line_count k w.lines ≤ max_key) branch.1.1 (limits.branches branch.0 branch.1.0).cash.lines_within)
 
 keys_of : (w : WorldLists) → IsOpenLedger w → AreWithinLimits w → HasDistinctKeys w
 keys_of w ledger limits = record {

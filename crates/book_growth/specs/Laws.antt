@@ -1,5 +1,6 @@
 -- What holds of every change of each kind.
 use Rattle.std.specs.Prelude.{ℕ, ℤ, ◌↔◌, ◌+◌, ◌≤◌, ◌+ℤ◌}
+use Rattle.bank_terms.specs.Limits.{max_accounts}
 use Rattle.bank_books.specs.Balances.{account_count}
 use Rattle.bank_books.specs.Books.{Books}
 use Rattle.bank_books.specs.Effects.{written}
@@ -51,4 +52,4 @@ AccountMoves = (w : WorldLists) (a : Account) → IsNextAccount w a → IsOpenLe
 
 -- its home has room for it
 abbrev pub AccountKeepsBooks : Type 0
-AccountKeepsBooks = (w : WorldLists) (a : Account) → IsNextAccount w a → account_count a.home w.accounts + 1 ≤ 100000 → Books w → Books (written (write.Account a) w)
+AccountKeepsBooks = (w : WorldLists) (a : Account) → IsNextAccount w a → account_count a.home w.accounts + 1 ≤ max_accounts → Books w → Books (written (write.Account a) w)

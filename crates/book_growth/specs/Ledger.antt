@@ -1,5 +1,6 @@
 -- What holds of a bank's rows in the middle of an operation, too, and what is judged once, when all of it was carried out.
 use Rattle.std.specs.Prelude.{ℕ, ℤ, pos, negsuc, ◌≡◌, ◌+◌, ◌+ℤ◌, ◌≤◌, ◌≤ℤ◌, ◌⊎◌, ◌==◌, List, map, Contains, count_by, IfSome, if◌then◌else◌}
+use Rattle.bank_terms.specs.Limits.{max_key, max_moment, max_version}
 use Rattle.keyed_rows.specs.Ordered.{AreDistinct}
 use Rattle.keyed_rows.specs.Totals.{total}
 use Rattle.bank_policy.specs.declared.rows.User.{User}
@@ -10,7 +11,6 @@ use Rattle.bank_books.specs.Conditions.{IsCashBalanced}
 use Rattle.bank_books.specs.Keys.{account_key, branch_key, teller_key}
 use Rattle.bank_books.specs.Numbering.{AreNumbered}
 use Rattle.bank_books.specs.Range.{IsAccount, IsBranch, IsCash, IsDay, IsEntryOrNone, IsProofInRange, IsReleaseInRange, IsTellerOf, IsUser, IsUserNumber}
-use Rattle.bank_books.specs.Version.{greatest_version}
 use Rattle.bank_books.specs.WorldLists.{WorldLists}
 use Rattle.bank_books.specs.declared.rows.Account.{Account}
 use Rattle.bank_books.specs.declared.rows.Branch.{Branch}
@@ -44,7 +44,7 @@ pub record IsEntrySound (branches : List Branch) (tellers : List Teller) (accoun
   pub branch : IsBranch branches e.branch
   pub account : IsAccount accounts e.account
   pub teller : IsTellerOf tellers e.branch e.teller
-  pub moment : e.moment ≤ 99999999999
+  pub moment : e.moment ≤ max_moment
   pub day : IsDay e.day
   pub user : IsUser users e.user
   pub partner : IsKeyOrZero e.partner
@@ -53,7 +53,7 @@ pub record IsEntrySound (branches : List Branch) (tellers : List Teller) (accoun
 pub record IsLineSound (branches : List Branch) (tellers : List Teller) (users : List User) (l : CashLine) : Type 0 where
   pub branch : IsBranch branches l.branch
   pub place : (l.place ≡ 0) ⊎ IsTellerOf tellers l.branch l.place
-  pub moment : l.moment ≤ 99999999999
+  pub moment : l.moment ≤ max_moment
   pub day : IsDay l.day
   pub user : IsUser users l.user
 
@@ -115,8 +115,8 @@ pub record IsOpenLedger (w : WorldLists) : Type 0 where
   pub lines : AreLinesSound w.branches w.tellers w.policy.users w.lines
   pub proofs : (p : Proof) → Contains w.proofs p → IsProofInRange w.branches p
   pub releases : (r : Release) → Contains w.releases r → IsReleaseInRange w.branches w.releases w.policy.users r
-  pub users : (u : User) → Contains w.policy.users u → u.session ≤ 999999999
-  pub version : w.version ≤ greatest_version
+  pub users : (u : User) → Contains w.policy.users u → u.session ≤ max_key
+  pub version : w.version ≤ max_version
   pub sums : AreSumsEqual w.branches w.tellers w.accounts w.entries
 
 -- the entries that one names are there

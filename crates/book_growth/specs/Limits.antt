@@ -1,5 +1,6 @@
 -- The limits of what rows come to.
 use Rattle.std.specs.Prelude.{ℕ, ℤ, ◌≡◌, ◌≤◌, ◌≤ℤ◌, ◌⊎◌, Contains}
+use Rattle.bank_terms.specs.Limits.{max_accounts, max_key}
 use Rattle.money.specs.Range.{IsCents}
 use Rattle.bank_books.specs.Range.{IsCash}
 use Rattle.bank_books.specs.Records.{account_record_of, branch_record_of, entry_record_of, teller_record_of}
@@ -16,7 +17,7 @@ use Rattle.bank_books.specs.declared.rows.Teller.{Teller}
 pub record IsHistoryWithin (balance history : ℤ) (entries : ℕ) : Type 0 where
   pub balance_within : IsCents balance
   pub history_within : IsCents history
-  pub entries_within : entries ≤ 999999999
+  pub entries_within : entries ≤ max_key
 
 -- what its lines come to
 pub record IsCashWithin (vault drawers cash_entries differences : ℤ) (lines : ℕ) : Type 0 where
@@ -24,12 +25,12 @@ pub record IsCashWithin (vault drawers cash_entries differences : ℤ) (lines : 
   pub drawers_within : IsCents drawers
   pub cash_entries_within : IsCents cash_entries
   pub differences_within : IsCents differences
-  pub lines_within : lines ≤ 999999999
+  pub lines_within : lines ≤ max_key
 
 pub record IsBranchWithin (b : BranchRecord) : Type 0 where
   pub history : IsHistoryWithin b.balance b.history b.entries
   pub cash : IsCashWithin b.vault b.drawers b.cash_entries b.differences b.lines
-  pub accounts : b.accounts ≤ 100000
+  pub accounts : b.accounts ≤ max_accounts
 
 pub record IsTellerWithin (t : TellerRecord) : Type 0 where
   pub balance : IsCents t.balance
@@ -38,7 +39,7 @@ pub record IsTellerWithin (t : TellerRecord) : Type 0 where
 pub record IsAccountWithin (a : AccountRecord) : Type 0 where
   pub balance : IsCents a.balance
   pub above_floor : a.row.floor ≤ℤ a.balance
-  pub turns : a.turns ≤ 999999999
+  pub turns : a.turns ≤ max_key
 
 -- what the rows of a World come to, and the balance after each entry, are within their limits
 pub record AreWithinLimits (w : WorldLists) : Type 0 where

@@ -1,5 +1,6 @@
 -- What a row has to be to come next.
 use Rattle.std.specs.Prelude.{pos, ◌≡◌, ◌≢◌, ◌+◌, ◌≤◌, Contains, IfSome}
+use Rattle.bank_terms.specs.Limits.{max_releases}
 use Rattle.bank_books.specs.Balances.{entry_count, turn_count}
 use Rattle.bank_books.specs.Cash.{holder_after, line_count}
 use Rattle.bank_books.specs.Range.{HoldsReleasable, IsBranch, IsDay, IsProofInRange, IsUser, IsUserNumber}
@@ -36,7 +37,7 @@ pub record IsNextProof (w : WorldLists) (p : Proof) : Type 0 where
 pub record IsNextRelease (w : WorldLists) (r : Release) : Type 0 where
   pub user : IsUser w.policy.users r.user
   pub number : r.number ≡ release_count r.user w.releases + 1
-  pub room : r.number ≤ 100000
+  pub room : r.number ≤ max_releases
   pub giver : IsUser w.policy.users r.giver
   pub branch : IsBranch w.branches r.branch
   pub day : IsDay r.day

@@ -1,6 +1,6 @@
 -- What is asked of a bank's books, in the parts in which it is judged.
 use Rattle.std.specs.Prelude.{◌≤◌, List, Contains}
-use Rattle.bank_terms.specs.Limits.{max_moment, max_releases}
+use Rattle.bank_terms.specs.Limits.{max_key, max_moment, max_releases, max_version}
 use Rattle.bank_policy.specs.declared.rows.User.{User}
 use Rattle.money.specs.Range.{IsCents}
 use Rattle.counter_ops.specs.Ranges.{IsKey, IsKeyOrZero, IsWithin}
@@ -16,7 +16,6 @@ use Rattle.bank_books.specs.declared.rows.Release.{Release}
 use Rattle.bank_books.specs.Numbering.{AreNumbered}
 use Rattle.bank_books.specs.Range.{HoldsReleasable, IsAccountInRange, IsBranch, IsBranchInRange, IsDay, IsEntryInRange, IsEntryOrNone, IsLineInRange, IsProofInRange, IsReleaseInRange, IsTellerInRange, IsUser}
 use Rattle.bank_books.specs.Records.{KeptLists}
-use Rattle.bank_books.specs.Version.{greatest_version}
 use Rattle.bank_books.specs.WorldLists.{WorldLists}
 
 -- the numbers of an entry are within their limits, and its user and the entries that it names are there
@@ -82,4 +81,4 @@ pub record AreAllInRange (w : WorldLists) (kept : KeptLists) : Type 0 where
   pub ledgers : AreLedgersInRange w kept
   pub cash_books : AreCashBooksInRange w
   pub users : AreUsersInRange w
-  pub version : w.version ≤ greatest_version
+  pub version : w.version ≤ max_version
