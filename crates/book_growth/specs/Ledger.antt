@@ -10,7 +10,8 @@ use Rattle.bank_books.specs.Cash.{holder_of}
 use Rattle.bank_books.specs.Conditions.{IsCashBalanced}
 use Rattle.bank_books.specs.Keys.{account_key, branch_key, teller_key}
 use Rattle.bank_books.specs.Numbering.{AreNumbered}
-use Rattle.bank_books.specs.Range.{IsAccount, IsBranch, IsCash, IsDay, IsEntryOrNone, IsProofInRange, IsReleaseInRange, IsTellerOf, IsUser, IsUserNumber}
+use Rattle.bank_books.specs.Range.{IsAccount, IsBranch, IsDay, IsEntryOrNone, IsProofInRange, IsReleaseInRange, IsTellerOf, IsUser, IsUserNumber}
+use Rattle.counter_ops.specs.Ranges.{IsCash}
 use Rattle.bank_books.specs.WorldLists.{WorldLists}
 use Rattle.bank_books.specs.declared.rows.Account.{Account}
 use Rattle.bank_books.specs.declared.rows.Branch.{Branch}

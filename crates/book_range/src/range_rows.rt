@@ -172,7 +172,7 @@ fn is_floor(account: &Account) -> bool
     ensures { IsTrue result ↔ ((min_floor ≤ℤ account.now.floor) × (account.now.floor ≤ℤ pos 0) × (account.now.floor ≤ℤ account.now.opening)) }
 {
     let floor = account.floor.get();
-    MIN_FLOOR <= floor && floor <= 0 && floor <= account.opening.get()
+    i64::from(MIN_FLOOR) <= floor && floor <= 0 && floor <= account.opening.get()
 }
 
 fn is_holder(holder: Option<u32>) -> bool
