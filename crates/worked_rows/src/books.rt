@@ -31,7 +31,8 @@ fn counted_bank(rt: &impl Abort, alloc: Global) -> World {
             day: 1,
             user,
         };
-        world.apply(&[RowWrite::Line(line)]).expect(rt, "memory");
+        let plan = vec![in alloc; RowWrite::Line(line)].expect(rt, "memory");
+        world.apply(alloc, plan).expect(rt, "memory");
     }
     world
 }

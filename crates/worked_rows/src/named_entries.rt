@@ -37,16 +37,15 @@ fn bank_that_names(rt: &impl Abort, alloc: Global, partner: u32, undoes: u32) ->
         undoes,
         ..entry(rt, 1, 2)
     };
-    let others = [
-        entry(rt, 1, 1),
-        entry(rt, 2, 1),
-        entry(rt, 2, 2),
-        entry(rt, 2, 3),
-    ];
-    for row in others {
-        world.apply(&[RowWrite::Entry(row)]).expect(rt, "memory");
-    }
-    world.apply(&[RowWrite::Entry(naming)]).expect(rt, "memory");
+    let plan = vec![in alloc;
+        RowWrite::Entry(entry(rt, 1, 1)),
+        RowWrite::Entry(entry(rt, 2, 1)),
+        RowWrite::Entry(entry(rt, 2, 2)),
+        RowWrite::Entry(entry(rt, 2, 3)),
+        RowWrite::Entry(naming),
+    ]
+    .expect(rt, "memory");
+    world.apply(alloc, plan).expect(rt, "memory");
     world
 }
 
