@@ -11,6 +11,8 @@ mod named_entries;
 #[cfg(test)]
 mod opening;
 #[cfg(test)]
+mod plans;
+#[cfg(test)]
 mod policy_rows;
 #[cfg(test)]
 mod reads;

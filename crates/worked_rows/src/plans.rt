@@ -2,14 +2,14 @@
 //! refused leaves.
 
 use bank_books::{
-    Account, Branch, BranchDay, CashLine, Entry, EntryForm, LineForm, Lists, MAX_VERSION, Plan,
-    Proof, Release, ReleaseKey, RowWrite, World,
+    Account, Branch, BranchDay, CashLine, Entry, EntryForm, LineForm, Lists, Plan, Proof, Release,
+    ReleaseKey, RowWrite, World,
 };
 use bank_policy::{
     Certifier, ItemSet, Name, Policy, PolicyWrite, Relation, RelationKey, Session, Suspension,
     Triple, TripleKey, User,
 };
-use bank_terms::{OperationRow, Procedure};
+use bank_terms::{MAX_VERSION, OperationRow, Procedure};
 use money::{Cents, Delta, Fault};
 use std::alloc::{AllocError, Global};
 use std::process::Abort;
