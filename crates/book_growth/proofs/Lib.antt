@@ -9,3 +9,4 @@ pub mod EntryBooks
 pub mod RuleTests
 pub mod AccountAdded
 pub mod ChangedRows
+pub mod DayProved

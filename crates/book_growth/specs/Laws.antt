@@ -7,10 +7,11 @@ use Rattle.bank_books.specs.WorldLists.{WorldLists}
 use Rattle.bank_books.specs.declared.row_write.RowWrite.TheVariants as write
 use Rattle.bank_books.specs.declared.rows.Account.{Account}
 use Rattle.bank_books.specs.declared.rows.Entry.{Entry}
+use Rattle.bank_books.specs.declared.rows.Proof.{Proof}
 use Rattle.book_growth.specs.Ledger.{IsLedger, IsOpenLedger, NamesEntries}
 use Rattle.book_growth.specs.Limits.{AreMovedWithin, AreWithinLimits}
-use Rattle.book_growth.specs.Moves.{HasRoomFor, IsMovedAlone, IsMovedByAccount, IsMovedByEntry, StandsLast}
-use Rattle.book_growth.specs.Next.{IsNextAccount, IsNextEntry}
+use Rattle.book_growth.specs.Moves.{HasRoomFor, IsMovedAlone, IsMovedByAccount, IsMovedByEntry, MovesNothing, StandsLast, with_proof}
+use Rattle.book_growth.specs.Next.{IsNextAccount, IsNextEntry, IsNextProof}
 
 -- the books are the ledger within its limits
 abbrev pub BooksParts : Type 0
@@ -52,3 +53,14 @@ AccountMoves = (w : WorldLists) (a : Account) → IsNextAccount w a → IsOpenLe
 -- its home has room for it
 abbrev pub AccountKeepsBooks : Type 0
 AccountKeepsBooks = (w : WorldLists) (a : Account) → IsNextAccount w a → account_count a.home w.accounts + 1 ≤ 100000 → Books w → Books (written (write.Account a) w)
+
+-- ---- the proof of a day with the next day of its branch: neither keeps the ledger without the other
+
+abbrev pub ProofAndDayKeepLedger : Type 0
+ProofAndDayKeepLedger = (w : WorldLists) (p : Proof) → IsNextProof w p → IsLedger w → IsLedger (with_proof p w)
+
+abbrev pub ProofAndDayMoveNothing : Type 0
+ProofAndDayMoveNothing = (w : WorldLists) (p : Proof) → MovesNothing w (with_proof p w)
+
+abbrev pub ProofAndDayKeepBooks : Type 0
+ProofAndDayKeepBooks = (w : WorldLists) (p : Proof) → IsNextProof w p → Books w → Books (with_proof p w)

@@ -1,6 +1,7 @@
 -- What one change moves, and that it moves nothing else.
 use Rattle.std.specs.Prelude.{ℕ, ℤ, pos, ◌≡◌, ◌≢◌, ◌+◌, ◌+ℤ◌, ◌==◌, Contains, Some, if◌then◌else◌}
 use Rattle.bank_books.specs.Balances.{account_balance, account_row, branch_balance, branch_row, teller_balance, teller_row}
+use Rattle.bank_books.specs.Cash.{cash_of}
 use Rattle.bank_books.specs.Effects.{written}
 use Rattle.bank_books.specs.Records.{account_record_of, branch_record_of, entry_record_of, teller_record_of}
 use Rattle.bank_books.specs.WorldLists.{WorldLists}
@@ -11,6 +12,7 @@ use Rattle.bank_books.specs.declared.row_write.RowWrite.TheVariants as write
 use Rattle.bank_books.specs.declared.rows.Account.{Account}
 use Rattle.bank_books.specs.declared.rows.Branch.{Branch}
 use Rattle.bank_books.specs.declared.rows.Entry.{Entry}
+use Rattle.bank_books.specs.declared.rows.Proof.{Proof}
 use Rattle.bank_books.specs.declared.rows.Teller.{Teller}
 use Rattle.book_growth.specs.Limits.{IsAccountWithin, IsHistoryWithin}
 use Rattle.money.specs.Range.{IsCents}
@@ -70,3 +72,16 @@ pub record IsMovedByAccount (w : WorldLists) (a : Account) : Type 0 where
   pub entries : (row : Entry) → entry_record_of (written (write.Account a) w) row ≡ entry_record_of w row
   pub new : account_record_of (written (write.Account a) w) a ≡ record { row = a; balance = pos 0; turns = 0 }
   pub account_balances : (key : ℕ) → account_balance (written (write.Account a) w) key ≡ account_balance w key
+
+-- ---- the proof of a day
+
+-- the World where the present day of a branch is proved, and the branch is on its next day
+abbrev pub with_proof : Proof → WorldLists → WorldLists
+with_proof p w = written (write.Day (record { branch = p.branch; day = p.day + 1 })) (written (write.Proof p) w)
+
+-- every balance and all cash stay
+pub record MovesNothing (before after : WorldLists) : Type 0 where
+  pub branch_balances : (key : ℕ) → branch_balance after key ≡ branch_balance before key
+  pub teller_balances : (key : ℕ) → teller_balance after key ≡ teller_balance before key
+  pub account_balances : (key : ℕ) → account_balance after key ≡ account_balance before key
+  pub cash : (branch place : ℕ) → cash_of after branch place ≡ cash_of before branch place

@@ -1,6 +1,6 @@
 //! What holds of every change of each kind. The functions do nothing; their contracts are the laws.
 
-ghost use Rattle.book_growth.specs.Laws.{AccountKeepsBooks, AccountKeepsLedger, AccountMoves, BooksParts, EntryKeepsBooks, EntryKeepsLedger, EntryMoves, EntryStandsLast, LimitsMoved, MovedTwice};
+ghost use Rattle.book_growth.specs.Laws.{AccountKeepsBooks, AccountKeepsLedger, AccountMoves, BooksParts, EntryKeepsBooks, EntryKeepsLedger, EntryMoves, EntryStandsLast, LimitsMoved, MovedTwice, ProofAndDayKeepBooks, ProofAndDayKeepLedger, ProofAndDayMoveNothing};
 
 /// The books hold exactly where the ledger does and all that rows come to is within the limits.
 pub fn books_parts()
@@ -51,4 +51,19 @@ pub fn account_moves()
 /// Where the books hold, they hold with the account, if its home has room for it.
 pub fn account_keeps_books()
     ensures { AccountKeepsBooks }
+{}
+
+/// The proof of a branch's present day keeps the ledger, together with the branch's next day.
+pub fn proof_and_day_keep_ledger()
+    ensures { ProofAndDayKeepLedger }
+{}
+
+/// They move no balance and no cash.
+pub fn proof_and_day_move_nothing()
+    ensures { ProofAndDayMoveNothing }
+{}
+
+/// Where the books hold, they hold with both.
+pub fn proof_and_day_keep_books()
+    ensures { ProofAndDayKeepBooks }
 {}

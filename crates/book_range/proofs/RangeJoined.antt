@@ -24,6 +24,7 @@ range_from_parts w kept rows keys parts = record {
   proofs = parts.cash_books.proofs;
   releases = parts.users.releases;
   users = parts.users.users;
+  version = parts.version;
 }
 
 pub parts_of_range : (w : WorldLists) (kept : KeptLists) → IsInRange w kept → AreAllInRange w kept
@@ -32,6 +33,7 @@ parts_of_range w kept all = record {
   ledgers = record { accounts = all.accounts; entries = all.entries };
   cash_books = record { lines = all.lines; proofs = all.proofs };
   users = record { releases = all.releases; users = all.users };
+  version = all.version;
 }
 
 -- the entries, which are kept beside their rows

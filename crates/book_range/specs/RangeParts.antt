@@ -15,6 +15,7 @@ use Rattle.bank_books.specs.declared.rows.Release.{Release}
 use Rattle.bank_books.specs.Numbering.{AreNumbered}
 use Rattle.bank_books.specs.Range.{HoldsReleasable, IsAccountInRange, IsBranch, IsBranchInRange, IsDay, IsEntryInRange, IsEntryOrNone, IsLineInRange, IsProofInRange, IsReleaseInRange, IsTellerInRange, IsUser}
 use Rattle.bank_books.specs.Records.{KeptLists}
+use Rattle.bank_books.specs.Version.{greatest_version}
 use Rattle.bank_books.specs.WorldLists.{WorldLists}
 
 -- the numbers of an entry are within their limits, and its user and the entries that it names are there
@@ -74,9 +75,10 @@ pub record AreUsersInRange (w : WorldLists) : Type 0 where
   pub releases : (r : Release) → Contains w.releases r → IsReleaseInRange w.branches w.releases w.policy.users r
   pub users : (u : User) → Contains w.policy.users u → u.session ≤ 999999999
 
--- of all rows
+-- of all rows, and of the version of the policy
 pub record AreAllInRange (w : WorldLists) (kept : KeptLists) : Type 0 where
   pub places : ArePlacesInRange w kept
   pub ledgers : AreLedgersInRange w kept
   pub cash_books : AreCashBooksInRange w
   pub users : AreUsersInRange w
+  pub version : w.version ≤ greatest_version

@@ -1,7 +1,8 @@
-ghost use Rattle.std.specs.Prelude.{◌≡◌, ◌↔◌, Contains, IsTrue, map};
+ghost use Rattle.std.specs.Prelude.{◌≡◌, ◌↔◌, ◌≤◌, Contains, IsTrue, map};
 ghost use Rattle.keyed_rows.specs.Ordered.{AreDistinct};
 ghost use Rattle.bank_books.specs.Keys.{account_key, branch_key, entry_key, line_key, proof_key, release_key, teller_key};
 ghost use Rattle.bank_books.specs.Range.{AreOfRows, HasDistinctKeys, IsBranchInRange, IsEntryInRange, IsInRange, IsLineInRange, IsReleaseInRange};
+ghost use Rattle.bank_books.specs.Version.{greatest_version};
 ghost use Rattle.book_range.specs.RangeParts.{AreAllInRange, AreCashBooksInRange, AreLedgersInRange, ArePlacesInRange, AreUsersInRange};
 ghost use Rattle.book_sums.specs.Records.{AreRecordsOf};
 ghost use Rattle.book_sums.specs.Sums.{AreSumsOf};
@@ -14,7 +15,7 @@ use crate::beside::stand_beside;
 use crate::named::{are_entries_named, are_lines_named};
 use crate::numbering::are_releases_numbered;
 use crate::range_rows::{Limited, is_branch_in_range};
-use bank_books::{BranchRecord, World};
+use bank_books::{BranchRecord, MAX_VERSION, World};
 use book_sums::{Kept, Records, Sums};
 use keyed_rows::has_distinct_keys;
 
@@ -41,6 +42,7 @@ fn are_all_in_range(world: &World, kept: &Kept, sums: &Sums) -> bool
         && are_places_in_range(world, kept, sums)
         && are_ledgers_in_range(world, kept, sums)
         && are_users_in_range(world)
+        && is_version_in_range(world)
 }
 
 fn are_cash_books_in_range(world: &World, sums: &Sums) -> bool
@@ -74,6 +76,12 @@ fn are_users_in_range(world: &World) -> bool
     ensures { IsTrue result ↔ AreUsersInRange world.now }
 {
     are_releases_in_range(world) && are_within_limits(world, world.policy().users())
+}
+
+fn is_version_in_range(world: &World) -> bool
+    ensures { IsTrue result ↔ (world.now.version ≤ greatest_version) }
+{
+    world.version() <= MAX_VERSION
 }
 
 /// Whether no key stands twice.

@@ -42,7 +42,7 @@ pub fn made_up_world(alloc: Global, branches: u32) -> Result<Option<World>, Faul
             return Ok(None);
         }
     }
-    Ok(World::from_lists(lists, one_user(alloc)?))
+    Ok(World::from_lists(lists, one_user(alloc)?, 0))
 }
 
 /// A policy with the one user who does everything.

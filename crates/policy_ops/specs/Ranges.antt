@@ -9,8 +9,8 @@ use Rattle.bank_policy.specs.declared.rows.Triple.{Triple}
 use Rattle.policy_ops.specs.declared.policy_op.Enrolment.{Enrolment}
 use Rattle.policy_ops.specs.declared.policy_op.PolicyOp.{PolicyOp}
 use Rattle.policy_ops.specs.declared.policy_op.PolicyOp.TheVariants as asked
-use Rattle.policy_ops.specs.declared.policy_op.RelationKey.{RelationKey}
-use Rattle.policy_ops.specs.declared.policy_op.TripleKey.{TripleKey}
+use Rattle.bank_policy.specs.declared.policy_write.RelationKey.{RelationKey}
+use Rattle.bank_policy.specs.declared.policy_write.TripleKey.{TripleKey}
 use Rattle.policy_ops.specs.declared.policy_op.UserKey.{UserKey}
 
 -- the number of a user

@@ -6,5 +6,6 @@ mod policy_op;
 #[cfg(test)]
 mod tests;
 
+pub use bank_policy::{RelationKey, TripleKey};
 pub use command::Command;
-pub use policy_op::{Enrolment, PolicyOp, RelationKey, TripleKey, UserKey};
+pub use policy_op::{Enrolment, PolicyOp, UserKey};

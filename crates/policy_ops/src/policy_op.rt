@@ -2,28 +2,7 @@ ghost use Rattle.std.specs.Prelude.{◌≡◌};
 ghost use Rattle.policy_ops.specs.PolicyOp.{command_of};
 
 use crate::command::Command;
-use bank_policy::{Certifier, ItemSet, Name, Triple};
-use bank_terms::Procedure;
-
-/// A relation, without who certified it.
-#[derive(Clone, Copy, Debug, PartialEq, Eq)]
-pub struct RelationKey {
-    /// What is certified.
-    pub procedure: Procedure,
-    /// The set that it is certified on, 1 to 999,999,999.
-    pub set: u32,
-}
-
-/// A triple, without its limit.
-#[derive(Clone, Copy, Debug, PartialEq, Eq)]
-pub struct TripleKey {
-    /// Whose triple it is, 1 to 9,999.
-    pub user: u32,
-    /// What he may carry out.
-    pub procedure: Procedure,
-    /// On which items, 1 to 999,999,999.
-    pub set: u32,
-}
+use bank_policy::{Certifier, ItemSet, Name, RelationKey, Triple, TripleKey};
 
 /// A user who is taken in.
 #[derive(Debug, Drop)]

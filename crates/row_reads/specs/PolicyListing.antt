@@ -2,7 +2,7 @@
 use Rattle.std.specs.Prelude.{ℕ, ◌+◌, ◌*◌, ◌^◌, ◌==◌, ◌&&◌, ◌||◌, Bool, true, nat_lt, List, ◌++◌, map, Option, Some, None}
 use Rattle.std.specs.List.{enumerate_from, find, flat_map}
 use Rattle.bank_policy.specs.Policy.{PolicyLists}
-use Rattle.bank_terms.specs.Procedure.{number_of}
+use Rattle.bank_policy.specs.PolicyKeys.{certifier_number, relation_number, triple_number}
 use Rattle.bank_policy.specs.SetRow.{SetRow}
 use Rattle.bank_policy.specs.declared.rows.Member.{Member}
 use Rattle.bank_books.specs.WorldLists.{WorldLists}
@@ -52,10 +52,10 @@ kind_of (key.Triple user procedure set) = 5
 -- the key columns as one number, which orders the lines of one kind
 abbrev pub columns_of : PolicyKey → ℕ
 columns_of (key.User user) = user
-columns_of (key.Certifier user procedure) = 2 ^ 32 * user + number_of procedure
+columns_of (key.Certifier user procedure) = certifier_number user procedure
 columns_of (key.Member set place) = 2 ^ 64 * set + place
-columns_of (key.Relation procedure set) = 2 ^ 32 * number_of procedure + set
-columns_of (key.Triple user procedure set) = 2 ^ 64 * user + 2 ^ 32 * number_of procedure + set
+columns_of (key.Relation procedure set) = relation_number procedure set
+columns_of (key.Triple user procedure set) = triple_number user procedure set
 
 -- one key is listed before another
 abbrev pub is_before : PolicyKey → PolicyKey → Bool

@@ -1,7 +1,9 @@
 ghost use Rattle.std.specs.Prelude.{◌≡◌};
 ghost use Rattle.row_reads.specs.PolicyListing.{columns_of, is_before, is_behind, key_of, kind_of};
 
-use bank_policy::{Certifier, Member, Relation, Triple, User};
+use bank_policy::{
+    Certifier, Member, Relation, Triple, User, certifier_number, relation_number, triple_number,
+};
 use bank_terms::Procedure;
 
 /// A member of a set, at its place.
@@ -136,18 +138,14 @@ impl PolicyKey {
     {
         match self {
             PolicyKey::User { user } => user as u128,
-            PolicyKey::Certifier { user, procedure } => {
-                user as u128 * (1 << 32) + procedure.number() as u128
-            }
+            PolicyKey::Certifier { user, procedure } => certifier_number(user, procedure),
             PolicyKey::Member { set, place } => set as u128 * (1 << 64) + place as u128,
-            PolicyKey::Relation { procedure, set } => {
-                procedure.number() as u128 * (1 << 32) + set as u128
-            }
+            PolicyKey::Relation { procedure, set } => relation_number(procedure, set),
             PolicyKey::Triple {
                 user,
                 procedure,
                 set,
-            } => { user as u128 * (1 << 64) + procedure.number() as u128 * (1 << 32) + set as u128 }
+            } => triple_number(user, procedure, set),
         }
     }
 }

@@ -145,7 +145,7 @@ fn small_world(rt: &impl Abort, alloc: Global) -> Result<World, Fail> {
     }
     lists.releases.push(release_row(1))?;
     lists.releases.push(release_row(2))?;
-    Ok(World::from_lists(lists, small_policy(alloc)?).ok_or("in order")?)
+    Ok(World::from_lists(lists, small_policy(alloc)?, 0).ok_or("in order")?)
 }
 
 #[test]

@@ -40,4 +40,5 @@ sample_opening = record {
   proofs = [];
   releases = [];
   policy = sample_policy;
+  version = 0;
 }

@@ -5,7 +5,7 @@ ghost use Rattle.store_rows.specs.Status.{count_after, mark_of};
 
 use crate::store::{BookReads, PolicyReads, ReportReads, Stands, Store};
 use bank_books::{
-    AccountRecord, BranchRecord, Entry, EntryRecord, Release, RowWrite, TellerRecord, World,
+    AccountRecord, BranchRecord, Entry, EntryRecord, Plan, Release, TellerRecord, World,
     account_record, branch_record, teller_record,
 };
 use bank_policy::{CertifiedRow, HeldRow, relations_of, triples_of};
@@ -19,11 +19,13 @@ use row_reads::{
 use std::alloc::{AllocError, Global};
 
 /// The plain store: a World in lists, of which every number is computed anew at each call. Only
-/// memory keeps it from an answer, and it is never stopped.
+/// memory keeps it from an answer, and the greatest version from a change of the policy. It is never
+/// stopped.
 #[derive(Drop)]
 pub struct ListStore {
     world: World,
     faults: u64,
+    failures: u64,
 }
 
 impl ListStore {
@@ -37,12 +39,17 @@ impl ListStore {
         ensures none { (list_status result).fault_count ≡ 0 }
         ensures no_failure { (list_status result).failure_count ≡ 0 }
     {
-        ListStore { world, faults: 0 }
+        ListStore {
+            world,
+            faults: 0,
+            failures: 0,
+        }
     }
 
     /// The answer, which counts as a fault where memory was refused.
     fn counted<T>(&mut self, answer: Result<T, AllocError>) -> Result<T, Fault>
         ensures world { self.new.world ≡ self.old.world }
+        ensures failures { self.new.failures ≡ self.old.failures }
         ensures count { self.new.faults ≡ count_after (mark_of result) self.old.faults }
         ensures ok { IfOk result (λ value. answer ≡ Ok value) }
         ensures err { OnErr result (result ≡ Err Fault.Memory) }
@@ -117,6 +124,10 @@ impl PolicyReads for ListStore {
         number: u32,
     ) -> Result<Option<Release>, Fault> {
         Ok(release(&self.world, user, number))
+    }
+
+    fn version(&mut self, _alloc: Global) -> Result<u64, Fault> {
+        Ok(self.world.version())
     }
 }
 
@@ -222,8 +233,13 @@ impl ReportReads for ListStore {
 }
 
 impl Store for ListStore {
-    fn apply(&mut self, _alloc: Global, plan: &[RowWrite]) -> Result<(), Fault> {
-        match self.world.apply(plan) {
+    fn apply(&mut self, alloc: Global, plan: Plan) -> Result<(), Fault> {
+        if !self.world.has_version_for(&plan) {
+            self.faults = self.faults.saturating_add(1);
+            self.failures = self.failures.saturating_add(1);
+            return Err(Fault::Size);
+        }
+        match self.world.apply(alloc, plan) {
             Ok(()) => Ok(()),
             Err(refused) => self.counted(Err(refused)),
         }

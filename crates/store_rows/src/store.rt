@@ -7,9 +7,7 @@ ghost use Rattle.row_reads.specs.PolicyListing.{next_policy, policy_rows};
 ghost use Rattle.row_reads.specs.PolicyReads.{is_certifier, is_set, set_count, triple_count, user_record};
 ghost use Rattle.store_rows.specs.Status.{Changes, ReadsRow, Refuses, Status, count_after, mark_of};
 
-use bank_books::{
-    AccountRecord, BranchRecord, Entry, EntryRecord, Release, RowWrite, TellerRecord,
-};
+use bank_books::{AccountRecord, BranchRecord, Entry, EntryRecord, Plan, Release, TellerRecord};
 use bank_policy::{CertifiedRow, HeldRow};
 use bank_terms::Procedure;
 use money::Fault;
@@ -69,6 +67,10 @@ pub trait PolicyReads: Stands {
     /// The release of this number of a user, or none where it isn't there.
     fn release(&mut self, alloc: Global, user: u32, number: u32) -> Result<Option<Release>, Fault>
         ensures { ReadsRow (Self.status self.old) (Self.status self.new) result (λ w row. row ≡ release w user number) };
+
+    /// The version of the policy, 0 to 999,999,999,999: how many plans have changed it.
+    fn version(&mut self, alloc: Global) -> Result<u64, Fault>
+        ensures { ReadsRow (Self.status self.old) (Self.status self.new) result (λ w n. n ≡ w.version) };
 }
 
 /// The reads by which operations are judged by the books, and planned.
@@ -172,9 +174,10 @@ pub trait ReportReads: Stands {
 
 /// A store of one World, however it is kept. A plan is applied whole or not at all.
 pub trait Store: PolicyReads + BookReads + ReportReads {
-    /// Carries out the whole plan, or at a fault nothing of it.
-    fn apply(&mut self, alloc: Global, plan: &[RowWrite]) -> Result<(), Fault>
-        ensures changed { Changes (Self.status self.old) (Self.status self.new) (applied plan.now) (mark_of result) }
+    /// Carries out the whole plan, or at a fault nothing of it. A store says `Fault::Size` where it has
+    /// no room for the plan, such as for the next version of the policy.
+    fn apply(&mut self, alloc: Global, plan: Plan) -> Result<(), Fault>
+        ensures changed { Changes (Self.status self.old) (Self.status self.new) (applied plan.items) (mark_of result) }
         ensures refused { Refuses (Self.status self.old) (mark_of result) }
         ensures counted { (Self.status self.new).fault_count ≡ count_after (mark_of result) (Self.status self.old).fault_count };
 }

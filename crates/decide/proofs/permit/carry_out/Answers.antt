@@ -7,7 +7,7 @@ use Rattle.decide.proofs.permit.carry_out.Goals as goal
 pub returns : goal.returns
 returns g c =
     let applied : IsApplied (g.S.Stands.status c.args.permit.bank.now.store) (g.S.Stands.status c.new.result.bank.now.store) c.args.permit.plan.items None =
-    subst (λ b. IsApplied (g.S.Stands.status c.args.permit.bank.now.store) (g.S.Stands.status b.store) c.args.permit.plan.items None) (sym c.new.ensures.bank) (subst (λ rows. IsApplied (g.S.Stands.status c.args.permit.bank.now.store) (g.S.Stands.status c.apply_plan.new.store) rows None) c.deref.ensures.value c.in_ok-apply_plan.ensures) in (
+    subst (λ b. IsApplied (g.S.Stands.status c.args.permit.bank.now.store) (g.S.Stands.status b.store) c.args.permit.plan.items None) (sym c.new.ensures.bank) c.in_ok-apply_plan.ensures in (
       (ap some (sym c.new.ensures.same_reference), λ w. refl, tt),
       record {
         fault = tt;
