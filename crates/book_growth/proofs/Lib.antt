@@ -10,3 +10,6 @@ pub mod RuleTests
 pub mod AccountAdded
 pub mod ChangedRows
 pub mod DayProved
+pub mod ReleaseUsed
+pub mod ReleaseAdded
+pub mod SessionSet

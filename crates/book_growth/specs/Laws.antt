@@ -4,14 +4,17 @@ use Rattle.bank_books.specs.Balances.{account_count}
 use Rattle.bank_books.specs.Books.{Books}
 use Rattle.bank_books.specs.Effects.{written}
 use Rattle.bank_books.specs.WorldLists.{WorldLists}
+use Rattle.bank_books.specs.declared.row_write.ReleaseKey.{ReleaseKey}
 use Rattle.bank_books.specs.declared.row_write.RowWrite.TheVariants as write
+use Rattle.bank_policy.specs.declared.policy_write.Session.{Session}
 use Rattle.bank_books.specs.declared.rows.Account.{Account}
 use Rattle.bank_books.specs.declared.rows.Entry.{Entry}
 use Rattle.bank_books.specs.declared.rows.Proof.{Proof}
+use Rattle.bank_books.specs.declared.rows.Release.{Release}
 use Rattle.book_growth.specs.Ledger.{IsLedger, IsOpenLedger, NamesEntries}
 use Rattle.book_growth.specs.Limits.{AreMovedWithin, AreWithinLimits}
 use Rattle.book_growth.specs.Moves.{HasRoomFor, IsMovedAlone, IsMovedByAccount, IsMovedByEntry, MovesNothing, StandsLast, with_proof}
-use Rattle.book_growth.specs.Next.{IsNextAccount, IsNextEntry, IsNextProof}
+use Rattle.book_growth.specs.Next.{IsNextAccount, IsNextEntry, IsNextProof, IsNextRelease}
 
 -- the books are the ledger within its limits
 abbrev pub BooksParts : Type 0
@@ -64,3 +67,36 @@ ProofAndDayMoveNothing = (w : WorldLists) (p : Proof) → MovesNothing w (with_p
 
 abbrev pub ProofAndDayKeepBooks : Type 0
 ProofAndDayKeepBooks = (w : WorldLists) (p : Proof) → IsNextProof w p → Books w → Books (with_proof p w)
+
+-- ---- a release that is used: its mark is in no condition
+
+abbrev pub UsedKeepsLedger : Type 0
+UsedKeepsLedger = (w : WorldLists) (k : ReleaseKey) → IsLedger w → IsLedger (written (write.Used k) w)
+
+abbrev pub UsedMovesNothing : Type 0
+UsedMovesNothing = (w : WorldLists) (k : ReleaseKey) → MovesNothing w (written (write.Used k) w)
+
+abbrev pub UsedKeepsBooks : Type 0
+UsedKeepsBooks = (w : WorldLists) (k : ReleaseKey) → Books w → Books (written (write.Used k) w)
+
+-- ---- a release that is given
+
+abbrev pub ReleaseKeepsLedger : Type 0
+ReleaseKeepsLedger = (w : WorldLists) (r : Release) → IsNextRelease w r → IsLedger w → IsLedger (written (write.Release r) w)
+
+abbrev pub ReleaseMovesNothing : Type 0
+ReleaseMovesNothing = (w : WorldLists) (r : Release) → MovesNothing w (written (write.Release r) w)
+
+abbrev pub ReleaseKeepsBooks : Type 0
+ReleaseKeepsBooks = (w : WorldLists) (r : Release) → IsNextRelease w r → Books w → Books (written (write.Release r) w)
+
+-- ---- a session: it touches users alone
+
+abbrev pub SessionKeepsLedger : Type 0
+SessionKeepsLedger = (w : WorldLists) (s : Session) → s.session ≤ 999999999 → IsLedger w → IsLedger (written (write.Session s) w)
+
+abbrev pub SessionMovesNothing : Type 0
+SessionMovesNothing = (w : WorldLists) (s : Session) → MovesNothing w (written (write.Session s) w)
+
+abbrev pub SessionKeepsBooks : Type 0
+SessionKeepsBooks = (w : WorldLists) (s : Session) → s.session ≤ 999999999 → Books w → Books (written (write.Session s) w)

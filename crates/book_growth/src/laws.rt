@@ -1,6 +1,6 @@
 //! What holds of every change of each kind. The functions do nothing; their contracts are the laws.
 
-ghost use Rattle.book_growth.specs.Laws.{AccountKeepsBooks, AccountKeepsLedger, AccountMoves, BooksParts, EntryKeepsBooks, EntryKeepsLedger, EntryMoves, EntryStandsLast, LimitsMoved, MovedTwice, ProofAndDayKeepBooks, ProofAndDayKeepLedger, ProofAndDayMoveNothing};
+ghost use Rattle.book_growth.specs.Laws.{AccountKeepsBooks, AccountKeepsLedger, AccountMoves, BooksParts, EntryKeepsBooks, EntryKeepsLedger, EntryMoves, EntryStandsLast, LimitsMoved, MovedTwice, ProofAndDayKeepBooks, ProofAndDayKeepLedger, ProofAndDayMoveNothing, ReleaseKeepsBooks, ReleaseKeepsLedger, ReleaseMovesNothing, SessionKeepsBooks, SessionKeepsLedger, SessionMovesNothing, UsedKeepsBooks, UsedKeepsLedger, UsedMovesNothing};
 
 /// The books hold exactly where the ledger does and all that rows come to is within the limits.
 pub fn books_parts()
@@ -66,4 +66,49 @@ pub fn proof_and_day_move_nothing()
 /// Where the books hold, they hold with both.
 pub fn proof_and_day_keep_books()
     ensures { ProofAndDayKeepBooks }
+{}
+
+/// A release that is used keeps the ledger: its mark is in no condition.
+pub fn used_keeps_ledger()
+    ensures { UsedKeepsLedger }
+{}
+
+/// It moves no balance and no cash.
+pub fn used_moves_nothing()
+    ensures { UsedMovesNothing }
+{}
+
+/// Where the books hold, they hold with the release used.
+pub fn used_keeps_books()
+    ensures { UsedKeepsBooks }
+{}
+
+/// A release that may come next keeps the ledger.
+pub fn release_keeps_ledger()
+    ensures { ReleaseKeepsLedger }
+{}
+
+/// It moves no balance and no cash.
+pub fn release_moves_nothing()
+    ensures { ReleaseMovesNothing }
+{}
+
+/// Where the books hold, they hold with the release.
+pub fn release_keeps_books()
+    ensures { ReleaseKeepsBooks }
+{}
+
+/// A session, begun or ended, keeps the ledger: it touches users alone.
+pub fn session_keeps_ledger()
+    ensures { SessionKeepsLedger }
+{}
+
+/// It moves no balance and no cash.
+pub fn session_moves_nothing()
+    ensures { SessionMovesNothing }
+{}
+
+/// Where the books hold, they hold with the session.
+pub fn session_keeps_books()
+    ensures { SessionKeepsBooks }
 {}
