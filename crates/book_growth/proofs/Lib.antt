@@ -13,3 +13,5 @@ pub mod DayProved
 pub mod ReleaseUsed
 pub mod ReleaseAdded
 pub mod SessionSet
+pub mod LastRow
+pub mod LineAdded

@@ -1,20 +1,25 @@
 -- What holds of every change of each kind.
-use Rattle.std.specs.Prelude.{ℕ, ℤ, ◌↔◌, ◌+◌, ◌≤◌, ◌+ℤ◌}
+use Rattle.std.specs.Prelude.{ℕ, ℤ, pos, ◌≡◌, ◌↔◌, ◌+◌, ◌≤◌, ◌+ℤ◌, List}
 use Rattle.bank_books.specs.Balances.{account_count}
 use Rattle.bank_books.specs.Books.{Books}
+use Rattle.bank_books.specs.Conditions.{IsCashBalanced}
 use Rattle.bank_books.specs.Effects.{written}
+use Rattle.bank_books.specs.Range.{IsBranch}
 use Rattle.bank_books.specs.WorldLists.{WorldLists}
 use Rattle.bank_books.specs.declared.row_write.ReleaseKey.{ReleaseKey}
 use Rattle.bank_books.specs.declared.row_write.RowWrite.TheVariants as write
 use Rattle.bank_policy.specs.declared.policy_write.Session.{Session}
 use Rattle.bank_books.specs.declared.rows.Account.{Account}
+use Rattle.bank_books.specs.declared.rows.Branch.{Branch}
+use Rattle.bank_books.specs.declared.rows.CashLine.{CashLine}
 use Rattle.bank_books.specs.declared.rows.Entry.{Entry}
 use Rattle.bank_books.specs.declared.rows.Proof.{Proof}
 use Rattle.bank_books.specs.declared.rows.Release.{Release}
+use Rattle.book_growth.specs.CashGap.{cash_gap, gap_share}
 use Rattle.book_growth.specs.Ledger.{IsLedger, IsOpenLedger, NamesEntries}
 use Rattle.book_growth.specs.Limits.{AreMovedWithin, AreWithinLimits}
-use Rattle.book_growth.specs.Moves.{HasRoomFor, IsMovedAlone, IsMovedByAccount, IsMovedByEntry, MovesNothing, StandsLast, with_proof}
-use Rattle.book_growth.specs.Next.{IsNextAccount, IsNextEntry, IsNextProof, IsNextRelease}
+use Rattle.book_growth.specs.Moves.{HasRoomFor, HasRoomForLine, IsMovedAlone, IsMovedByAccount, IsMovedByEntry, IsMovedByLine, MovesNothing, StandsLast, with_proof}
+use Rattle.book_growth.specs.Next.{IsNextAccount, IsNextEntry, IsNextLine, IsNextProof, IsNextRelease}
 
 -- the books are the ledger within its limits
 abbrev pub BooksParts : Type 0
@@ -100,3 +105,20 @@ SessionMovesNothing = (w : WorldLists) (s : Session) → MovesNothing w (written
 
 abbrev pub SessionKeepsBooks : Type 0
 SessionKeepsBooks = (w : WorldLists) (s : Session) → s.session ≤ 999999999 → Books w → Books (written (write.Session s) w)
+
+-- ---- a cash line
+
+-- cash balances exactly where the gap is 0
+abbrev pub CashBalances : Type 0
+CashBalances = (branches : List Branch) (lines : List CashLine) (branch : ℕ) → IsBranch branches branch → IsCashBalanced branches lines branch ↔ cash_gap branch lines ≡ pos 0
+
+-- all but the equation of cash, whose gap moves
+abbrev pub LineKeepsLedger : Type 0
+LineKeepsLedger = (w : WorldLists) (l : CashLine) → IsNextLine w l → IsOpenLedger w → IsOpenLedger (written (write.Line l) w)
+
+abbrev pub LineMoves : Type 0
+LineMoves = (w : WorldLists) (l : CashLine) → IsMovedByLine w l
+
+-- a line alone, which explains itself
+abbrev pub LineKeepsBooks : Type 0
+LineKeepsBooks = (w : WorldLists) (l : CashLine) → IsNextLine w l → gap_share l ≡ pos 0 → HasRoomForLine w l → Books w → Books (written (write.Line l) w)

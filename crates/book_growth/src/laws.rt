@@ -1,6 +1,6 @@
 //! What holds of every change of each kind. The functions do nothing; their contracts are the laws.
 
-ghost use Rattle.book_growth.specs.Laws.{AccountKeepsBooks, AccountKeepsLedger, AccountMoves, BooksParts, EntryKeepsBooks, EntryKeepsLedger, EntryMoves, EntryStandsLast, LimitsMoved, MovedTwice, ProofAndDayKeepBooks, ProofAndDayKeepLedger, ProofAndDayMoveNothing, ReleaseKeepsBooks, ReleaseKeepsLedger, ReleaseMovesNothing, SessionKeepsBooks, SessionKeepsLedger, SessionMovesNothing, UsedKeepsBooks, UsedKeepsLedger, UsedMovesNothing};
+ghost use Rattle.book_growth.specs.Laws.{AccountKeepsBooks, AccountKeepsLedger, AccountMoves, BooksParts, CashBalances, EntryKeepsBooks, EntryKeepsLedger, EntryMoves, EntryStandsLast, LimitsMoved, LineKeepsBooks, LineKeepsLedger, LineMoves, MovedTwice, ProofAndDayKeepBooks, ProofAndDayKeepLedger, ProofAndDayMoveNothing, ReleaseKeepsBooks, ReleaseKeepsLedger, ReleaseMovesNothing, SessionKeepsBooks, SessionKeepsLedger, SessionMovesNothing, UsedKeepsBooks, UsedKeepsLedger, UsedMovesNothing};
 
 /// The books hold exactly where the ledger does and all that rows come to is within the limits.
 pub fn books_parts()
@@ -111,4 +111,24 @@ pub fn session_moves_nothing()
 /// Where the books hold, they hold with the session.
 pub fn session_keeps_books()
     ensures { SessionKeepsBooks }
+{}
+
+/// The cash of a branch balances exactly where its gap is 0.
+pub fn cash_balances()
+    ensures { CashBalances }
+{}
+
+/// A cash line that may come next keeps the ledger but for the equation of cash.
+pub fn line_keeps_ledger()
+    ensures { LineKeepsLedger }
+{}
+
+/// A line moves the cash of its place by its amount and the gap of its branch by its share, and nothing else.
+pub fn line_moves()
+    ensures { LineMoves }
+{}
+
+/// Where the books hold, they hold with the next line, if there is room for it and it explains itself.
+pub fn line_keeps_books()
+    ensures { LineKeepsBooks }
 {}
