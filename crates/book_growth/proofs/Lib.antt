@@ -1,11 +1,17 @@
 pub mod AccountAdded
 pub mod BooksSplit
 pub mod ChangedRows
+pub mod DayProved
 pub mod EntryAdded
 pub mod EntryBooks
 pub mod EntryMoved
 pub mod GivenRows
+pub mod LastRow
 pub mod LimitsKept
+pub mod LineAdded
 pub mod Numbered
+pub mod ReleaseAdded
+pub mod ReleaseUsed
 pub mod Rows
 pub mod RuleTests
+pub mod SessionSet

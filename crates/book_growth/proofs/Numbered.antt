@@ -1,7 +1,7 @@
 -- Rows that are numbered within their groups: with one more, and their keys.
 use Rattle.std.proofs.Common.{◌≡◌, ◌≢◌, ℕ, ◌+◌, ◌*◌, ◌^◌, ◌<◌, ◌≤◌, List, [], ◌∷◌, map, Bool, true, false, cond, refl, ap, arith, sym, ◌∙◌, subst, ◌==◌, ◌&&◌, Contains, ◌⊎◌, inl, inr}
 use Rattle.std.specs.List.{count_by}
-use Rattle.std.proofs.lemmas.Bool.{and_parts, eq-eqb, eqb-true, false_from_ne_true}
+use Rattle.std.proofs.lemmas.Bool.{and_left, and_parts, eq-eqb, eqb-true, false_from_ne_true, false≢true}
 use Rattle.std.proofs.lemmas.List.Sums.{sum_by-cons}
 use Rattle.keyed_rows.specs.Ordered.{AreDistinct, add_row}
 use Rattle.bank_books.specs.Numbering.{AreNumbered}
@@ -21,6 +21,20 @@ above_count n m c is below same = omega arith
 
 at_least_one : (n c : ℕ) → n ≡ c + 1 → 1 ≤ n
 at_least_one n c is = omega arith
+
+-- where a group has no rows they are numbered
+pub AreNumbered-none : {X : Type 0} (group number : X → ℕ) (xs : List X) (k : ℕ) → ((x : X) → Contains xs x → (group x == k) ≡ false) → AreNumbered group number xs k
+AreNumbered-none {X = X} group number xs k none = record {
+  low = λ row there of. absurd (stands row there of);
+  high = λ row there of. absurd (stands row there of);
+  once = λ n. no_more _ (count_none (λ r. group r == k && number r == n) xs (λ x there. and_left (group x == k) (number x == n) (none x there)));
+}
+  where
+    stands : (x : X) → Contains xs x → group x ≡ k → ⊥
+    stands x there of = false≢true (sym (none x there) ∙ eq-eqb (group x) k of)
+
+    no_more : (c : ℕ) → c ≡ 0 → c ≤ 1
+    no_more c is = omega arith
 
 -- rows that are numbered stay so with one more that bears the next number
 pub AreNumbered-add_row : {X : Type 0} (key group number : X → ℕ) (e : X) (xs : List X) (k : ℕ) → AreNumbered group number xs k

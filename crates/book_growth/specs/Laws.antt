@@ -1,17 +1,26 @@
 -- What holds of every change of each kind.
-use Rattle.std.specs.Prelude.{ℕ, ℤ, ◌↔◌, ◌+◌, ◌≤◌, ◌+ℤ◌}
-use Rattle.bank_terms.specs.Limits.{max_accounts}
+use Rattle.std.specs.Prelude.{ℕ, ℤ, pos, ◌≡◌, ◌↔◌, ◌+◌, ◌≤◌, ◌+ℤ◌, List}
+use Rattle.bank_terms.specs.Limits.{max_accounts, max_key}
 use Rattle.bank_books.specs.Balances.{account_count}
 use Rattle.bank_books.specs.Books.{Books}
+use Rattle.bank_books.specs.Conditions.{IsCashBalanced}
 use Rattle.bank_books.specs.Effects.{written}
+use Rattle.bank_books.specs.Range.{IsBranch}
 use Rattle.bank_books.specs.WorldLists.{WorldLists}
+use Rattle.bank_books.specs.declared.row_write.ReleaseKey.{ReleaseKey}
 use Rattle.bank_books.specs.declared.row_write.RowWrite.TheVariants as write
+use Rattle.bank_policy.specs.declared.policy_write.Session.{Session}
 use Rattle.bank_books.specs.declared.rows.Account.{Account}
+use Rattle.bank_books.specs.declared.rows.Branch.{Branch}
+use Rattle.bank_books.specs.declared.rows.CashLine.{CashLine}
 use Rattle.bank_books.specs.declared.rows.Entry.{Entry}
+use Rattle.bank_books.specs.declared.rows.Proof.{Proof}
+use Rattle.bank_books.specs.declared.rows.Release.{Release}
+use Rattle.book_growth.specs.CashGap.{cash_gap, gap_share}
 use Rattle.book_growth.specs.Ledger.{IsLedger, IsOpenLedger, NamesEntries}
 use Rattle.book_growth.specs.Limits.{AreMovedWithin, AreWithinLimits}
-use Rattle.book_growth.specs.Moves.{HasRoomFor, IsMovedAlone, IsMovedByAccount, IsMovedByEntry, StandsLast}
-use Rattle.book_growth.specs.Next.{IsNextAccount, IsNextEntry}
+use Rattle.book_growth.specs.Moves.{HasRoomFor, HasRoomForLine, IsMovedAlone, IsMovedByAccount, IsMovedByEntry, IsMovedByLine, MovesNothing, StandsLast, with_proof}
+use Rattle.book_growth.specs.Next.{IsNextAccount, IsNextEntry, IsNextLine, IsNextProof, IsNextRelease}
 
 -- the books are the ledger within its limits
 abbrev pub BooksParts : Type 0
@@ -53,3 +62,64 @@ AccountMoves = (w : WorldLists) (a : Account) → IsNextAccount w a → IsOpenLe
 -- its home has room for it
 abbrev pub AccountKeepsBooks : Type 0
 AccountKeepsBooks = (w : WorldLists) (a : Account) → IsNextAccount w a → account_count a.home w.accounts + 1 ≤ max_accounts → Books w → Books (written (write.Account a) w)
+
+-- ---- the proof of a day with the next day of its branch: neither keeps the ledger without the other
+
+abbrev pub ProofAndDayKeepLedger : Type 0
+ProofAndDayKeepLedger = (w : WorldLists) (p : Proof) → IsNextProof w p → IsLedger w → IsLedger (with_proof p w)
+
+abbrev pub ProofAndDayMoveNothing : Type 0
+ProofAndDayMoveNothing = (w : WorldLists) (p : Proof) → MovesNothing w (with_proof p w)
+
+abbrev pub ProofAndDayKeepBooks : Type 0
+ProofAndDayKeepBooks = (w : WorldLists) (p : Proof) → IsNextProof w p → Books w → Books (with_proof p w)
+
+-- ---- a release that is used: its mark is in no condition
+
+abbrev pub UsedKeepsLedger : Type 0
+UsedKeepsLedger = (w : WorldLists) (k : ReleaseKey) → IsLedger w → IsLedger (written (write.Used k) w)
+
+abbrev pub UsedMovesNothing : Type 0
+UsedMovesNothing = (w : WorldLists) (k : ReleaseKey) → MovesNothing w (written (write.Used k) w)
+
+abbrev pub UsedKeepsBooks : Type 0
+UsedKeepsBooks = (w : WorldLists) (k : ReleaseKey) → Books w → Books (written (write.Used k) w)
+
+-- ---- a release that is given
+
+abbrev pub ReleaseKeepsLedger : Type 0
+ReleaseKeepsLedger = (w : WorldLists) (r : Release) → IsNextRelease w r → IsLedger w → IsLedger (written (write.Release r) w)
+
+abbrev pub ReleaseMovesNothing : Type 0
+ReleaseMovesNothing = (w : WorldLists) (r : Release) → MovesNothing w (written (write.Release r) w)
+
+abbrev pub ReleaseKeepsBooks : Type 0
+ReleaseKeepsBooks = (w : WorldLists) (r : Release) → IsNextRelease w r → Books w → Books (written (write.Release r) w)
+
+-- ---- a session: it touches users alone
+
+abbrev pub SessionKeepsLedger : Type 0
+SessionKeepsLedger = (w : WorldLists) (s : Session) → s.session ≤ max_key → IsLedger w → IsLedger (written (write.Session s) w)
+
+abbrev pub SessionMovesNothing : Type 0
+SessionMovesNothing = (w : WorldLists) (s : Session) → MovesNothing w (written (write.Session s) w)
+
+abbrev pub SessionKeepsBooks : Type 0
+SessionKeepsBooks = (w : WorldLists) (s : Session) → s.session ≤ max_key → Books w → Books (written (write.Session s) w)
+
+-- ---- a cash line
+
+-- cash balances exactly where the gap is 0
+abbrev pub CashBalances : Type 0
+CashBalances = (branches : List Branch) (lines : List CashLine) (branch : ℕ) → IsBranch branches branch → IsCashBalanced branches lines branch ↔ cash_gap branch lines ≡ pos 0
+
+-- all but the equation of cash, whose gap moves
+abbrev pub LineKeepsLedger : Type 0
+LineKeepsLedger = (w : WorldLists) (l : CashLine) → IsNextLine w l → IsOpenLedger w → IsOpenLedger (written (write.Line l) w)
+
+abbrev pub LineMoves : Type 0
+LineMoves = (w : WorldLists) (l : CashLine) → IsMovedByLine w l
+
+-- a line alone, which explains itself
+abbrev pub LineKeepsBooks : Type 0
+LineKeepsBooks = (w : WorldLists) (l : CashLine) → IsNextLine w l → gap_share l ≡ pos 0 → HasRoomForLine w l → Books w → Books (written (write.Line l) w)

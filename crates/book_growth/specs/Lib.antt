@@ -1,3 +1,4 @@
+pub mod CashGap
 pub mod Laws
 pub mod Ledger
 pub mod Limits

@@ -1,7 +1,9 @@
 -- What one change moves, and that it moves nothing else.
-use Rattle.std.specs.Prelude.{ℕ, ℤ, pos, ◌≡◌, ◌≢◌, ◌+◌, ◌+ℤ◌, ◌==◌, Contains, Some, if◌then◌else◌}
+use Rattle.std.specs.Prelude.{ℕ, ℤ, pos, ◌≡◌, ◌≢◌, ◌+◌, ◌+ℤ◌, ◌==◌, ◌&&◌, not, Contains, Some, if◌then◌else◌}
 use Rattle.bank_books.specs.Balances.{account_balance, account_row, branch_balance, branch_row, teller_balance, teller_row}
+use Rattle.bank_books.specs.Cash.{cash_of, is_cash_entry, is_difference}
 use Rattle.bank_books.specs.Effects.{written}
+use Rattle.counter_ops.specs.Ranges.{IsCash}
 use Rattle.bank_books.specs.Records.{account_record_of, branch_record_of, entry_record_of, teller_record_of}
 use Rattle.bank_books.specs.WorldLists.{WorldLists}
 use Rattle.bank_books.specs.declared.records.AccountRecord.{AccountRecord}
@@ -10,9 +12,12 @@ use Rattle.bank_books.specs.declared.records.TellerRecord.{TellerRecord}
 use Rattle.bank_books.specs.declared.row_write.RowWrite.TheVariants as write
 use Rattle.bank_books.specs.declared.rows.Account.{Account}
 use Rattle.bank_books.specs.declared.rows.Branch.{Branch}
+use Rattle.bank_books.specs.declared.rows.CashLine.{CashLine}
 use Rattle.bank_books.specs.declared.rows.Entry.{Entry}
+use Rattle.bank_books.specs.declared.rows.Proof.{Proof}
 use Rattle.bank_books.specs.declared.rows.Teller.{Teller}
-use Rattle.book_growth.specs.Limits.{IsAccountWithin, IsHistoryWithin}
+use Rattle.book_growth.specs.CashGap.{cash_gap, gap_share}
+use Rattle.book_growth.specs.Limits.{IsAccountWithin, IsCashWithin, IsHistoryWithin}
 use Rattle.money.specs.Range.{IsCents}
 
 -- a balance is moved by a delta at one key and kept at every other
@@ -70,3 +75,46 @@ pub record IsMovedByAccount (w : WorldLists) (a : Account) : Type 0 where
   pub entries : (row : Entry) → entry_record_of (written (write.Account a) w) row ≡ entry_record_of w row
   pub new : account_record_of (written (write.Account a) w) a ≡ record { row = a; balance = pos 0; turns = 0 }
   pub account_balances : (key : ℕ) → account_balance (written (write.Account a) w) key ≡ account_balance w key
+
+-- ---- a cash line
+
+-- what a line makes of what the lines of its branch come to
+abbrev pub branch_lined : CashLine → BranchRecord → BranchRecord
+branch_lined l b = record b {
+  vault = b.vault +ℤ (if l.place == 0 then l.amount else pos 0);
+  drawers = b.drawers +ℤ (if not (l.place == 0) then l.amount else pos 0);
+  cash_entries = b.cash_entries +ℤ (if is_cash_entry l.form then l.amount else pos 0);
+  differences = b.differences +ℤ (if is_difference l.form then l.amount else pos 0);
+  lines = b.lines + 1;
+}
+
+-- It moves the cash of its place by its amount, and no other; no balance; and the gap of its branch by its share.
+pub record IsMovedByLine (w : WorldLists) (l : CashLine) : Type 0 where
+  pub cash : (branch place : ℕ) → cash_of (written (write.Line l) w) branch place
+      ≡ cash_of w branch place +ℤ (if l.branch == branch && l.place == place then l.amount else pos 0)
+  pub gap : (branch : ℕ) → cash_gap branch (written (write.Line l) w).lines
+      ≡ cash_gap branch w.lines +ℤ (if l.branch == branch then gap_share l else pos 0)
+  pub branches : (row : Branch) → branch_record_of (written (write.Line l) w) row
+      ≡ (if l.branch == row.branch then branch_lined l (branch_record_of w row) else branch_record_of w row)
+  pub branch_balances : (key : ℕ) → branch_balance (written (write.Line l) w) key ≡ branch_balance w key
+  pub teller_balances : (key : ℕ) → teller_balance (written (write.Line l) w) key ≡ teller_balance w key
+  pub account_balances : (key : ℕ) → account_balance (written (write.Line l) w) key ≡ account_balance w key
+
+-- with it, the cash of its branch and of its place is within the limits
+pub record HasRoomForLine (w : WorldLists) (l : CashLine) : Type 0 where
+  pub branch : (b : Branch) → branch_row l.branch w.branches ≡ Some b →
+      let after = branch_lined l (branch_record_of w b) in IsCashWithin after.vault after.drawers after.cash_entries after.differences after.lines
+  pub teller : (t : Teller) → teller_row l.place w.tellers ≡ Some t → t.branch ≡ l.branch → IsCash ((teller_record_of w t).cash +ℤ l.amount)
+
+-- ---- the proof of a day
+
+-- the World where the present day of a branch is proved, and the branch is on its next day
+abbrev pub with_proof : Proof → WorldLists → WorldLists
+with_proof p w = written (write.Day (record { branch = p.branch; day = p.day + 1 })) (written (write.Proof p) w)
+
+-- every balance and all cash stay
+pub record MovesNothing (before after : WorldLists) : Type 0 where
+  pub branch_balances : (key : ℕ) → branch_balance after key ≡ branch_balance before key
+  pub teller_balances : (key : ℕ) → teller_balance after key ≡ teller_balance before key
+  pub account_balances : (key : ℕ) → account_balance after key ≡ account_balance before key
+  pub cash : (branch place : ℕ) → cash_of after branch place ≡ cash_of before branch place

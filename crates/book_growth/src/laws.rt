@@ -1,6 +1,6 @@
 //! What holds of every change of each kind. The functions do nothing; their contracts are the laws.
 
-ghost use Rattle.book_growth.specs.Laws.{AccountKeepsBooks, AccountKeepsLedger, AccountMoves, BooksParts, EntryKeepsBooks, EntryKeepsLedger, EntryMoves, EntryStandsLast, LimitsMoved, MovedTwice};
+ghost use Rattle.book_growth.specs.Laws.{AccountKeepsBooks, AccountKeepsLedger, AccountMoves, BooksParts, CashBalances, EntryKeepsBooks, EntryKeepsLedger, EntryMoves, EntryStandsLast, LimitsMoved, LineKeepsBooks, LineKeepsLedger, LineMoves, MovedTwice, ProofAndDayKeepBooks, ProofAndDayKeepLedger, ProofAndDayMoveNothing, ReleaseKeepsBooks, ReleaseKeepsLedger, ReleaseMovesNothing, SessionKeepsBooks, SessionKeepsLedger, SessionMovesNothing, UsedKeepsBooks, UsedKeepsLedger, UsedMovesNothing};
 
 /// The books hold exactly where the ledger does and all that rows come to is within the limits.
 pub fn books_parts()
@@ -51,4 +51,84 @@ pub fn account_moves()
 /// Where the books hold, they hold with the account, if its home has room for it.
 pub fn account_keeps_books()
     ensures { AccountKeepsBooks }
+{}
+
+/// The proof of a branch's present day keeps the ledger, together with the branch's next day.
+pub fn proof_and_day_keep_ledger()
+    ensures { ProofAndDayKeepLedger }
+{}
+
+/// They move no balance and no cash.
+pub fn proof_and_day_move_nothing()
+    ensures { ProofAndDayMoveNothing }
+{}
+
+/// Where the books hold, they hold with both.
+pub fn proof_and_day_keep_books()
+    ensures { ProofAndDayKeepBooks }
+{}
+
+/// A release that is used keeps the ledger: its mark is in no condition.
+pub fn used_keeps_ledger()
+    ensures { UsedKeepsLedger }
+{}
+
+/// It moves no balance and no cash.
+pub fn used_moves_nothing()
+    ensures { UsedMovesNothing }
+{}
+
+/// Where the books hold, they hold with the release used.
+pub fn used_keeps_books()
+    ensures { UsedKeepsBooks }
+{}
+
+/// A release that may come next keeps the ledger.
+pub fn release_keeps_ledger()
+    ensures { ReleaseKeepsLedger }
+{}
+
+/// It moves no balance and no cash.
+pub fn release_moves_nothing()
+    ensures { ReleaseMovesNothing }
+{}
+
+/// Where the books hold, they hold with the release.
+pub fn release_keeps_books()
+    ensures { ReleaseKeepsBooks }
+{}
+
+/// A session, begun or ended, keeps the ledger: it touches users alone.
+pub fn session_keeps_ledger()
+    ensures { SessionKeepsLedger }
+{}
+
+/// It moves no balance and no cash.
+pub fn session_moves_nothing()
+    ensures { SessionMovesNothing }
+{}
+
+/// Where the books hold, they hold with the session.
+pub fn session_keeps_books()
+    ensures { SessionKeepsBooks }
+{}
+
+/// The cash of a branch balances exactly where its gap is 0.
+pub fn cash_balances()
+    ensures { CashBalances }
+{}
+
+/// A cash line that may come next keeps the ledger but for the equation of cash.
+pub fn line_keeps_ledger()
+    ensures { LineKeepsLedger }
+{}
+
+/// A line moves the cash of its place by its amount and the gap of its branch by its share, and nothing else.
+pub fn line_moves()
+    ensures { LineMoves }
+{}
+
+/// Where the books hold, they hold with the next line, if there is room for it and it explains itself.
+pub fn line_keeps_books()
+    ensures { LineKeepsBooks }
 {}
