@@ -15,7 +15,7 @@ opens_with store world same holds only = record {
 }
 
 abbrev pub opening_store : ListStore
-opening_store = record { world = sample_opening; faults = 0 }
+opening_store = record { world = sample_opening; faults = 0; failures = 0 }
 
 pub opening_opens : IsOpening opening_store
 opening_opens = record {

@@ -2,8 +2,8 @@
 //! refused leaves.
 
 use bank_books::{
-    Account, Branch, BranchDay, CashLine, Entry, EntryForm, LineForm, Lists, Plan, Proof, Release,
-    ReleaseKey, RowWrite, World,
+    Account, Branch, BranchDay, CashLine, Entry, EntryForm, LineForm, Lists, Plan,
+    Proof, Release, ReleaseKey, RowWrite, World,
 };
 use bank_policy::{
     Certifier, ItemSet, Name, Policy, PolicyWrite, Relation, RelationKey, Session, Suspension,
@@ -130,10 +130,16 @@ fn picture(alloc: Global, world: &World) -> Result<String, Fail> {
     Ok(format!(in alloc; "{books} {rows}")?)
 }
 
+/// Has a bank apply a plan that its version has room for.
+fn apply(rt: &impl Abort, alloc: Global, world: &mut World, plan: Plan) -> Result<(), AllocError> {
+    assert!(rt; world.has_version_for(&plan));
+    world.apply(alloc, plan)
+}
+
 /// The bank after this one change.
 fn changed(rt: &impl Abort, alloc: Global, row: RowWrite) -> Result<World, Fail> {
     let mut world = neighbours(rt, alloc, 0)?;
-    world.apply(alloc, vec![in alloc; row]?)?;
+    apply(rt, alloc, &mut world, vec![in alloc; row]?)?;
     Ok(world)
 }
 
@@ -245,8 +251,10 @@ fn changes_of_rows_that_are_absent_change_nothing(rt: HostRuntime) -> Result<(),
     let before = picture(alloc, &world)?;
     let procedure = Procedure::Correct;
     let (set, user) = (2, 7);
-    world.apply(
+    apply(
+        &rt,
         alloc,
+        &mut world,
         vec![in alloc;
             RowWrite::Day(BranchDay { branch: 4, day: 9 }),
             RowWrite::Used(ReleaseKey { user: 7, number: 4 }),
@@ -260,8 +268,10 @@ fn changes_of_rows_that_are_absent_change_nothing(rt: HostRuntime) -> Result<(),
     )?;
     assert_eq!(rt; picture(alloc, &world)?, before);
     assert_eq!(rt; world.version(), 0);
-    world.apply(
+    apply(
+        &rt,
         alloc,
+        &mut world,
         vec![in alloc;
             RowWrite::Policy(PolicyWrite::NoRelation(RelationKey { procedure, set })),
             RowWrite::Policy(PolicyWrite::NoTriple(TripleKey {
@@ -338,7 +348,7 @@ fn one_of_each(rt: &impl Abort, alloc: Global) -> Result<Plan, Fail> {
 fn rows_are_added_at_their_places(rt: HostRuntime) -> Result<(), Fail> {
     let alloc = rt.alloc();
     let mut world = neighbours(&rt, alloc, 0)?;
-    world.apply(alloc, one_of_each(&rt, alloc)?)?;
+    apply(&rt, alloc, &mut world, one_of_each(&rt, alloc)?)?;
     assert_eq!(rt; (world.accounts().len(), world.entries().len()), (1, 1));
     assert_eq!(rt; (world.lines().len(), world.proofs().len()), (1, 1));
     let releases = world.releases().iter();
@@ -415,7 +425,7 @@ fn a_plan_that_memory_refuses_changes_nothing(rt: HostRuntime) -> Result<(), Fai
     let mut plan = one_of_each(&rt, alloc)?;
     let day = BranchDay { branch: 2, day: 9 };
     plan.insert(0, RowWrite::Day(day))?;
-    if world.apply(alloc, plan).is_err() {
+    if apply(&rt, alloc, &mut world, plan).is_err() {
         assert!(rt; world.branches().iter().all(|row| row.day == 1));
         assert!(rt; world.entries().is_empty() && world.accounts().is_empty());
         let policy = world.policy();
