@@ -1,5 +1,5 @@
 -- An entry alone, with room for it, keeps the books.
-use Rattle.std.proofs.Common.{◌≡◌, ℕ, ◌+ℤ◌, true, false, ap, arith, sym, ◌∙◌, subst, ◌==◌, Contains, Some, ◌⊎◌, inl, inr}
+use Rattle.std.proofs.Common.{◌≡◌, ℕ, ◌+ℤ◌, ap, sym, ◌∙◌, subst, ◌==◌, Contains, ◌⊎◌, inl, inr}
 use Rattle.std.specs.Prelude.{◌^◌, ◌*◌, ◌+◌, if◌then◌else◌, pos}
 use Rattle.std.specs.Option.{option_map_or}
 use Rattle.std.proofs.lemmas.Bool.{cases_Bool, eqb-true}
@@ -17,8 +17,8 @@ use Rattle.bank_books.specs.declared.rows.Branch.{Branch}
 use Rattle.bank_books.specs.declared.rows.Entry.{Entry}
 use Rattle.bank_books.specs.declared.rows.Teller.{Teller}
 use Rattle.book_growth.specs.Laws.{EntryKeepsBooks}
-use Rattle.book_growth.specs.Ledger.{IsLedger, IsOpenLedger, NamesEntries}
-use Rattle.book_growth.specs.Limits.{AreMovedWithin, AreWithinLimits, IsAccountWithin, IsBranchWithin, IsTellerWithin}
+use Rattle.book_growth.specs.Ledger.{IsOpenLedger, NamesEntries}
+use Rattle.book_growth.specs.Limits.{AreWithinLimits, IsAccountWithin, IsBranchWithin, IsTellerWithin}
 use Rattle.book_growth.specs.Moves.{HasRoomFor, account_entered, branch_entered, teller_entered}
 use Rattle.book_growth.specs.Next.{IsNextEntry}
 use Rattle.book_growth.proofs.BooksSplit.{books_parts}
@@ -44,9 +44,9 @@ branches_within : (w : WorldLists) (e : Entry) → HasRoomFor w e → IsOpenLedg
 branches_within w e room ledger limits row there = elim (cases_Bool (e.branch == row.branch)) [
   | inl named ↦
       inr (subst IsBranchWithin (sym ((entry_moves w e).branches row ∙ ap (λ b. if b then branch_entered e.delta (branch_record_of w row) else branch_record_of w row) named)) (record {
-      history = room.branch row (find_of_key branch_key e.branch w.branches row ledger.branches.keys there (sym (eqb-true e.branch row.branch named)));
-      cash = (limits.branches row there).cash;
-      accounts = (limits.branches row there).accounts;
+        history = room.branch row (find_of_key branch_key e.branch w.branches row ledger.branches.keys there (sym (eqb-true e.branch row.branch named)));
+        cash = (limits.branches row there).cash;
+        accounts = (limits.branches row there).accounts;
       }))
   | inr other ↦ inl (there, (entry_moves w e).branches row ∙ ap (λ b. if b then branch_entered e.delta (branch_record_of w row) else branch_record_of w row) other)
 ]
@@ -56,8 +56,8 @@ tellers_within : (w : WorldLists) (e : Entry) → HasRoomFor w e → IsOpenLedge
 tellers_within w e room ledger limits row there = elim (cases_Bool (e.teller == row.teller)) [
   | inl named ↦
       inr (subst IsTellerWithin (sym ((entry_moves w e).tellers row ∙ ap (λ b. if b then teller_entered e.delta (teller_record_of w row) else teller_record_of w row) named)) (record {
-      balance = room.teller row (find_of_key teller_key e.teller w.tellers row ledger.tellers.keys there (sym (eqb-true e.teller row.teller named)));
-      cash = (limits.tellers row there).cash;
+        balance = room.teller row (find_of_key teller_key e.teller w.tellers row ledger.tellers.keys there (sym (eqb-true e.teller row.teller named)));
+        cash = (limits.tellers row there).cash;
       }))
   | inr other ↦ inl (there, (entry_moves w e).tellers row ∙ ap (λ b. if b then teller_entered e.delta (teller_record_of w row) else teller_record_of w row) other)
 ]

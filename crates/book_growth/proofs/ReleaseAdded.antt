@@ -1,7 +1,7 @@
 -- A release that may come next.
-use Rattle.std.proofs.Common.{◌≡◌, ℕ, ◌+◌, ◌≤◌, Bool, true, false, refl, arith, sym, ◌∙◌, subst, ◌==◌, ◌&&◌, Option, Some, None, Contains}
-use Rattle.std.specs.List.{count_by, find}
-use Rattle.std.proofs.lemmas.Bool.{and_left, eq-eqb, eqb-true, false≢true}
+use Rattle.std.proofs.Common.{◌≡◌, ℕ, ◌+◌, ◌≤◌, refl, arith, subst, ◌==◌, Option, Some, None}
+use Rattle.std.specs.List.{find}
+use Rattle.std.proofs.lemmas.Bool.{eqb-true}
 use Rattle.keyed_rows.specs.Ordered.{add_row}
 use Rattle.bank_books.specs.Effects.{written}
 use Rattle.bank_books.specs.Keys.{release_key}
@@ -47,13 +47,13 @@ keeps_rows w r next ledger = record {
   releases =
       each_added release_key r w.releases (IsReleaseInRange w.branches (add_row release_key r w.releases) w.policy.users)
       (record {
-      user = next.user;
-      number = (one_at_least r.number (release_count r.user w.releases) next.number, next.room);
-      numbered = numbered_after w r next ledger r.user;
-      giver = next.giver;
-      branch = next.branch;
-      day = next.day;
-      operation = next.operation;
+        user = next.user;
+        number = (one_at_least r.number (release_count r.user w.releases) next.number, next.room);
+        numbered = numbered_after w r next ledger r.user;
+        giver = next.giver;
+        branch = next.branch;
+        day = next.day;
+        operation = next.operation;
       })
       (λ o there.
       let was = ledger.releases o there in
