@@ -15,3 +15,4 @@ pub mod ReleaseAdded
 pub mod SessionSet
 pub mod LastRow
 pub mod LineAdded
+pub mod LegsBooks
