@@ -16,7 +16,7 @@ use Rattle.counter_ops.specs.Op.{procedure_of}
 use Rattle.touched.specs.Touched.{amount, touched}
 use Rattle.bank_run.specs.Laws.{AllowedExactlyWhenHeld, InLimit, IsIdentified, PolicyIsJudged}
 use Rattle.bank_run.specs.PolicyRules.{asker, grounds, is_identified, policy_denies, rules_of_policy}
-use Rattle.bank_run.specs.Requests.{denies, executes, first}
+use Rattle.bank_run.specs.Requests.{denies, executes}
 use Rattle.bank_run.specs.declared.execution.Execution.{Execution}
 use Rattle.bank_run.proofs.AllowedRequest.{allowed_by_books}
 use Rattle.bank_run.proofs.PolicyLemmas.{books_decide}

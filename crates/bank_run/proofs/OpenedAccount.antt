@@ -3,8 +3,6 @@ use Rattle.std.proofs.Common.{◌≡◌, ◌≢◌, ℕ, ◌+◌, ◌≤◌, fal
 use Rattle.std.specs.Prelude.{is_none, is_some, nat_le, option_map}
 use Rattle.std.specs.Option.{option_map_or}
 use Rattle.std.proofs.lemmas.Bool.{eq-eqb, false≢true}
-use Rattle.counter_ops.specs.NewAccount.{IsNewAccount}
-use Rattle.counter_ops.specs.declared.new_account.NewAccount.{NewAccount}
 use Rattle.bank_books.specs.Balances.{account_count, account_row, branch_row}
 use Rattle.bank_books.specs.declared.rows.Account.{Account}
 use Rattle.bank_books.specs.Keys.{branch_key}

@@ -1,19 +1,16 @@
 -- An account that is not there yet and opens with nothing: what it keeps, and what it moves.
-use Rattle.std.proofs.Common.{◌≡◌, ◌≢◌, ℕ, ◌+◌, ◌≤◌, ℤ, pos, ◌+ℤ◌, Bool, true, false, refl, ap, arith, sym, ◌∙◌, subst, ◌==◌, Option, None, Some, Contains, ◌⊎◌, inl, inr}
+use Rattle.std.proofs.Common.{◌≡◌, ℕ, ◌+◌, ◌≤◌, ℤ, pos, ◌+ℤ◌, Bool, true, false, refl, ap, arith, sym, ◌∙◌, subst, ◌==◌, Option, None, Some, Contains, ◌⊎◌, inl, inr}
 use Rattle.bank_terms.specs.Limits.{max_accounts}
 use Rattle.std.specs.Prelude.{◌≤ℤ◌, if◌then◌else◌}
-use Rattle.std.specs.List.{find}
 use Rattle.std.specs.Option.{option_map_or}
 use Rattle.std.proofs.lemmas.Bool.{cases_Bool, eqb-true, ne_eqb}
 use Rattle.std.proofs.lemmas.Int.{ints}
 use Rattle.keyed_rows.specs.Ordered.{add_row}
-use Rattle.money.specs.Range.{IsCents}
 use Rattle.bank_books.specs.Balances.{account_count, account_deltas, account_opening, account_row, deltas_up_to, turn_count}
 use Rattle.bank_books.specs.Effects.{written}
 use Rattle.bank_books.specs.Keys.{account_key}
 use Rattle.bank_books.specs.Records.{account_record_of, branch_record_of, entry_record_of}
 use Rattle.bank_books.specs.WorldLists.{WorldLists}
-use Rattle.bank_books.specs.declared.records.AccountRecord.{AccountRecord}
 use Rattle.bank_books.specs.declared.row_write.RowWrite.TheVariants as write
 use Rattle.bank_books.specs.declared.rows.Account.{Account}
 use Rattle.bank_books.specs.declared.rows.Branch.{Branch}

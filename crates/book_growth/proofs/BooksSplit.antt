@@ -1,7 +1,7 @@
 -- The books are the ledger within its limits.
-use Rattle.std.proofs.Common.{◌≡◌, ℕ, ◌+◌, ◌*◌, ◌^◌, ◌<◌, ◌≤◌, pos, ◌==◌, ◌&&◌, map, refl, ap, arith, subst, sym, ◌∙◌, Contains, ◌⊎◌, inl, inr}
+use Rattle.std.proofs.Common.{◌≡◌, ℕ, ◌^◌, ◌<◌, ◌≤◌, pos, ◌==◌, ◌&&◌, map, refl, ap, arith, subst, sym, ◌∙◌, Contains}
 use Rattle.bank_terms.specs.Limits.{max_key, max_releases}
-use Rattle.std.specs.Prelude.{◌↔◌, if◌then◌else◌}
+use Rattle.std.specs.Prelude.{if◌then◌else◌}
 use Rattle.std.specs.List.{count_by}
 use Rattle.keyed_rows.specs.Totals.{total}
 use Rattle.bank_books.specs.Balances.{entry_count, turn_count}
@@ -9,18 +9,14 @@ use Rattle.bank_books.specs.Books.{Books}
 use Rattle.bank_books.specs.Cash.{line_count}
 use Rattle.bank_books.specs.Conditions.{home_of}
 use Rattle.bank_books.specs.Keys.{entry_key, line_key, proof_key, release_key}
-use Rattle.bank_books.specs.Range.{HasDistinctKeys, IsAccountInRange, IsBranch, IsBranchInRange, IsEntryInRange, IsInRange, IsLineInRange, IsTellerInRange}
+use Rattle.bank_books.specs.Range.{HasDistinctKeys, IsAccountInRange, IsBranchInRange, IsEntryInRange, IsInRange, IsTellerInRange}
 use Rattle.bank_books.specs.Records.{account_record_of, branch_record_of, entry_record_of, kept_of, teller_record_of}
 use Rattle.bank_books.specs.WorldLists.{WorldLists}
-use Rattle.bank_books.specs.declared.rows.Account.{Account}
 use Rattle.bank_books.specs.declared.rows.Branch.{Branch}
 use Rattle.bank_books.specs.declared.rows.CashLine.{CashLine}
 use Rattle.bank_books.specs.declared.rows.Entry.{Entry}
-use Rattle.bank_books.specs.declared.rows.Proof.{Proof}
-use Rattle.bank_books.specs.declared.rows.Release.{Release}
-use Rattle.bank_books.specs.declared.rows.Teller.{Teller}
 use Rattle.book_growth.specs.Laws.{BooksParts}
-use Rattle.book_growth.specs.Ledger.{IsLedger, IsOpenLedger, account_sum, branch_sum, teller_sum}
+use Rattle.book_growth.specs.Ledger.{IsLedger, IsOpenLedger}
 use Rattle.book_growth.specs.Limits.{AreWithinLimits}
 use Rattle.book_growth.proofs.GivenRows.{given_by_entries, given_by_lines, rows_given}
 use Rattle.book_growth.proofs.Numbered.{AreDistinct-numbered}

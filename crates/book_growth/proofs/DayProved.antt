@@ -1,5 +1,5 @@
 -- The proof of a day and the next day of its branch, both together.
-use Rattle.std.proofs.Common.{◌≡◌, ℕ, ◌+◌, ◌≤◌, ℤ, pos, ◌+ℤ◌, List, map, true, false, refl, ap, arith, sym, ◌∙◌, subst, ◌==◌, Contains, ◌⊎◌, inl, inr}
+use Rattle.std.proofs.Common.{◌≡◌, ℕ, ◌+◌, pos, ◌+ℤ◌, List, map, true, false, refl, ap, arith, sym, ◌∙◌, subst, ◌==◌, Contains}
 use Rattle.std.specs.Prelude.{if◌then◌else◌}
 use Rattle.std.specs.List.{count_by}
 use Rattle.std.proofs.lemmas.Bool.{eq-eqb, eqb-true, eqb-false, ne_eqb}
@@ -10,13 +10,13 @@ use Rattle.bank_books.specs.Balances.{branch_deltas}
 use Rattle.bank_books.specs.Cash.{cash_entry_total, difference_total, drawer_total, place_cash}
 use Rattle.bank_books.specs.Effects.{on_day}
 use Rattle.bank_books.specs.Keys.{branch_key, proof_key}
-use Rattle.bank_books.specs.Range.{IsBranch, IsDay, IsProofInRange, IsReleaseInRange, IsTellerOf}
+use Rattle.bank_books.specs.Range.{IsBranch, IsProofInRange}
 use Rattle.bank_books.specs.Records.{branch_record_of}
 use Rattle.bank_books.specs.WorldLists.{WorldLists}
 use Rattle.bank_books.specs.declared.rows.Branch.{Branch}
 use Rattle.bank_books.specs.declared.rows.Proof.{Proof}
 use Rattle.book_growth.specs.Laws.{ProofAndDayKeepBooks, ProofAndDayKeepLedger, ProofAndDayMoveNothing}
-use Rattle.book_growth.specs.Ledger.{AreBranchesSound, IsBranchSound, IsLedger, IsOpenLedger, branch_sum, teller_sum}
+use Rattle.book_growth.specs.Ledger.{IsBranchSound, IsOpenLedger, branch_sum, teller_sum}
 use Rattle.book_growth.specs.Limits.{AreWithinLimits, IsBranchWithin}
 use Rattle.book_growth.specs.Moves.{with_proof}
 use Rattle.book_growth.specs.Next.{IsNextProof}

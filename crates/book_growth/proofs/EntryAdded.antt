@@ -1,5 +1,5 @@
 -- An entry that may come next keeps the open ledger.
-use Rattle.std.proofs.Common.{◌≡◌, ℕ, ◌+◌, ℤ, pos, ◌+ℤ◌, List, map, Bool, true, false, ap, arith, sym, ◌∙◌, subst, ◌==◌, Contains}
+use Rattle.std.proofs.Common.{◌≡◌, ◌+◌, ℤ, pos, ◌+ℤ◌, List, map, Bool, true, false, ap, arith, sym, ◌∙◌, subst, ◌==◌}
 use Rattle.std.specs.Prelude.{if◌then◌else◌}
 use Rattle.std.proofs.lemmas.Int.{ints}
 use Rattle.keyed_rows.specs.Ordered.{add_row}

@@ -1,14 +1,14 @@
 -- An entry alone, with room for it, keeps the books.
-use Rattle.std.proofs.Common.{◌≡◌, ℕ, ◌+ℤ◌, true, false, ap, arith, sym, ◌∙◌, subst, ◌==◌, Contains, Some, ◌⊎◌, inl, inr}
+use Rattle.std.proofs.Common.{◌≡◌, ℕ, ℤ, ◌+ℤ◌, Some, ap, sym, ◌∙◌, subst, ◌==◌, Contains, ◌⊎◌, inl, inr}
 use Rattle.std.specs.Prelude.{◌^◌, ◌*◌, ◌+◌, if◌then◌else◌, pos}
 use Rattle.std.specs.Option.{option_map_or}
 use Rattle.std.proofs.lemmas.Bool.{cases_Bool, eqb-true}
 use Rattle.keyed_rows.specs.Ordered.{add_row}
 use Rattle.money.specs.Range.{IsCents}
-use Rattle.bank_books.specs.Balances.{account_deltas, account_opening}
+use Rattle.bank_books.specs.Balances.{account_balance, account_deltas, account_opening, account_row}
 use Rattle.bank_books.specs.Effects.{written}
 use Rattle.bank_books.specs.Keys.{account_key, branch_key, entry_key, teller_key}
-use Rattle.bank_books.specs.Range.{IsEntryOrNone}
+use Rattle.bank_books.specs.Range.{IsAccount, IsEntryOrNone}
 use Rattle.bank_books.specs.Records.{account_record_of, branch_record_of, entry_record_of, teller_record_of}
 use Rattle.bank_books.specs.WorldLists.{WorldLists}
 use Rattle.bank_books.specs.declared.row_write.RowWrite.TheVariants as write
@@ -17,8 +17,8 @@ use Rattle.bank_books.specs.declared.rows.Branch.{Branch}
 use Rattle.bank_books.specs.declared.rows.Entry.{Entry}
 use Rattle.bank_books.specs.declared.rows.Teller.{Teller}
 use Rattle.book_growth.specs.Laws.{EntryKeepsBooks}
-use Rattle.book_growth.specs.Ledger.{IsLedger, IsOpenLedger, NamesEntries}
-use Rattle.book_growth.specs.Limits.{AreMovedWithin, AreWithinLimits, IsAccountWithin, IsBranchWithin, IsTellerWithin}
+use Rattle.book_growth.specs.Ledger.{IsOpenLedger, NamesEntries}
+use Rattle.book_growth.specs.Limits.{AreWithinLimits, IsAccountWithin, IsBranchWithin, IsTellerWithin}
 use Rattle.book_growth.specs.Moves.{HasRoomFor, account_entered, branch_entered, teller_entered}
 use Rattle.book_growth.specs.Next.{IsNextEntry}
 use Rattle.book_growth.proofs.BooksSplit.{books_parts}
@@ -71,19 +71,20 @@ accounts_within w e room ledger row there = elim (cases_Bool (e.account == row.a
   | inr other ↦ inl (there, (entry_moves w e).accounts row ∙ ap (λ b. if b then account_entered e.delta (account_record_of w row) else account_record_of w row) other)
 ]
 
--- the balance after the new entry is that of its account
-new_within : (w : WorldLists) (e : Entry) → IsNextEntry w e → HasRoomFor w e → IsOpenLedger w → IsCents (entry_record_of (written (write.Entry e) w) e).balance_after
-new_within w e next room ledger =
-    let account = next.sound.account in
-    let found = find_of_key account_key e.account w.accounts account.0 ledger.accounts.keys account.1.0 account.1.1 in
-    let opening : account_opening e.account w.accounts ≡ account.0.opening = ap (λ o. option_map_or (λ row. row.opening) o (pos 0)) found in
-    subst IsCents (sym ((entry_stands_last w e next ledger).new ∙ ap (λ z. (z +ℤ account_deltas e.account w.entries) +ℤ e.delta) opening))
-    (subst (λ k. IsCents ((account.0.opening +ℤ account_deltas k w.entries) +ℤ e.delta)) account.1.1 (room.account account.0 found).balance)
+-- the balance of an account by its key, where there is room for what it is moved by
+pub balance_within : (w : WorldLists) (key : ℕ) (delta : ℤ) → IsOpenLedger w → IsAccount w.accounts key
+    → ((a : Account) → account_row key w.accounts ≡ Some a → IsAccountWithin (account_entered delta (account_record_of w a))) → IsCents (account_balance w key +ℤ delta)
+balance_within w key delta ledger account room =
+    let found = find_of_key account_key key w.accounts account.0 ledger.accounts.keys account.1.0 account.1.1 in
+    let opening : account_opening key w.accounts ≡ account.0.opening = ap (λ o. option_map_or (λ row. row.opening) o (pos 0)) found in
+    subst IsCents (sym (ap (λ z. (z +ℤ account_deltas key w.entries) +ℤ delta) opening))
+    (subst (λ k. IsCents ((account.0.opening +ℤ account_deltas k w.entries) +ℤ delta)) account.1.1 (room account.0 found).balance)
 
 entries_within : (w : WorldLists) (e : Entry) → IsNextEntry w e → HasRoomFor w e → IsOpenLedger w → (row : Entry) → Contains (add_row entry_key e w.entries) row
     → (Contains w.entries row × (entry_record_of (written (write.Entry e) w) row ≡ entry_record_of w row)) ⊎ IsCents (entry_record_of (written (write.Entry e) w) row).balance_after
 entries_within w e next room ledger row there = elim (Contains-add_row_cases entry_key e w.entries row there) [
-  | inl is ↦ inr (subst (λ r. IsCents (entry_record_of (written (write.Entry e) w) r).balance_after) is (new_within w e next room ledger))
+  | inl is ↦ inr (subst (λ r. IsCents (entry_record_of (written (write.Entry e) w) r).balance_after) is
+      (subst IsCents (sym (entry_stands_last w e next ledger).new) (balance_within w e.account e.delta ledger next.sound.account room.account)))
   | inr before ↦ inl (before, (entry_stands_last w e next ledger).earlier row before)
 ]
 

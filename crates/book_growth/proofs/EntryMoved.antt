@@ -4,7 +4,7 @@ use Rattle.std.specs.Prelude.{if◌then◌else◌, nat_le}
 use Rattle.std.proofs.lemmas.Bool.{and_left, and_right, cases_Bool, eq-eqb, eqb-true, le-leb, lt-leb, ne_eqb}
 use Rattle.keyed_rows.specs.Ordered.{add_row}
 use Rattle.keyed_rows.specs.Totals.{total}
-use Rattle.bank_books.specs.Balances.{account_deltas, account_opening, branch_deltas, branch_opening, deltas_up_to, entry_count, teller_deltas, teller_opening, turn_count}
+use Rattle.bank_books.specs.Balances.{account_deltas, account_opening, branch_deltas, branch_opening, deltas_up_to, teller_deltas, teller_opening, turn_count}
 use Rattle.bank_books.specs.Effects.{written}
 use Rattle.bank_books.specs.Keys.{entry_key}
 use Rattle.bank_books.specs.Records.{account_record_of, branch_record_of, entry_record_of, teller_record_of}

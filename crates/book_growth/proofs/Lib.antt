@@ -7,6 +7,7 @@ pub mod EntryBooks
 pub mod EntryMoved
 pub mod GivenRows
 pub mod LastRow
+pub mod LegsBooks
 pub mod LimitsKept
 pub mod LineAdded
 pub mod Numbered

@@ -1,5 +1,5 @@
 -- Limits that held, and that hold of what moved; and what moves twice.
-use Rattle.std.proofs.Common.{◌≡◌, ℤ, ◌+ℤ◌, ap, arith, sym, subst, ◌∙◌, inl, inr}
+use Rattle.std.proofs.Common.{◌≡◌, ℤ, ◌+ℤ◌, arith, sym, subst, ◌∙◌, inl, inr}
 use Rattle.std.proofs.lemmas.Int.{ints}
 use Rattle.money.specs.Range.{IsCents}
 use Rattle.book_growth.specs.Laws.{LimitsMoved, MovedTwice}

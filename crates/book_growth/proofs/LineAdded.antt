@@ -1,17 +1,15 @@
 -- A cash line that may come next: what it keeps, and what it moves.
-use Rattle.std.proofs.Common.{◌≡◌, ℕ, ◌+◌, ◌≤◌, ℤ, pos, ◌+ℤ◌, List, [], ◌∷◌, ◌++◌, map, reverse, Bool, true, false, cond, not, refl, ap, arith, sym, ◌∙◌, subst, ◌==◌, ◌&&◌, ◌||◌, Option, Some, None, Contains, ◌⊎◌, inl, inr}
-use Rattle.std.specs.Prelude.{IfSome, if◌then◌else◌, nat_le, neg_ℤ, option_and_then}
-use Rattle.std.specs.List.{find}
-use Rattle.std.proofs.lemmas.Bool.{and_left, cases_Bool, eq-eqb, eqb-true, false≢true, ne_eqb}
+use Rattle.std.proofs.Common.{◌≡◌, ℕ, ◌+◌, ℤ, pos, ◌+ℤ◌, List, map, Bool, true, false, cond, not, refl, ap, arith, sym, ◌∙◌, subst, ◌==◌, ◌&&◌, ◌||◌, Contains, inl, inr}
+use Rattle.std.specs.Prelude.{IfSome, if◌then◌else◌, neg_ℤ, option_and_then}
+use Rattle.std.proofs.lemmas.Bool.{and_left, cases_Bool, eqb-true, false≢true}
 use Rattle.std.proofs.lemmas.Int.{ints}
-use Rattle.std.proofs.lemmas.List.{reverse-append}
 use Rattle.keyed_rows.specs.Ordered.{add_row}
 use Rattle.keyed_rows.specs.Totals.{total}
 use Rattle.bank_books.specs.Cash.{cash_entry_total, difference_total, drawer_total, holder_after, holder_of, is_cash_entry, is_difference, is_turnover, line_count, place_cash, vault_opening}
 use Rattle.bank_books.specs.Conditions.{IsCashBalanced}
 use Rattle.bank_books.specs.Effects.{written}
 use Rattle.bank_books.specs.Keys.{branch_key, line_key, teller_key}
-use Rattle.bank_books.specs.Range.{IsBranch, IsUserNumber}
+use Rattle.bank_books.specs.Range.{IsUserNumber}
 use Rattle.counter_ops.specs.Ranges.{IsCash}
 use Rattle.bank_books.specs.Records.{branch_record_of, teller_record_of}
 use Rattle.bank_books.specs.WorldLists.{WorldLists}
@@ -25,7 +23,7 @@ use Rattle.bank_books.specs.declared.rows.Teller.{Teller}
 use Rattle.book_growth.specs.CashGap.{cash_gap, gap_share}
 use Rattle.book_growth.specs.Laws.{CashBalances, LineKeepsBooks, LineKeepsLedger, LineMoves}
 use Rattle.book_growth.specs.Ledger.{IsLineSound, IsOpenLedger}
-use Rattle.book_growth.specs.Limits.{AreWithinLimits, IsBranchWithin, IsCashWithin, IsTellerWithin}
+use Rattle.book_growth.specs.Limits.{AreWithinLimits, IsBranchWithin}
 use Rattle.book_growth.specs.Moves.{HasRoomForLine, branch_lined}
 use Rattle.book_growth.specs.Next.{IsNextLine}
 use Rattle.book_growth.proofs.BooksSplit.{books_parts}

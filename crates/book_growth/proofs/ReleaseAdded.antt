@@ -1,7 +1,7 @@
 -- A release that may come next.
-use Rattle.std.proofs.Common.{◌≡◌, ℕ, ◌+◌, ◌≤◌, Bool, true, false, refl, arith, sym, ◌∙◌, subst, ◌==◌, ◌&&◌, Option, Some, None, Contains}
-use Rattle.std.specs.List.{count_by, find}
-use Rattle.std.proofs.lemmas.Bool.{and_left, eq-eqb, eqb-true, false≢true}
+use Rattle.std.proofs.Common.{◌≡◌, ℕ, ◌+◌, ◌≤◌, refl, arith, subst, ◌==◌, Option, Some, None}
+use Rattle.std.specs.List.{find}
+use Rattle.std.proofs.lemmas.Bool.{eqb-true}
 use Rattle.keyed_rows.specs.Ordered.{add_row}
 use Rattle.bank_books.specs.Effects.{written}
 use Rattle.bank_books.specs.Keys.{release_key}

@@ -1,11 +1,9 @@
 -- A session that is begun or ended: it touches users alone, and they are there still.
-use Rattle.std.proofs.Common.{◌≡◌, ℕ, ◌≤◌, refl}
+use Rattle.std.proofs.Common.{ℕ, ◌≤◌, refl}
 use Rattle.bank_terms.specs.Limits.{max_key}
-use Rattle.keyed_rows.specs.Changed.{change_rows}
 use Rattle.bank_policy.specs.PolicyKeys.{user_key}
 use Rattle.bank_policy.specs.PolicyWrites.{in_session, with_session}
 use Rattle.bank_policy.specs.declared.policy_write.Session.{Session}
-use Rattle.bank_policy.specs.declared.rows.User.{User}
 use Rattle.bank_books.specs.Effects.{written}
 use Rattle.bank_books.specs.Range.{IsUser}
 use Rattle.bank_books.specs.WorldLists.{WorldLists}

@@ -1,5 +1,5 @@
 -- By how much the cash of a branch differs from what its lines explain, and what one line adds to that.
-use Rattle.std.specs.Prelude.{ℕ, ℤ, pos, ◌+ℤ◌, neg_ℤ, ◌||◌, ◌==◌, List, if◌then◌else◌}
+use Rattle.std.specs.Prelude.{ℕ, ℤ, pos, ◌+ℤ◌, neg_ℤ, ◌||◌, List, if◌then◌else◌}
 use Rattle.bank_books.specs.Cash.{cash_entry_total, difference_total, drawer_total, is_cash_entry, is_difference, place_cash}
 use Rattle.bank_books.specs.declared.rows.CashLine.{CashLine}
 

@@ -19,7 +19,7 @@ use Rattle.bank_books.specs.declared.rows.Release.{Release}
 use Rattle.book_growth.specs.CashGap.{cash_gap, gap_share}
 use Rattle.book_growth.specs.Ledger.{IsLedger, IsOpenLedger, NamesEntries}
 use Rattle.book_growth.specs.Limits.{AreMovedWithin, AreWithinLimits}
-use Rattle.book_growth.specs.Moves.{HasRoomFor, HasRoomForLine, IsMovedAlone, IsMovedByAccount, IsMovedByEntry, IsMovedByLine, MovesNothing, StandsLast, with_proof}
+use Rattle.book_growth.specs.Moves.{AreLegs, HasRoomFor, HasRoomForLegs, HasRoomForLine, IsMovedAlone, IsMovedByAccount, IsMovedByEntry, IsMovedByLine, MovesNothing, StandsLast, with_proof}
 use Rattle.book_growth.specs.Next.{IsNextAccount, IsNextEntry, IsNextLine, IsNextProof, IsNextRelease}
 
 -- the books are the ledger within its limits
@@ -50,6 +50,11 @@ EntryStandsLast = (w : WorldLists) (e : Entry) → IsNextEntry w e → IsOpenLed
 -- an entry alone: it may come next, the entries that it names are there, and there is room for it
 abbrev pub EntryKeepsBooks : Type 0
 EntryKeepsBooks = (w : WorldLists) (e : Entry) → IsNextEntry w e → NamesEntries w.entries e → HasRoomFor w e → Books w → Books (written (write.Entry e) w)
+
+-- the two legs of a transfer: limits, and the entries that they name, are judged of both together
+abbrev pub LegsKeepBooks : Type 0
+LegsKeepBooks = (w : WorldLists) (first second : Entry) → AreLegs w first second → HasRoomForLegs w first second → Books w
+    → Books (written (write.Entry second) (written (write.Entry first) w))
 
 -- ---- an account
 

@@ -17,6 +17,7 @@ use Rattle.bank_books.specs.declared.rows.Entry.{Entry}
 use Rattle.bank_books.specs.declared.rows.Proof.{Proof}
 use Rattle.bank_books.specs.declared.rows.Teller.{Teller}
 use Rattle.book_growth.specs.CashGap.{cash_gap, gap_share}
+use Rattle.book_growth.specs.Next.{IsNextEntry}
 use Rattle.book_growth.specs.Limits.{IsAccountWithin, IsCashWithin, IsHistoryWithin}
 use Rattle.money.specs.Range.{IsCents}
 
@@ -60,6 +61,28 @@ pub record HasRoomFor (w : WorldLists) (e : Entry) : Type 0 where
       let after = branch_entered e.delta (branch_record_of w b) in IsHistoryWithin after.balance after.history after.entries
   pub teller : (t : Teller) → teller_row e.teller w.tellers ≡ Some t → IsCents (teller_entered e.delta (teller_record_of w t)).balance
   pub account : (a : Account) → account_row e.account w.accounts ≡ Some a → IsAccountWithin (account_entered e.delta (account_record_of w a))
+
+-- ---- two entries, as the legs of a transfer
+
+-- two entries at one teller and two accounts, one behind the other, that name each other
+pub record AreLegs (w : WorldLists) (first second : Entry) : Type 0 where
+  pub first_next : IsNextEntry w first
+  pub second_next : IsNextEntry (written (write.Entry first) w) second
+  pub branch : second.branch ≡ first.branch
+  pub teller : second.teller ≡ first.teller
+  pub accounts : second.account ≢ first.account
+  pub first_partner : first.partner ≡ second.number
+  pub second_partner : second.partner ≡ first.number
+  pub first_undoes : first.undoes ≡ 0
+  pub second_undoes : second.undoes ≡ 0
+
+-- with both of them, what their branch, their teller and their accounts come to is within the limits; between the two it need not be
+pub record HasRoomForLegs (w : WorldLists) (first second : Entry) : Type 0 where
+  pub branch : (b : Branch) → branch_row first.branch w.branches ≡ Some b →
+      let after = branch_entered second.delta (branch_entered first.delta (branch_record_of w b)) in IsHistoryWithin after.balance after.history after.entries
+  pub teller : (t : Teller) → teller_row first.teller w.tellers ≡ Some t → IsCents (teller_entered second.delta (teller_entered first.delta (teller_record_of w t))).balance
+  pub source : (a : Account) → account_row first.account w.accounts ≡ Some a → IsAccountWithin (account_entered first.delta (account_record_of w a))
+  pub target : (a : Account) → account_row second.account w.accounts ≡ Some a → IsAccountWithin (account_entered second.delta (account_record_of w a))
 
 -- ---- an account
 

@@ -1,6 +1,6 @@
 //! What holds of every change of each kind. The functions do nothing; their contracts are the laws.
 
-ghost use Rattle.book_growth.specs.Laws.{AccountKeepsBooks, AccountKeepsLedger, AccountMoves, BooksParts, CashBalances, EntryKeepsBooks, EntryKeepsLedger, EntryMoves, EntryStandsLast, LimitsMoved, LineKeepsBooks, LineKeepsLedger, LineMoves, MovedTwice, ProofAndDayKeepBooks, ProofAndDayKeepLedger, ProofAndDayMoveNothing, ReleaseKeepsBooks, ReleaseKeepsLedger, ReleaseMovesNothing, SessionKeepsBooks, SessionKeepsLedger, SessionMovesNothing, UsedKeepsBooks, UsedKeepsLedger, UsedMovesNothing};
+ghost use Rattle.book_growth.specs.Laws.{AccountKeepsBooks, AccountKeepsLedger, AccountMoves, BooksParts, CashBalances, EntryKeepsBooks, EntryKeepsLedger, EntryMoves, EntryStandsLast, LegsKeepBooks, LimitsMoved, LineKeepsBooks, LineKeepsLedger, LineMoves, MovedTwice, ProofAndDayKeepBooks, ProofAndDayKeepLedger, ProofAndDayMoveNothing, ReleaseKeepsBooks, ReleaseKeepsLedger, ReleaseMovesNothing, SessionKeepsBooks, SessionKeepsLedger, SessionMovesNothing, UsedKeepsBooks, UsedKeepsLedger, UsedMovesNothing};
 
 /// The books hold exactly where the ledger does and all that rows come to is within the limits.
 pub fn books_parts()
@@ -36,6 +36,12 @@ pub fn entry_stands_last()
 /// names are there.
 pub fn entry_keeps_books()
     ensures { EntryKeepsBooks }
+{}
+
+/// Where the books hold, they hold with two entries that name each other, as the legs of a transfer, if
+/// there is room for both together.
+pub fn legs_keep_books()
+    ensures { LegsKeepBooks }
 {}
 
 /// An account that is not there yet and opens with nothing keeps the ledger.

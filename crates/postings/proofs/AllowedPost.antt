@@ -1,5 +1,5 @@
 -- What is known of a post that no rule denies: its rows are there, and its entry may come next.
-use Rattle.std.proofs.Common.{◌≡◌, ℕ, ◌+◌, ◌≤◌, ◌+ℤ◌, true, false, not, ap, sym, ◌∙◌, subst, ◌==◌, ◌||◌, ◌&&◌, Some, None, inl, refl, int_lt}
+use Rattle.std.proofs.Common.{◌≡◌, ◌+◌, ◌≤◌, ◌+ℤ◌, true, false, not, ap, sym, ◌∙◌, subst, ◌==◌, ◌||◌, ◌&&◌, Some, None, inl, refl, int_lt}
 use Rattle.std.specs.Prelude.{is_none, nat_le, option_and_then, option_map}
 use Rattle.std.specs.Option.{option_map_or}
 use Rattle.std.proofs.lemmas.Bool.{and_parts, eqb-true, not-false, or_parts}
