@@ -48,8 +48,8 @@ pub enum BooksFault {
         branch: u32,
     },
     /// A number is out of its limits, below a floor, or cash below zero; a key stands twice; a row
-    /// names one that isn't there or a teller of another branch; or releases or proofs are not
-    /// numbered as they have to be.
+    /// names one that isn't there, or a teller or an entry of another branch; or releases or proofs
+    /// are not numbered as they have to be.
     #[error("range")]
     Range,
 }

@@ -107,11 +107,7 @@ pub(crate) fn is_user(world: &World, key: u32) -> bool
 pub(crate) fn is_entry_or_none(world: &World, branch: u32, number: u32) -> bool
     ensures { IsTrue result ↔ IsEntryOrNone world.now.entries branch number }
 {
-    number == 0
-        || is_there(
-            world.entries(),
-            branch as u128 * (1 << 32) + number as u128,
-        )
+    number == 0 || is_there(world.entries(), branch as u128 * (1 << 32) + number as u128)
 }
 
 /// Whether a teller of that number is there, and of that branch.

@@ -25,7 +25,7 @@ const USER: u32 = 1;
 const VAULT: i64 = 100_000_000;
 
 /// A bank of so many branches, each with ten tellers, a hundred accounts and a thousand entries, which go to accounts of
-/// all branches. None where an amount is out of range, which none is.
+/// all branches and name each other in pairs. None where an amount is out of range, which none is.
 pub fn made_up_world(alloc: Global, branches: u32) -> Result<Option<World>, Fault> {
     let mut lists = Lists::new(alloc);
     let mut turns = Vec::new(alloc);
@@ -148,8 +148,17 @@ fn entry(turns: &mut Vec<u32>, branch: u32, number: u32, delta: Delta) -> Entry 
         day: 1,
         user: USER,
         form: EntryForm::Post,
-        partner: 0,
+        partner: partner(number),
         undoes: 0,
+    }
+}
+
+/// The other entry of a pair: 1 and 2 name each other, 3 and 4, and so on.
+fn partner(number: u32) -> u32 {
+    if number % 2 == 0 {
+        number.saturating_sub(1)
+    } else {
+        number.saturating_add(1)
     }
 }
 

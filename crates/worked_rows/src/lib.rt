@@ -7,6 +7,8 @@ mod books;
 #[cfg(test)]
 mod by_rows;
 #[cfg(test)]
+mod named_entries;
+#[cfg(test)]
 mod opening;
 #[cfg(test)]
 mod policy_rows;
