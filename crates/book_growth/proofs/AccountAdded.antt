@@ -71,7 +71,12 @@ account_moves w a new ledger = record {
   new =
       ap (λ z. record (account_record_of w a) { balance = z }) (no_balance w a new ledger)
       ∙ ap (λ n. record (account_record_of w a) { balance = pos 0; turns = n }) (no_turns w a new ledger);
-  account_balances = λ key. ap (λ z. z +ℤ account_deltas key w.entries) (opening_stays w a new ledger key);
+  nothing = record {
+    branch_balances = λ key. refl;
+    teller_balances = λ key. refl;
+    account_balances = λ key. ap (λ z. z +ℤ account_deltas key w.entries) (opening_stays w a new ledger key);
+    cash = λ branch place. refl;
+  };
 }
 
 -- ---- what it keeps

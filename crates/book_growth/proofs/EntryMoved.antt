@@ -81,6 +81,7 @@ entry_moves w e = record {
   branch_balances = moves_alone (λ k. branch_opening k w.branches) (λ x. x.branch) e w.entries;
   teller_balances = moves_alone (λ k. teller_opening k w.tellers) (λ x. x.teller) e w.entries;
   account_balances = moves_alone (λ k. account_opening k w.accounts) (λ x. x.account) e w.entries;
+  cash = λ branch place. refl;
 }
 
 -- ---- the balances after entries

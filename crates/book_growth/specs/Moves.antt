@@ -26,6 +26,13 @@ pub record IsMovedAlone (before after : ℕ → ℤ) (key : ℕ) (delta : ℤ) :
   pub moved : after key ≡ before key +ℤ delta
   pub kept : (other : ℕ) → other ≢ key → after other ≡ before other
 
+-- every balance and all cash stay
+pub record MovesNothing (before after : WorldLists) : Type 0 where
+  pub branch_balances : (key : ℕ) → branch_balance after key ≡ branch_balance before key
+  pub teller_balances : (key : ℕ) → teller_balance after key ≡ teller_balance before key
+  pub account_balances : (key : ℕ) → account_balance after key ≡ account_balance before key
+  pub cash : (branch place : ℕ) → cash_of after branch place ≡ cash_of before branch place
+
 -- ---- an entry
 
 -- what an entry of this delta makes of what its branch, its teller and its account come to
@@ -49,6 +56,7 @@ pub record IsMovedByEntry (w : WorldLists) (e : Entry) : Type 0 where
   pub branch_balances : IsMovedAlone (branch_balance w) (branch_balance (written (write.Entry e) w)) e.branch e.delta
   pub teller_balances : IsMovedAlone (teller_balance w) (teller_balance (written (write.Entry e) w)) e.teller e.delta
   pub account_balances : IsMovedAlone (account_balance w) (account_balance (written (write.Entry e) w)) e.account e.delta
+  pub cash : (branch place : ℕ) → cash_of (written (write.Entry e) w) branch place ≡ cash_of w branch place
 
 -- the balance after it is that of its account, and those after earlier entries stay
 pub record StandsLast (w : WorldLists) (e : Entry) : Type 0 where
@@ -97,7 +105,7 @@ pub record IsMovedByAccount (w : WorldLists) (a : Account) : Type 0 where
   pub accounts : (row : Account) → account_record_of (written (write.Account a) w) row ≡ account_record_of w row
   pub entries : (row : Entry) → entry_record_of (written (write.Account a) w) row ≡ entry_record_of w row
   pub new : account_record_of (written (write.Account a) w) a ≡ record { row = a; balance = pos 0; turns = 0 }
-  pub account_balances : (key : ℕ) → account_balance (written (write.Account a) w) key ≡ account_balance w key
+  pub nothing : MovesNothing w (written (write.Account a) w)
 
 -- ---- a cash line
 
@@ -134,10 +142,3 @@ pub record HasRoomForLine (w : WorldLists) (l : CashLine) : Type 0 where
 -- the World where the present day of a branch is proved, and the branch is on its next day
 abbrev pub with_proof : Proof → WorldLists → WorldLists
 with_proof p w = written (write.Day (record { branch = p.branch; day = p.day + 1 })) (written (write.Proof p) w)
-
--- every balance and all cash stay
-pub record MovesNothing (before after : WorldLists) : Type 0 where
-  pub branch_balances : (key : ℕ) → branch_balance after key ≡ branch_balance before key
-  pub teller_balances : (key : ℕ) → teller_balance after key ≡ teller_balance before key
-  pub account_balances : (key : ℕ) → account_balance after key ≡ account_balance before key
-  pub cash : (branch place : ℕ) → cash_of after branch place ≡ cash_of before branch place

@@ -21,15 +21,15 @@ returns-in_err-session c =
     let failed : false ≡ is_ok c.parse.result = search rules in
     none ∙ sym (cond-false _ _ _ (no_session_parsed _ _ parsed (sym c.if-not-starts_number.ensures) failed))
 
-pub returns-then-session-le-MAX_SESSION : goal.returns-then-session-le-MAX_SESSION
-returns-then-session-le-MAX_SESSION c =
+pub returns-then-session-le-MAX_KEY : goal.returns-then-session-le-MAX_KEY
+returns-then-session-le-MAX_KEY c =
     let parsed : ParsesUnsigned 32 10 c.args.value.now c.parse.result = search rules in
     let told : Some c.in_ok-session.session ≡ result_ok c.parse.result = search rules in
-    let is = session_parsed _ _ parsed (sym c.if-not-starts_number.ensures) _ told c.if-session-le-MAX_SESSION.true in
+    let is = session_parsed _ _ parsed (sym c.if-not-starts_number.ensures) _ told c.if-session-le-MAX_KEY.true in
     ap Some is.1 ∙ sym (cond-true _ _ _ is.0)
 
-pub returns-else-session-le-MAX_SESSION : goal.returns-else-session-le-MAX_SESSION
-returns-else-session-le-MAX_SESSION c =
+pub returns-else-session-le-MAX_KEY : goal.returns-else-session-le-MAX_KEY
+returns-else-session-le-MAX_KEY c =
     let parsed : ParsesUnsigned 32 10 c.args.value.now c.parse.result = search rules in
     let told : Some c.in_ok-session.session ≡ result_ok c.parse.result = search rules in
-    sym (cond-false _ _ _ (no_session_above _ _ parsed (sym c.if-not-starts_number.ensures) _ told c.if-session-le-MAX_SESSION.false))
+    sym (cond-false _ _ _ (no_session_above _ _ parsed (sym c.if-not-starts_number.ensures) _ told c.if-session-le-MAX_KEY.false))
