@@ -2,8 +2,8 @@
 //! refused leaves.
 
 use bank_books::{
-    Account, Branch, BranchDay, CashLine, Entry, EntryForm, LineForm, Lists, Plan,
-    Proof, Release, ReleaseKey, RowWrite, World,
+    Account, Branch, BranchDay, CashLine, Entry, EntryForm, LineForm, Lists, Plan, Proof, Release,
+    ReleaseKey, RowWrite, World,
 };
 use bank_policy::{
     Certifier, ItemSet, Name, Policy, PolicyWrite, Relation, RelationKey, Session, Suspension,
