@@ -16,3 +16,4 @@ pub mod SessionSet
 pub mod LastRow
 pub mod LineAdded
 pub mod LegsBooks
+pub mod LinesBooks
