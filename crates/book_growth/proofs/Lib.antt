@@ -10,6 +10,7 @@ pub mod LastRow
 pub mod LegsBooks
 pub mod LimitsKept
 pub mod LineAdded
+pub mod LinesBooks
 pub mod Numbered
 pub mod ReleaseAdded
 pub mod ReleaseUsed

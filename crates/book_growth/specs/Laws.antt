@@ -1,6 +1,7 @@
 -- What holds of every change of each kind.
-use Rattle.std.specs.Prelude.{ℕ, ℤ, pos, ◌≡◌, ◌↔◌, ◌+◌, ◌≤◌, ◌+ℤ◌, List}
+use Rattle.std.specs.Prelude.{ℕ, ℤ, pos, ◌≡◌, ◌↔◌, ◌+◌, ◌≤◌, ◌+ℤ◌, ◌==◌, List, map, if◌then◌else◌}
 use Rattle.bank_terms.specs.Limits.{max_accounts, max_key}
+use Rattle.keyed_rows.specs.Totals.{total}
 use Rattle.bank_books.specs.Balances.{account_count}
 use Rattle.bank_books.specs.Books.{Books}
 use Rattle.bank_books.specs.Conditions.{IsCashBalanced}
@@ -20,7 +21,7 @@ use Rattle.book_growth.specs.CashGap.{cash_gap, gap_share}
 use Rattle.book_growth.specs.Ledger.{IsLedger, IsOpenLedger, NamesEntries}
 use Rattle.book_growth.specs.Limits.{AreMovedWithin, AreWithinLimits}
 use Rattle.book_growth.specs.Moves.{AreLegs, HasRoomFor, HasRoomForLegs, HasRoomForLine, IsMovedAlone, IsMovedByAccount, IsMovedByEntry, IsMovedByLine, MovesNothing, StandsLast, with_proof}
-use Rattle.book_growth.specs.Next.{IsNextAccount, IsNextEntry, IsNextLine, IsNextProof, IsNextRelease}
+use Rattle.book_growth.specs.Next.{AreNextLines, IsNextAccount, IsNextEntry, IsNextLine, IsNextProof, IsNextRelease, lined}
 
 -- the books are the ledger within its limits
 abbrev pub BooksParts : Type 0
@@ -128,3 +129,9 @@ LineMoves = (w : WorldLists) (l : CashLine) → IsMovedByLine w l
 -- a line alone, which explains itself
 abbrev pub LineKeepsBooks : Type 0
 LineKeepsBooks = (w : WorldLists) (l : CashLine) → IsNextLine w l → gap_share l ≡ pos 0 → HasRoomForLine w l → Books w → Books (written (write.Line l) w)
+
+-- Lines of which none need explain itself, as those of cash that is moved: together they leave each branch's gap, and the limits are
+-- judged of all of them.
+abbrev pub LinesKeepBooks : Type 0
+LinesKeepBooks = (w : WorldLists) (lines : List CashLine) → AreNextLines w lines
+    → ((branch : ℕ) → total (map (λ l. if l.branch == branch then gap_share l else pos 0) lines) ≡ pos 0) → AreWithinLimits (lined lines w) → Books w → Books (lined lines w)

@@ -1,11 +1,13 @@
 -- What a row has to be to come next.
-use Rattle.std.specs.Prelude.{pos, ◌≡◌, ◌≢◌, ◌+◌, ◌≤◌, Contains, IfSome}
+use Rattle.std.specs.Prelude.{pos, ◌≡◌, ◌≢◌, ◌+◌, ◌≤◌, ⊤, List, [], ◌∷◌, Contains, IfSome}
 use Rattle.bank_terms.specs.Limits.{max_releases}
 use Rattle.bank_books.specs.Balances.{entry_count, turn_count}
 use Rattle.bank_books.specs.Cash.{holder_after, line_count}
+use Rattle.bank_books.specs.Effects.{written}
 use Rattle.bank_books.specs.Range.{HoldsReleasable, IsBranch, IsDay, IsProofInRange, IsUser, IsUserNumber}
 use Rattle.bank_books.specs.Records.{release_count}
 use Rattle.bank_books.specs.WorldLists.{WorldLists}
+use Rattle.bank_books.specs.declared.row_write.RowWrite.TheVariants as write
 use Rattle.bank_books.specs.declared.rows.Account.{Account}
 use Rattle.bank_books.specs.declared.rows.Branch.{Branch}
 use Rattle.bank_books.specs.declared.rows.CashLine.{CashLine}
@@ -48,3 +50,13 @@ pub record IsNextLine (w : WorldLists) (l : CashLine) : Type 0 where
   pub sound : IsLineSound w.branches w.tellers w.policy.users l
   pub number : l.number ≡ line_count l.branch w.lines + 1
   pub holder : IfSome (holder_after l l.form) IsUserNumber
+
+-- the World with these lines, one after another
+abbrev pub lined : List CashLine → WorldLists → WorldLists
+lined [] w = w
+lined (l ∷ lines) w = lined lines (written (write.Line l) w)
+
+-- each of them may come next, behind those before it
+abbrev pub AreNextLines : WorldLists → List CashLine → Type 0
+AreNextLines w [] = ⊤
+AreNextLines w (l ∷ lines) = IsNextLine w l × AreNextLines (written (write.Line l) w) lines

@@ -1,6 +1,6 @@
 //! What holds of every change of each kind. The functions do nothing; their contracts are the laws.
 
-ghost use Rattle.book_growth.specs.Laws.{AccountKeepsBooks, AccountKeepsLedger, AccountMoves, BooksParts, CashBalances, EntryKeepsBooks, EntryKeepsLedger, EntryMoves, EntryStandsLast, LegsKeepBooks, LimitsMoved, LineKeepsBooks, LineKeepsLedger, LineMoves, MovedTwice, ProofAndDayKeepBooks, ProofAndDayKeepLedger, ProofAndDayMoveNothing, ReleaseKeepsBooks, ReleaseKeepsLedger, ReleaseMovesNothing, SessionKeepsBooks, SessionKeepsLedger, SessionMovesNothing, UsedKeepsBooks, UsedKeepsLedger, UsedMovesNothing};
+ghost use Rattle.book_growth.specs.Laws.{AccountKeepsBooks, AccountKeepsLedger, AccountMoves, BooksParts, CashBalances, EntryKeepsBooks, EntryKeepsLedger, EntryMoves, EntryStandsLast, LegsKeepBooks, LimitsMoved, LineKeepsBooks, LineKeepsLedger, LineMoves, LinesKeepBooks, MovedTwice, ProofAndDayKeepBooks, ProofAndDayKeepLedger, ProofAndDayMoveNothing, ReleaseKeepsBooks, ReleaseKeepsLedger, ReleaseMovesNothing, SessionKeepsBooks, SessionKeepsLedger, SessionMovesNothing, UsedKeepsBooks, UsedKeepsLedger, UsedMovesNothing};
 
 /// The books hold exactly where the ledger does and all that rows come to is within the limits.
 pub fn books_parts()
@@ -137,4 +137,10 @@ pub fn line_moves()
 /// Where the books hold, they hold with the next line, if there is room for it and it explains itself.
 pub fn line_keeps_books()
     ensures { LineKeepsBooks }
+{}
+
+/// Where the books hold, they hold with several lines that leave each branch's gap together, as those of
+/// cash that is moved, if all they come to is within the limits.
+pub fn lines_keep_books()
+    ensures { LinesKeepBooks }
 {}
