@@ -108,28 +108,6 @@ fn neighbours(rt: &impl Abort, alloc: Global, version: u64) -> Result<World, Fai
     Ok(world.ok_or("rows in order")?)
 }
 
-/// All rows of a bank but its sets, as text.
-fn picture(alloc: Global, world: &World) -> Result<String, Fail> {
-    let policy = world.policy();
-    let books = format!(in alloc;
-        "{:?} {:?} {:?} {:?} {:?} {:?}",
-        world.branches(),
-        world.accounts(),
-        world.entries(),
-        world.lines(),
-        world.proofs(),
-        world.releases()
-    )?;
-    let rows = format!(in alloc;
-        "{:?} {:?} {:?} {:?}",
-        policy.users(),
-        policy.relations(),
-        policy.triples(),
-        policy.certifiers()
-    )?;
-    Ok(format!(in alloc; "{books} {rows}")?)
-}
-
 /// Has a bank apply a plan that its version has room for.
 fn apply(rt: &impl Abort, alloc: Global, world: &mut World, plan: Plan) -> Result<(), AllocError> {
     assert!(rt; world.has_version_for(&plan));
@@ -143,276 +121,378 @@ fn changed(rt: &impl Abort, alloc: Global, row: RowWrite) -> Result<World, Fail>
     Ok(world)
 }
 
+/// The day of each branch.
+fn days(alloc: Global, world: &World) -> Result<Vec<u32>, AllocError> {
+    let mut days = Vec::new(alloc);
+    for row in world.branches() {
+        days.push(row.day)?;
+    }
+    Ok(days)
+}
+
+/// Each release: its user and number, and 1 where it is used up.
+fn releases(alloc: Global, world: &World) -> Result<Vec<[u32; 3]>, AllocError> {
+    let mut releases = Vec::new(alloc);
+    for row in world.releases() {
+        releases.push([row.user, row.number, row.used as u32])?;
+    }
+    Ok(releases)
+}
+
+/// Each user: number, session, and 1 where that is open.
+fn users(alloc: Global, world: &World) -> Result<Vec<[u32; 3]>, AllocError> {
+    let mut users = Vec::new(alloc);
+    for row in world.policy().users() {
+        users.push([row.user, row.session, row.on as u32])?;
+    }
+    Ok(users)
+}
+
+/// Each relation: its procedure's number, and its set.
+fn relations(alloc: Global, world: &World) -> Result<Vec<[u32; 2]>, AllocError> {
+    let mut relations = Vec::new(alloc);
+    for row in world.policy().relations() {
+        relations.push([row.procedure.number() as u32, row.set])?;
+    }
+    Ok(relations)
+}
+
+/// Each triple: its user, its procedure's number, and its set.
+fn triples(alloc: Global, world: &World) -> Result<Vec<[u32; 3]>, AllocError> {
+    let mut triples = Vec::new(alloc);
+    for row in world.policy().triples() {
+        triples.push([row.user, row.procedure.number() as u32, row.set])?;
+    }
+    Ok(triples)
+}
+
+/// The user of each certifier.
+fn certifiers(alloc: Global, world: &World) -> Result<Vec<u32>, AllocError> {
+    let mut certifiers = Vec::new(alloc);
+    for row in world.policy().certifiers() {
+        certifiers.push(row.user)?;
+    }
+    Ok(certifiers)
+}
+
+/// The rows of the neighbours' books and policy as they stand before any change.
+fn stand_as_before(rt: &impl Abort, alloc: Global, world: &World) -> Result<(), AllocError> {
+    assert!(rt; days(alloc, world)?.as_slice() == [1, 1, 1].as_slice());
+    assert!(rt;
+        releases(alloc, world)?.as_slice()
+            == [[6, 2, 0], [7, 1, 0], [7, 2, 0], [7, 3, 0], [8, 2, 0]].as_slice()
+    );
+    assert!(rt; users(alloc, world)?.as_slice() == [[6, 3, 1], [7, 3, 1], [8, 3, 1]].as_slice());
+    policy_stands_as_before(rt, alloc, world)
+}
+
+fn policy_stands_as_before(
+    rt: &impl Abort,
+    alloc: Global,
+    world: &World,
+) -> Result<(), AllocError> {
+    assert!(rt; relations(alloc, world)?.as_slice() == [[1, 1], [1, 2], [1, 3], [2, 2]].as_slice());
+    assert!(rt;
+        triples(alloc, world)?.as_slice()
+            == [[7, 1, 1], [7, 1, 2], [7, 1, 3], [8, 1, 2], [8, 2, 2]].as_slice()
+    );
+    assert!(rt; certifiers(alloc, world)?.as_slice() == [6, 7, 8].as_slice());
+    Ok(())
+}
+
 #[test]
-fn rows_made_anew_leave_their_neighbours(rt: HostRuntime) -> Result<(), Fail> {
+fn the_day_of_one_branch_begins(rt: HostRuntime) -> Result<(), Fail> {
     let alloc = rt.alloc();
     let world = changed(&rt, alloc, RowWrite::Day(BranchDay { branch: 2, day: 9 }))?;
-    assert!(rt; world.branches().iter().map(|row| row.day).eq([1u32, 9, 1]));
+    assert!(rt; days(alloc, &world)?.as_slice() == [1, 9, 1].as_slice());
     assert_eq!(rt; world.version(), 0);
+    Ok(())
+}
 
+#[test]
+fn one_release_is_used_up(rt: HostRuntime) -> Result<(), Fail> {
+    let alloc = rt.alloc();
     let key = ReleaseKey { user: 7, number: 2 };
     let world = changed(&rt, alloc, RowWrite::Used(key))?;
-    let used = world.releases().iter().filter(|row| row.used);
-    assert!(rt; used.map(|row| (row.user, row.number)).eq([(7u32, 2u32)]));
-    assert_eq!(rt; (world.releases().len(), world.version()), (5, 0));
+    assert!(rt;
+        releases(alloc, &world)?.as_slice()
+            == [[6, 2, 0], [7, 1, 0], [7, 2, 1], [7, 3, 0], [8, 2, 0]].as_slice()
+    );
+    assert_eq!(rt; world.version(), 0);
+    Ok(())
+}
 
+#[test]
+fn one_user_has_another_session(rt: HostRuntime) -> Result<(), Fail> {
+    let alloc = rt.alloc();
     let session = Session {
         user: 7,
         session: 4,
         on: false,
     };
     let world = changed(&rt, alloc, RowWrite::Session(session))?;
-    let users = world.policy().users().iter();
-    assert!(rt;
-        users
-            .map(|row| (row.session, row.on))
-            .eq([(3u32, true), (4, false), (3, true)])
-    );
+    assert!(rt; users(alloc, &world)?.as_slice() == [[6, 3, 1], [7, 4, 0], [8, 3, 1]].as_slice());
     assert_eq!(rt; world.version(), 0);
+    Ok(())
+}
 
+#[test]
+fn one_user_is_suspended_or_restored_without_a_session(rt: HostRuntime) -> Result<(), Fail> {
+    let alloc = rt.alloc();
     for suspended in [true, false] {
         let to = Suspension { user: 7, suspended };
         let world = changed(&rt, alloc, RowWrite::Policy(PolicyWrite::Suspended(to)))?;
-        let users = world.policy().users().iter();
         assert!(rt;
-            users.map(|row| (row.suspended, row.session, row.on)).eq([
-                (false, 3u32, true),
-                (suspended, 3, false),
-                (false, 3, true)
-            ])
+            users(alloc, &world)?.as_slice() == [[6, 3, 1], [7, 3, 0], [8, 3, 1]].as_slice()
         );
+        let row = world.policy().users().get(1);
+        assert!(rt; row.is_some_and(|user| user.suspended == suspended));
         assert_eq!(rt; world.version(), 1);
     }
     Ok(())
 }
 
 #[test]
-fn rows_taken_away_leave_their_neighbours(rt: HostRuntime) -> Result<(), Fail> {
+fn a_withdrawn_relation_takes_its_triples(rt: HostRuntime) -> Result<(), Fail> {
     let alloc = rt.alloc();
     let key = RelationKey {
         procedure: Procedure::Post,
         set: 2,
     };
     let world = changed(&rt, alloc, RowWrite::Policy(PolicyWrite::NoRelation(key)))?;
-    let policy = world.policy();
-    let relations = policy.relations().iter();
-    assert!(rt;
-        relations.map(|row| (row.procedure, row.set)).eq([
-            (Procedure::Post, 1u32),
-            (Procedure::Post, 3),
-            (Procedure::Transfer, 2)
-        ])
-    );
-    let triples = policy.triples().iter();
-    assert!(rt;
-        triples.map(|row| (row.user, row.procedure, row.set)).eq([
-            (7u32, Procedure::Post, 1u32),
-            (7, Procedure::Post, 3),
-            (8, Procedure::Transfer, 2)
-        ])
-    );
+    assert!(rt; relations(alloc, &world)?.as_slice() == [[1, 1], [1, 3], [2, 2]].as_slice());
+    assert!(rt; triples(alloc, &world)?.as_slice() == [[7, 1, 1], [7, 1, 3], [8, 2, 2]].as_slice());
+    Ok(())
+}
 
+#[test]
+fn one_triple_is_taken_back(rt: HostRuntime) -> Result<(), Fail> {
+    let alloc = rt.alloc();
     let key = TripleKey {
         user: 8,
         procedure: Procedure::Post,
         set: 2,
     };
     let world = changed(&rt, alloc, RowWrite::Policy(PolicyWrite::NoTriple(key)))?;
-    let triples = world.policy().triples().iter();
     assert!(rt;
-        triples
-            .map(|row| (row.user, row.set))
-            .eq([(7u32, 1u32), (7, 2), (7, 3), (8, 2)])
+        triples(alloc, &world)?.as_slice()
+            == [[7, 1, 1], [7, 1, 2], [7, 1, 3], [8, 2, 2]].as_slice()
     );
-    assert_eq!(rt; world.policy().relations().len(), 4);
+    Ok(())
+}
 
+#[test]
+fn one_certifier_is_dismissed(rt: HostRuntime) -> Result<(), Fail> {
+    let alloc = rt.alloc();
     let certifier = Certifier {
         user: 7,
         procedure: Procedure::Post,
     };
     let change = PolicyWrite::NoCertifier(certifier);
     let world = changed(&rt, alloc, RowWrite::Policy(change))?;
-    assert!(rt;
-        world
-            .policy()
-            .certifiers()
-            .iter()
-            .map(|row| row.user)
-            .eq([6u32, 8])
-    );
-    assert_eq!(rt; world.version(), 1);
+    assert!(rt; certifiers(alloc, &world)?.as_slice() == [6, 8].as_slice());
     Ok(())
 }
 
 #[test]
-fn changes_of_rows_that_are_absent_change_nothing(rt: HostRuntime) -> Result<(), Fail> {
+fn rows_that_are_absent_are_passed_over(rt: HostRuntime) -> Result<(), Fail> {
     let alloc = rt.alloc();
     let mut world = neighbours(&rt, alloc, 0)?;
-    let before = picture(alloc, &world)?;
-    let procedure = Procedure::Correct;
-    let (set, user) = (2, 7);
-    apply(
-        &rt,
-        alloc,
-        &mut world,
-        vec![in alloc;
-            RowWrite::Day(BranchDay { branch: 4, day: 9 }),
-            RowWrite::Used(ReleaseKey { user: 7, number: 4 }),
-            RowWrite::Used(ReleaseKey { user: 5, number: 1 }),
-            RowWrite::Session(Session {
-                user: 9,
-                session: 4,
-                on: true
-            }),
-        ]?,
-    )?;
-    assert_eq!(rt; picture(alloc, &world)?, before);
+    let session = Session {
+        user: 9,
+        session: 4,
+        on: false,
+    };
+    let plan = vec![in alloc;
+        RowWrite::Day(BranchDay { branch: 4, day: 9 }),
+        RowWrite::Used(ReleaseKey { user: 7, number: 4 }),
+        RowWrite::Used(ReleaseKey { user: 5, number: 1 }),
+        RowWrite::Session(session),
+    ]?;
+    apply(&rt, alloc, &mut world, plan)?;
+    stand_as_before(&rt, alloc, &world)?;
     assert_eq!(rt; world.version(), 0);
-    apply(
-        &rt,
-        alloc,
-        &mut world,
-        vec![in alloc;
-            RowWrite::Policy(PolicyWrite::NoRelation(RelationKey { procedure, set })),
-            RowWrite::Policy(PolicyWrite::NoTriple(TripleKey {
-                user,
-                procedure,
-                set
-            })),
-            RowWrite::Policy(PolicyWrite::NoCertifier(Certifier { user, procedure })),
-            RowWrite::Policy(PolicyWrite::Suspended(Suspension {
-                user: 9,
-                suspended: true
-            })),
-        ]?,
-    )?;
-    assert_eq!(rt; picture(alloc, &world)?, before);
+    Ok(())
+}
+
+#[test]
+fn changes_of_a_policy_without_the_row_raise_its_version(rt: HostRuntime) -> Result<(), Fail> {
+    let alloc = rt.alloc();
+    let mut world = neighbours(&rt, alloc, 0)?;
+    let procedure = Procedure::Correct;
+    let (user, set) = (7, 2);
+    let suspension = Suspension {
+        user: 9,
+        suspended: true,
+    };
+    let plan = vec![in alloc;
+        RowWrite::Policy(PolicyWrite::NoRelation(RelationKey { procedure, set })),
+        RowWrite::Policy(PolicyWrite::NoTriple(TripleKey {
+            user,
+            procedure,
+            set
+        })),
+        RowWrite::Policy(PolicyWrite::NoCertifier(Certifier { user, procedure })),
+        RowWrite::Policy(PolicyWrite::Suspended(suspension)),
+    ]?;
+    apply(&rt, alloc, &mut world, plan)?;
+    stand_as_before(&rt, alloc, &world)?;
     assert_eq!(rt; world.version(), 1);
     Ok(())
 }
 
-/// A row of each kind that is added, between the keys of two others where there are any.
-fn one_of_each(rt: &impl Abort, alloc: Global) -> Result<Plan, Fail> {
-    let procedure = Procedure::Post;
-    let (moment, user) = (9, 7);
-    let entry = Entry {
+/// The first entry of branch 1.
+fn added_entry(rt: &impl Abort) -> Entry {
+    Entry {
         branch: 1,
         number: 1,
         account: 101,
         turn: 1,
         teller: 11,
-        delta: Delta::new(5).ok_or("an amount to add")?,
-        moment,
+        delta: Delta::new(5).expect(rt, "an amount to add"),
+        moment: 9,
         day: 1,
-        user,
+        user: 7,
         form: EntryForm::Post,
         partner: 0,
         undoes: 0,
-    };
-    let line = CashLine {
+    }
+}
+
+/// The first line of the cash book of branch 1.
+fn added_line(rt: &impl Abort) -> CashLine {
+    CashLine {
         branch: 1,
         number: 1,
         place: 0,
         amount: cents(rt, 5),
         form: LineForm::Move,
-        moment,
+        moment: 9,
         day: 1,
-        user,
+        user: 7,
+    }
+}
+
+/// A row of each kind that is added to the books.
+fn rows_for_the_books(rt: &impl Abort, alloc: Global) -> Result<Plan, AllocError> {
+    let account = Account {
+        account: 101,
+        home: 1,
+        opening: cents(rt, 0),
+        floor: cents(rt, 0),
+    };
+    let proof = Proof {
+        branch: 1,
+        day: 1,
+        entries: 1,
+        balance: cents(rt, 5),
+        cash: cents(rt, 5),
     };
     Ok(vec![in alloc;
-        RowWrite::Account(Account {
-            account: 101,
-            home: 1,
-            opening: cents(rt, 0),
-            floor: cents(rt, 0)
-        }),
-        RowWrite::Entry(entry),
-        RowWrite::Line(line),
-        RowWrite::Proof(Proof {
-            branch: 1,
-            day: 1,
-            entries: 1,
-            balance: cents(rt, 5),
-            cash: cents(rt, 5)
-        }),
+        RowWrite::Account(account),
+        RowWrite::Entry(added_entry(rt)),
+        RowWrite::Line(added_line(rt)),
+        RowWrite::Proof(proof),
         RowWrite::Release(release_row(6, 3)),
+    ]?)
+}
+
+/// A row of each kind that is added to the policy.
+fn rows_for_the_policy(alloc: Global) -> Result<Plan, AllocError> {
+    let certifier = Certifier {
+        user: 5,
+        procedure: Procedure::Post,
+    };
+    Ok(vec![in alloc;
         RowWrite::Policy(PolicyWrite::User(user_row(alloc, 5)?)),
         RowWrite::Policy(PolicyWrite::Set(ItemSet::new(4, Vec::new(alloc)))),
-        RowWrite::Policy(PolicyWrite::Relation(relation_row(procedure, 4))),
-        RowWrite::Policy(PolicyWrite::Triple(triple_row(7, procedure, 4))),
-        RowWrite::Policy(PolicyWrite::Certifier(Certifier { user: 5, procedure })),
+        RowWrite::Policy(PolicyWrite::Relation(relation_row(Procedure::Post, 4))),
+        RowWrite::Policy(PolicyWrite::Triple(triple_row(7, Procedure::Post, 4))),
+        RowWrite::Policy(PolicyWrite::Certifier(certifier)),
     ]?)
 }
 
 #[test]
-fn rows_are_added_at_their_places(rt: HostRuntime) -> Result<(), Fail> {
+fn rows_are_added_to_the_books(rt: HostRuntime) -> Result<(), Fail> {
     let alloc = rt.alloc();
     let mut world = neighbours(&rt, alloc, 0)?;
-    apply(&rt, alloc, &mut world, one_of_each(&rt, alloc)?)?;
-    assert_eq!(rt; (world.accounts().len(), world.entries().len()), (1, 1));
-    assert_eq!(rt; (world.lines().len(), world.proofs().len()), (1, 1));
-    let releases = world.releases().iter();
+    apply(&rt, alloc, &mut world, rows_for_the_books(&rt, alloc)?)?;
+    assert_eq!(rt; world.accounts().len(), 1);
+    assert!(rt; world.entries() == [added_entry(&rt)].as_slice());
+    assert!(rt; world.lines() == [added_line(&rt)].as_slice());
+    assert_eq!(rt; world.proofs().len(), 1);
     assert!(rt;
-        releases
-            .map(|row| (row.user, row.number))
-            .eq([(6u32, 2u32), (6, 3), (7, 1), (7, 2), (7, 3), (8, 2)])
+        releases(alloc, &world)?.as_slice()
+            == [
+                [6, 2, 0],
+                [6, 3, 0],
+                [7, 1, 0],
+                [7, 2, 0],
+                [7, 3, 0],
+                [8, 2, 0]
+            ]
+            .as_slice()
     );
-    let policy = world.policy();
+    assert_eq!(rt; world.version(), 0);
+    Ok(())
+}
+
+#[test]
+fn rows_are_added_to_the_policy(rt: HostRuntime) -> Result<(), Fail> {
+    let alloc = rt.alloc();
+    let mut world = neighbours(&rt, alloc, 0)?;
+    apply(&rt, alloc, &mut world, rows_for_the_policy(alloc)?)?;
+    assert_eq!(rt; world.policy().users().len(), 4);
+    assert_eq!(rt; world.policy().sets().len(), 4);
     assert!(rt;
-        policy
-            .users()
-            .iter()
-            .map(|row| row.user)
-            .eq([5u32, 6, 7, 8])
-    );
-    assert!(rt;
-        policy
-            .sets()
-            .iter()
-            .map(|row| row.set())
-            .eq([1u32, 2, 3, 4])
-    );
-    assert!(rt;
-        policy
-            .relations()
-            .iter()
-            .map(|row| row.set)
-            .eq([1u32, 2, 3, 4, 2])
-    );
-    let triples = policy.triples().iter();
-    assert!(rt;
-        triples
-            .map(|row| (row.user, row.set))
-            .eq([(7u32, 1u32), (7, 2), (7, 3), (7, 4), (8, 2), (8, 2)])
+        relations(alloc, &world)?.as_slice() == [[1, 1], [1, 2], [1, 3], [1, 4], [2, 2]].as_slice()
     );
     assert!(rt;
-        policy
-            .certifiers()
-            .iter()
-            .map(|row| row.user)
-            .eq([5u32, 6, 7, 8])
+        triples(alloc, &world)?.as_slice()
+            == [
+                [7, 1, 1],
+                [7, 1, 2],
+                [7, 1, 3],
+                [7, 1, 4],
+                [8, 1, 2],
+                [8, 2, 2]
+            ]
+            .as_slice()
     );
+    assert!(rt; certifiers(alloc, &world)?.as_slice() == [5, 6, 7, 8].as_slice());
     assert_eq!(rt; world.version(), 1);
     Ok(())
+}
+
+/// The next day of a branch, and then a change of each kind that adds to the policy.
+fn day_and_policy(alloc: Global) -> Result<Plan, AllocError> {
+    let mut plan = rows_for_the_policy(alloc)?;
+    plan.insert(0, RowWrite::Day(BranchDay { branch: 2, day: 9 }))?;
+    Ok(plan)
 }
 
 #[test]
 fn a_plan_that_the_version_refuses_changes_nothing(rt: HostRuntime) -> Result<(), Fail> {
     let alloc = rt.alloc();
     let mut store = ListStore::new(neighbours(&rt, alloc, MAX_VERSION)?);
-    let mut refused = one_of_each(&rt, alloc)?;
-    let day = BranchDay { branch: 2, day: 9 };
-    refused.insert(0, RowWrite::Day(day))?;
-    assert_eq!(rt; store.apply(alloc, refused), Err(Fault::Size));
-    assert_eq!(rt; (store.faults(), store.version(alloc)?), (1, MAX_VERSION));
-    assert_eq!(rt; store.triples(alloc, 7)?, 3);
+    assert_eq!(rt;
+        store.apply(alloc, day_and_policy(alloc)?),
+        Err(Fault::Size)
+    );
+    assert_eq!(rt; store.faults(), 1);
+    assert_eq!(rt; store.version(alloc)?, MAX_VERSION);
     assert_eq!(rt; store.sets(alloc)?, 3);
-    assert_eq!(rt; store.release(alloc, 6, 3)?, None);
-
+    assert_eq!(rt; store.triples(alloc, 7)?, 3);
     store.apply(alloc, vec![in alloc; RowWrite::Release(release_row(6, 3))]?)?;
     assert_eq!(rt; store.release(alloc, 6, 3)?, Some(release_row(6, 3)));
+    Ok(())
+}
+
+#[test]
+fn the_greatest_version_is_reached(rt: HostRuntime) -> Result<(), Fail> {
+    let alloc = rt.alloc();
     let mut store = ListStore::new(neighbours(&rt, alloc, MAX_VERSION - 1)?);
-    store.apply(alloc, one_of_each(&rt, alloc)?)?;
+    store.apply(alloc, rows_for_the_policy(alloc)?)?;
     assert_eq!(rt; store.version(alloc)?, MAX_VERSION);
     Ok(())
 }
@@ -422,15 +502,10 @@ fn a_plan_that_the_version_refuses_changes_nothing(rt: HostRuntime) -> Result<()
 fn a_plan_that_memory_refuses_changes_nothing(rt: HostRuntime) -> Result<(), Fail> {
     let alloc = rt.alloc();
     let mut world = neighbours(&rt, alloc, 0)?;
-    let mut plan = one_of_each(&rt, alloc)?;
-    let day = BranchDay { branch: 2, day: 9 };
-    plan.insert(0, RowWrite::Day(day))?;
+    let plan = day_and_policy(alloc)?;
     if apply(&rt, alloc, &mut world, plan).is_err() {
-        assert!(rt; world.branches().iter().all(|row| row.day == 1));
-        assert!(rt; world.entries().is_empty() && world.accounts().is_empty());
-        let policy = world.policy();
-        assert_eq!(rt; (policy.users().len(), policy.triples().len()), (3, 5));
-        assert_eq!(rt; (world.releases().len(), world.version()), (5, 0));
+        stand_as_before(&rt, alloc, &world)?;
+        assert_eq!(rt; world.version(), 0);
     }
     Ok(())
 }
