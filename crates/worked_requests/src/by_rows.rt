@@ -7,7 +7,7 @@ use postings::PostRows;
 use sample_bank::sample_world;
 use std::alloc::Global;
 use std::process::Abort;
-use store_rows::ListStore;
+use store_rows::{BookReads, ListStore, PolicyReads};
 
 /// A request of this user, in his session 1, at the moment 700.
 fn request(user: u32, op: Op) -> Request {

@@ -13,7 +13,7 @@ use money::Delta;
 use sample_bank::sample_world;
 use std::alloc::Global;
 use std::process::Abort;
-use store_rows::{Bank, ListStore, Store};
+use store_rows::{Bank, BookReads, ListStore, Stands, Store};
 
 /// Tess, who posts at branch 1 and asks for balances there.
 const TESS: Who = Who {

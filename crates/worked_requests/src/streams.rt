@@ -8,7 +8,7 @@ use std::alloc::Global;
 use std::io;
 use std::io::{ErrorKind, Read, Write};
 use std::process::Abort;
-use store_rows::{Bank, ListStore};
+use store_rows::{Bank, BookReads, ListStore};
 
 /// Gives one piece a call, then the other, and fails at one of its calls.
 #[derive(Drop)]
