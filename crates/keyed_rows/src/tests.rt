@@ -107,7 +107,7 @@ fn rows_of_one_key_are_changed_and_removed(rt: HostRuntime) -> Result<(), Fail> 
     change_rows(&mut rows, 2, &Mark('z'));
     assert_eq!(rt; rows, marked_at_two(alloc, 'z')?);
     remove_rows(&mut rows, 2);
-    assert_eq!(rt; rows.iter().map(|row| row.number).sum::<u32>(), 4);
+    assert!(rt; is_there(&rows, 1) && is_there(&rows, 3));
     assert!(rt; !is_there(&rows, 2));
     assert_eq!(rt; rows.len(), 2);
     Ok(())
