@@ -1,17 +1,16 @@
 -- What holds of a bank's rows in the middle of an operation, too, and what is judged once, when all of it was carried out.
-use Rattle.std.specs.Prelude.{ℕ, ℤ, pos, negsuc, ◌≡◌, ◌+◌, ◌+ℤ◌, ◌≤◌, ◌≤ℤ◌, ◌⊎◌, ◌==◌, List, map, Contains, count_by, IfSome, if◌then◌else◌}
+use Rattle.std.specs.Prelude.{ℕ, ℤ, pos, ◌≡◌, ◌+◌, ◌+ℤ◌, ◌≤◌, ◌≤ℤ◌, ◌⊎◌, ◌==◌, List, map, Contains, count_by, IfSome, if◌then◌else◌}
 use Rattle.bank_terms.specs.Limits.{max_key, max_moment, max_version}
 use Rattle.keyed_rows.specs.Ordered.{AreDistinct}
 use Rattle.keyed_rows.specs.Totals.{total}
 use Rattle.bank_policy.specs.declared.rows.User.{User}
-use Rattle.counter_ops.specs.Ranges.{IsKey, IsKeyOrZero}
+use Rattle.counter_ops.specs.Ranges.{IsCash, IsFloor, IsKey, IsKeyOrZero}
 use Rattle.bank_books.specs.Balances.{account_deltas, branch_deltas, teller_deltas}
 use Rattle.bank_books.specs.Cash.{holder_of}
 use Rattle.bank_books.specs.Conditions.{IsCashBalanced}
 use Rattle.bank_books.specs.Keys.{account_key, branch_key, teller_key}
 use Rattle.bank_books.specs.Numbering.{AreNumbered}
 use Rattle.bank_books.specs.Range.{IsAccount, IsBranch, IsDay, IsEntryOrNone, IsProofInRange, IsReleaseInRange, IsTellerOf, IsUser, IsUserNumber}
-use Rattle.counter_ops.specs.Ranges.{IsCash}
 use Rattle.bank_books.specs.WorldLists.{WorldLists}
 use Rattle.bank_books.specs.declared.rows.Account.{Account}
 use Rattle.bank_books.specs.declared.rows.Branch.{Branch}
@@ -38,7 +37,7 @@ pub record IsTellerSound (branches : List Branch) (lines : List CashLine) (t : T
 pub record IsAccountSound (branches : List Branch) (a : Account) : Type 0 where
   pub key : IsKey a.account
   pub home : IsBranch branches a.home
-  pub floor : (negsuc 999999998 ≤ℤ a.floor) × (a.floor ≤ℤ pos 0)
+  pub floor : IsFloor a.floor
   pub opening : a.floor ≤ℤ a.opening
 
 pub record IsEntrySound (branches : List Branch) (tellers : List Teller) (accounts : List Account) (users : List User) (e : Entry) : Type 0 where
