@@ -1,0 +1,3 @@
+pub mod BranchParts
+pub mod Planned
+pub mod Rules
