@@ -1,3 +1,4 @@
+pub mod Correct
 pub mod Laws
 pub mod Post
-pub mod Rules
+pub mod Transfer

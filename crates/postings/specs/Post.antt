@@ -1,86 +1,119 @@
--- A post: the rows that it is judged on, the rules of the books against it, and its effect.
-use Rattle.std.specs.Prelude.{◌+◌, ◌==◌, ◌||◌, ◌&&◌, Bool, true, false, not, is_none, List, [], ◌∷◌, Option, option_map, option_and_then}
+-- A post: the rows that it is judged on, the rules of the books against it, its effect, and what it leaves.
+use Rattle.std.specs.Prelude.{◌+◌, ◌+ℤ◌, ◌||◌, ◌&&◌, Bool, false, not, is_none, List, [], ◌∷◌, Option, option_map, option_and_then}
 use Rattle.std.specs.Option.{option_map_or}
 use Rattle.std.specs.List.{find}
-use Rattle.keyed_rows.specs.Ordered.{add_row}
 use Rattle.bank_terms.specs.declared.rule.Rule.{Rule}
 use Rattle.bank_terms.specs.declared.rule.Rule.TheVariants as rule
 use Rattle.counter_ops.specs.declared.post.Post.{Post}
+use Rattle.bank_books.specs.Effects.{applied}
 use Rattle.bank_books.specs.Records.{account_record, branch_record, teller_record}
 use Rattle.bank_books.specs.declared.records.AccountRecord.{AccountRecord}
-use Rattle.bank_books.specs.Keys.{entry_key}
 use Rattle.bank_books.specs.WorldLists.{WorldLists}
+use Rattle.bank_books.specs.declared.row_write.RowWrite.{RowWrite}
+use Rattle.bank_books.specs.declared.row_write.RowWrite.TheVariants as write
 use Rattle.bank_books.specs.declared.signature.Signature.{Signature}
+use Rattle.bank_books.specs.declared.rows.CashLine.{CashLine}
 use Rattle.bank_books.specs.declared.rows.Entry.{Entry}
-use Rattle.bank_books.specs.declared.rows.EntryForm.TheVariants as form
-use Rattle.postings.specs.Rules.{account_in_range, account_is_full, account_keeps_floor, ledger_in_range, ledger_is_full, ledger_of, teller_in_range}
-use Rattle.postings.specs.declared.ledger.Ledger.{Ledger}
+use Rattle.bank_books.specs.declared.rows.EntryForm.TheVariants as entry
+use Rattle.bank_books.specs.declared.rows.LineForm.TheVariants as line
+use Rattle.row_rules.specs.BranchParts.{cash_book_of, ledger_of}
+use Rattle.row_rules.specs.Rules.{account_in_range, account_is_full, account_keeps_floor, cash_book_is_full, cash_entries_in_range, drawer_covers, drawer_in_range, drawer_is_held_by, drawers_in_range, ledger_in_range, ledger_is_full, teller_in_range, teller_is_of}
+use Rattle.row_rules.specs.declared.cash_book.CashBook.{CashBook}
+use Rattle.row_rules.specs.declared.ledger.Ledger.{Ledger}
 use Rattle.postings.specs.declared.post.PostRows.{PostRows}
+use Rattle.postings.specs.declared.post.Posted.{Posted}
 
 -- the rows that a post is judged on, in a World
 abbrev pub post_rows : WorldLists → Post → PostRows
 post_rows w post = record {
   account = account_record w post.account;
   teller = teller_record w post.teller;
-  branch = option_map ledger_of (branch_record w post.branch);
+  ledger = option_map ledger_of (branch_record w post.branch);
+  cash_book = option_map cash_book_of (branch_record w post.branch);
 }
 
 -- an account, teller or branch that it names is not there
 abbrev pub is_unknown : PostRows → Bool
-is_unknown rows = is_none rows.account || is_none rows.teller || is_none rows.branch
+is_unknown rows = is_none rows.account || is_none rows.teller || is_none rows.ledger || is_none rows.cash_book
 
--- the teller is of the branch
-abbrev pub is_of_branch : PostRows → Post → Bool
-is_of_branch rows post = option_map_or (λ t. t.row.branch == post.branch) rows.teller true
-
--- the balances of account, teller and branch and the branch's sum of deltas stay in the range of money
+-- the balances of account, teller and branch, the cash of the drawer, and the sums of the branch stay in the range of money
 abbrev pub is_in_range : PostRows → Post → Bool
-is_in_range rows post = account_in_range rows.account post.delta && teller_in_range rows.teller post.delta && ledger_in_range rows.branch post.delta
+is_in_range rows post =
+    account_in_range rows.account post.delta
+    && teller_in_range rows.teller post.delta
+    && ledger_in_range rows.ledger post.delta
+    && drawer_in_range rows.teller post.delta
+    && drawers_in_range rows.cash_book post.delta
+    && cash_entries_in_range rows.cash_book post.delta
 
--- the history of the branch or the account has the greatest number of entries already
+-- the history of the branch, the account, or the cash book of the branch has the greatest number already
 abbrev pub is_full : PostRows → Bool
-is_full rows = ledger_is_full rows.branch || account_is_full rows.account
+is_full rows = ledger_is_full rows.ledger 1 || account_is_full rows.account || cash_book_is_full rows.cash_book 1
 
--- the rule denies the post
-abbrev pub post_denies : Rule → PostRows → Post → Bool
-post_denies rule.Unknown rows post = is_unknown rows
-post_denies rule.Branch rows post = not (is_of_branch rows post)
-post_denies rule.Floor rows post = not (account_keeps_floor rows.account post.delta)
-post_denies rule.Range rows post = not (is_in_range rows post)
-post_denies rule.Full rows post = is_full rows
-post_denies _ rows post = false
+-- the rule denies the post of this user
+abbrev pub post_denies : Rule → PostRows → Post → Signature → Bool
+post_denies rule.Unknown rows post by = is_unknown rows
+post_denies rule.Branch rows post by = not (teller_is_of rows.teller post.branch)
+post_denies rule.Drawer rows post by = not (drawer_is_held_by rows.teller by.user)
+post_denies rule.Floor rows post by = not (account_keeps_floor rows.account post.delta)
+post_denies rule.Cash rows post by = not (drawer_covers rows.teller post.delta)
+post_denies rule.Range rows post by = not (is_in_range rows post)
+post_denies rule.Full rows post by = is_full rows
+post_denies _ rows post by = false
 
 -- the rules of the books that a post is judged by, in their order
 abbrev pub rules_of_post : List Rule
-rules_of_post = rule.Unknown ∷ rule.Branch ∷ rule.Floor ∷ rule.Range ∷ rule.Full ∷ []
+rules_of_post = rule.Unknown ∷ rule.Branch ∷ rule.Drawer ∷ rule.Floor ∷ rule.Cash ∷ rule.Range ∷ rule.Full ∷ []
 
 -- the first of them that denies
-abbrev pub first_against_post : PostRows → Post → Option Rule
-first_against_post rows post = find (λ r. post_denies r rows post) rules_of_post
+abbrev pub first_against_post : PostRows → Post → Signature → Option Rule
+first_against_post rows post by = find (λ r. post_denies r rows post by) rules_of_post
 
 -- The entry that a post adds to the history of its teller's branch: one record for each transaction, as TPC Benchmark A
 -- has it. It bears the next number there and the account's next turn.
-abbrev pub entry_after : AccountRecord → Ledger → Post → Signature → Entry
-entry_after account branch post by = record {
+abbrev pub post_entry : AccountRecord → Ledger → Post → Signature → Entry
+post_entry account ledger post by = record {
   branch = post.branch;
-  number = branch.entries + 1;
+  number = ledger.entries + 1;
   account = post.account;
   turn = account.turns + 1;
   teller = post.teller;
   delta = post.delta;
   moment = by.moment;
-  day = branch.day;
+  day = ledger.day;
   user = by.user;
-  form = form.Post;
+  form = entry.Post;
   partner = 0;
   undoes = 0;
 }
 
--- the entry that a post adds in a World, where its rows are there
-abbrev pub post_entry : WorldLists → Post → Signature → Option Entry
-post_entry w post by =
-    option_and_then (λ account. option_map (λ branch. entry_after account branch post by) (post_rows w post).branch) (post_rows w post).account
+-- The line of its cash: what it adds to the account goes through the teller's drawer.
+abbrev pub post_line : CashBook → Post → Signature → CashLine
+post_line book post by = record {
+  branch = post.branch;
+  number = book.lines + 1;
+  place = post.teller;
+  amount = post.delta;
+  form = line.CashEntry;
+  moment = by.moment;
+  day = book.day;
+  user = by.user;
+}
+
+-- what a post adds, where its rows are there
+abbrev pub post_changes : PostRows → Post → Signature → List RowWrite
+post_changes rows post by =
+    option_map_or (λ account. option_map_or (λ ledger. option_map_or (λ book.
+      write.Entry (post_entry account ledger post by) ∷ write.Line (post_line book post by) ∷ []) rows.cash_book []) rows.ledger []) rows.account []
 
 -- the World after a post
 abbrev pub post_effect : WorldLists → Post → Signature → WorldLists
-post_effect w post by = option_map_or (λ entry. record w { entries = add_row entry_key entry w.entries }) (post_entry w post by) w
+post_effect w post by = applied (post_changes (post_rows w post) post by) w
+
+-- the balance of the account after it, and the place of its entry
+abbrev pub posted : Post → AccountRecord → Ledger → Posted
+posted post account ledger = record { balance = account.balance +ℤ post.delta; branch = post.branch; entry = ledger.entries + 1 }
+
+-- what it leaves, where its rows are there
+abbrev pub posted_of : PostRows → Post → Option Posted
+posted_of rows post = option_and_then (λ account. option_map (λ ledger. posted post account ledger) rows.ledger) rows.account

@@ -1,11 +1,11 @@
 //! Plans of the operations that post to accounts.
 #![tactic(auto)]
 
+mod correct;
 pub mod laws;
-mod ledger;
 mod post;
-mod rules;
+mod transfer;
 
-pub use ledger::Ledger;
-pub use post::{PostRows, plan_post, rule_against_post};
-pub use rules::balance_after;
+pub use correct::{CorrectRows, Corrected};
+pub use post::{PostRows, Posted};
+pub use transfer::{TransferRows, Transferred};

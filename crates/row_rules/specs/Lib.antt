@@ -1,3 +1,4 @@
 pub mod BranchParts
 pub mod Planned
 pub mod Rules
+pub mod Signed

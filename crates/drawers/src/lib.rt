@@ -1,0 +1,15 @@
+//! Plans of the operations that move cash between the vault and the drawers of a branch, and that close its day.
+#![tactic(auto)]
+
+mod close_day;
+mod drawer_off;
+mod drawer_on;
+mod drawer_rows;
+pub mod laws;
+mod move_cash;
+
+pub use close_day::{Closed, ClosingRows};
+pub use drawer_off::PutOff;
+pub use drawer_on::PutOn;
+pub use drawer_rows::DrawerRows;
+pub use move_cash::{MoveRows, Moved};
