@@ -1,8 +1,13 @@
 pub mod Balance
+pub mod CloseDay
+pub mod Correct
 pub mod Denial
+pub mod DrawerOff
+pub mod DrawerOn
 pub mod Executions
 pub mod Laws
 pub mod Meaning
+pub mod MoveCash
 pub mod NewAccount
 pub mod Operations
 pub mod PolicyRules
@@ -10,3 +15,4 @@ pub mod Post
 pub mod Requests
 pub mod Run
 pub mod Sums
+pub mod Transfer

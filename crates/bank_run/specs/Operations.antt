@@ -7,38 +7,44 @@ use Rattle.bank_books.specs.declared.signature.Signature.{Signature}
 use Rattle.counter_ops.specs.declared.op.Op.{Op}
 use Rattle.counter_ops.specs.declared.op.Op.TheVariants as op
 use Rattle.bank_run.specs.Balance.{balance_meaning}
+use Rattle.bank_run.specs.CloseDay.{close_day_meaning}
+use Rattle.bank_run.specs.Correct.{correct_meaning}
+use Rattle.bank_run.specs.DrawerOff.{drawer_off_meaning}
+use Rattle.bank_run.specs.DrawerOn.{drawer_on_meaning}
 use Rattle.bank_run.specs.Meaning.{Meaning, no_meaning}
+use Rattle.bank_run.specs.MoveCash.{move_meaning}
 use Rattle.bank_run.specs.NewAccount.{new_account_meaning}
 use Rattle.bank_run.specs.Post.{post_meaning}
+use Rattle.bank_run.specs.Transfer.{transfer_meaning}
 
 -- the procedures that are served
 abbrev pub is_served : Procedure → Bool
 is_served procedure.Post = true
-is_served procedure.Transfer = false
-is_served procedure.Correct = false
-is_served procedure.DrawerOn = false
-is_served procedure.DrawerOff = false
-is_served procedure.MoveCash = false
+is_served procedure.Transfer = true
+is_served procedure.Correct = true
+is_served procedure.DrawerOn = true
+is_served procedure.DrawerOff = true
+is_served procedure.MoveCash = true
 is_served procedure.NewAccount = true
 is_served procedure.Release = false
 is_served procedure.Balance = true
 is_served procedure.Statement = false
 is_served procedure.Accounts = false
 is_served procedure.Proof = false
-is_served procedure.CloseDay = false
+is_served procedure.CloseDay = true
 
 -- what an operation is in a World by the books, where the rows that it adds bear this signature
 abbrev pub meaning_of : Op → Signature → WorldLists → Meaning
 meaning_of (op.Post post) by w = post_meaning post by w
-meaning_of (op.Transfer transfer) by w = no_meaning w
-meaning_of (op.Correct correct) by w = no_meaning w
-meaning_of (op.DrawerOn drawer_on) by w = no_meaning w
-meaning_of (op.DrawerOff drawer_off) by w = no_meaning w
-meaning_of (op.MoveCash move_cash) by w = no_meaning w
+meaning_of (op.Transfer transfer) by w = transfer_meaning transfer by w
+meaning_of (op.Correct correct) by w = correct_meaning correct by w
+meaning_of (op.DrawerOn form) by w = drawer_on_meaning form by w
+meaning_of (op.DrawerOff form) by w = drawer_off_meaning form by w
+meaning_of (op.MoveCash move) by w = move_meaning move by w
 meaning_of (op.NewAccount form) by w = new_account_meaning form w
 meaning_of (op.Release release) by w = no_meaning w
 meaning_of (op.Balance balance) by w = balance_meaning balance w
 meaning_of (op.Statement statement) by w = no_meaning w
 meaning_of (op.Accounts accounts) by w = no_meaning w
 meaning_of (op.Proof proof) by w = no_meaning w
-meaning_of (op.CloseDay close_day) by w = no_meaning w
+meaning_of (op.CloseDay form) by w = close_day_meaning form w

@@ -1,23 +1,17 @@
--- A post as an operation: its reply and its meaning. The rows that it is judged on, the rules against it and its effect are those of its plan.
-use Rattle.std.specs.Prelude.{ℕ, ◌+◌, ◌+ℤ◌, List, [], ◌++◌, codes, decimal, Option, option_map, option_and_then}
+-- A post as an operation: its reply and its meaning. The rows that it is judged on, the rules against it, its effect and what it leaves are those of its plan.
+use Rattle.std.specs.Prelude.{ℕ, List, [], ◌++◌, codes, decimal}
 use Rattle.std.specs.Option.{option_map_or}
 use Rattle.std.specs.Fmt.{signed_decimal}
 use Rattle.serde_json.specs.Data.{Data, object, member, no_members}
 use Rattle.bank_books.specs.WorldLists.{WorldLists}
-use Rattle.bank_books.specs.declared.records.AccountRecord.{AccountRecord}
 use Rattle.bank_books.specs.declared.signature.Signature.{Signature}
 use Rattle.counter_ops.specs.declared.post.Post.{Post}
-use Rattle.postings.specs.Post.{post_denies, post_effect, post_rows}
-use Rattle.postings.specs.declared.ledger.Ledger.{Ledger}
-use Rattle.postings.specs.declared.post.PostRows.{PostRows}
+use Rattle.postings.specs.Post.{post_denies, post_effect, post_rows, posted_of}
+use Rattle.postings.specs.declared.post.Posted.{Posted}
 use Rattle.bank_run.specs.Denial.{cents, natural}
 use Rattle.bank_run.specs.Meaning.{Meaning, json}
-use Rattle.bank_run.specs.declared.posted.Posted.{Posted}
 
 -- the balance of the account after it, and the place of its entry
-abbrev pub posted : Post → AccountRecord → Ledger → Posted
-posted post account branch = record { balance = account.balance +ℤ post.delta; branch = post.branch; entry = branch.entries + 1 }
-
 unfoldable pub posted_text : Posted → List ℕ
 posted_text p = codes "{\"balance\":" ++ signed_decimal p.balance ++ codes ",\"branch\":" ++ decimal p.branch ++ codes ",\"entry\":" ++ decimal p.entry ++ codes "}"
 
@@ -25,12 +19,9 @@ posted_text p = codes "{\"balance\":" ++ signed_decimal p.balance ++ codes ",\"b
 abbrev pub posted_data : Posted → Data
 posted_data p = object (member (codes "balance") (cents p.balance) (member (codes "branch") (natural p.branch) (member (codes "entry") (natural p.entry) no_members)))
 
-abbrev pub posted_of : PostRows → Post → Option Posted
-posted_of rows post = option_and_then (λ account. option_map (λ branch. posted post account branch) rows.branch) rows.account
-
 abbrev pub post_meaning : Post → Signature → WorldLists → Meaning
 post_meaning post by w = record {
-  denies = λ r. post_denies r (post_rows w post) post;
+  denies = λ r. post_denies r (post_rows w post) post by;
   effect = post_effect w post by;
   reply = json (option_map_or posted_text (posted_of (post_rows w post) post) []);
 }

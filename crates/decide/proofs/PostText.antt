@@ -2,8 +2,8 @@
 use Rattle.std.proofs.Common.{◌≡◌, false, append_assoc}
 use Rattle.serde_json.specs.Written.{compact_text, has_float}
 use Rattle.serde_json.proofs.OnLiterals.{serde_json_on_literals}
+use Rattle.postings.specs.declared.post.Posted.{Posted}
 use Rattle.bank_run.specs.Post.{posted_data, posted_text}
-use Rattle.bank_run.specs.declared.posted.Posted.{Posted}
 use Rattle.decide.proofs.WholeNumbers.{text_of_whole, whole}
 
 pub posted_no_float : (p : Posted) → has_float (posted_data p) ≡ false

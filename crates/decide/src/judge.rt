@@ -7,7 +7,10 @@ ghost use Rattle.bank_run.specs.Meaning.{by_books};
 ghost use Rattle.bank_run.specs.Operations.{is_served, meaning_of};
 ghost use Rattle.bank_run.specs.Requests.{executes, verdict};
 
-use crate::operations::{prepare_balance, prepare_new_account, prepare_post};
+use crate::operations::{
+    prepare_balance, prepare_close_day, prepare_correct, prepare_drawer_off, prepare_drawer_on,
+    prepare_move_cash, prepare_new_account, prepare_post, prepare_transfer,
+};
 use crate::policy_rules::policy_leave;
 use crate::prepared::Prepared;
 use bank_books::Signature;
@@ -51,17 +54,14 @@ fn prepare_by_books<B: BookReads>(
 {
     match op {
         Op::Post(post) => prepare_post(alloc, store, post, by),
+        Op::Transfer(transfer) => prepare_transfer(alloc, store, transfer, by),
+        Op::Correct(correct) => prepare_correct(alloc, store, correct, by),
+        Op::DrawerOn(form) => prepare_drawer_on(alloc, store, form, by),
+        Op::DrawerOff(form) => prepare_drawer_off(alloc, store, form, by),
+        Op::MoveCash(move_cash) => prepare_move_cash(alloc, store, move_cash, by),
         Op::NewAccount(form) => prepare_new_account(alloc, store, form),
         Op::Balance(form) => prepare_balance(alloc, store, form),
-        Op::Transfer(_)
-        | Op::Correct(_)
-        | Op::DrawerOn(_)
-        | Op::DrawerOff(_)
-        | Op::MoveCash(_)
-        | Op::Release(_)
-        | Op::Statement(_)
-        | Op::Accounts(_)
-        | Op::Proof(_)
-        | Op::CloseDay(_) => unreachable!(),
+        Op::CloseDay(form) => prepare_close_day(alloc, store, form),
+        Op::Release(_) | Op::Statement(_) | Op::Accounts(_) | Op::Proof(_) => unreachable!(),
     }
 }

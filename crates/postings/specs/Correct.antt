@@ -40,11 +40,15 @@ entry_named w correct = reads.entry w correct.branch correct.entry
 abbrev pub partner_of : WorldLists → Entry → Option Entry
 partner_of w e = if e.partner == 0 then None else reads.entry w e.branch e.partner
 
+-- the other account that it names
+abbrev pub other_account : WorldLists → Correct → Option AccountRecord
+other_account w correct = if is_of_post correct then None else account_record w correct.other
+
 -- the rows that a correction is judged on, in a World
 abbrev pub correct_rows : WorldLists → Correct → CorrectRows
 correct_rows w correct = record {
   account = account_record w correct.account;
-  other = if is_of_post correct then None else account_record w correct.other;
+  other = other_account w correct;
   teller = teller_record w correct.teller;
   ledger = option_map ledger_of (branch_record w correct.branch);
   cash_book = option_map cash_book_of (branch_record w correct.branch);

@@ -1,19 +1,18 @@
-ghost use Rattle.std.specs.Prelude.{◌≡◌, Some, true, false, IfOk};
+ghost use Rattle.std.specs.Prelude.{◌≡◌, IfOk};
 ghost use Rattle.serde_json.specs.View.{view};
-ghost use Rattle.postings.specs.Post.{is_full, is_in_range, is_unknown, post_rows};
 ghost use Rattle.store_rows.specs.Status.{Reads};
 ghost use Rattle.decide.specs.Judged.{IsJudged};
 ghost use Rattle.bank_run.specs.Meaning.{by_books};
-ghost use Rattle.bank_run.specs.Post.{post_meaning, posted_data, posted_of, posted_text};
+ghost use Rattle.postings.specs.Post.{post_rows};
+ghost use Rattle.bank_run.specs.Post.{post_meaning, posted_data, posted_text};
 
 use crate::prepared::Prepared;
 use crate::text::compact;
 use bank_books::Signature;
-use bank_run::Posted;
 use bank_terms::Rule;
 use counter_ops::Post;
+use postings::{PostRows, Posted, plan_post};
 use money::Fault;
-use postings::{PostRows, balance_after, plan_post};
 use serde_json::{Value, json};
 use std::alloc::{AllocError, Global};
 use store_rows::BookReads;
@@ -43,36 +42,19 @@ pub(crate) fn prepare_post<B: BookReads>(
 {
     let rows = load_post_rows(alloc, store, post)?;
     match plan_post(alloc, &rows, post, by)? {
-        Ok(plan) => {
-            let text = posted_text(alloc, &posted_of(&rows, post))?;
-            Ok(Ok(Prepared { plan, text }))
+        Ok(planned) => {
+            let text = posted_text(alloc, &planned.left)?;
+            Ok(Ok(Prepared {
+                plan: planned.plan,
+                text,
+            }))
         }
         Err(rule) => Ok(Err(rule)),
     }
 }
 
-/// What a post leaves that no rule denies.
-fn posted_of(rows: &PostRows, post: &Post) -> Posted
-    requires known { is_unknown rows.now ≡ false }
-    requires in_range { is_in_range rows.now post.now ≡ true }
-    requires room { is_full rows.now ≡ false }
-    ensures { posted_of rows.now post.now ≡ Some result }
-{
-    let (Some(account), Some(branch)) = (rows.account, rows.branch) else {
-        unreachable!();
-    };
-    let Some(balance) = balance_after(account.balance, post.delta) else {
-        unreachable!();
-    };
-    Posted {
-        balance,
-        branch: post.branch,
-        entry: (branch.entries + 1) as u32,
-    }
-}
-
 /// The bytes of the reply.
-fn posted_text(alloc: Global, posted: &Posted) -> Result<Vec<u8>, AllocError>
+pub(super) fn posted_text(alloc: Global, posted: &Posted) -> Result<Vec<u8>, AllocError>
     ensures { IfOk result (λ text. text.items ≡ posted_text posted.now) }
 {
     let value = posted_value(alloc, posted)?;
