@@ -2,7 +2,6 @@
 use Rattle.std.proofs.Common.{◌≡◌, Option, Some, None, ap, sym, ◌∙◌}
 use Rattle.bank_terms.specs.declared.rule.Rule.{Rule}
 use Rattle.bank_books.specs.WorldLists.{WorldLists}
-use Rattle.bank_books.specs.declared.signature.Signature.{Signature}
 use Rattle.touched.specs.Touched.{amount, touched}
 use Rattle.bank_run.specs.Executions.{signature_of}
 use Rattle.decide.specs.Loaded.{IsLoadedFor, loaded_grounds}
@@ -24,5 +23,5 @@ pub denied_by_policy : (w : WorldLists) (x : Execution) (l : Loaded) (r : Rule) 
 denied_by_policy w x l r loaded is = sym (policy_decides w x r (ap first_of_policy (sym (same_grounds w x l loaded)) ∙ is))
 
 pub denied_by_books : (w : WorldLists) (x : Execution) (l : Loaded) (told : Option Rule) → IsLoadedFor w x l → first_of_policy (loaded_grounds l.policy x) ≡ None
-    → ((by : Signature) → told ≡ (by_books (meaning_of x.op by w)).first) → told ≡ first w (executes x)
-denied_by_books w x l told loaded none says = says (signature_of x) ∙ sym (books_decide w x (ap first_of_policy (sym (same_grounds w x l loaded)) ∙ none))
+    → told ≡ (by_books (meaning_of x.op (signature_of x) w)).first → told ≡ first w (executes x)
+denied_by_books w x l told loaded none says = says ∙ sym (books_decide w x (ap first_of_policy (sym (same_grounds w x l loaded)) ∙ none))
