@@ -20,7 +20,7 @@ use Rattle.bank_books.specs.declared.rows.Release.{Release}
 use Rattle.book_growth.specs.CashGap.{cash_gap, gap_share}
 use Rattle.book_growth.specs.Ledger.{IsLedger, IsOpenLedger, NamesEntries}
 use Rattle.book_growth.specs.Limits.{AreMovedWithin, AreWithinLimits}
-use Rattle.book_growth.specs.Moves.{AreLegs, HasRoomFor, HasRoomForLegs, HasRoomForLine, IsMovedAlone, IsMovedByAccount, IsMovedByEntry, IsMovedByLine, MovesNothing, StandsLast, with_proof}
+use Rattle.book_growth.specs.Moves.{AreLegs, HasRoomFor, HasRoomForLegs, HasRoomForLine, HasRoomForOppositeLegs, IsMovedAlone, IsMovedByAccount, IsMovedByEntry, IsMovedByLine, MovesNothing, StandsLast, with_proof}
 use Rattle.book_growth.specs.Next.{AreNextLines, IsNextAccount, IsNextEntry, IsNextLine, IsNextProof, IsNextRelease, lined}
 
 -- the books are the ledger within its limits
@@ -55,6 +55,11 @@ EntryKeepsBooks = (w : WorldLists) (e : Entry) → IsNextEntry w e → NamesEntr
 -- the two legs of a transfer: limits, and the entries that they name, are judged of both together
 abbrev pub LegsKeepBooks : Type 0
 LegsKeepBooks = (w : WorldLists) (first second : Entry) → AreLegs w first second → HasRoomForLegs w first second → Books w
+    → Books (written (write.Entry second) (written (write.Entry first) w))
+
+-- the same of legs that take from one account what they give the other, as those of a transfer do
+abbrev pub OppositeLegsKeepBooks : Type 0
+OppositeLegsKeepBooks = (w : WorldLists) (first second : Entry) → AreLegs w first second → HasRoomForOppositeLegs w first second → Books w
     → Books (written (write.Entry second) (written (write.Entry first) w))
 
 -- ---- an account

@@ -1,8 +1,10 @@
 -- What one change moves, and that it moves nothing else.
-use Rattle.std.specs.Prelude.{ℕ, ℤ, pos, ◌≡◌, ◌≢◌, ◌+◌, ◌+ℤ◌, ◌==◌, ◌&&◌, not, Contains, Some, if◌then◌else◌}
+use Rattle.std.specs.Prelude.{ℕ, ℤ, pos, ◌≡◌, ◌≢◌, ◌+◌, ◌≤◌, ◌+ℤ◌, neg_ℤ, ◌==◌, ◌&&◌, not, Contains, Some, if◌then◌else◌}
+use Rattle.bank_terms.specs.Limits.{max_key}
 use Rattle.bank_books.specs.Balances.{account_balance, account_row, branch_balance, branch_row, teller_balance, teller_row}
 use Rattle.bank_books.specs.Cash.{cash_of, is_cash_entry, is_difference}
 use Rattle.bank_books.specs.Effects.{written}
+use Rattle.bank_books.specs.Range.{IsEntryOrNone}
 use Rattle.counter_ops.specs.Ranges.{IsCash}
 use Rattle.bank_books.specs.Records.{account_record_of, branch_record_of, entry_record_of, teller_record_of}
 use Rattle.bank_books.specs.WorldLists.{WorldLists}
@@ -72,7 +74,7 @@ pub record HasRoomFor (w : WorldLists) (e : Entry) : Type 0 where
 
 -- ---- two entries, as the legs of a transfer
 
--- two entries at one teller and two accounts, one behind the other, that name each other
+-- Two entries at one teller and two accounts, one behind the other, that name each other. Each may undo an entry that is there.
 pub record AreLegs (w : WorldLists) (first second : Entry) : Type 0 where
   pub first_next : IsNextEntry w first
   pub second_next : IsNextEntry (written (write.Entry first) w) second
@@ -81,14 +83,21 @@ pub record AreLegs (w : WorldLists) (first second : Entry) : Type 0 where
   pub accounts : second.account ≢ first.account
   pub first_partner : first.partner ≡ second.number
   pub second_partner : second.partner ≡ first.number
-  pub first_undoes : first.undoes ≡ 0
-  pub second_undoes : second.undoes ≡ 0
+  pub first_undoes : IsEntryOrNone w.entries first.branch first.undoes
+  pub second_undoes : IsEntryOrNone w.entries second.branch second.undoes
 
 -- with both of them, what their branch, their teller and their accounts come to is within the limits; between the two it need not be
 pub record HasRoomForLegs (w : WorldLists) (first second : Entry) : Type 0 where
   pub branch : (b : Branch) → branch_row first.branch w.branches ≡ Some b →
       let after = branch_entered second.delta (branch_entered first.delta (branch_record_of w b)) in IsHistoryWithin after.balance after.history after.entries
   pub teller : (t : Teller) → teller_row first.teller w.tellers ≡ Some t → IsCents (teller_entered second.delta (teller_entered first.delta (teller_record_of w t))).balance
+  pub source : (a : Account) → account_row first.account w.accounts ≡ Some a → IsAccountWithin (account_entered first.delta (account_record_of w a))
+  pub target : (a : Account) → account_row second.account w.accounts ≡ Some a → IsAccountWithin (account_entered second.delta (account_record_of w a))
+
+-- Of two that take from one account what they give the other, the branch has room where its history has, and the teller always.
+pub record HasRoomForOppositeLegs (w : WorldLists) (first second : Entry) : Type 0 where
+  pub opposite : second.delta ≡ neg_ℤ first.delta
+  pub entries : (b : Branch) → branch_row first.branch w.branches ≡ Some b → (branch_record_of w b).entries + 2 ≤ max_key
   pub source : (a : Account) → account_row first.account w.accounts ≡ Some a → IsAccountWithin (account_entered first.delta (account_record_of w a))
   pub target : (a : Account) → account_row second.account w.accounts ≡ Some a → IsAccountWithin (account_entered second.delta (account_record_of w a))
 
