@@ -10,6 +10,7 @@ use Rattle.bank_books.specs.Effects.{written}
 use Rattle.bank_books.specs.Range.{IsBranch}
 use Rattle.bank_books.specs.WorldLists.{WorldLists}
 use Rattle.bank_books.specs.declared.row_write.ReleaseKey.{ReleaseKey}
+use Rattle.bank_books.specs.declared.row_write.RowWrite.{RowWrite}
 use Rattle.bank_books.specs.declared.row_write.RowWrite.TheVariants as write
 use Rattle.bank_policy.specs.declared.policy_write.Session.{Session}
 use Rattle.bank_books.specs.declared.rows.Account.{Account}
@@ -23,6 +24,7 @@ use Rattle.book_growth.specs.Ledger.{IsLedger, IsOpenLedger, NamesEntries}
 use Rattle.book_growth.specs.Limits.{AreMovedWithin, AreWithinLimits}
 use Rattle.book_growth.specs.Moves.{AreLegs, HasRoomFor, HasRoomForLegs, HasRoomForLine, HasRoomForLines, HasRoomForOppositeLegs, IsMovedAlone, IsMovedByAccount, IsMovedByEntry, IsMovedByLine, MovesNothing, StandsLast, with_proof}
 use Rattle.book_growth.specs.Next.{AreNextLines, IsNextAccount, IsNextEntry, IsNextLine, IsNextProof, IsNextRelease, lined}
+use Rattle.book_growth.specs.PlanMoves.{IsMovedByPlan, IsPosting}
 
 -- the books are the ledger within its limits
 abbrev pub BooksParts : Type 0
@@ -146,3 +148,9 @@ LinesKeepBooks = (w : WorldLists) (lines : List CashLine) → AreNextLines w lin
 abbrev pub LinesOfBranchKeepBooks : Type 0
 LinesOfBranchKeepBooks = (w : WorldLists) (branch : ℕ) (lines : List CashLine) → AreNextLines w lines → AllByRecursion (λ l. l.branch ≡ branch) lines
     → total (map gap_share lines) ≡ pos 0 → HasRoomForLines w branch lines → Books w → Books (lined lines w)
+
+-- ---- a plan
+
+-- of entries and cash lines alone, whether the books hold or not
+abbrev pub PlanMoves : Type 0
+PlanMoves = (w : WorldLists) (changes : List RowWrite) → AllByRecursion IsPosting changes → IsMovedByPlan w changes
