@@ -7,5 +7,5 @@ mod post;
 mod transfer;
 
 pub use correct::{CorrectRows, Corrected};
-pub use post::{PostRows, Posted};
+pub use post::{PostRows, Posted, plan_post, rule_against_post};
 pub use transfer::{TransferRows, Transferred};
