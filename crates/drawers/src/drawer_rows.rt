@@ -1,4 +1,8 @@
-use bank_books::TellerRecord;
+ghost use Rattle.std.specs.Prelude.{◌≡◌, option_map};
+ghost use Rattle.row_rules.specs.BranchParts.{cash_book_of};
+ghost use Rattle.drawers.specs.DrawerRows.{is_unknown};
+
+use bank_books::{BranchRecord, TellerRecord};
 use row_rules::CashBook;
 
 /// The rows that a drawer which is put on or off is judged on, as far as they are there.
@@ -10,4 +14,28 @@ pub struct DrawerRows {
     pub cash_book: Option<CashBook>,
     /// The cash of its vault in cents.
     pub vault: Option<i128>,
+}
+
+impl DrawerRows {
+    /// Of the rows as a store answers them.
+    pub fn of(teller: Option<TellerRecord>, branch: Option<BranchRecord>) -> DrawerRows
+        ensures { result ≡ record { teller = teller; cash_book = option_map cash_book_of branch; vault = option_map (λ b. b.vault) branch } }
+    {
+        let (cash_book, vault) = match branch {
+            Some(branch) => (Some(CashBook::of(&branch)), Some(branch.vault)),
+            None => (None, None),
+        };
+        DrawerRows {
+            teller,
+            cash_book,
+            vault,
+        }
+    }
+
+    /// Whether the teller or the branch is not there.
+    pub(crate) fn is_unknown(&self) -> bool
+        ensures { result ≡ is_unknown self.now }
+    {
+        self.teller.is_none() || self.cash_book.is_none() || self.vault.is_none()
+    }
 }

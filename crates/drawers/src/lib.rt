@@ -1,6 +1,7 @@
 //! Plans of the operations that move cash between the vault and the drawers of a branch, and that close its day.
 #![tactic(auto)]
 
+mod amounts;
 mod close_day;
 mod drawer_off;
 mod drawer_on;
@@ -10,6 +11,6 @@ mod move_cash;
 
 pub use close_day::{Closed, ClosingRows};
 pub use drawer_off::PutOff;
-pub use drawer_on::PutOn;
+pub use drawer_on::{PutOn, plan_drawer_on, rule_against_drawer_on};
 pub use drawer_rows::DrawerRows;
 pub use move_cash::{MoveRows, Moved};

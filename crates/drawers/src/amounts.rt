@@ -1,0 +1,45 @@
+//! Amounts of money of which it is known that they are in its range.
+
+ghost use Rattle.std.specs.Prelude.{◌≡◌, ◌+ℤ◌, pos, neg_ℤ};
+ghost use Rattle.money.specs.Range.{IsCents};
+
+use money::Cents;
+use row_rules::cents_after;
+
+/// A number of the books with an amount added to it.
+pub(crate) fn sum_of(number: i128, added: i64) -> Cents
+    requires { IsCents (number +ℤ added) }
+    ensures { result ≡ number +ℤ added }
+{
+    let Some(sum) = cents_after(number, added) else {
+        unreachable!();
+    };
+    sum
+}
+
+/// So many cents more.
+pub(crate) fn more_by(amount: u32) -> Cents
+    ensures { result ≡ pos amount }
+{
+    let Some(cents) = Cents::new(i64::from(amount)) else {
+        unreachable!();
+    };
+    cents
+}
+
+/// So many cents less.
+pub(crate) fn less_by(amount: u32) -> Cents
+    ensures { result ≡ neg_ℤ (pos amount) }
+{
+    negated(more_by(amount))
+}
+
+/// As many cents less.
+pub(crate) fn negated(amount: Cents) -> Cents
+    ensures { result ≡ neg_ℤ amount }
+{
+    let Some(cents) = Cents::new(-amount.get()) else {
+        unreachable!();
+    };
+    cents
+}
