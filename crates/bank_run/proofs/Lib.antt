@@ -2,5 +2,8 @@ pub mod AllowedRequest
 pub mod FirstRule
 pub mod JudgedPolicy
 pub mod OpenedAccount
+pub mod OperationSteps
 pub mod PolicyLemmas
 pub mod RunSums
+pub mod Shares
+pub mod Steps

@@ -1,18 +1,22 @@
 -- What holds along every list of requests: the checks pass, the sums agree, and what is written stays.
-use Rattle.std.specs.Prelude.{ℕ, ℤ, pos, ◌≡◌, ◌≤◌, ◌+◌, ◌+ℤ◌, ◌==◌, ⊤, List, All, map, take, None, if◌then◌else◌}
+use Rattle.std.specs.Prelude.{ℕ, ℤ, pos, neg_ℤ, ◌≡◌, ◌≤◌, ◌+◌, ◌+ℤ◌, ◌==◌, ◌&&◌, not, ⊤, List, All, map, take, None, if◌then◌else◌}
 use Rattle.bank_terms.specs.Limits.{max_moment}
 use Rattle.std.specs.List.{sum_by}
 use Rattle.keyed_rows.specs.Totals.{total}
 use Rattle.policy_check.specs.Separation.{Certifies, Separated}
 use Rattle.policy_check.specs.Soundness.{IsPolicySound}
-use Rattle.bank_books.specs.Balances.{branch_balance, entry_count}
+use Rattle.bank_books.specs.Balances.{account_balance, branch_balance, entry_count, teller_balance}
 use Rattle.bank_books.specs.Books.{Books}
+use Rattle.bank_books.specs.Cash.{cash_entry_total, cash_of, difference_total, drawer_total}
+use Rattle.bank_books.specs.Range.{IsBranch}
 use Rattle.bank_books.specs.WorldLists.{WorldLists}
 use Rattle.book_growth.specs.Kept.{OnlyAdds}
 use Rattle.counter_ops.specs.Op.{procedure_of}
 use Rattle.counter_ops.specs.Operations.{IsOp}
 use Rattle.counter_ops.specs.declared.op.Op.{Op}
 use Rattle.counter_ops.specs.declared.op.Op.TheVariants as op
+use Rattle.postings.specs.Correct.{is_of_post, undoing}
+use Rattle.postings.specs.Transfer.{given, taken}
 use Rattle.bank_run.specs.PolicyRules.{asker}
 use Rattle.bank_run.specs.Requests.{executes, first}
 use Rattle.bank_run.specs.Run.{Marked, accepted, world_after}
@@ -45,69 +49,128 @@ pub record IsProper (r : Request) : Type 0 where
 abbrev pub AreProper : List Marked → Type 0
 AreProper requests = All (λ m. m.mark ≡ None → IsProper m.request) requests
 
--- what an operation that is carried out adds to the balance of a branch: the delta of a post at a teller of it
+-- What an operation that is carried out adds to the balance of a branch: the delta of a post at a teller of it, and minus that of a post that is corrected. The
+-- two legs of a transfer come to nothing.
 abbrev pub moved_by : ℕ → Op → ℤ
 moved_by branch (op.Post post) = if post.branch == branch then post.delta else pos 0
-moved_by branch (op.Transfer o) = pos 0
-moved_by branch (op.Correct o) = pos 0
-moved_by branch (op.DrawerOn o) = pos 0
-moved_by branch (op.DrawerOff o) = pos 0
-moved_by branch (op.MoveCash o) = pos 0
-moved_by branch (op.NewAccount o) = pos 0
-moved_by branch (op.Release o) = pos 0
-moved_by branch (op.Balance o) = pos 0
-moved_by branch (op.Statement o) = pos 0
-moved_by branch (op.Accounts o) = pos 0
-moved_by branch (op.Proof o) = pos 0
-moved_by branch (op.CloseDay o) = pos 0
+moved_by branch (op.Transfer transfer) = pos 0
+moved_by branch (op.Correct correct) = if is_of_post correct && correct.branch == branch then undoing correct else pos 0
+moved_by branch (op.DrawerOn form) = pos 0
+moved_by branch (op.DrawerOff form) = pos 0
+moved_by branch (op.MoveCash form) = pos 0
+moved_by branch (op.NewAccount form) = pos 0
+moved_by branch (op.Release form) = pos 0
+moved_by branch (op.Balance form) = pos 0
+moved_by branch (op.Statement form) = pos 0
+moved_by branch (op.Accounts form) = pos 0
+moved_by branch (op.Proof form) = pos 0
+moved_by branch (op.CloseDay form) = pos 0
 
--- how many entries it adds to the history of a branch: one for a post there, and none for any other operation
+-- to that of a teller
+abbrev pub teller_moved_by : ℕ → Op → ℤ
+teller_moved_by teller (op.Post post) = if post.teller == teller then post.delta else pos 0
+teller_moved_by teller (op.Transfer transfer) = pos 0
+teller_moved_by teller (op.Correct correct) = if is_of_post correct && correct.teller == teller then undoing correct else pos 0
+teller_moved_by teller (op.DrawerOn form) = pos 0
+teller_moved_by teller (op.DrawerOff form) = pos 0
+teller_moved_by teller (op.MoveCash form) = pos 0
+teller_moved_by teller (op.NewAccount form) = pos 0
+teller_moved_by teller (op.Release form) = pos 0
+teller_moved_by teller (op.Balance form) = pos 0
+teller_moved_by teller (op.Statement form) = pos 0
+teller_moved_by teller (op.Accounts form) = pos 0
+teller_moved_by teller (op.Proof form) = pos 0
+teller_moved_by teller (op.CloseDay form) = pos 0
+
+-- to that of an account
+abbrev pub account_moved_by : ℕ → Op → ℤ
+account_moved_by account (op.Post post) = if post.account == account then post.delta else pos 0
+account_moved_by account (op.Transfer transfer) = (if transfer.source == account then taken transfer else pos 0) +ℤ (if transfer.target == account then given transfer else pos 0)
+account_moved_by account (op.Correct correct) = (if correct.account == account then undoing correct else pos 0) +ℤ (if not (is_of_post correct) && correct.other == account then correct.delta else pos 0)
+account_moved_by account (op.DrawerOn form) = pos 0
+account_moved_by account (op.DrawerOff form) = pos 0
+account_moved_by account (op.MoveCash form) = pos 0
+account_moved_by account (op.NewAccount form) = pos 0
+account_moved_by account (op.Release form) = pos 0
+account_moved_by account (op.Balance form) = pos 0
+account_moved_by account (op.Statement form) = pos 0
+account_moved_by account (op.Accounts form) = pos 0
+account_moved_by account (op.Proof form) = pos 0
+account_moved_by account (op.CloseDay form) = pos 0
+
+-- and to the history of a branch: one entry for each leg
 abbrev pub entries_by : ℕ → Op → ℕ
 entries_by branch (op.Post post) = if post.branch == branch then 1 else 0
-entries_by branch (op.Transfer o) = 0
-entries_by branch (op.Correct o) = 0
-entries_by branch (op.DrawerOn o) = 0
-entries_by branch (op.DrawerOff o) = 0
-entries_by branch (op.MoveCash o) = 0
-entries_by branch (op.NewAccount o) = 0
-entries_by branch (op.Release o) = 0
-entries_by branch (op.Balance o) = 0
-entries_by branch (op.Statement o) = 0
-entries_by branch (op.Accounts o) = 0
-entries_by branch (op.Proof o) = 0
-entries_by branch (op.CloseDay o) = 0
+entries_by branch (op.Transfer transfer) = if transfer.branch == branch then 2 else 0
+entries_by branch (op.Correct correct) = if correct.branch == branch then (if is_of_post correct then 1 else 2) else 0
+entries_by branch (op.DrawerOn form) = 0
+entries_by branch (op.DrawerOff form) = 0
+entries_by branch (op.MoveCash form) = 0
+entries_by branch (op.NewAccount form) = 0
+entries_by branch (op.Release form) = 0
+entries_by branch (op.Balance form) = 0
+entries_by branch (op.Statement form) = 0
+entries_by branch (op.Accounts form) = 0
+entries_by branch (op.Proof form) = 0
+entries_by branch (op.CloseDay form) = 0
+
+-- what an operation moves
+pub record Moves : Type 0 where
+  pub branches : ℕ → ℤ
+  pub tellers : ℕ → ℤ
+  pub accounts : ℕ → ℤ
+  pub entries : ℕ → ℕ
+
+abbrev pub moves_nothing : Moves
+moves_nothing = record { branches = λ branch. pos 0; tellers = λ teller. pos 0; accounts = λ account. pos 0; entries = λ branch. 0 }
+
+abbrev pub moves_of : Op → Moves
+moves_of o = record {
+  branches = λ branch. moved_by branch o;
+  tellers = λ teller. teller_moved_by teller o;
+  accounts = λ account. account_moved_by account o;
+  entries = λ branch. entries_by branch o;
+}
 
 -- the same of all that may be asked for: operations alone move anything
-abbrev pub moved_of : ℕ → Asked → ℤ
-moved_of branch (asked.Operation op) = moved_by branch op
-moved_of branch asked.Opening = pos 0
-moved_of branch asked.Ending = pos 0
-moved_of branch (asked.Command command) = pos 0
-moved_of branch asked.Listing = pos 0
+abbrev pub moves_of_asked : Asked → Moves
+moves_of_asked (asked.Operation op) = moves_of op
+moves_of_asked asked.Opening = moves_nothing
+moves_of_asked asked.Ending = moves_nothing
+moves_of_asked (asked.Command command) = moves_nothing
+moves_of_asked asked.Listing = moves_nothing
 
-abbrev pub entries_of : ℕ → Asked → ℕ
-entries_of branch (asked.Operation op) = entries_by branch op
-entries_of branch asked.Opening = 0
-entries_of branch asked.Ending = 0
-entries_of branch (asked.Command command) = 0
-entries_of branch asked.Listing = 0
+-- and of a request
+abbrev pub moves : Request → Moves
+moves r = moves_of_asked r.asked
 
--- what a request that is carried out adds to the balance of a branch, and to its history
-abbrev pub moved_at : ℕ → Request → ℤ
-moved_at branch r = moved_of branch r.asked
+-- ---- along a list of requests
 
-abbrev pub entries_at : ℕ → Request → ℕ
-entries_at branch r = entries_of branch r.asked
+-- the cash of a branch: that of its vault and of its drawers
+abbrev pub branch_cash : WorldLists → ℕ → ℤ
+branch_cash w branch = cash_of w branch 0 +ℤ drawer_total branch w.lines
+
+-- the sum of what the requests that are accepted move
+abbrev pub moved_along : (Moves → ℤ) → WorldLists → List Marked → ℤ
+moved_along share w requests = total (map (λ r. share (moves r)) (accepted w requests))
 
 -- after the requests
 pub record SumsAgree (w : WorldLists) (requests : List Marked) : Type 0 where
   -- after each of them, too
   pub checks : (n : ℕ) → PassesChecks (world_after w (take n requests))
-  pub branches : (branch : ℕ) → branch_balance (world_after w requests) branch
-      ≡ branch_balance w branch +ℤ total (map (λ r. moved_at branch r) (accepted w requests))
-  -- TPC Benchmark A's third condition: the history has one record for each committed transaction, and none for any other
+  pub branches : (branch : ℕ) → branch_balance (world_after w requests) branch ≡ branch_balance w branch +ℤ moved_along (λ m. m.branches branch) w requests
+  pub tellers : (teller : ℕ) → teller_balance (world_after w requests) teller ≡ teller_balance w teller +ℤ moved_along (λ m. m.tellers teller) w requests
+  pub accounts : (account : ℕ) → account_balance (world_after w requests) account ≡ account_balance w account +ℤ moved_along (λ m. m.accounts account) w requests
+  -- TPC Benchmark A's third condition: the history has one record for each leg of a committed transaction, and none for anything else
   pub history : (branch : ℕ) → entry_count branch (world_after w requests).entries
-      ≡ entry_count branch w.entries + sum_by (λ r. entries_at branch r) (accepted w requests)
+      ≡ entry_count branch w.entries + sum_by (λ r. (moves r).entries branch) (accepted w requests)
+  -- what its entries brought in cash is what they added to its balance
+  pub cash_entries : (branch : ℕ) → cash_entry_total branch (world_after w requests).lines
+      ≡ cash_entry_total branch w.lines +ℤ moved_along (λ m. m.branches branch) w requests
+  -- the cash of a branch is what it was, with what its entries brought and what the counts of its drawers differed by
+  pub cash : (branch : ℕ) → IsBranch w.branches branch → branch_cash (world_after w requests) branch
+      ≡ branch_cash w branch
+      +ℤ (moved_along (λ m. m.branches branch) w requests +ℤ (difference_total branch (world_after w requests).lines +ℤ neg_ℤ (difference_total branch w.lines)))
   pub added : OnlyAdds w (world_after w requests)
 
 -- of every World that passes both checks, and of every list of requests with any marks
