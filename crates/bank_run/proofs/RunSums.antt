@@ -1,6 +1,6 @@
 -- Along a list of requests the checks pass, the sums agree, and what is written stays.
-use Rattle.std.proofs.Common.{◌≡◌, ℕ, ◌+◌, ◌≤◌, zero, suc, ℤ, pos, ◌+ℤ◌, ◌==◌, ◌&&◌, List, [], ◌∷◌, map, take, Bool, true, false, cond, Option, Some, None, inl, inr, refl, ap, arith, sym, subst, ◌∙◌}
-use Rattle.std.specs.Prelude.{nat_le, is_none, if◌then◌else◌}
+use Rattle.std.proofs.Common.{◌≡◌, ℕ, ◌+◌, ◌≤◌, zero, suc, ℤ, pos, ◌+ℤ◌, ◌==◌, ◌&&◌, List, [], ◌∷◌, map, take, Bool, true, false, Option, Some, None, refl, ap, arith, sym, subst, ◌∙◌}
+use Rattle.std.specs.Prelude.{is_none, if◌then◌else◌}
 use Rattle.std.specs.Option.{option_map_or}
 use Rattle.std.proofs.lemmas.Bool.{eqb-true, eqb-false}
 use Rattle.std.proofs.lemmas.Int.{ints}
@@ -24,9 +24,11 @@ use Rattle.counter_ops.specs.declared.new_account.NewAccount.{NewAccount}
 use Rattle.counter_ops.specs.declared.op.Op.{Op}
 use Rattle.counter_ops.specs.declared.op.Op.TheVariants as op
 use Rattle.counter_ops.specs.declared.post.Post.{Post}
+use Rattle.book_growth.specs.Kept.{OnlyAdds}
 use Rattle.book_growth.specs.Moves.{IsMovedAlone}
 use Rattle.postings.specs.Post.{first_against_post, post_effect, post_entry, post_rows}
 use Rattle.postings.proofs.AllowedPost.{are_there, effect_is, entry_of, is_allowed, post_keeps_books, post_moves_its_branch}
+use Rattle.book_growth.proofs.Kept.{adds_nothing, adds_then, kept_beside, kept_same}
 use Rattle.book_growth.proofs.Rows.{count-add_row}
 use Rattle.store_rows.specs.Status.{after_mark}
 use Rattle.bank_books.specs.declared.signature.Signature.{Signature}
@@ -41,41 +43,9 @@ use Rattle.bank_run.specs.declared.request.Asked.TheVariants as asked
 use Rattle.bank_run.specs.declared.request.Request.{Request}
 use Rattle.bank_run.specs.declared.who.Who.{Who}
 use Rattle.bank_run.specs.Run.{Marked, accepted, after_request, if_allowed, is_accepted, world_after}
-use Rattle.bank_run.specs.Sums.{AreKept, AreProper, IsProper, OnlyAdds, PassesChecks, SumsAlwaysAgree, entries_at, entries_by, entries_of, moved_at, moved_by, moved_of}
+use Rattle.bank_run.specs.Sums.{AreProper, IsProper, PassesChecks, SumsAlwaysAgree, entries_at, entries_by, entries_of, moved_at, moved_by, moved_of}
 use Rattle.bank_run.proofs.AllowedRequest.{allowed_by_books, allowed_user}
 use Rattle.bank_run.proofs.OpenedAccount.{new_account_keeps_books}
-
--- ---- what is kept
-
-kept_same : {X : Type 0} (xs : List X) → AreKept xs xs
-kept_same [] = tt
-kept_same (x ∷ xs) = inl (refl, kept_same xs)
-
-kept_then : {X : Type 0} (xs ys zs : List X) → AreKept xs ys → AreKept ys zs → AreKept xs zs
-kept_then [] ys zs p q = tt
-kept_then (x ∷ xs) [] zs p q = absurd p
-kept_then (x ∷ xs) (y ∷ ys) [] p q = absurd q
-kept_then (x ∷ xs) (y ∷ ys) (z ∷ zs) p (inr q) = inr (kept_then (x ∷ xs) (y ∷ ys) zs p q)
-kept_then (x ∷ xs) (y ∷ ys) (z ∷ zs) (inl p) (inl q) = inl (p.0 ∙ q.0, kept_then xs ys zs p.1 q.1)
-kept_then (x ∷ xs) (y ∷ ys) (z ∷ zs) (inr p) (inl q) = inr (kept_then (x ∷ xs) ys zs p q.1)
-
-kept_beside : {X : Type 0} (key : X → ℕ) (e : X) (xs : List X) → AreKept xs (add_row key e xs)
-kept_beside key e [] = tt
-kept_beside key e (x ∷ xs) = go (nat_le (key x) (key e)) (kept_beside key e xs)
-  where
-    go : (b : Bool) → AreKept xs (add_row key e xs) → AreKept (x ∷ xs) (cond b (x ∷ add_row key e xs) (e ∷ x ∷ xs))
-    go true rest = inl (refl, rest)
-    go false rest = inr (inl (refl, kept_same xs))
-
-adds_nothing : (w : WorldLists) → OnlyAdds w w
-adds_nothing w = record { entries = kept_same w.entries; lines = kept_same w.lines; proofs = kept_same w.proofs }
-
-adds_then : (a b c : WorldLists) → OnlyAdds a b → OnlyAdds b c → OnlyAdds a c
-adds_then a b c first second = record {
-  entries = kept_then a.entries b.entries c.entries first.entries second.entries;
-  lines = kept_then a.lines b.lines c.lines first.lines second.lines;
-  proofs = kept_then a.proofs b.proofs c.proofs first.proofs second.proofs;
-}
 
 -- ---- one request
 

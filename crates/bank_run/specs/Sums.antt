@@ -1,5 +1,5 @@
 -- What holds along every list of requests: the checks pass, the sums agree, and what is written stays.
-use Rattle.std.specs.Prelude.{ℕ, ℤ, pos, ◌≡◌, ◌≤◌, ◌⊎◌, ◌+◌, ◌+ℤ◌, ◌==◌, ⊤, List, [], ◌∷◌, All, map, take, None, if◌then◌else◌}
+use Rattle.std.specs.Prelude.{ℕ, ℤ, pos, ◌≡◌, ◌≤◌, ◌+◌, ◌+ℤ◌, ◌==◌, ⊤, List, All, map, take, None, if◌then◌else◌}
 use Rattle.bank_terms.specs.Limits.{max_moment}
 use Rattle.std.specs.List.{sum_by}
 use Rattle.keyed_rows.specs.Totals.{total}
@@ -8,6 +8,7 @@ use Rattle.policy_check.specs.Soundness.{IsPolicySound}
 use Rattle.bank_books.specs.Balances.{branch_balance, entry_count}
 use Rattle.bank_books.specs.Books.{Books}
 use Rattle.bank_books.specs.WorldLists.{WorldLists}
+use Rattle.book_growth.specs.Kept.{OnlyAdds}
 use Rattle.counter_ops.specs.Op.{procedure_of}
 use Rattle.counter_ops.specs.Operations.{IsOp}
 use Rattle.counter_ops.specs.declared.op.Op.{Op}
@@ -97,18 +98,6 @@ moved_at branch r = moved_of branch r.asked
 
 abbrev pub entries_at : ℕ → Request → ℕ
 entries_at branch r = entries_of branch r.asked
-
--- The first rows are a subsequence of the second: none of them was changed, taken away or moved past another.
-abbrev pub AreKept : {X : Type 0} → List X → List X → Type 0
-AreKept [] ys = ⊤
-AreKept (x ∷ xs) [] = ⊥
-AreKept (x ∷ xs) (y ∷ ys) = ((x ≡ y) × AreKept xs ys) ⊎ AreKept (x ∷ xs) ys
-
--- Clark and Wilson's rule C4 asks for a log that is only added to: entries, cash lines and proofs are that here.
-pub record OnlyAdds (before after : WorldLists) : Type 0 where
-  pub entries : AreKept before.entries after.entries
-  pub lines : AreKept before.lines after.lines
-  pub proofs : AreKept before.proofs after.proofs
 
 -- after the requests
 pub record SumsAgree (w : WorldLists) (requests : List Marked) : Type 0 where

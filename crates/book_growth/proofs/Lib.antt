@@ -6,12 +6,15 @@ pub mod EntryAdded
 pub mod EntryBooks
 pub mod EntryMoved
 pub mod GivenRows
+pub mod Kept
 pub mod LastRow
 pub mod LegsBooks
 pub mod LimitsKept
 pub mod LineAdded
 pub mod LinesBooks
+pub mod LinesOfBranch
 pub mod Numbered
+pub mod PlanMoves
 pub mod ReleaseAdded
 pub mod ReleaseUsed
 pub mod Rows
