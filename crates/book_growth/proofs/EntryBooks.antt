@@ -30,7 +30,7 @@ use Rattle.book_growth.proofs.Rows.{Contains-add_row_cases, HasRow-add_row, each
 -- ---- the entries that are named
 
 -- those that were there are there with the new one
-there_still : (w : WorldLists) (e : Entry) (branch number : ℕ) → IsEntryOrNone w.entries branch number → IsEntryOrNone (add_row entry_key e w.entries) branch number
+pub there_still : (w : WorldLists) (e : Entry) (branch number : ℕ) → IsEntryOrNone w.entries branch number → IsEntryOrNone (add_row entry_key e w.entries) branch number
 there_still w e branch number (inl none) = inl none
 there_still w e branch number (inr there) = inr (HasRow-add_row entry_key e w.entries (2 ^ 32 * branch + number) there)
 

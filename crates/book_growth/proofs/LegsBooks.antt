@@ -1,11 +1,13 @@
 -- Two entries that name each other keep the books: the ledger one after the other, what they name and the limits both together.
-use Rattle.std.proofs.Common.{◌≡◌, ◌+◌, ◌*◌, ◌^◌, ◌+ℤ◌, Bool, true, false, ap, sym, ◌∙◌, subst, ◌==◌, Contains, ◌⊎◌, inl, inr}
-use Rattle.std.specs.Prelude.{if◌then◌else◌}
+use Rattle.std.proofs.Common.{◌≡◌, ℕ, ◌+◌, ◌*◌, ◌^◌, ◌≤◌, ℤ, ◌+ℤ◌, arith, Bool, true, false, ap, sym, ◌∙◌, subst, ◌==◌, Contains, ◌⊎◌, inl, inr}
+use Rattle.std.specs.Prelude.{if◌then◌else◌, neg_ℤ}
 use Rattle.std.proofs.lemmas.Bool.{cases_Bool, eqb-true}
+use Rattle.std.proofs.lemmas.Int.{ints}
 use Rattle.keyed_rows.specs.Ordered.{add_row}
 use Rattle.money.specs.Range.{IsCents}
 use Rattle.bank_books.specs.Effects.{written}
 use Rattle.bank_books.specs.Keys.{account_key, branch_key, entry_key, teller_key}
+use Rattle.bank_books.specs.Range.{IsEntryOrNone}
 use Rattle.bank_books.specs.Records.{account_record_of, branch_record_of, entry_record_of, teller_record_of}
 use Rattle.bank_books.specs.WorldLists.{WorldLists}
 use Rattle.bank_books.specs.declared.row_write.RowWrite.TheVariants as write
@@ -13,16 +15,16 @@ use Rattle.bank_books.specs.declared.rows.Account.{Account}
 use Rattle.bank_books.specs.declared.rows.Branch.{Branch}
 use Rattle.bank_books.specs.declared.rows.Entry.{Entry}
 use Rattle.bank_books.specs.declared.rows.Teller.{Teller}
-use Rattle.book_growth.specs.Laws.{LegsKeepBooks}
+use Rattle.book_growth.specs.Laws.{LegsKeepBooks, OppositeLegsKeepBooks}
 use Rattle.book_growth.specs.Ledger.{IsOpenLedger, NamesEntries}
 use Rattle.book_growth.specs.Limits.{AreWithinLimits, IsAccountWithin, IsBranchWithin, IsTellerWithin}
-use Rattle.book_growth.specs.Moves.{AreLegs, HasRoomForLegs, account_entered, branch_entered, teller_entered}
+use Rattle.book_growth.specs.Moves.{AreLegs, HasRoomForLegs, HasRoomForOppositeLegs, account_entered, branch_entered, teller_entered}
 use Rattle.book_growth.proofs.BooksSplit.{books_parts}
 use Rattle.book_growth.proofs.EntryAdded.{entry_keeps_ledger}
-use Rattle.book_growth.proofs.EntryBooks.{balance_within, names_still}
+use Rattle.book_growth.proofs.EntryBooks.{balance_within, names_still, there_still}
 use Rattle.book_growth.proofs.EntryMoved.{entry_moves, entry_stands_last}
 use Rattle.book_growth.proofs.LimitsKept.{limits_moved}
-use Rattle.book_growth.proofs.Rows.{Contains-add_row, Contains-add_row_cases, Contains-add_row_new, each_added, find_of_key}
+use Rattle.book_growth.proofs.Rows.{Contains-add_row, Contains-add_row_cases, Contains-add_row_new, each_added, find_of_key, found_row}
 
 -- the World with the first, and with both
 abbrev with_first : WorldLists → Entry → WorldLists
@@ -42,10 +44,12 @@ all_named w first second legs named =
     ap (λ b. 2 ^ 32 * b + first.number) (sym legs.branch) ∙ ap (λ n. 2 ^ 32 * second.branch + n) (sym legs.second_partner) in
     let second_key : entry_key second ≡ 2 ^ 32 * first.branch + first.partner =
     ap (λ b. 2 ^ 32 * b + second.number) legs.branch ∙ ap (λ n. 2 ^ 32 * first.branch + n) (sym legs.first_partner) in
+    let still : (number branch : ℕ) → IsEntryOrNone w.entries branch number → IsEntryOrNone after branch number =
+    λ number branch there. there_still (with_first w first) second branch number (there_still w first branch number there) in
     each_added entry_key second before (NamesEntries after)
-    (record { partner = inr (first, (Contains-add_row entry_key second before first (Contains-add_row_new entry_key first w.entries), first_key)); undoes = inl legs.second_undoes })
+    (record { partner = inr (first, (Contains-add_row entry_key second before first (Contains-add_row_new entry_key first w.entries), first_key)); undoes = still second.undoes second.branch legs.second_undoes })
     (each_added entry_key first w.entries (NamesEntries after)
-    (record { partner = inr (second, (Contains-add_row_new entry_key second before, second_key)); undoes = inl legs.first_undoes })
+    (record { partner = inr (second, (Contains-add_row_new entry_key second before, second_key)); undoes = still first.undoes first.branch legs.first_undoes })
     (λ row there. names_still (with_first w first) second row (names_still w first row (named row there))))
 
 -- ---- the limits
@@ -157,3 +161,32 @@ legs_keep_books w first second legs room books =
         entries = entries_within w first second legs room ledger;
       }),
     )
+
+-- ---- legs that are opposite
+
+-- what the one takes the other gives back
+given_back : (a d d' : ℤ) → d' ≡ neg_ℤ d → a ≡ (a +ℤ d) +ℤ d'
+given_back a d d' opposite = omega (arith, ints)
+
+two_more : (n most : ℕ) → n + 2 ≤ most → (n + 1) + 1 ≤ most
+two_more n most fits = omega arith
+
+pub opposite_legs_have_room : (w : WorldLists) (first second : Entry) → HasRoomForOppositeLegs w first second → IsOpenLedger w → AreWithinLimits w → HasRoomForLegs w first second
+opposite_legs_have_room w first second room ledger limits = record {
+  branch = λ b is.
+      let was = (limits.branches b (found_row branch_key first.branch w.branches b is).0).history in
+      record {
+        balance_within = subst IsCents (given_back _ first.delta second.delta room.opposite) was.balance_within;
+        history_within = subst IsCents (given_back _ first.delta second.delta room.opposite) was.history_within;
+        entries_within = two_more _ _ (room.entries b is);
+      };
+  teller = λ t is.
+      subst IsCents (given_back _ first.delta second.delta room.opposite) (limits.tellers t (found_row teller_key first.teller w.tellers t is).0).balance;
+  source = room.source;
+  target = room.target;
+}
+
+pub opposite_legs_keep_books : OppositeLegsKeepBooks
+opposite_legs_keep_books w first second legs room books =
+    let parts = (books_parts w).0 books in
+    legs_keep_books w first second legs (opposite_legs_have_room w first second room parts.0.rows parts.1) books

@@ -11,6 +11,7 @@ pub mod LegsBooks
 pub mod LimitsKept
 pub mod LineAdded
 pub mod LinesBooks
+pub mod LinesOfBranch
 pub mod Numbered
 pub mod ReleaseAdded
 pub mod ReleaseUsed

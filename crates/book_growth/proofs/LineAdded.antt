@@ -69,7 +69,7 @@ line_keeps_ledger w l next ledger = record {
 -- ---- what it moves
 
 -- the sum of the lines of a branch that pass
-share_moves : (l : CashLine) (xs : List CashLine) (branch : ℕ) (p : CashLine → Bool) → total (map (λ x. if x.branch == branch && p x then x.amount else pos 0) (add_row line_key l xs))
+pub share_moves : (l : CashLine) (xs : List CashLine) (branch : ℕ) (p : CashLine → Bool) → total (map (λ x. if x.branch == branch && p x then x.amount else pos 0) (add_row line_key l xs))
     ≡ total (map (λ x. if x.branch == branch && p x then x.amount else pos 0) xs) +ℤ (if l.branch == branch && p l then l.amount else pos 0)
 share_moves l xs branch p = total-add_row line_key (λ x. if x.branch == branch && p x then x.amount else pos 0) l xs
 

@@ -33,7 +33,7 @@ branches_along w (l ∷ lines) = branches_along (written (write.Line l) w) lines
 plus_zero : (a : ℤ) → a ≡ a +ℤ pos 0
 plus_zero a = omega (arith, ints)
 
-one_more : (after between before first rest : ℤ) → after ≡ between +ℤ rest → between ≡ before +ℤ first → after ≡ before +ℤ (first +ℤ rest)
+pub one_more : (after between before first rest : ℤ) → after ≡ between +ℤ rest → between ≡ before +ℤ first → after ≡ before +ℤ (first +ℤ rest)
 one_more after between before first rest later here = omega (arith, ints)
 
 gap_along : (w : WorldLists) (lines : List CashLine) (branch : ℕ)

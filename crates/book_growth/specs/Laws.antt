@@ -1,5 +1,6 @@
 -- What holds of every change of each kind.
 use Rattle.std.specs.Prelude.{ℕ, ℤ, pos, ◌≡◌, ◌↔◌, ◌+◌, ◌≤◌, ◌+ℤ◌, ◌==◌, List, map, if◌then◌else◌}
+use Rattle.std.specs.List.{AllByRecursion}
 use Rattle.bank_terms.specs.Limits.{max_accounts, max_key}
 use Rattle.keyed_rows.specs.Totals.{total}
 use Rattle.bank_books.specs.Balances.{account_count}
@@ -20,7 +21,7 @@ use Rattle.bank_books.specs.declared.rows.Release.{Release}
 use Rattle.book_growth.specs.CashGap.{cash_gap, gap_share}
 use Rattle.book_growth.specs.Ledger.{IsLedger, IsOpenLedger, NamesEntries}
 use Rattle.book_growth.specs.Limits.{AreMovedWithin, AreWithinLimits}
-use Rattle.book_growth.specs.Moves.{AreLegs, HasRoomFor, HasRoomForLegs, HasRoomForLine, IsMovedAlone, IsMovedByAccount, IsMovedByEntry, IsMovedByLine, MovesNothing, StandsLast, with_proof}
+use Rattle.book_growth.specs.Moves.{AreLegs, HasRoomFor, HasRoomForLegs, HasRoomForLine, HasRoomForLines, HasRoomForOppositeLegs, IsMovedAlone, IsMovedByAccount, IsMovedByEntry, IsMovedByLine, MovesNothing, StandsLast, with_proof}
 use Rattle.book_growth.specs.Next.{AreNextLines, IsNextAccount, IsNextEntry, IsNextLine, IsNextProof, IsNextRelease, lined}
 
 -- the books are the ledger within its limits
@@ -55,6 +56,11 @@ EntryKeepsBooks = (w : WorldLists) (e : Entry) → IsNextEntry w e → NamesEntr
 -- the two legs of a transfer: limits, and the entries that they name, are judged of both together
 abbrev pub LegsKeepBooks : Type 0
 LegsKeepBooks = (w : WorldLists) (first second : Entry) → AreLegs w first second → HasRoomForLegs w first second → Books w
+    → Books (written (write.Entry second) (written (write.Entry first) w))
+
+-- the same of legs that take from one account what they give the other, as those of a transfer do
+abbrev pub OppositeLegsKeepBooks : Type 0
+OppositeLegsKeepBooks = (w : WorldLists) (first second : Entry) → AreLegs w first second → HasRoomForOppositeLegs w first second → Books w
     → Books (written (write.Entry second) (written (write.Entry first) w))
 
 -- ---- an account
@@ -135,3 +141,8 @@ LineKeepsBooks = (w : WorldLists) (l : CashLine) → IsNextLine w l → gap_shar
 abbrev pub LinesKeepBooks : Type 0
 LinesKeepBooks = (w : WorldLists) (lines : List CashLine) → AreNextLines w lines
     → ((branch : ℕ) → total (map (λ l. if l.branch == branch then gap_share l else pos 0) lines) ≡ pos 0) → AreWithinLimits (lined lines w) → Books w → Books (lined lines w)
+
+-- the same of lines of one branch, of which the limits are judged by what they come to
+abbrev pub LinesOfBranchKeepBooks : Type 0
+LinesOfBranchKeepBooks = (w : WorldLists) (branch : ℕ) (lines : List CashLine) → AreNextLines w lines → AllByRecursion (λ l. l.branch ≡ branch) lines
+    → total (map gap_share lines) ≡ pos 0 → HasRoomForLines w branch lines → Books w → Books (lined lines w)

@@ -1,8 +1,12 @@
 -- What one change moves, and that it moves nothing else.
-use Rattle.std.specs.Prelude.{ℕ, ℤ, pos, ◌≡◌, ◌≢◌, ◌+◌, ◌+ℤ◌, ◌==◌, ◌&&◌, not, Contains, Some, if◌then◌else◌}
+use Rattle.std.specs.Prelude.{ℕ, ℤ, pos, ◌≡◌, ◌≢◌, ◌+◌, ◌≤◌, ◌+ℤ◌, neg_ℤ, ◌==◌, ◌&&◌, not, List, length, map, Contains, Some, if◌then◌else◌}
+use Rattle.std.specs.List.{AllByRecursion}
+use Rattle.bank_terms.specs.Limits.{max_key}
+use Rattle.keyed_rows.specs.Totals.{total}
 use Rattle.bank_books.specs.Balances.{account_balance, account_row, branch_balance, branch_row, teller_balance, teller_row}
 use Rattle.bank_books.specs.Cash.{cash_of, is_cash_entry, is_difference}
 use Rattle.bank_books.specs.Effects.{written}
+use Rattle.bank_books.specs.Range.{IsEntryOrNone}
 use Rattle.counter_ops.specs.Ranges.{IsCash}
 use Rattle.bank_books.specs.Records.{account_record_of, branch_record_of, entry_record_of, teller_record_of}
 use Rattle.bank_books.specs.WorldLists.{WorldLists}
@@ -72,7 +76,7 @@ pub record HasRoomFor (w : WorldLists) (e : Entry) : Type 0 where
 
 -- ---- two entries, as the legs of a transfer
 
--- two entries at one teller and two accounts, one behind the other, that name each other
+-- Two entries at one teller and two accounts, one behind the other, that name each other. Each may undo an entry that is there.
 pub record AreLegs (w : WorldLists) (first second : Entry) : Type 0 where
   pub first_next : IsNextEntry w first
   pub second_next : IsNextEntry (written (write.Entry first) w) second
@@ -81,14 +85,21 @@ pub record AreLegs (w : WorldLists) (first second : Entry) : Type 0 where
   pub accounts : second.account ≢ first.account
   pub first_partner : first.partner ≡ second.number
   pub second_partner : second.partner ≡ first.number
-  pub first_undoes : first.undoes ≡ 0
-  pub second_undoes : second.undoes ≡ 0
+  pub first_undoes : IsEntryOrNone w.entries first.branch first.undoes
+  pub second_undoes : IsEntryOrNone w.entries second.branch second.undoes
 
 -- with both of them, what their branch, their teller and their accounts come to is within the limits; between the two it need not be
 pub record HasRoomForLegs (w : WorldLists) (first second : Entry) : Type 0 where
   pub branch : (b : Branch) → branch_row first.branch w.branches ≡ Some b →
       let after = branch_entered second.delta (branch_entered first.delta (branch_record_of w b)) in IsHistoryWithin after.balance after.history after.entries
   pub teller : (t : Teller) → teller_row first.teller w.tellers ≡ Some t → IsCents (teller_entered second.delta (teller_entered first.delta (teller_record_of w t))).balance
+  pub source : (a : Account) → account_row first.account w.accounts ≡ Some a → IsAccountWithin (account_entered first.delta (account_record_of w a))
+  pub target : (a : Account) → account_row second.account w.accounts ≡ Some a → IsAccountWithin (account_entered second.delta (account_record_of w a))
+
+-- Of two that take from one account what they give the other, the branch has room where its history has, and the teller always.
+pub record HasRoomForOppositeLegs (w : WorldLists) (first second : Entry) : Type 0 where
+  pub opposite : second.delta ≡ neg_ℤ first.delta
+  pub entries : (b : Branch) → branch_row first.branch w.branches ≡ Some b → (branch_record_of w b).entries + 2 ≤ max_key
   pub source : (a : Account) → account_row first.account w.accounts ≡ Some a → IsAccountWithin (account_entered first.delta (account_record_of w a))
   pub target : (a : Account) → account_row second.account w.accounts ≡ Some a → IsAccountWithin (account_entered second.delta (account_record_of w a))
 
@@ -109,13 +120,29 @@ pub record IsMovedByAccount (w : WorldLists) (a : Account) : Type 0 where
 
 -- ---- a cash line
 
+-- what a line adds to one place of its branch, to its vault, to its drawers together, to the cash of its entries and to its differences
+abbrev pub to_place : ℕ → CashLine → ℤ
+to_place place l = if l.place == place then l.amount else pos 0
+
+abbrev pub to_vault : CashLine → ℤ
+to_vault l = to_place 0 l
+
+abbrev pub to_drawers : CashLine → ℤ
+to_drawers l = if not (l.place == 0) then l.amount else pos 0
+
+abbrev pub to_cash_entries : CashLine → ℤ
+to_cash_entries l = if is_cash_entry l.form then l.amount else pos 0
+
+abbrev pub to_differences : CashLine → ℤ
+to_differences l = if is_difference l.form then l.amount else pos 0
+
 -- what a line makes of what the lines of its branch come to
 abbrev pub branch_lined : CashLine → BranchRecord → BranchRecord
 branch_lined l b = record b {
-  vault = b.vault +ℤ (if l.place == 0 then l.amount else pos 0);
-  drawers = b.drawers +ℤ (if not (l.place == 0) then l.amount else pos 0);
-  cash_entries = b.cash_entries +ℤ (if is_cash_entry l.form then l.amount else pos 0);
-  differences = b.differences +ℤ (if is_difference l.form then l.amount else pos 0);
+  vault = b.vault +ℤ to_vault l;
+  drawers = b.drawers +ℤ to_drawers l;
+  cash_entries = b.cash_entries +ℤ to_cash_entries l;
+  differences = b.differences +ℤ to_differences l;
   lines = b.lines + 1;
 }
 
@@ -136,6 +163,24 @@ pub record HasRoomForLine (w : WorldLists) (l : CashLine) : Type 0 where
   pub branch : (b : Branch) → branch_row l.branch w.branches ≡ Some b →
       let after = branch_lined l (branch_record_of w b) in IsCashWithin after.vault after.drawers after.cash_entries after.differences after.lines
   pub teller : (t : Teller) → teller_row l.place w.tellers ≡ Some t → t.branch ≡ l.branch → IsCash ((teller_record_of w t).cash +ℤ l.amount)
+
+-- ---- several cash lines of one branch
+
+-- with all of them the cash of the branch is within the limits
+abbrev pub HasCashRoom : BranchRecord → List CashLine → Type 0
+HasCashRoom b lines =
+    IsCashWithin (b.vault +ℤ total (map to_vault lines)) (b.drawers +ℤ total (map to_drawers lines)) (b.cash_entries +ℤ total (map to_cash_entries lines))
+    (b.differences +ℤ total (map to_differences lines)) (b.lines + length lines)
+
+-- and so is that of a drawer of it
+abbrev pub HasDrawerRoom : WorldLists → ℕ → List CashLine → ℕ → Type 0
+HasDrawerRoom w branch lines place = place ≢ 0 → (t : Teller) → teller_row place w.tellers ≡ Some t → t.branch ≡ branch →
+    IsCash ((teller_record_of w t).cash +ℤ total (map (to_place place) lines))
+
+-- there is room at the branch and at each drawer that they name; between two of them the cash need not be within the limits
+pub record HasRoomForLines (w : WorldLists) (branch : ℕ) (lines : List CashLine) : Type 0 where
+  pub cash : (b : Branch) → branch_row branch w.branches ≡ Some b → HasCashRoom (branch_record_of w b) lines
+  pub drawers : AllByRecursion (λ l. HasDrawerRoom w branch lines l.place) lines
 
 -- ---- the proof of a day
 

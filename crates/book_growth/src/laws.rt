@@ -1,6 +1,6 @@
 //! What holds of every change of each kind. The functions do nothing; their contracts are the laws.
 
-ghost use Rattle.book_growth.specs.Laws.{AccountKeepsBooks, AccountKeepsLedger, AccountMoves, BooksParts, CashBalances, EntryKeepsBooks, EntryKeepsLedger, EntryMoves, EntryStandsLast, LegsKeepBooks, LimitsMoved, LineKeepsBooks, LineKeepsLedger, LineMoves, LinesKeepBooks, MovedTwice, ProofAndDayKeepBooks, ProofAndDayKeepLedger, ProofAndDayMoveNothing, ReleaseKeepsBooks, ReleaseKeepsLedger, ReleaseMovesNothing, SessionKeepsBooks, SessionKeepsLedger, SessionMovesNothing, UsedKeepsBooks, UsedKeepsLedger, UsedMovesNothing};
+ghost use Rattle.book_growth.specs.Laws.{AccountKeepsBooks, AccountKeepsLedger, AccountMoves, BooksParts, CashBalances, EntryKeepsBooks, EntryKeepsLedger, EntryMoves, EntryStandsLast, LegsKeepBooks, LimitsMoved, LineKeepsBooks, LineKeepsLedger, LineMoves, LinesKeepBooks, LinesOfBranchKeepBooks, MovedTwice, OppositeLegsKeepBooks, ProofAndDayKeepBooks, ProofAndDayKeepLedger, ProofAndDayMoveNothing, ReleaseKeepsBooks, ReleaseKeepsLedger, ReleaseMovesNothing, SessionKeepsBooks, SessionKeepsLedger, SessionMovesNothing, UsedKeepsBooks, UsedKeepsLedger, UsedMovesNothing};
 
 /// The books hold exactly where the ledger does and all that rows come to is within the limits.
 pub fn books_parts()
@@ -42,6 +42,12 @@ pub fn entry_keeps_books()
 /// there is room for both together.
 pub fn legs_keep_books()
     ensures { LegsKeepBooks }
+{}
+
+/// The same of two whose deltas are opposite: of the branch only its number of entries needs room, and of
+/// the teller nothing does.
+pub fn opposite_legs_keep_books()
+    ensures { OppositeLegsKeepBooks }
 {}
 
 /// An account that is not there yet and opens with nothing keeps the ledger.
@@ -143,4 +149,10 @@ pub fn line_keeps_books()
 /// cash that is moved, if all they come to is within the limits.
 pub fn lines_keep_books()
     ensures { LinesKeepBooks }
+{}
+
+/// The same of lines of one branch, if there is room for what all of them come to at its vault and at each
+/// drawer that they name.
+pub fn lines_of_branch_keep_books()
+    ensures { LinesOfBranchKeepBooks }
 {}
