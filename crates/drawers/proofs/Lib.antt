@@ -1,1 +1,2 @@
 pub mod AllowedClose
+mod RangeOff

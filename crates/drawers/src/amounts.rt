@@ -1,10 +1,10 @@
 //! Amounts of money of which it is known that they are in its range.
 
 ghost use Rattle.std.specs.Prelude.{◌≡◌, ◌+ℤ◌, pos, neg_ℤ};
-ghost use Rattle.money.specs.Range.{IsCents};
+ghost use Rattle.money.specs.Range.{IsCents, is_cents};
 
 use money::Cents;
-use row_rules::cents_after;
+use row_rules::{cents_after, cents_between};
 
 /// A number of the books with an amount added to it.
 pub(crate) fn sum_of(number: i128, added: i64) -> Cents
@@ -15,6 +15,13 @@ pub(crate) fn sum_of(number: i128, added: i64) -> Cents
         unreachable!();
     };
     sum
+}
+
+/// Whether a number of the books less another is an amount of money.
+pub(crate) fn is_between(number: i128, taken: i128) -> bool
+    ensures { result ≡ is_cents (number +ℤ neg_ℤ taken) }
+{
+    cents_between(number, taken).is_some()
 }
 
 /// So many cents more.

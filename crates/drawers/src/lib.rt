@@ -10,7 +10,7 @@ pub mod laws;
 mod move_cash;
 
 pub use close_day::{Closed, ClosingRows};
-pub use drawer_off::PutOff;
+pub use drawer_off::{PutOff, plan_drawer_off, rule_against_drawer_off};
 pub use drawer_on::{PutOn, plan_drawer_on, rule_against_drawer_on};
 pub use drawer_rows::DrawerRows;
 pub use move_cash::{MoveRows, Moved};

@@ -1,4 +1,4 @@
-ghost use Rattle.std.specs.Prelude.{◌≡◌, ◌↔◌, ◌+ℤ◌, int_lt, IfSome, IsSome};
+ghost use Rattle.std.specs.Prelude.{◌≡◌, ◌↔◌, ◌+ℤ◌, int_lt, neg_ℤ, IfSome, IsSome};
 ghost use Rattle.money.specs.Range.{IsCents, is_cents};
 ghost use Rattle.row_rules.specs.Rules.{is_full};
 
@@ -15,6 +15,18 @@ pub fn cents_after(number: i128, added: i64) -> Option<Cents>
         return None;
     };
     Cents::new(after)
+}
+
+/// A number of the books less another, or none where that would leave the range of money.
+pub fn cents_between(number: i128, taken: i128) -> Option<Cents>
+    ensures in_range { IsSome result ↔ IsCents (number +ℤ neg_ℤ taken) }
+    ensures value { IfSome result (λ between. between ≡ number +ℤ neg_ℤ taken) }
+{
+    let between = number.checked_sub(taken)?;
+    let Ok(between) = i64::try_from(between) else {
+        return None;
+    };
+    Cents::new(between)
 }
 
 /// Whether a number with an amount added to it is less than another.
