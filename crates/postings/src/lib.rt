@@ -8,4 +8,4 @@ mod transfer;
 
 pub use correct::{CorrectRows, Corrected};
 pub use post::{PostRows, Posted, plan_post, rule_against_post};
-pub use transfer::{TransferRows, Transferred};
+pub use transfer::{TransferRows, Transferred, plan_transfer, rule_against_transfer};
