@@ -84,7 +84,7 @@ pub fn plan_transfer(
     };
     let first = first_leg(&source, &ledger, transfer, by);
     let second = second_leg(&target, &ledger, transfer, by);
-    let left = left_by(&source, &target, &first, &second);
+    let left = transferred_by(&source, &target, &first, &second);
     let mut plan = Vec::new(alloc);
     plan.push(RowWrite::Entry(first))?;
     plan.push(RowWrite::Entry(second))?;
@@ -138,7 +138,7 @@ fn second_leg(target: &AccountRecord, ledger: &Ledger, transfer: &Transfer, by: 
 }
 
 /// What is left by the entries of a transfer that no rule denies.
-fn left_by(
+pub(crate) fn transferred_by(
     source: &AccountRecord,
     target: &AccountRecord,
     first: &Entry,
@@ -215,10 +215,7 @@ pub fn rule_against_transfer(
 fn is_unknown(rows: &TransferRows) -> bool
     ensures { result ≡ is_unknown rows.now }
 {
-    rows.source.is_none()
-        || rows.target.is_none()
-        || rows.teller.is_none()
-        || rows.ledger.is_none()
+    rows.source.is_none() || rows.target.is_none() || rows.teller.is_none() || rows.ledger.is_none()
 }
 
 fn are_above_floors(rows: &TransferRows, transfer: &Transfer) -> bool
@@ -231,14 +228,11 @@ fn are_above_floors(rows: &TransferRows, transfer: &Transfer) -> bool
 fn are_in_range(rows: &TransferRows, transfer: &Transfer) -> bool
     ensures { result ≡ are_in_range rows.now transfer.now }
 {
-    account_in_range(rows.source, taken(transfer))
-        && account_in_range(rows.target, given(transfer))
+    account_in_range(rows.source, taken(transfer)) && account_in_range(rows.target, given(transfer))
 }
 
 fn is_full(rows: &TransferRows) -> bool
     ensures { result ≡ is_full rows.now }
 {
-    ledger_is_full(rows.ledger, 2)
-        || account_is_full(rows.source)
-        || account_is_full(rows.target)
+    ledger_is_full(rows.ledger, 2) || account_is_full(rows.source) || account_is_full(rows.target)
 }
