@@ -5,6 +5,7 @@ ghost use Rattle.row_rules.specs.BranchParts.{cash_book_of, ledger_of};
 ghost use Rattle.row_rules.specs.Planned.{IsPlanned};
 ghost use Rattle.postings.specs.Post.{is_full, is_in_range, is_unknown, first_against_post, post_changes, post_entry, post_line, posted_of};
 
+use crate::branch_parts::branch_parts;
 use bank_books::{
     AccountRecord, BranchRecord, CashLine, Entry, EntryForm, LineForm, RowWrite, Signature,
     TellerRecord,
@@ -42,10 +43,7 @@ impl PostRows {
     ) -> PostRows
         ensures { result ≡ record { account = account; teller = teller; ledger = option_map ledger_of branch; cash_book = option_map cash_book_of branch } }
     {
-        let (ledger, cash_book) = match branch {
-            Some(branch) => (Some(Ledger::of(&branch)), Some(CashBook::of(&branch))),
-            None => (None, None),
-        };
+        let (ledger, cash_book) = branch_parts(branch);
         PostRows {
             account,
             teller,
@@ -85,7 +83,7 @@ pub fn plan_post(
         unreachable!();
     };
     let entry = post_entry(&account, &ledger, post, by);
-    let left = left_by(&account, &entry);
+    let left = posted_by(&account, &entry);
     let mut plan = Vec::new(alloc);
     plan.push(RowWrite::Entry(entry))?;
     plan.push(RowWrite::Line(post_line(&book, post, by)))?;
@@ -93,7 +91,7 @@ pub fn plan_post(
 }
 
 /// What is left by the entry of a post that no rule denies.
-fn left_by(account: &AccountRecord, entry: &Entry) -> Posted
+pub(crate) fn posted_by(account: &AccountRecord, entry: &Entry) -> Posted
     requires { IsCents (account.now.balance +ℤ entry.now.delta) }
     ensures { result ≡ record { balance = account.now.balance +ℤ entry.now.delta; branch = entry.now.branch; entry = entry.now.number } }
 {
