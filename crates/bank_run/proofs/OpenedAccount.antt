@@ -12,6 +12,9 @@ use Rattle.book_growth.specs.Next.{IsNextAccount}
 use Rattle.book_growth.proofs.AccountAdded.{account_keeps_books}
 use Rattle.book_growth.proofs.Rows.{found_row, none_passes}
 use Rattle.book_growth.proofs.RuleTests.{one_fits, passed_by, source_of}
+use Rattle.bank_books.specs.declared.rows.Branch.{Branch}
+use Rattle.counter_ops.specs.NewAccount.{IsNewAccount}
+use Rattle.counter_ops.specs.declared.new_account.NewAccount.{NewAccount}
 use Rattle.bank_run.specs.Laws.{NewAccountKeepsBooks}
 use Rattle.bank_run.specs.NewAccount.{first_against_new_account, opened, opening_rows}
 use Rattle.bank_run.specs.declared.opening_rows.OpeningRows.{OpeningRows}
@@ -39,18 +42,30 @@ key_is_free : (w : WorldLists) (key : ℕ) → account_row key w.accounts ≡ No
 key_is_free w key none row there same =
     false≢true (sym (none_passes (λ r. r.account == key) w.accounts row none there) ∙ eq-eqb row.account key same)
 
+-- the branch that it names, and that it has room
+branch_there : (w : WorldLists) (form : NewAccount) → IsAllowed (opening_rows w form) → (b : Branch) × (branch_row form.branch w.branches ≡ Some b)
+branch_there w form allowed =
+    let record_of = source_of (λ b. b.accounts) (branch_record w form.branch) allowed.known in
+    source_of (branch_record_of w) (branch_row form.branch w.branches) (ap is_none record_of.1)
+
+-- the account may come next
+pub opened_is_next : (w : WorldLists) (form : NewAccount) → IsNewAccount form → first_against_new_account (opening_rows w form) ≡ None → IsNextAccount w (opened form)
+opened_is_next w form ranges none =
+    let allowed = is_allowed (opening_rows w form) none in
+    let branch = branch_there w form allowed in
+    let there = found_row branch_key form.branch w.branches branch.0 branch.1 in
+    record {
+      sound = record { key = ranges.account; home = (branch.0, there); floor = ranges.floor; opening = ranges.floor.1 };
+      free = key_is_free w form.account (no_source (account_record_of w) (account_row form.account w.accounts) allowed.free);
+      empty = refl;
+    }
+
 -- ---- the law
 
 pub new_account_keeps_books : NewAccountKeepsBooks
 new_account_keeps_books w form books ranges none =
     let allowed = is_allowed (opening_rows w form) none in
-    let record_of = source_of (λ b. b.accounts) (branch_record w form.branch) allowed.known in
-    let branch = source_of (branch_record_of w) (branch_row form.branch w.branches) (ap is_none record_of.1) in
+    let branch = branch_there w form allowed in
     let there = found_row branch_key form.branch w.branches branch.0 branch.1 in
     let room = subst (λ o. option_map_or (λ n. nat_le 100000 n) (option_map (λ b. b.accounts) (option_map (branch_record_of w) o)) false ≡ false) branch.1 allowed.room in
-    let next : IsNextAccount w (opened form) = record {
-      sound = record { key = ranges.account; home = (branch.0, there); floor = ranges.floor; opening = ranges.floor.1 };
-      free = key_is_free w form.account (no_source (account_record_of w) (account_row form.account w.accounts) allowed.free);
-      empty = refl;
-    } in
-    account_keeps_books w (opened form) next (subst (λ k. account_count k w.accounts + 1 ≤ 100000) there.1 (one_fits 100000 _ room)) books
+    account_keeps_books w (opened form) (opened_is_next w form ranges none) (subst (λ k. account_count k w.accounts + 1 ≤ 100000) there.1 (one_fits 100000 _ room)) books

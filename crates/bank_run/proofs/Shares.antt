@@ -82,11 +82,12 @@ no_other o b y z is = plain y ∙ ap (λ p. y +ℤ (if not p && b then z else po
 with_other : (o b : Bool) (y z : ℤ) → o ≡ false → y +ℤ (if b then z else pos 0) ≡ y +ℤ (if not o && b then z else pos 0)
 with_other o b y z is = ap (λ p. y +ℤ (if not p && b then z else pos 0)) (sym is)
 
-counts_one : (o b : Bool) → o ≡ true → (if b then 1 else 0) ≡ (if b then (if o then 1 else 2) else 0)
-counts_one o b is = ap (λ p. if b then (if p then 1 else 2) else 0) (sym is)
+-- n entries of a post, and m of a transfer
+counts_one : (o b : Bool) (n m none : ℕ) → o ≡ true → (if b then n else none) ≡ (if b then (if o then n else m) else none)
+counts_one o b n m none is = ap (λ p. if b then (if p then n else m) else none) (sym is)
 
-counts_two : (o b : Bool) → o ≡ false → (if b then 2 else 0) ≡ (if b then (if o then 1 else 2) else 0)
-counts_two o b is = ap (λ p. if b then (if p then 1 else 2) else 0) (sym is)
+counts_two : (o b : Bool) (n m none : ℕ) → o ≡ false → (if b then m else none) ≡ (if b then (if o then n else m) else none)
+counts_two o b n m none is = ap (λ p. if b then (if p then n else m) else none) (sym is)
 
 -- ---- the operations
 
@@ -118,7 +119,7 @@ undone_post_sums account ledger book correct by is = record {
   accounts = λ key.
       one_alone (if correct.account == key then undoing correct else pos 0)
       ∙ no_other (is_of_post correct) (correct.other == key) (if correct.account == key then undoing correct else pos 0) correct.delta is;
-  entries = λ key. one_counts (correct.branch == key) ∙ counts_one (is_of_post correct) (correct.branch == key) is;
+  entries = λ key. one_counts (correct.branch == key) ∙ counts_one (is_of_post correct) (correct.branch == key) 1 2 0 is;
   cash_entries = λ key. cash_alone (correct.branch == key) (undoing correct) ∙ if_of_post (is_of_post correct) (correct.branch == key) (undoing correct) is;
 }
 
@@ -130,7 +131,7 @@ undone_transfer_sums account other ledger number correct by is = record {
   accounts = λ key.
       two_alone (if correct.account == key then undoing correct else pos 0) (if correct.other == key then correct.delta else pos 0)
       ∙ with_other (is_of_post correct) (correct.other == key) (if correct.account == key then undoing correct else pos 0) correct.delta is;
-  entries = λ key. legs_count (correct.branch == key) ∙ counts_two (is_of_post correct) (correct.branch == key) is;
+  entries = λ key. legs_count (correct.branch == key) ∙ counts_two (is_of_post correct) (correct.branch == key) 1 2 0 is;
   cash_entries = λ key. none_of_transfer (is_of_post correct) (correct.branch == key) (undoing correct) is;
 }
 

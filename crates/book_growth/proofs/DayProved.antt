@@ -30,7 +30,7 @@ abbrev next_branches : WorldLists → Proof → List Branch
 next_branches w p = change_rows branch_key p.branch (on_day (p.day + 1)) w.branches
 
 -- a branch that is there is there on its next day
-branch_still : (w : WorldLists) (p : Proof) (branch : ℕ) → IsBranch w.branches branch → IsBranch (next_branches w p) branch
+pub branch_still : (w : WorldLists) (p : Proof) (branch : ℕ) → IsBranch w.branches branch → IsBranch (next_branches w p) branch
 branch_still w p branch there = HasRow-changed branch_key p.branch (on_day (p.day + 1)) (λ b. refl) w.branches branch there
 
 -- ---- the days of a branch

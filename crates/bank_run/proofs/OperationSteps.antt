@@ -1,0 +1,132 @@
+-- What an operation that no rule denies makes of a World that passes its checks, form by form.
+use Rattle.std.proofs.Common.{◌≡◌, ℕ, ◌+◌, ◌≤◌, ℤ, pos, ◌+ℤ◌, ◌==◌, [], ◌∷◌, Option, Some, None, Bool, true, false, refl, ap, arith, sym, subst, ◌∙◌, inl, inr}
+use Rattle.std.proofs.lemmas.Bool.{cases_Bool}
+use Rattle.std.proofs.lemmas.Int.{ints}
+use Rattle.bank_books.specs.Balances.{account_balance, branch_balance, entry_count, teller_balance}
+use Rattle.bank_books.specs.Books.{Books}
+use Rattle.bank_books.specs.Cash.{cash_entry_total, place_cash, vault_opening}
+use Rattle.bank_books.specs.Effects.{applied}
+use Rattle.bank_books.specs.Records.{account_record_of, branch_record_of}
+use Rattle.bank_books.specs.WorldLists.{WorldLists}
+use Rattle.bank_books.specs.declared.rows.Proof.{Proof}
+use Rattle.bank_books.specs.declared.signature.Signature.{Signature}
+use Rattle.book_growth.specs.Moves.{with_proof}
+use Rattle.book_growth.proofs.AccountAdded.{account_moves}
+use Rattle.book_growth.proofs.BooksSplit.{books_parts}
+use Rattle.book_growth.proofs.DayProved.{branch_still, proof_and_day_move_nothing}
+use Rattle.book_growth.proofs.Kept.{kept_beside, kept_same}
+use Rattle.bank_books.specs.Keys.{proof_key}
+use Rattle.counter_ops.specs.Operations.{IsOp}
+use Rattle.counter_ops.specs.declared.close_day.CloseDay.{CloseDay}
+use Rattle.counter_ops.specs.declared.new_account.NewAccount.{NewAccount}
+use Rattle.counter_ops.specs.declared.op.Op.{Op}
+use Rattle.counter_ops.specs.declared.op.Op.TheVariants as op
+use Rattle.counter_ops.specs.declared.post.Post.{Post}
+use Rattle.row_rules.specs.BranchParts.{cash_book_of, ledger_of}
+use Rattle.row_rules.specs.Signed.{IsSigned}
+use Rattle.postings.specs.Post.{first_against_post, post_effect, post_rows}
+use Rattle.postings.proofs.AllowedPost as post_allowed
+use Rattle.drawers.specs.CloseDay.{close_day_effect, closing_rows, first_against_close_day}
+use Rattle.drawers.proofs.AllowedClose as close_allowed
+use Rattle.bank_run.specs.Executions.{signature_of}
+use Rattle.bank_run.specs.Meaning.{by_books}
+use Rattle.bank_run.specs.NewAccount.{first_against_new_account, new_account_effect, opened, opening_rows}
+use Rattle.bank_run.specs.Operations.{meaning_of}
+use Rattle.bank_run.specs.Requests.{effect, executes, first}
+use Rattle.bank_run.specs.Sums.{IsProper, PassesChecks, moves_nothing, moves_of, moves_of_asked}
+use Rattle.bank_run.specs.declared.execution.Execution.{Execution}
+use Rattle.bank_run.specs.declared.request.Asked.{Asked}
+use Rattle.bank_run.specs.declared.request.Asked.TheVariants as asked
+use Rattle.bank_run.specs.declared.request.Request.{Request}
+use Rattle.bank_run.specs.declared.who.Who.{Who}
+use Rattle.bank_run.proofs.AllowedRequest.{allowed_by_books, allowed_user}
+use Rattle.bank_run.proofs.OpenedAccount.{new_account_keeps_books, opened_is_next}
+use Rattle.bank_run.proofs.Shares.{post_sums}
+use Rattle.bank_run.proofs.Steps.{IsStep, none_more, passes, plan_step, plus_zero, stands}
+
+posts : (w : WorldLists) (post : Post) (by : Signature) → PassesChecks w → IsSigned w by → first_against_post (post_rows w post) post by ≡ None
+    → IsStep w (post_effect w post by) (moves_of (op.Post post))
+posts w post by checks signed is =
+    let there = post_allowed.are_there w post by (post_allowed.is_allowed (post_rows w post) post by is) in
+    let branch = branch_record_of w there.branch in
+    let effect = ap (λ changes. applied changes w) (post_allowed.changes_are w post there by) in
+    subst (λ after. IsStep w after (moves_of (op.Post post))) (sym effect)
+    (plan_step w _ (moves_of (op.Post post)) checks (tt, (tt, tt)) (post_sums (account_record_of w there.account) (ledger_of branch) (cash_book_of branch) post by)
+    (subst Books effect (post_allowed.post_keeps_books w post by checks.books signed is)))
+
+-- ---- an account
+
+opens : (w : WorldLists) (form : NewAccount) → PassesChecks w → IsOp (op.NewAccount form) → first_against_new_account (opening_rows w form) ≡ None
+    → IsStep w (new_account_effect w form) moves_nothing
+opens w form checks proper is =
+    let nothing = (account_moves w (opened form) (opened_is_next w form proper is) ((books_parts w).0 checks.books).0.rows).nothing in
+    record {
+      checks = passes w (new_account_effect w form) checks refl (new_account_keeps_books w form checks.books proper is);
+      branches = λ key. nothing.branch_balances key ∙ plus_zero (branch_balance w key);
+      tellers = λ key. nothing.teller_balances key ∙ plus_zero (teller_balance w key);
+      accounts = λ key. nothing.account_balances key ∙ plus_zero (account_balance w key);
+      history = λ branch. none_more (entry_count branch w.entries);
+      cash_entries = λ branch. plus_zero (cash_entry_total branch w.lines);
+      stay = λ branch there. there;
+      vaults = λ branch. refl;
+      added = record { entries = kept_same w.entries; lines = kept_same w.lines; proofs = kept_same w.proofs };
+    }
+
+-- ---- the end of a day
+
+same_opening : (before after rest : ℤ) → after +ℤ rest ≡ before +ℤ rest → after ≡ before
+same_opening before after rest same = omega (arith, ints)
+
+proves : (w : WorldLists) (p : Proof) → PassesChecks w → Books (with_proof p w) → IsStep w (with_proof p w) moves_nothing
+proves w p checks books =
+    let nothing = proof_and_day_move_nothing w p in
+    record {
+      checks = passes w (with_proof p w) checks refl books;
+      branches = λ key. nothing.branch_balances key ∙ plus_zero (branch_balance w key);
+      tellers = λ key. nothing.teller_balances key ∙ plus_zero (teller_balance w key);
+      accounts = λ key. nothing.account_balances key ∙ plus_zero (account_balance w key);
+      history = λ branch. none_more (entry_count branch w.entries);
+      cash_entries = λ branch. plus_zero (cash_entry_total branch w.lines);
+      stay = λ branch there. branch_still w p branch there;
+      vaults = λ branch. same_opening (vault_opening branch w.branches) (vault_opening branch (with_proof p w).branches) (place_cash branch 0 w.lines) (nothing.cash branch 0);
+      added = record { entries = kept_same w.entries; lines = kept_same w.lines; proofs = kept_beside proof_key p w.proofs };
+    }
+
+closes : (w : WorldLists) (form : CloseDay) → PassesChecks w → first_against_close_day (closing_rows w form) ≡ None → IsStep w (close_day_effect w form) moves_nothing
+closes w form checks is =
+    let there = close_allowed.is_there w form (close_allowed.is_allowed (closing_rows w form) is) in
+    let effect = close_allowed.effect_is w form there in
+    subst (λ after. IsStep w after moves_nothing) (sym effect)
+    (proves w (close_allowed.proof_of w form there) checks (subst Books effect (close_allowed.close_day_keeps_books w form checks.books is)))
+
+-- ---- whatever is asked for
+
+by_form : (w : WorldLists) (o : Op) (by : Signature) → PassesChecks w → IsOp o → IsSigned w by → (by_books (meaning_of o by w)).first ≡ None → IsStep w (meaning_of o by w).effect (moves_of o)
+by_form w (op.Post post) by checks proper signed is = posts w post by checks signed is
+by_form w (op.Transfer transfer) by checks proper signed is = transfers w transfer by checks proper signed is
+by_form w (op.Correct correct) by checks proper signed is = corrects w correct by checks proper signed is
+by_form w (op.DrawerOn form) by checks proper signed is = puts_on w form by checks proper signed is
+by_form w (op.DrawerOff form) by checks proper signed is = puts_off w form by checks proper signed is
+by_form w (op.MoveCash move) by checks proper signed is = moves_cash w move by checks proper signed is
+by_form w (op.NewAccount form) by checks proper signed is = opens w form checks proper is
+by_form w (op.Release form) by checks proper signed is = stands w checks
+by_form w (op.Balance form) by checks proper signed is = stands w checks
+by_form w (op.Statement form) by checks proper signed is = stands w checks
+by_form w (op.Accounts form) by checks proper signed is = stands w checks
+by_form w (op.Proof form) by checks proper signed is = stands w checks
+by_form w (op.CloseDay form) by checks proper signed is = closes w form checks is
+
+executed : (w : WorldLists) (x : Execution) → PassesChecks w → IsOp x.op → x.moment ≤ 99999999999 → first w (executes x) ≡ None → IsStep w (effect w (executes x)) (moves_of x.op)
+executed w x checks proper high is =
+    by_form w x.op (signature_of x) checks proper (record { user = allowed_user w x is; moment = high }) (allowed_by_books w x is)
+
+abbrev asks : Asked → Who → ℕ → Request
+asks a who moment = record { who = who; moment = moment; asked = a }
+
+pub by_asked : (w : WorldLists) (a : Asked) (who : Who) (moment : ℕ) → PassesChecks w → IsProper (asks a who moment) → first w (asks a who moment) ≡ None
+    → IsStep w (effect w (asks a who moment)) (moves_of_asked a)
+by_asked w (asked.Operation op) who moment checks p is = executed w (record { who = who; moment = moment; op = op }) checks p.asked p.moment is
+by_asked w asked.Opening who moment checks p is = stands w checks
+by_asked w asked.Ending who moment checks p is = stands w checks
+by_asked w (asked.Command command) who moment checks p is = stands w checks
+by_asked w asked.Listing who moment checks p is = stands w checks
