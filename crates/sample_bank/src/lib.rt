@@ -8,5 +8,5 @@ mod policy;
 mod tests;
 
 pub use badges::badge_user;
-pub use opening::sample_world;
+pub use opening::{opened_world, sample_world};
 pub use policy::sample_policy;
