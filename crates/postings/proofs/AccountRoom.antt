@@ -8,6 +8,7 @@ use Rattle.book_growth.specs.Moves.{account_entered}
 use Rattle.book_growth.proofs.RuleTests.{at_least, cents_from}
 use Rattle.row_rules.specs.Rules.{account_in_range, account_is_full, account_keeps_floor}
 
+-- with so much added it passes
 pub record HasAccountRoom (account : AccountRecord) (added : ℤ) : Type 0 where
   pub floor : account_keeps_floor (Some account) added ≡ true
   pub in_range : account_in_range (Some account) added ≡ true
