@@ -25,7 +25,8 @@ use Rattle.row_rules.specs.Signed.{IsSigned}
 use Rattle.postings.specs.declared.post.PostRows.{PostRows}
 use Rattle.postings.specs.Laws.{PostKeepsBooks}
 use Rattle.postings.specs.Post.{first_against_post, is_full, is_in_range, is_unknown, post_changes, post_entry, post_line, post_rows}
-use Rattle.postings.proofs.CashedEntry.{HasAccountRoom, HasCounterRoom, cashed_keeps_books}
+use Rattle.postings.proofs.AccountRoom.{HasAccountRoom}
+use Rattle.postings.proofs.CashedEntry.{HasCounterRoom, cashed_keeps_books}
 use Rattle.postings.proofs.Counter.{IsCounter, entry_is_sound}
 
 -- ---- what the rules say

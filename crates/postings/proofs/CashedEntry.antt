@@ -11,7 +11,6 @@ use Rattle.bank_books.specs.Effects.{written}
 use Rattle.bank_books.specs.Keys.{branch_key, teller_key}
 use Rattle.bank_books.specs.Records.{account_record_of, branch_record_of, teller_record_of}
 use Rattle.bank_books.specs.WorldLists.{WorldLists}
-use Rattle.bank_books.specs.declared.records.AccountRecord.{AccountRecord}
 use Rattle.bank_books.specs.declared.records.BranchRecord.{BranchRecord}
 use Rattle.bank_books.specs.declared.records.TellerRecord.{TellerRecord}
 use Rattle.bank_books.specs.declared.row_write.RowWrite.TheVariants as write
@@ -27,13 +26,14 @@ use Rattle.book_growth.proofs.BooksSplit.{books_parts}
 use Rattle.book_growth.proofs.EntryBooks.{entry_keeps_books}
 use Rattle.book_growth.proofs.LineAdded.{line_keeps_books}
 use Rattle.book_growth.proofs.Rows.{found_row}
-use Rattle.book_growth.proofs.RuleTests.{at_least, cents_from}
+use Rattle.book_growth.proofs.RuleTests.{cents_from}
 use Rattle.counter_ops.specs.Ranges.{IsCash, IsKey}
 use Rattle.money.specs.Range.{IsCents}
 use Rattle.row_rules.specs.BranchParts.{cash_book_of, ledger_of}
-use Rattle.row_rules.specs.Rules.{account_in_range, account_is_full, account_keeps_floor, cash_book_is_full, cash_entries_in_range, drawer_covers, drawer_in_range, drawers_in_range, ledger_in_range, ledger_is_full, teller_in_range}
+use Rattle.row_rules.specs.Rules.{cash_book_is_full, cash_entries_in_range, drawer_covers, drawer_in_range, drawers_in_range, ledger_in_range, ledger_is_full, teller_in_range}
 use Rattle.row_rules.specs.declared.cash_book.CashBook.{CashBook}
 use Rattle.row_rules.proofs.FoundRows.{cash_from, for_found}
+use Rattle.postings.proofs.AccountRoom.{HasAccountRoom, account_within}
 use Rattle.postings.proofs.Counter.{IsCounter, line_is_sound}
 
 -- the line of an entry's cash, at the drawer of its teller
@@ -51,12 +51,6 @@ cash_of_entry book e = record {
 
 -- ---- what the tests of its rows say
 
--- of the account, where so much is added
-pub record HasAccountRoom (account : AccountRecord) (added : ℤ) : Type 0 where
-  pub floor : account_keeps_floor (Some account) added ≡ true
-  pub in_range : account_in_range (Some account) added ≡ true
-  pub turns : account_is_full (Some account) ≡ false
-
 -- of the teller, the branch, and the cash
 pub record HasCounterRoom (at : TellerRecord) (branch : BranchRecord) (added : ℤ) : Type 0 where
   pub covered : drawer_covers (Some at) added ≡ true
@@ -67,13 +61,6 @@ pub record HasCounterRoom (at : TellerRecord) (branch : BranchRecord) (added : �
   pub cash_entries : cash_entries_in_range (Some (cash_book_of branch)) added ≡ true
   pub entries : ledger_is_full (Some (ledger_of branch)) 1 ≡ false
   pub lines : cash_book_is_full (Some (cash_book_of branch)) 1 ≡ false
-
-pub account_within : (account : AccountRecord) (added : ℤ) → HasAccountRoom account added → IsAccountWithin (account_entered added account)
-account_within account added room = record {
-  balance = cents_from (account.balance +ℤ added) room.in_range;
-  above_floor = at_least (account.balance +ℤ added) account.row.floor room.floor;
-  turns = ltb-false max_key (account.turns + 1) room.turns;
-}
 
 history_within : (branch : BranchRecord) (added : ℤ) → ledger_in_range (Some (ledger_of branch)) added ≡ true → ledger_is_full (Some (ledger_of branch)) 1 ≡ false
     → IsHistoryWithin (branch.balance +ℤ added) (branch.history +ℤ added) (branch.entries + 1)
