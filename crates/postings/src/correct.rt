@@ -1,9 +1,8 @@
-ghost use Rattle.std.specs.Prelude.{◌≡◌, ◌&&◌, ◌||◌, not, [], ◌∷◌, ◌+◌, ◌<◌, ◌+ℤ◌, true, false, option_map, IfOk, IfSome, IsNone, IsSome, IsOkUnless};
+ghost use Rattle.std.specs.Prelude.{◌≡◌, [], ◌∷◌, ◌+◌, ◌<◌, ◌+ℤ◌, true, false, option_map, IfOk, IfSome, IsNone, IsSome, IsOkUnless};
 ghost use Rattle.money.specs.Range.{IsCents, IsDelta};
 ghost use Rattle.bank_terms.specs.Limits.{max_key};
 ghost use Rattle.row_rules.specs.BranchParts.{cash_book_of, ledger_of};
 ghost use Rattle.row_rules.specs.Planned.{IsPlanned};
-ghost use Rattle.row_rules.specs.Rules.{account_in_range};
 ghost use Rattle.postings.specs.Correct.{are_above_floors, correct_changes, corrected_of, first_against_correct, has_cash, has_entry, is_by_maker, is_correctable, is_full, is_in_range, is_of_post, is_unknown, other_is_as_named, post_in_range, post_undone, transfer_undone, undoing, undoing_entry, undoing_leg, undoing_line, undoing_other};
 
 use crate::branch_parts::branch_parts;
@@ -406,27 +405,14 @@ fn post_in_range(rows: &CorrectRows, added: i64) -> bool
         && cash_entries_in_range(rows.cash_book, added)
 }
 
-fn moved_in_range(rows: &CorrectRows, correct: &Correct) -> bool
-    ensures { result ≡ not (is_of_post correct.now) || post_in_range rows.now (undoing correct.now) }
-{
-    !is_of_post(correct) || post_in_range(rows, undoing(correct))
-}
-
-fn accounts_in_range(rows: &CorrectRows, correct: &Correct) -> bool
-    ensures both { result ≡ account_in_range rows.now.account (undoing correct.now) && account_in_range rows.now.other correct.now.delta }
-    ensures balance { result ≡ true → IfSome rows.now.account (λ account. IsCents (account.balance +ℤ undoing correct.now)) }
-    ensures other_balance { result ≡ true → IfSome rows.now.other (λ other. IsCents (other.balance +ℤ correct.now.delta)) }
-{
-    account_in_range(rows.account, undoing(correct))
-        && account_in_range(rows.other, correct.delta.get())
-}
-
 fn is_in_range(rows: &CorrectRows, correct: &Correct) -> bool
     ensures all { result ≡ is_in_range rows.now correct.now }
-    ensures balance { result ≡ true → IfSome rows.now.account (λ account. IsCents (account.balance +ℤ undoing correct.now)) }
     ensures other_balance { result ≡ true → IfSome rows.now.other (λ other. IsCents (other.balance +ℤ correct.now.delta)) }
 {
-    accounts_in_range(rows, correct) && moved_in_range(rows, correct)
+    let added = undoing(correct);
+    account_in_range(rows.account, added)
+        && account_in_range(rows.other, correct.delta.get())
+        && (!is_of_post(correct) || post_in_range(rows, added))
 }
 
 fn is_full(rows: &CorrectRows, correct: &Correct) -> bool
