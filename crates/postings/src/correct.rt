@@ -1,5 +1,5 @@
 ghost use Rattle.std.specs.Prelude.{◌≡◌, [], ◌∷◌, ◌+◌, ◌<◌, ◌+ℤ◌, true, false, option_map, IfOk, IfSome, IsNone, IsSome, IsOkUnless};
-ghost use Rattle.money.specs.Range.{IsCents, IsDelta};
+ghost use Rattle.money.specs.Range.{IsCents};
 ghost use Rattle.bank_terms.specs.Limits.{max_key};
 ghost use Rattle.row_rules.specs.BranchParts.{cash_book_of, ledger_of};
 ghost use Rattle.row_rules.specs.Planned.{IsPlanned};
@@ -8,13 +8,13 @@ ghost use Rattle.postings.specs.Correct.{are_above_floors, correct_changes, corr
 use crate::branch_parts::branch_parts;
 use crate::post::{Posted, posted_by};
 use crate::transfer::{Transferred, transferred_by};
+use crate::undo::{undoing, undoing_entry, undoing_leg, undoing_line, undoing_other};
 use bank_books::{
-    AccountRecord, BranchRecord, CashLine, Entry, EntryForm, LineForm, RowWrite, Signature,
-    TellerRecord,
+    AccountRecord, BranchRecord, Entry, EntryForm, RowWrite, Signature, TellerRecord,
 };
 use bank_terms::Rule;
 use counter_ops::Correct;
-use money::{Cents, Delta, Fault};
+use money::Fault;
 use row_rules::{
     CashBook, Ledger, Planned, account_in_range, account_is_full, account_keeps_floor,
     cash_book_is_full, cash_entries_in_range, drawer_covers, drawer_in_range, drawer_is_held_by,
@@ -165,100 +165,6 @@ fn undo_legs(
     Ok(Planned { plan, left })
 }
 
-/// The entry that undoes a post.
-fn undoing_entry(
-    account: &AccountRecord,
-    ledger: &Ledger,
-    correct: &Correct,
-    by: Signature,
-) -> Entry
-    requires turns { account.now.turns < max_key }
-    requires entries { ledger.now.entries < max_key }
-    ensures { result ≡ undoing_entry account.now ledger.now correct.now by }
-{
-    Entry {
-        branch: correct.branch,
-        number: (ledger.entries + 1) as u32,
-        account: correct.account,
-        turn: (account.turns + 1) as u32,
-        teller: correct.teller,
-        delta: undoing_delta(correct),
-        moment: by.moment,
-        day: ledger.day,
-        user: by.user,
-        form: EntryForm::Correction,
-        partner: 0,
-        undoes: correct.entry,
-    }
-}
-
-/// The line of its cash, at the drawer of the teller whom the correction names.
-fn undoing_line(book: &CashBook, correct: &Correct, by: Signature) -> CashLine
-    requires { book.now.lines < max_key }
-    ensures { result ≡ undoing_line book.now correct.now by }
-{
-    CashLine {
-        branch: correct.branch,
-        number: (book.lines + 1) as u32,
-        place: correct.teller,
-        amount: Cents::from(undoing_delta(correct)),
-        form: LineForm::CashEntry,
-        moment: by.moment,
-        day: book.day,
-        user: by.user,
-    }
-}
-
-/// The entry that undoes the leg that is named.
-fn undoing_leg(account: &AccountRecord, ledger: &Ledger, correct: &Correct, by: Signature) -> Entry
-    requires turns { account.now.turns < max_key }
-    requires entries { ledger.now.entries + 1 < max_key }
-    ensures { result ≡ undoing_leg account.now ledger.now correct.now by }
-{
-    Entry {
-        branch: correct.branch,
-        number: (ledger.entries + 1) as u32,
-        account: correct.account,
-        turn: (account.turns + 1) as u32,
-        teller: correct.teller,
-        delta: undoing_delta(correct),
-        moment: by.moment,
-        day: ledger.day,
-        user: by.user,
-        form: EntryForm::Correction,
-        partner: (ledger.entries + 2) as u32,
-        undoes: correct.entry,
-    }
-}
-
-/// The entry that undoes the other leg, which bears this number.
-fn undoing_other(
-    other: &AccountRecord,
-    ledger: &Ledger,
-    number: u32,
-    correct: &Correct,
-    by: Signature,
-) -> Entry
-    requires turns { other.now.turns < max_key }
-    requires entries { ledger.now.entries + 1 < max_key }
-    ensures { result ≡ undoing_other other.now ledger.now number correct.now by }
-{
-    Entry {
-        branch: correct.branch,
-        number: (ledger.entries + 2) as u32,
-        account: correct.other,
-        turn: (other.turns + 1) as u32,
-        teller: correct.teller,
-        delta: correct.delta,
-        moment: by.moment,
-        day: ledger.day,
-        user: by.user,
-        form: EntryForm::Correction,
-        partner: (ledger.entries + 1) as u32,
-        undoes: number,
-    }
-}
-
 /// The first rule of the books that denies the correction, or none. It takes no memory.
 pub fn rule_against_correct(rows: &CorrectRows, correct: &Correct, by: Signature) -> Option<Rule>
     ensures first { result ≡ first_against_correct rows.now correct.now by }
@@ -300,21 +206,6 @@ pub fn rule_against_correct(rows: &CorrectRows, correct: &Correct, by: Signature
         return Some(Rule::Full);
     }
     None
-}
-
-/// What it adds to the account of the entry.
-fn undoing_delta(correct: &Correct) -> Delta
-    ensures { result ≡ undoing correct.now }
-{
-    Delta::new(undoing(correct)).unwrap()
-}
-
-/// The same in cents.
-fn undoing(correct: &Correct) -> i64
-    ensures value { result ≡ undoing correct.now }
-    ensures in_range { IsDelta result }
-{
-    -correct.delta.get()
 }
 
 fn is_of_post(correct: &Correct) -> bool
