@@ -1,21 +1,20 @@
-ghost use Rattle.std.specs.Prelude.{◌≡◌, ◌&&◌, ◌||◌, not, [], ◌∷◌, ◌+◌, ◌<◌, ◌+ℤ◌, true, false, option_map, IfOk, IfSome, IsNone, IsSome, IsOkUnless};
-ghost use Rattle.money.specs.Range.{IsCents, IsDelta};
+ghost use Rattle.std.specs.Prelude.{◌≡◌, [], ◌∷◌, ◌+◌, ◌<◌, ◌+ℤ◌, true, false, option_map, IfOk, IfSome, IsNone, IsSome, IsOkUnless};
+ghost use Rattle.money.specs.Range.{IsCents};
 ghost use Rattle.bank_terms.specs.Limits.{max_key};
 ghost use Rattle.row_rules.specs.BranchParts.{cash_book_of, ledger_of};
 ghost use Rattle.row_rules.specs.Planned.{IsPlanned};
-ghost use Rattle.row_rules.specs.Rules.{account_in_range};
 ghost use Rattle.postings.specs.Correct.{are_above_floors, correct_changes, corrected_of, first_against_correct, has_cash, has_entry, is_by_maker, is_correctable, is_full, is_in_range, is_of_post, is_unknown, other_is_as_named, post_in_range, post_undone, transfer_undone, undoing, undoing_entry, undoing_leg, undoing_line, undoing_other};
 
 use crate::branch_parts::branch_parts;
 use crate::post::{Posted, posted_by};
 use crate::transfer::{Transferred, transferred_by};
+use crate::undo::{undoing, undoing_entry, undoing_leg, undoing_line, undoing_other};
 use bank_books::{
-    AccountRecord, BranchRecord, CashLine, Entry, EntryForm, LineForm, RowWrite, Signature,
-    TellerRecord,
+    AccountRecord, BranchRecord, Entry, EntryForm, RowWrite, Signature, TellerRecord,
 };
 use bank_terms::Rule;
 use counter_ops::Correct;
-use money::{Cents, Delta, Fault};
+use money::Fault;
 use row_rules::{
     CashBook, Ledger, Planned, account_in_range, account_is_full, account_keeps_floor,
     cash_book_is_full, cash_entries_in_range, drawer_covers, drawer_in_range, drawer_is_held_by,
@@ -166,100 +165,6 @@ fn undo_legs(
     Ok(Planned { plan, left })
 }
 
-/// The entry that undoes a post.
-fn undoing_entry(
-    account: &AccountRecord,
-    ledger: &Ledger,
-    correct: &Correct,
-    by: Signature,
-) -> Entry
-    requires turns { account.now.turns < max_key }
-    requires entries { ledger.now.entries < max_key }
-    ensures { result ≡ undoing_entry account.now ledger.now correct.now by }
-{
-    Entry {
-        branch: correct.branch,
-        number: (ledger.entries + 1) as u32,
-        account: correct.account,
-        turn: (account.turns + 1) as u32,
-        teller: correct.teller,
-        delta: undoing_delta(correct),
-        moment: by.moment,
-        day: ledger.day,
-        user: by.user,
-        form: EntryForm::Correction,
-        partner: 0,
-        undoes: correct.entry,
-    }
-}
-
-/// The line of its cash, at the drawer of the teller whom the correction names.
-fn undoing_line(book: &CashBook, correct: &Correct, by: Signature) -> CashLine
-    requires { book.now.lines < max_key }
-    ensures { result ≡ undoing_line book.now correct.now by }
-{
-    CashLine {
-        branch: correct.branch,
-        number: (book.lines + 1) as u32,
-        place: correct.teller,
-        amount: Cents::from(undoing_delta(correct)),
-        form: LineForm::CashEntry,
-        moment: by.moment,
-        day: book.day,
-        user: by.user,
-    }
-}
-
-/// The entry that undoes the leg that is named.
-fn undoing_leg(account: &AccountRecord, ledger: &Ledger, correct: &Correct, by: Signature) -> Entry
-    requires turns { account.now.turns < max_key }
-    requires entries { ledger.now.entries + 1 < max_key }
-    ensures { result ≡ undoing_leg account.now ledger.now correct.now by }
-{
-    Entry {
-        branch: correct.branch,
-        number: (ledger.entries + 1) as u32,
-        account: correct.account,
-        turn: (account.turns + 1) as u32,
-        teller: correct.teller,
-        delta: undoing_delta(correct),
-        moment: by.moment,
-        day: ledger.day,
-        user: by.user,
-        form: EntryForm::Correction,
-        partner: (ledger.entries + 2) as u32,
-        undoes: correct.entry,
-    }
-}
-
-/// The entry that undoes the other leg, which bears this number.
-fn undoing_other(
-    other: &AccountRecord,
-    ledger: &Ledger,
-    number: u32,
-    correct: &Correct,
-    by: Signature,
-) -> Entry
-    requires turns { other.now.turns < max_key }
-    requires entries { ledger.now.entries + 1 < max_key }
-    ensures { result ≡ undoing_other other.now ledger.now number correct.now by }
-{
-    Entry {
-        branch: correct.branch,
-        number: (ledger.entries + 2) as u32,
-        account: correct.other,
-        turn: (other.turns + 1) as u32,
-        teller: correct.teller,
-        delta: correct.delta,
-        moment: by.moment,
-        day: ledger.day,
-        user: by.user,
-        form: EntryForm::Correction,
-        partner: (ledger.entries + 1) as u32,
-        undoes: number,
-    }
-}
-
 /// The first rule of the books that denies the correction, or none. It takes no memory.
 pub fn rule_against_correct(rows: &CorrectRows, correct: &Correct, by: Signature) -> Option<Rule>
     ensures first { result ≡ first_against_correct rows.now correct.now by }
@@ -301,21 +206,6 @@ pub fn rule_against_correct(rows: &CorrectRows, correct: &Correct, by: Signature
         return Some(Rule::Full);
     }
     None
-}
-
-/// What it adds to the account of the entry.
-fn undoing_delta(correct: &Correct) -> Delta
-    ensures { result ≡ undoing correct.now }
-{
-    Delta::new(undoing(correct)).unwrap()
-}
-
-/// The same in cents.
-fn undoing(correct: &Correct) -> i64
-    ensures value { result ≡ undoing correct.now }
-    ensures in_range { IsDelta result }
-{
-    -correct.delta.get()
 }
 
 fn is_of_post(correct: &Correct) -> bool
@@ -406,27 +296,14 @@ fn post_in_range(rows: &CorrectRows, added: i64) -> bool
         && cash_entries_in_range(rows.cash_book, added)
 }
 
-fn moved_in_range(rows: &CorrectRows, correct: &Correct) -> bool
-    ensures { result ≡ not (is_of_post correct.now) || post_in_range rows.now (undoing correct.now) }
-{
-    !is_of_post(correct) || post_in_range(rows, undoing(correct))
-}
-
-fn accounts_in_range(rows: &CorrectRows, correct: &Correct) -> bool
-    ensures both { result ≡ account_in_range rows.now.account (undoing correct.now) && account_in_range rows.now.other correct.now.delta }
-    ensures balance { result ≡ true → IfSome rows.now.account (λ account. IsCents (account.balance +ℤ undoing correct.now)) }
-    ensures other_balance { result ≡ true → IfSome rows.now.other (λ other. IsCents (other.balance +ℤ correct.now.delta)) }
-{
-    account_in_range(rows.account, undoing(correct))
-        && account_in_range(rows.other, correct.delta.get())
-}
-
 fn is_in_range(rows: &CorrectRows, correct: &Correct) -> bool
     ensures all { result ≡ is_in_range rows.now correct.now }
-    ensures balance { result ≡ true → IfSome rows.now.account (λ account. IsCents (account.balance +ℤ undoing correct.now)) }
     ensures other_balance { result ≡ true → IfSome rows.now.other (λ other. IsCents (other.balance +ℤ correct.now.delta)) }
 {
-    accounts_in_range(rows, correct) && moved_in_range(rows, correct)
+    let added = undoing(correct);
+    account_in_range(rows.account, added)
+        && account_in_range(rows.other, correct.delta.get())
+        && (!is_of_post(correct) || post_in_range(rows, added))
 }
 
 fn is_full(rows: &CorrectRows, correct: &Correct) -> bool

@@ -6,6 +6,7 @@ mod correct;
 pub mod laws;
 mod post;
 mod transfer;
+mod undo;
 
 pub use correct::{CorrectRows, Corrected, plan_correct, rule_against_correct};
 pub use post::{PostRows, Posted, plan_post, rule_against_post};

@@ -1,4 +1,4 @@
-ghost use Rattle.std.specs.Prelude.{◌≡◌, ◌+◌, ◌<◌, ◌≤◌, ◌+ℤ◌, neg_ℤ, pos, false, option_map, IfOk, IfSome, IsNone, IsOkUnless};
+ghost use Rattle.std.specs.Prelude.{◌≡◌, ◌+◌, ◌<◌, ◌≤◌, ◌+ℤ◌, false, option_map, IfOk, IfSome, IsNone, IsOkUnless};
 ghost use Rattle.money.specs.Range.{IsCents};
 ghost use Rattle.bank_terms.specs.Limits.{max_key, max_transfer};
 ghost use Rattle.row_rules.specs.BranchParts.{ledger_of};
