@@ -1,1 +1,2 @@
 mod AllowedOff
+mod AllowedMove
