@@ -1,2 +1,3 @@
 pub mod AllowedClose
+mod RangeMove
 mod RangeOff

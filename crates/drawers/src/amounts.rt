@@ -4,7 +4,25 @@ ghost use Rattle.std.specs.Prelude.{◌≡◌, ◌+ℤ◌, pos, neg_ℤ};
 ghost use Rattle.money.specs.Range.{IsCents, is_cents};
 
 use money::Cents;
-use row_rules::{cents_after, cents_between};
+use row_rules::{cents_after, cents_between, cents_of};
+
+/// Whether a number of the books is an amount of money.
+pub(crate) fn is_amount(number: i128) -> bool
+    ensures { result ≡ is_cents number }
+{
+    cents_of(number).is_some()
+}
+
+/// A number of the books.
+pub(crate) fn amount_of(number: i128) -> Cents
+    requires { IsCents number }
+    ensures { result ≡ number }
+{
+    let Some(cents) = cents_of(number) else {
+        unreachable!();
+    };
+    cents
+}
 
 /// A number of the books with an amount added to it.
 pub(crate) fn sum_of(number: i128, added: i64) -> Cents

@@ -8,9 +8,11 @@ mod drawer_on;
 mod drawer_rows;
 pub mod laws;
 mod move_cash;
+#[cfg(test)]
+mod tests;
 
-pub use close_day::{Closed, ClosingRows};
+pub use close_day::{Closed, ClosingRows, plan_close_day, rule_against_close_day};
 pub use drawer_off::{PutOff, plan_drawer_off, rule_against_drawer_off};
 pub use drawer_on::{PutOn, plan_drawer_on, rule_against_drawer_on};
 pub use drawer_rows::DrawerRows;
-pub use move_cash::{MoveRows, Moved};
+pub use move_cash::{MoveRows, Moved, plan_move, rule_against_move_cash};

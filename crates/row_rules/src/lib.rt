@@ -20,4 +20,4 @@ pub use cash_book::CashBook;
 pub use histories::{ledger_in_range, ledger_is_full, teller_in_range, teller_is_of};
 pub use ledger::Ledger;
 pub use planned::Planned;
-pub use ranges::{cents_after, cents_between};
+pub use ranges::{cents_after, cents_between, cents_of};

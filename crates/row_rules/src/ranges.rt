@@ -5,16 +5,23 @@ ghost use Rattle.row_rules.specs.Rules.{is_full};
 use bank_terms::MAX_KEY;
 use money::{Cents, MAX_CENTS};
 
+/// A number of the books as an amount of money, or none where it is out of that range.
+pub fn cents_of(number: i128) -> Option<Cents>
+    ensures in_range { IsSome result ↔ IsCents number }
+    ensures value { IfSome result (λ cents. cents ≡ number) }
+{
+    let Ok(number) = i64::try_from(number) else {
+        return None;
+    };
+    Cents::new(number)
+}
+
 /// A number of the books with an amount added to it, or none where that would leave the range of money.
 pub fn cents_after(number: i128, added: i64) -> Option<Cents>
     ensures in_range { IsSome result ↔ IsCents (number +ℤ added) }
     ensures value { IfSome result (λ after. after ≡ number +ℤ added) }
 {
-    let after = number.checked_add(i128::from(added))?;
-    let Ok(after) = i64::try_from(after) else {
-        return None;
-    };
-    Cents::new(after)
+    cents_of(number.checked_add(i128::from(added))?)
 }
 
 /// A number of the books less another, or none where that would leave the range of money.
@@ -22,11 +29,7 @@ pub fn cents_between(number: i128, taken: i128) -> Option<Cents>
     ensures in_range { IsSome result ↔ IsCents (number +ℤ neg_ℤ taken) }
     ensures value { IfSome result (λ between. between ≡ number +ℤ neg_ℤ taken) }
 {
-    let between = number.checked_sub(taken)?;
-    let Ok(between) = i64::try_from(between) else {
-        return None;
-    };
-    Cents::new(between)
+    cents_of(number.checked_sub(taken)?)
 }
 
 /// Whether a number with an amount added to it is less than another.

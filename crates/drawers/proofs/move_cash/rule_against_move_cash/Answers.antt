@@ -1,0 +1,9 @@
+use Rattle.std.proofs.Common.{rules}
+use Rattle.drawers.proofs.RangeMove.{source_there, target_there}
+use Rattle.drawers.proofs.move_cash.rule_against_move_cash.Goals as goal
+
+pub returns-clause-source : goal.returns-clause-source
+returns-clause-source c = λ _. source_there c.args.rows.now c.args.move_cash.now (search rules) (search rules)
+
+pub returns-clause-target : goal.returns-clause-target
+returns-clause-target c = λ _. target_there c.args.rows.now c.args.move_cash.now (search rules) (search rules)
