@@ -1,1 +1,5 @@
 pub mod AllowedClose
+pub mod AllowedOff
+pub mod AllowedOn
+pub mod DrawerThere
+pub mod PlacedLines
