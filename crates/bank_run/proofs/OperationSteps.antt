@@ -16,7 +16,11 @@ use Rattle.book_growth.proofs.BooksSplit.{books_parts}
 use Rattle.book_growth.proofs.DayProved.{branch_still, proof_and_day_move_nothing}
 use Rattle.book_growth.proofs.Kept.{kept_beside, kept_same}
 use Rattle.bank_books.specs.Keys.{proof_key}
+use Rattle.counter_ops.specs.Correct.{IsCorrect}
 use Rattle.counter_ops.specs.Operations.{IsOp}
+use Rattle.counter_ops.specs.Transfer.{IsTransfer}
+use Rattle.counter_ops.specs.declared.correct.Correct.{Correct}
+use Rattle.counter_ops.specs.declared.transfer.Transfer.{Transfer}
 use Rattle.counter_ops.specs.declared.close_day.CloseDay.{CloseDay}
 use Rattle.counter_ops.specs.declared.new_account.NewAccount.{NewAccount}
 use Rattle.counter_ops.specs.declared.op.Op.{Op}
@@ -25,7 +29,11 @@ use Rattle.counter_ops.specs.declared.post.Post.{Post}
 use Rattle.row_rules.specs.BranchParts.{cash_book_of, ledger_of}
 use Rattle.row_rules.specs.Signed.{IsSigned}
 use Rattle.postings.specs.Post.{first_against_post, post_effect, post_rows}
+use Rattle.postings.specs.Correct.{correct_effect, correct_rows, first_against_correct, is_of_post}
+use Rattle.postings.specs.Transfer.{first_against_transfer, transfer_effect, transfer_rows}
+use Rattle.postings.proofs.AllowedCorrect as correct_allowed
 use Rattle.postings.proofs.AllowedPost as post_allowed
+use Rattle.postings.proofs.AllowedTransfer as transfer_allowed
 use Rattle.drawers.specs.CloseDay.{close_day_effect, closing_rows, first_against_close_day}
 use Rattle.drawers.proofs.AllowedClose as close_allowed
 use Rattle.bank_run.specs.Executions.{signature_of}
@@ -41,7 +49,7 @@ use Rattle.bank_run.specs.declared.request.Request.{Request}
 use Rattle.bank_run.specs.declared.who.Who.{Who}
 use Rattle.bank_run.proofs.AllowedRequest.{allowed_by_books, allowed_user}
 use Rattle.bank_run.proofs.OpenedAccount.{new_account_keeps_books, opened_is_next}
-use Rattle.bank_run.proofs.Shares.{post_sums}
+use Rattle.bank_run.proofs.Shares.{moved_sums, post_sums, put_off_sums, put_on_sums, transfer_sums, undone_post_sums, undone_transfer_sums}
 use Rattle.bank_run.proofs.Steps.{IsStep, none_more, passes, plan_step, plus_zero, stands}
 
 posts : (w : WorldLists) (post : Post) (by : Signature) → PassesChecks w → IsSigned w by → first_against_post (post_rows w post) post by ≡ None
@@ -53,6 +61,42 @@ posts w post by checks signed is =
     subst (λ after. IsStep w after (moves_of (op.Post post))) (sym effect)
     (plan_step w _ (moves_of (op.Post post)) checks (tt, (tt, tt)) (post_sums (account_record_of w there.account) (ledger_of branch) (cash_book_of branch) post by)
     (subst Books effect (post_allowed.post_keeps_books w post by checks.books signed is)))
+
+transfers : (w : WorldLists) (transfer : Transfer) (by : Signature) → PassesChecks w → IsTransfer transfer → IsSigned w by → first_against_transfer (transfer_rows w transfer) transfer by ≡ None
+    → IsStep w (transfer_effect w transfer by) (moves_of (op.Transfer transfer))
+transfers w transfer by checks proper signed is =
+    let there = transfer_allowed.are_there w transfer by (transfer_allowed.is_allowed (transfer_rows w transfer) transfer by is) in
+    let effect = ap (λ changes. applied changes w) (transfer_allowed.changes_are w transfer there by) in
+    subst (λ after. IsStep w after (moves_of (op.Transfer transfer))) (sym effect)
+    (plan_step w _ (moves_of (op.Transfer transfer)) checks (tt, (tt, tt))
+    (transfer_sums (account_record_of w there.source) (account_record_of w there.target) (ledger_of (branch_record_of w there.branch)) transfer by)
+    (subst Books effect (transfer_allowed.transfer_keeps_books w transfer by checks.books signed proper is)))
+
+-- of a post, or of a transfer
+corrects : (w : WorldLists) (correct : Correct) (by : Signature) → PassesChecks w → IsCorrect correct → IsSigned w by → first_against_correct (correct_rows w correct) correct by ≡ None
+    → IsStep w (correct_effect w correct by) (moves_of (op.Correct correct))
+corrects w correct by checks proper signed is =
+    let allowed = correct_allowed.is_allowed (correct_rows w correct) correct by is in
+    let there = correct_allowed.are_there w correct by allowed in
+    let account = account_record_of w there.account in
+    let branch = branch_record_of w there.branch in
+    let books = correct_allowed.correct_keeps_books w correct by checks.books signed proper is in
+    elim (cases_Bool (is_of_post correct)) [
+      | inl post ↦
+          let effect = ap (λ changes. applied changes w) (correct_allowed.changes_of_post w correct there by post) in
+          subst (λ after. IsStep w after (moves_of (op.Correct correct))) (sym effect)
+          (plan_step w _ (moves_of (op.Correct correct)) checks (tt, (tt, tt)) (undone_post_sums account (ledger_of branch) (cash_book_of branch) correct by post) (subst Books effect books))
+      | inr legs ↦
+          let also = correct_allowed.other_is_there w correct by allowed legs in
+          let effect = ap (λ changes. applied changes w) (correct_allowed.changes_of_legs w correct there also by legs) in
+          subst (λ after. IsStep w after (moves_of (op.Correct correct))) (sym effect)
+          (plan_step w _ (moves_of (op.Correct correct)) checks (tt, (tt, tt))
+          (undone_transfer_sums account (account_record_of w also.other) (ledger_of branch) there.entry.partner correct by legs) (subst Books effect books))
+    ]
+
+-- ---- cash
+
+CASH
 
 -- ---- an account
 

@@ -1,3 +1,7 @@
 pub mod AllowedClose
+pub mod AllowedOff
+pub mod AllowedOn
+pub mod DrawerThere
+pub mod PlacedLines
 mod RangeMove
 mod RangeOff

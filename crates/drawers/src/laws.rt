@@ -1,7 +1,12 @@
 //! What holds of every move of cash, and of every day that is closed, that no rule of the books denies. The functions
 //! do nothing; their contracts are the laws.
 
-ghost use Rattle.drawers.specs.Laws.{CloseDayKeepsBooks};
+ghost use Rattle.drawers.specs.Laws.{CloseDayKeepsBooks, DrawerOffKeepsBooks};
+
+/// Where the books hold, they hold after a drawer is put off, too.
+pub fn drawer_off_keeps_books()
+    ensures { DrawerOffKeepsBooks }
+{}
 
 /// Where the books hold, they hold after the day of a branch is closed, too.
 pub fn close_day_keeps_books()
