@@ -36,7 +36,7 @@ use Rattle.drawers.specs.DrawerRows.{drawer_rows, is_unknown}
 use Rattle.drawers.specs.Laws.{DrawerOffKeepsBooks}
 use Rattle.drawers.specs.declared.drawer_rows.DrawerRows.{DrawerRows}
 use Rattle.drawers.proofs.DrawerThere.{AreThere, are_there, book_of, no_vault, rows_are, rows_of, teller_is}
-use Rattle.drawers.proofs.PlacedLines.{ArePlaced, next_lines, still_cash}
+use Rattle.drawers.proofs.PlacedLines.{ArePlaced, next_lines, still_cash, two_behind}
 
 -- ---- what the rules say
 
@@ -90,9 +90,6 @@ pub effect_is : (w : WorldLists) (form : DrawerOff) (there : IsThere w form) (by
 effect_is w form there by = ap (λ changes. applied changes w) (changes_are w form there by)
 
 -- ---- its lines may come next
-
-two_behind : (n : ℕ) → n + 2 ≡ (n + 1) + 1
-two_behind n = omega arith
 
 three_behind : (n : ℕ) → n + 3 ≡ ((n + 1) + 1) + 1
 three_behind n = omega arith

@@ -1,6 +1,6 @@
 -- What is known of a drawer that no rule forbids to put on: its rows are there, its lines may come next, and there is room for them.
-use Rattle.std.proofs.Common.{◌≡◌, ℕ, ◌+◌, ◌≤◌, ℤ, pos, neg_ℤ, ◌+ℤ◌, [], ◌∷◌, true, false, not, refl, ap, arith, sym, ◌∙◌, subst, ◌==◌, Some, None, inl, inr, Bool}
-use Rattle.std.specs.Prelude.{◌≤ℤ◌, if◌then◌else◌}
+use Rattle.std.proofs.Common.{◌≡◌, ◌+◌, ◌≤◌, ℤ, pos, ◌+ℤ◌, [], ◌∷◌, true, false, not, refl, ap, arith, sym, ◌∙◌, subst, ◌==◌, Some, None, inl, inr, Bool}
+use Rattle.std.specs.Prelude.{if◌then◌else◌}
 use Rattle.std.proofs.lemmas.Bool.{and_parts, ltb-false, ne_eqb, not-false}
 use Rattle.std.proofs.lemmas.Int.{ints}
 use Rattle.counter_ops.specs.DrawerOn.{IsDrawerOn}
@@ -31,7 +31,7 @@ use Rattle.drawers.specs.DrawerOn.{drawer_on_changes, drawer_on_effect, first_ag
 use Rattle.drawers.specs.DrawerRows.{drawer_rows, is_unknown}
 use Rattle.drawers.specs.declared.drawer_rows.DrawerRows.{DrawerRows}
 use Rattle.drawers.proofs.DrawerThere.{AreThere, are_there, book_of, no_vault, rows_are, rows_of, teller_is}
-use Rattle.drawers.proofs.PlacedLines.{AreCarried, carried_keep_books, still_cash}
+use Rattle.drawers.proofs.PlacedLines.{AreCarried, carried_keep_books, not_below, opposite, still_cash, two_behind}
 
 -- ---- what the rules say
 
@@ -82,15 +82,6 @@ pub effect_is : (w : WorldLists) (form : DrawerOn) (there : IsThere w form) (by 
 effect_is w form there by = ap (λ changes. applied changes w) (changes_are w form there by)
 
 -- ---- its lines may come next, and there is room for them
-
-opposite : (z : ℤ) → neg_ℤ z +ℤ z ≡ pos 0
-opposite z = omega (arith, ints)
-
-not_below : (n : ℕ) → pos 0 ≤ℤ pos n
-not_below n = omega (arith, ints)
-
-two_behind : (n : ℕ) → n + 2 ≡ (n + 1) + 1
-two_behind n = omega arith
 
 into_drawers : (was z : ℤ) (b : Bool) → b ≡ false → was +ℤ z ≡ was +ℤ (pos 0 +ℤ (if not b then z else pos 0))
 into_drawers was z true is = absurd cc

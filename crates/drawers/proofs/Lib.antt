@@ -1,4 +1,5 @@
 pub mod AllowedClose
+pub mod AllowedMove
 pub mod AllowedOff
 pub mod AllowedOn
 pub mod DrawerThere

@@ -1,6 +1,6 @@
 -- Lines of cash at the places of one branch: when they may come next one after another, and when two that carry cash from one place to another keep the
 -- books.
-use Rattle.std.proofs.Common.{◌≡◌, ◌≢◌, ℕ, ◌+◌, ◌≤◌, ℤ, pos, ◌+ℤ◌, List, [], ◌∷◌, Bool, true, false, refl, ap, arith, sym, ◌∙◌, subst, ◌==◌, ◌||◌, ◌⊎◌, inl, inr, Some}
+use Rattle.std.proofs.Common.{◌≡◌, ◌≢◌, ℕ, ◌+◌, ◌≤◌, ℤ, pos, neg_ℤ, ◌+ℤ◌, List, [], ◌∷◌, Bool, true, false, refl, ap, arith, sym, ◌∙◌, subst, ◌==◌, ◌||◌, ◌⊎◌, inl, inr, Some}
 use Rattle.std.specs.Prelude.{◌≤ℤ◌, IfSome, ⊤, if◌then◌else◌}
 use Rattle.std.specs.List.{AllByRecursion}
 use Rattle.std.proofs.lemmas.Bool.{cases_Bool, eq-eqb, eqb-true, ne_eqb}
@@ -61,6 +61,9 @@ next_behind w book branch (l ∷ lines) placed numbered = (
 pub next_lines : (w : WorldLists) (branch : ℕ) (lines : List CashLine) → ArePlaced w branch lines → AreNumberedBehind (line_count branch w.lines) lines → AreNextLines w lines
 next_lines w branch lines placed numbered = next_behind w w.lines branch lines placed numbered
 
+pub two_behind : (n : ℕ) → n + 2 ≡ (n + 1) + 1
+two_behind n = omega arith
+
 -- ---- room
 
 -- the cash of a place of the branch, with this added, may be there
@@ -68,12 +71,18 @@ pub record HasRoomAt (w : WorldLists) (branch place : ℕ) (added : ℤ) : Type 
   pub vault : place ≡ 0 → (b : Branch) → branch_row branch w.branches ≡ Some b → IsCash ((branch_record_of w b).vault +ℤ added)
   pub drawer : place ≢ 0 → (t : Teller) → teller_row place w.tellers ≡ Some t → IsCash ((teller_record_of w t).cash +ℤ added)
 
+pub not_below : (n : ℕ) → pos 0 ≤ℤ pos n
+not_below n = omega (arith, ints)
+
+pub opposite : (z : ℤ) → neg_ℤ z +ℤ z ≡ pos 0
+opposite z = omega (arith, ints)
+
 -- what is added to cash is not below zero, and the sum is an amount of money
 pub still_cash : (cash added : ℤ) → pos 0 ≤ℤ cash → pos 0 ≤ℤ added → IsCents (cash +ℤ added) → IsCash (cash +ℤ added)
-still_cash cash added was more within = (not_below cash added was more, within.1)
+still_cash cash added was more within = (sum_not_below cash added was more, within.1)
   where
-    not_below : (a b : ℤ) → pos 0 ≤ℤ a → pos 0 ≤ℤ b → pos 0 ≤ℤ (a +ℤ b)
-    not_below a b first second = omega (arith, ints)
+    sum_not_below : (a b : ℤ) → pos 0 ≤ℤ a → pos 0 ≤ℤ b → pos 0 ≤ℤ (a +ℤ b)
+    sum_not_below a b first second = omega (arith, ints)
 
 -- what is added up of two lines, where one passes a test, the other does, or none of them
 pub first_alone : (was x y : ℤ) (f s : Bool) → f ≡ true → s ≡ false → was +ℤ ((if f then x else pos 0) +ℤ ((if s then y else pos 0) +ℤ pos 0)) ≡ was +ℤ x

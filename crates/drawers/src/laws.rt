@@ -1,11 +1,16 @@
 //! What holds of every move of cash, and of every day that is closed, that no rule of the books denies. The functions
 //! do nothing; their contracts are the laws.
 
-ghost use Rattle.drawers.specs.Laws.{CloseDayKeepsBooks, DrawerOffKeepsBooks};
+ghost use Rattle.drawers.specs.Laws.{CloseDayKeepsBooks, DrawerOffKeepsBooks, MoveCashKeepsBooks};
 
 /// Where the books hold, they hold after a drawer is put off, too.
 pub fn drawer_off_keeps_books()
     ensures { DrawerOffKeepsBooks }
+{}
+
+/// Where the books hold, they hold after cash is moved, too.
+pub fn move_cash_keeps_books()
+    ensures { MoveCashKeepsBooks }
 {}
 
 /// Where the books hold, they hold after the day of a branch is closed, too.
