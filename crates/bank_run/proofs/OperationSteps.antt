@@ -2,11 +2,14 @@
 use Rattle.std.proofs.Common.{◌≡◌, ℕ, ◌+◌, ◌≤◌, ℤ, pos, ◌+ℤ◌, ◌==◌, [], ◌∷◌, Option, Some, None, Bool, true, false, refl, ap, arith, sym, subst, ◌∙◌, inl, inr}
 use Rattle.std.proofs.lemmas.Bool.{cases_Bool}
 use Rattle.std.proofs.lemmas.Int.{ints}
+use Rattle.std.proofs.lemmas.List.Elements.{All-contains}
+use Rattle.policy_check.specs.Soundness.{IsUserSound}
 use Rattle.bank_books.specs.Balances.{account_balance, branch_balance, entry_count, teller_balance}
 use Rattle.bank_books.specs.Books.{Books}
 use Rattle.bank_books.specs.Cash.{cash_entry_total, place_cash, vault_opening}
 use Rattle.bank_books.specs.Effects.{applied}
-use Rattle.bank_books.specs.Records.{account_record_of, branch_record_of}
+use Rattle.bank_books.specs.Range.{IsUserNumber}
+use Rattle.bank_books.specs.Records.{account_record_of, branch_record_of, teller_record_of}
 use Rattle.bank_books.specs.WorldLists.{WorldLists}
 use Rattle.bank_books.specs.declared.rows.Proof.{Proof}
 use Rattle.bank_books.specs.declared.signature.Signature.{Signature}
@@ -17,7 +20,13 @@ use Rattle.book_growth.proofs.DayProved.{branch_still, proof_and_day_move_nothin
 use Rattle.book_growth.proofs.Kept.{kept_beside, kept_same}
 use Rattle.bank_books.specs.Keys.{proof_key}
 use Rattle.counter_ops.specs.Correct.{IsCorrect}
+use Rattle.counter_ops.specs.DrawerOff.{IsDrawerOff}
+use Rattle.counter_ops.specs.DrawerOn.{IsDrawerOn}
+use Rattle.counter_ops.specs.MoveCash.{IsMoveCash}
 use Rattle.counter_ops.specs.Operations.{IsOp}
+use Rattle.counter_ops.specs.declared.drawer_off.DrawerOff.{DrawerOff}
+use Rattle.counter_ops.specs.declared.drawer_on.DrawerOn.{DrawerOn}
+use Rattle.counter_ops.specs.declared.move_cash.MoveCash.{MoveCash}
 use Rattle.counter_ops.specs.Transfer.{IsTransfer}
 use Rattle.counter_ops.specs.declared.correct.Correct.{Correct}
 use Rattle.counter_ops.specs.declared.transfer.Transfer.{Transfer}
@@ -35,7 +44,16 @@ use Rattle.postings.proofs.AllowedCorrect as correct_allowed
 use Rattle.postings.proofs.AllowedPost as post_allowed
 use Rattle.postings.proofs.AllowedTransfer as transfer_allowed
 use Rattle.drawers.specs.CloseDay.{close_day_effect, closing_rows, first_against_close_day}
+use Rattle.drawers.specs.DrawerOff.{drawer_off_effect, first_against_drawer_off}
+use Rattle.drawers.specs.DrawerOn.{drawer_on_effect, first_against_drawer_on}
+use Rattle.drawers.specs.DrawerRows.{drawer_rows}
+use Rattle.drawers.specs.MoveCash.{first_against_move, move_effect, move_rows}
+use Rattle.drawers.specs.declared.drawer_rows.DrawerRows.{DrawerRows}
 use Rattle.drawers.proofs.AllowedClose as close_allowed
+use Rattle.drawers.proofs.AllowedMove as move_allowed
+use Rattle.drawers.proofs.AllowedOff as off_allowed
+use Rattle.drawers.proofs.AllowedOn as on_allowed
+use Rattle.drawers.proofs.DrawerThere.{book_of, are_there}
 use Rattle.bank_run.specs.Executions.{signature_of}
 use Rattle.bank_run.specs.Meaning.{by_books}
 use Rattle.bank_run.specs.NewAccount.{first_against_new_account, new_account_effect, opened, opening_rows}
@@ -96,7 +114,41 @@ corrects w correct by checks proper signed is =
 
 -- ---- cash
 
-CASH
+-- who signs what an allowed request adds bears the number of a user
+number_of_user : (w : WorldLists) (by : Signature) → PassesChecks w → IsSigned w by → IsUserNumber by.user
+number_of_user w by checks signed =
+    let row = signed.user in
+    let sound = All-contains IsUserSound w.policy.users row.0 checks.sound.users.each row.1.0 in
+    subst IsUserNumber row.1.1 (sound.low, sound.high)
+
+puts_on : (w : WorldLists) (form : DrawerOn) (by : Signature) → PassesChecks w → IsDrawerOn form → IsSigned w by
+    → first_against_drawer_on (drawer_rows w form.teller form.branch) form ≡ None → IsStep w (drawer_on_effect w form by) moves_nothing
+puts_on w form by checks proper signed is =
+    let rows : DrawerRows = drawer_rows w form.teller form.branch in
+    let there = are_there w form.teller form.branch (on_allowed.is_allowed rows form is).known in
+    let effect = ap (λ changes. applied changes w) (on_allowed.changes_are w form there by) in
+    subst (λ after. IsStep w after moves_nothing) (sym effect)
+    (plan_step w _ moves_nothing checks (tt, (tt, tt)) (put_on_sums (book_of w form.teller form.branch there) form by)
+    (subst Books effect (on_allowed.drawer_on_keeps_books w form by checks.books signed (number_of_user w by checks signed) proper is)))
+
+puts_off : (w : WorldLists) (form : DrawerOff) (by : Signature) → PassesChecks w → IsDrawerOff form → IsSigned w by
+    → first_against_drawer_off (drawer_rows w form.teller form.branch) form by ≡ None → IsStep w (drawer_off_effect w form by) moves_nothing
+puts_off w form by checks proper signed is =
+    let rows : DrawerRows = drawer_rows w form.teller form.branch in
+    let there = are_there w form.teller form.branch (off_allowed.is_allowed rows form by is).known in
+    let effect = ap (λ changes. applied changes w) (off_allowed.changes_are w form there by) in
+    subst (λ after. IsStep w after moves_nothing) (sym effect)
+    (plan_step w _ moves_nothing checks (tt, (tt, (tt, tt))) (put_off_sums (book_of w form.teller form.branch there) (teller_record_of w there.holder) form by)
+    (subst Books effect (off_allowed.drawer_off_keeps_books w form by checks.books signed proper is)))
+
+moves_cash : (w : WorldLists) (move : MoveCash) (by : Signature) → PassesChecks w → IsMoveCash move → IsSigned w by → first_against_move (move_rows w move) move by ≡ None
+    → IsStep w (move_effect w move by) moves_nothing
+moves_cash w move by checks proper signed is =
+    let there = move_allowed.is_there w move (move_allowed.is_allowed (move_rows w move) move by is).known in
+    let effect = ap (λ changes. applied changes w) (move_allowed.changes_are w move there by) in
+    subst (λ after. IsStep w after moves_nothing) (sym effect)
+    (plan_step w _ moves_nothing checks (tt, (tt, tt)) (moved_sums (move_allowed.book_of w move there) move by)
+    (subst Books effect (move_allowed.move_cash_keeps_books w move by checks.books signed proper is)))
 
 -- ---- an account
 

@@ -27,6 +27,7 @@ use Rattle.book_growth.proofs.RuleTests.{cents_from, passed_by}
 use Rattle.row_rules.specs.Rules.{cash_book_is_full, drawer_is_held, teller_is_of, vault_covers}
 use Rattle.row_rules.specs.Signed.{IsSigned}
 use Rattle.row_rules.proofs.FoundRows.{cash_from, for_found}
+use Rattle.drawers.specs.Laws.{DrawerOnKeepsBooks}
 use Rattle.drawers.specs.DrawerOn.{drawer_on_changes, drawer_on_effect, first_against_drawer_on, from_vault, given_line, into_drawer, is_in_range, taken_line}
 use Rattle.drawers.specs.DrawerRows.{drawer_rows, is_unknown}
 use Rattle.drawers.specs.declared.drawer_rows.DrawerRows.{DrawerRows}
@@ -141,8 +142,7 @@ is_carried w form by there allowed books signed number ranges =
 -- ---- the law
 
 -- of a user whose number is in its range
-pub drawer_on_keeps_books : (w : WorldLists) (form : DrawerOn) (by : Signature) → Books w → IsSigned w by → IsUserNumber by.user → IsDrawerOn form
-    → first_against_drawer_on (drawer_rows w form.teller form.branch) form ≡ None → Books (drawer_on_effect w form by)
+pub drawer_on_keeps_books : DrawerOnKeepsBooks
 drawer_on_keeps_books w form by books signed number ranges none =
     let allowed = is_allowed (drawer_rows w form.teller form.branch) form none in
     let there = are_there w form.teller form.branch allowed.known in

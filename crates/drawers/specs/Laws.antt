@@ -2,6 +2,7 @@
 -- it makes books that hold, as Clark and Wilson's rule C2 asks of every transformation procedure.
 use Rattle.std.specs.Prelude.{◌≡◌, None}
 use Rattle.bank_books.specs.Books.{Books}
+use Rattle.bank_books.specs.Range.{IsUserNumber}
 use Rattle.bank_books.specs.WorldLists.{WorldLists}
 use Rattle.bank_books.specs.declared.signature.Signature.{Signature}
 use Rattle.counter_ops.specs.DrawerOff.{IsDrawerOff}
@@ -18,8 +19,9 @@ use Rattle.drawers.specs.DrawerOn.{drawer_on_effect, first_against_drawer_on}
 use Rattle.drawers.specs.DrawerRows.{drawer_rows}
 use Rattle.drawers.specs.MoveCash.{first_against_move, move_effect, move_rows}
 
+-- who puts a drawer on holds it from then on, and bears the number of a user
 abbrev pub DrawerOnKeepsBooks : Type 0
-DrawerOnKeepsBooks = (w : WorldLists) (form : DrawerOn) (by : Signature) → Books w → IsSigned w by → IsDrawerOn form
+DrawerOnKeepsBooks = (w : WorldLists) (form : DrawerOn) (by : Signature) → Books w → IsSigned w by → IsUserNumber by.user → IsDrawerOn form
     → first_against_drawer_on (drawer_rows w form.teller form.branch) form ≡ None → Books (drawer_on_effect w form by)
 
 abbrev pub DrawerOffKeepsBooks : Type 0

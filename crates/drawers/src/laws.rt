@@ -1,7 +1,12 @@
 //! What holds of every move of cash, and of every day that is closed, that no rule of the books denies. The functions
 //! do nothing; their contracts are the laws.
 
-ghost use Rattle.drawers.specs.Laws.{CloseDayKeepsBooks, DrawerOffKeepsBooks, MoveCashKeepsBooks};
+ghost use Rattle.drawers.specs.Laws.{CloseDayKeepsBooks, DrawerOffKeepsBooks, DrawerOnKeepsBooks, MoveCashKeepsBooks};
+
+/// Where the books hold, they hold after a drawer is put on, too.
+pub fn drawer_on_keeps_books()
+    ensures { DrawerOnKeepsBooks }
+{}
 
 /// Where the books hold, they hold after a drawer is put off, too.
 pub fn drawer_off_keeps_books()
