@@ -41,6 +41,7 @@ use Rattle.postings.specs.Post.{first_against_post, post_effect, post_rows}
 use Rattle.postings.specs.Correct.{correct_effect, correct_rows, first_against_correct, is_of_post}
 use Rattle.postings.specs.Transfer.{first_against_transfer, transfer_effect, transfer_rows}
 use Rattle.postings.proofs.AllowedCorrect as correct_allowed
+use Rattle.postings.proofs.CorrectBooks.{correct_keeps_books}
 use Rattle.postings.proofs.AllowedPost as post_allowed
 use Rattle.postings.proofs.AllowedTransfer as transfer_allowed
 use Rattle.drawers.specs.CloseDay.{close_day_effect, closing_rows, first_against_close_day}
@@ -98,7 +99,7 @@ corrects w correct by checks proper signed is =
     let there = correct_allowed.are_there w correct by allowed in
     let account = account_record_of w there.account in
     let branch = branch_record_of w there.branch in
-    let books = correct_allowed.correct_keeps_books w correct by checks.books signed proper is in
+    let books = correct_keeps_books w correct by checks.books signed proper is in
     elim (cases_Bool (is_of_post correct)) [
       | inl post ↦
           let effect = ap (λ changes. applied changes w) (correct_allowed.changes_of_post w correct there by post) in
