@@ -5,6 +5,8 @@ mod branch_parts;
 mod correct;
 pub mod laws;
 mod post;
+#[cfg(test)]
+mod tests;
 mod transfer;
 mod undo;
 
