@@ -1,2 +1,3 @@
-mod AllowedOff
-mod AllowedMove
+mod CentsTest
+mod DrawerCounted
+mod PlacesMoved
