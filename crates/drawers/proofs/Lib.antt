@@ -2,7 +2,8 @@ pub mod AllowedClose
 pub mod AllowedMove
 pub mod AllowedOff
 pub mod AllowedOn
+mod CentsTest
+mod DrawerCounted
 pub mod DrawerThere
 pub mod PlacedLines
-mod RangeMove
-mod RangeOff
+mod PlacesMoved

@@ -1,10 +1,9 @@
 -- Where the difference is an amount of money, the two other tests decide.
 use Rattle.std.proofs.Common.{◌≡◌, Bool, true, rules, arith}
 use Rattle.std.specs.Prelude.{◌&&◌, ◌+ℤ◌, neg_ℤ}
-use Rattle.std.proofs.lemmas.Int.{ints}
 use Rattle.money.specs.Range.{is_cents}
 use Rattle.drawers.specs.DrawerOff.{difference}
-use Rattle.drawers.proofs.RangeOff.{test_from}
+use Rattle.drawers.proofs.CentsTest.{test_from}
 use Rattle.drawers.proofs.drawer_off.book_in_range.Goals as goal
 
 the_third : (a b c result : Bool) → a ≡ true → b ≡ true → result ≡ c → result ≡ (a && b && c)

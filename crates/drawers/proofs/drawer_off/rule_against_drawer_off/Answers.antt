@@ -1,5 +1,5 @@
 use Rattle.std.proofs.Common.{rules}
-use Rattle.drawers.proofs.RangeOff.{difference_in_range}
+use Rattle.drawers.proofs.DrawerCounted.{difference_in_range}
 use Rattle.drawers.proofs.drawer_off.rule_against_drawer_off.Goals as goal
 
 pub returns-clause-difference : goal.returns-clause-difference

@@ -1,5 +1,5 @@
 use Rattle.std.proofs.Common.{rules}
-use Rattle.drawers.proofs.RangeMove.{source_there, target_there}
+use Rattle.drawers.proofs.PlacesMoved.{source_there, target_there}
 use Rattle.drawers.proofs.move_cash.rule_against_move_cash.Goals as goal
 
 pub returns-clause-source : goal.returns-clause-source

@@ -1,27 +1,16 @@
 -- What is known of a drawer put off that the rule on the range does not deny.
-use Rattle.std.proofs.Common.{◌≡◌, ◌+ℤ◌, ◌≤ℤ◌, ℤ, Some, None, true, false, int_lt, not, arith, rules}
+use Rattle.std.proofs.Common.{◌≡◌, Some, None, true, false, rules}
 use Rattle.std.specs.Prelude.{◌||◌, Option, is_none, IfSome}
 use Rattle.std.specs.Option.{option_map_or}
 use Rattle.std.proofs.lemmas.Bool.{and_parts, true≢false}
-use Rattle.std.proofs.lemmas.Int.{ints}
-use Rattle.money.specs.Range.{IsCents, is_cents}
+use Rattle.money.specs.Range.{IsCents}
 use Rattle.bank_books.specs.declared.records.TellerRecord.{TellerRecord}
 use Rattle.counter_ops.specs.declared.drawer_off.DrawerOff.{DrawerOff}
 use Rattle.row_rules.specs.declared.cash_book.CashBook.{CashBook}
 use Rattle.drawers.specs.DrawerOff.{book_in_range, difference, is_in_range}
 use Rattle.drawers.specs.DrawerRows.{is_unknown}
 use Rattle.drawers.specs.declared.drawer_rows.DrawerRows.{DrawerRows}
-
-at_least : (a b : ℤ) → not (int_lt a b) ≡ true → b ≤ℤ a
-at_least a b e = grind (arith, ints)
-
-pub cents_from : (z : ℤ) → is_cents z ≡ true → IsCents z
-cents_from z is =
-    let parts = and_parts _ _ is in
-    (at_least _ _ parts.0, at_least _ _ parts.1)
-
-pub test_from : (z : ℤ) → IsCents z → is_cents z ≡ true
-test_from z in_range = grind (arith, ints)
+use Rattle.drawers.proofs.CentsTest.{cents_from}
 
 of_both : (teller : Option TellerRecord) (book : Option CashBook) (form : DrawerOff) → is_none teller || is_none book ≡ false
     → option_map_or (λ t. option_map_or (λ b. book_in_range b t form) book true) teller true ≡ true → IfSome teller (λ t. IsCents (difference form t))
