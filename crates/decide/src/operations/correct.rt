@@ -29,7 +29,7 @@ fn load_correct_rows<B: BookReads>(
     let teller = store.teller(alloc, correct.teller)?;
     let branch = store.branch(alloc, correct.branch)?;
     let entry = store.entry(alloc, correct.branch, correct.entry)?;
-    let partner = load_partner(alloc, store, entry)?;
+    let partner = load_partner(alloc, store, &entry)?;
     let is_undone = store.undone(alloc, correct.branch, correct.entry)?;
     Ok(CorrectRows::of(account, other, teller, branch, entry, partner, is_undone))
 }
@@ -38,9 +38,9 @@ fn load_correct_rows<B: BookReads>(
 fn load_partner<B: BookReads>(
     alloc: Global,
     store: &mut B,
-    entry: Option<Entry>,
+    entry: &Option<Entry>,
 ) -> Result<Option<Entry>, Fault>
-    ensures { MayRead (B.status store.old) (B.status store.new) result (λ w partner. partner ≡ option_and_then (partner_of w) entry) }
+    ensures { MayRead (B.status store.old) (B.status store.new) result (λ w partner. partner ≡ option_and_then (partner_of w) entry.now) }
 {
     match entry {
         Some(entry) if entry.partner != 0 => store.entry(alloc, entry.branch, entry.partner),
