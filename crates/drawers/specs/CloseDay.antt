@@ -61,7 +61,7 @@ day_proof ledger vault form = record { branch = form.branch; day = ledger.day; e
 abbrev pub close_day_changes : ClosingRows → CloseDay → List RowWrite
 close_day_changes rows form =
     option_map_or (λ ledger. option_map_or (λ vault.
-      write.Proof (day_proof ledger vault form) ∷ write.Day (record { branch = form.branch; day = ledger.day + 1 }) ∷ []) rows.vault []) rows.ledger []
+    write.Proof (day_proof ledger vault form) ∷ write.Day (record { branch = form.branch; day = ledger.day + 1 }) ∷ []) rows.vault []) rows.ledger []
 
 -- the World after it
 abbrev pub close_day_effect : WorldLists → CloseDay → WorldLists

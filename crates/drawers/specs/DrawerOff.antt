@@ -94,7 +94,7 @@ returned_line book form by = record {
 abbrev pub drawer_off_changes : DrawerRows → DrawerOff → Signature → List RowWrite
 drawer_off_changes rows form by =
     option_map_or (λ teller. option_map_or (λ book.
-      write.Line (difference_line book teller form by) ∷ write.Line (emptied_line book form by) ∷ write.Line (returned_line book form by) ∷ []) rows.cash_book []) rows.teller []
+    write.Line (difference_line book teller form by) ∷ write.Line (emptied_line book form by) ∷ write.Line (returned_line book form by) ∷ []) rows.cash_book []) rows.teller []
 
 -- the World after it
 abbrev pub drawer_off_effect : WorldLists → DrawerOff → Signature → WorldLists

@@ -209,13 +209,13 @@ undoing_other other ledger number correct by = record {
 abbrev pub undoing_post : CorrectRows → Correct → Signature → List RowWrite
 undoing_post rows correct by =
     option_map_or (λ account. option_map_or (λ ledger. option_map_or (λ book.
-      write.Entry (undoing_entry account ledger correct by) ∷ write.Line (undoing_line book correct by) ∷ []) rows.cash_book []) rows.ledger []) rows.account []
+    write.Entry (undoing_entry account ledger correct by) ∷ write.Line (undoing_line book correct by) ∷ []) rows.cash_book []) rows.ledger []) rows.account []
 
 -- what that of a transfer adds
 abbrev pub undoing_legs : CorrectRows → Correct → Signature → List RowWrite
 undoing_legs rows correct by =
     option_map_or (λ account. option_map_or (λ other. option_map_or (λ ledger. option_map_or (λ e.
-      write.Entry (undoing_leg account ledger correct by) ∷ write.Entry (undoing_other other ledger e.partner correct by) ∷ []) rows.entry []) rows.ledger []) rows.other []) rows.account []
+    write.Entry (undoing_leg account ledger correct by) ∷ write.Entry (undoing_other other ledger e.partner correct by) ∷ []) rows.entry []) rows.ledger []) rows.other []) rows.account []
 
 abbrev pub correct_changes : CorrectRows → Correct → Signature → List RowWrite
 correct_changes rows correct by = if is_of_post correct then undoing_post rows correct by else undoing_legs rows correct by
@@ -242,5 +242,5 @@ transfer_undone correct account other ledger = corrected.OfTransfer (record {
 abbrev pub corrected_of : CorrectRows → Correct → Option Corrected
 corrected_of rows correct =
     option_and_then (λ account. option_and_then (λ ledger.
-      if is_of_post correct then Some (post_undone correct account ledger)
-      else option_map (λ other. transfer_undone correct account other ledger) rows.other) rows.ledger) rows.account
+    if is_of_post correct then Some (post_undone correct account ledger)
+    else option_map (λ other. transfer_undone correct account other ledger) rows.other) rows.ledger) rows.account

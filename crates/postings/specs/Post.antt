@@ -104,7 +104,7 @@ post_line book post by = record {
 abbrev pub post_changes : PostRows → Post → Signature → List RowWrite
 post_changes rows post by =
     option_map_or (λ account. option_map_or (λ ledger. option_map_or (λ book.
-      write.Entry (post_entry account ledger post by) ∷ write.Line (post_line book post by) ∷ []) rows.cash_book []) rows.ledger []) rows.account []
+    write.Entry (post_entry account ledger post by) ∷ write.Line (post_line book post by) ∷ []) rows.cash_book []) rows.ledger []) rows.account []
 
 -- the World after a post
 abbrev pub post_effect : WorldLists → Post → Signature → WorldLists

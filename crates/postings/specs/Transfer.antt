@@ -109,7 +109,7 @@ second_leg target ledger transfer by = record {
 abbrev pub transfer_changes : TransferRows → Transfer → Signature → List RowWrite
 transfer_changes rows transfer by =
     option_map_or (λ source. option_map_or (λ target. option_map_or (λ ledger.
-      write.Entry (first_leg source ledger transfer by) ∷ write.Entry (second_leg target ledger transfer by) ∷ []) rows.ledger []) rows.target []) rows.source []
+    write.Entry (first_leg source ledger transfer by) ∷ write.Entry (second_leg target ledger transfer by) ∷ []) rows.ledger []) rows.target []) rows.source []
 
 -- the World after a transfer
 abbrev pub transfer_effect : WorldLists → Transfer → Signature → WorldLists

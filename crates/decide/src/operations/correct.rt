@@ -11,8 +11,8 @@ use crate::prepared::Prepared;
 use bank_books::{AccountRecord, Entry, Signature};
 use bank_terms::Rule;
 use counter_ops::Correct;
-use postings::{CorrectRows, Corrected, plan_correct};
 use money::Fault;
+use postings::{CorrectRows, Corrected, plan_correct};
 use std::alloc::{AllocError, Global};
 use store_rows::BookReads;
 

@@ -5,7 +5,6 @@ ghost use Rattle.decide.specs.Judged.{IsJudged};
 ghost use Rattle.bank_run.specs.Meaning.{by_books};
 ghost use Rattle.drawers.specs.DrawerRows.{drawer_rows};
 ghost use Rattle.bank_run.specs.DrawerOn.{drawer_on_meaning, put_on_data, put_on_text};
-ghost use Rattle.counter_ops.specs.DrawerOn.{IsDrawerOn};
 
 use crate::prepared::Prepared;
 use crate::text::compact;
@@ -38,7 +37,6 @@ pub(crate) fn prepare_drawer_on<B: BookReads>(
     form: &DrawerOn,
     by: Signature,
 ) -> Result<Result<Prepared, Rule>, Fault>
-    requires { IsDrawerOn form.now }
     ensures { Reads (B.status store.old) (B.status store.new) result (IsJudged (λ w. by_books (drawer_on_meaning form.now by w))) }
 {
     let rows = load_drawer_rows(alloc, store, form)?;

@@ -5,7 +5,6 @@ ghost use Rattle.decide.specs.Judged.{IsJudged};
 ghost use Rattle.bank_run.specs.Meaning.{by_books};
 ghost use Rattle.drawers.specs.MoveCash.{move_rows, teller_at};
 ghost use Rattle.bank_run.specs.MoveCash.{move_meaning, moved_data, moved_text};
-ghost use Rattle.counter_ops.specs.MoveCash.{IsMoveCash};
 
 use crate::prepared::Prepared;
 use crate::text::compact;
@@ -53,7 +52,6 @@ pub(crate) fn prepare_move_cash<B: BookReads>(
     move_cash: &MoveCash,
     by: Signature,
 ) -> Result<Result<Prepared, Rule>, Fault>
-    requires { IsMoveCash move_cash.now }
     ensures { Reads (B.status store.old) (B.status store.new) result (IsJudged (λ w. by_books (move_meaning move_cash.now by w))) }
 {
     let rows = load_move_rows(alloc, store, move_cash)?;

@@ -12,8 +12,8 @@ use crate::text::compact;
 use bank_books::Signature;
 use bank_terms::Rule;
 use counter_ops::Transfer;
-use postings::{TransferRows, Transferred, plan_transfer};
 use money::Fault;
+use postings::{TransferRows, Transferred, plan_transfer};
 use serde_json::{Value, json};
 use std::alloc::{AllocError, Global};
 use store_rows::BookReads;
@@ -57,7 +57,10 @@ pub(crate) fn prepare_transfer<B: BookReads>(
 }
 
 /// The bytes of the reply.
-pub(super) fn transferred_text(alloc: Global, transferred: &Transferred) -> Result<Vec<u8>, AllocError>
+pub(super) fn transferred_text(
+    alloc: Global,
+    transferred: &Transferred,
+) -> Result<Vec<u8>, AllocError>
     ensures { IfOk result (λ text. text.items ≡ transferred_text transferred.now) }
 {
     let value = transferred_value(alloc, transferred)?;

@@ -10,5 +10,5 @@ returns-in-Some c = λ w loaded. denied_by_policy w c.args.execution.now c.args.
 pub returns-in-None : goal.returns-in-None
 returns-in-None c =
     λ w loaded.
-        denied_by_books w c.args.execution.now c.args.rows.now c.first_of_books.result loaded (sym c.first_of_policy.ensures ∙ c.in-None.is)
-        (c.first_of_books.ensures w loaded.books ∙ ap (λ by. (by_books (meaning_of c.args.execution.now.op by w)).first) c.signature.ensures)
+    denied_by_books w c.args.execution.now c.args.rows.now c.first_of_books.result loaded (sym c.first_of_policy.ensures ∙ c.in-None.is)
+    (c.first_of_books.ensures w loaded.books ∙ ap (λ by. (by_books (meaning_of c.args.execution.now.op by w)).first) c.signature.ensures)
