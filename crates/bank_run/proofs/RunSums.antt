@@ -12,7 +12,6 @@ use Rattle.bank_books.specs.Balances.{account_balance, branch_balance, entry_cou
 use Rattle.bank_books.specs.Cash.{cash_entry_total, difference_total, drawer_total, place_cash, vault_opening}
 use Rattle.bank_books.specs.Range.{IsBranch}
 use Rattle.bank_books.specs.WorldLists.{WorldLists}
-use Rattle.book_growth.specs.CashGap.{cash_gap}
 use Rattle.book_growth.specs.Kept.{OnlyAdds}
 use Rattle.book_growth.proofs.BooksSplit.{books_parts}
 use Rattle.book_growth.proofs.Kept.{adds_nothing, adds_then}

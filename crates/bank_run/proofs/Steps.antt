@@ -1,16 +1,13 @@
 -- What one request makes of a World that passes its checks.
-use Rattle.std.proofs.Common.{◌≡◌, ℕ, ◌+◌, ◌≤◌, ℤ, pos, ◌+ℤ◌, ◌==◌, ◌&&◌, List, [], ◌∷◌, map, Bool, true, false, not, Option, Some, None, refl, ap, arith, sym, subst, ◌∙◌}
-use Rattle.std.specs.Prelude.{neg_ℤ, is_none, if◌then◌else◌}
+use Rattle.std.proofs.Common.{◌≡◌, ℕ, ◌+◌, ℤ, pos, ◌+ℤ◌, List, map, refl, ap, arith, sym, subst, ◌∙◌}
 use Rattle.std.specs.List.{AllByRecursion, sum_by}
 use Rattle.std.proofs.lemmas.Int.{ints}
 use Rattle.keyed_rows.specs.Totals.{total}
-use Rattle.money.specs.declared.fault.Fault.{Fault}
 use Rattle.policy_check.specs.Separation.{Separated}
 use Rattle.policy_check.specs.Soundness.{IsPolicySound}
-use Rattle.bank_terms.specs.declared.rule.Rule.{Rule}
 use Rattle.bank_books.specs.Balances.{account_balance, branch_balance, entry_count, teller_balance}
 use Rattle.bank_books.specs.Books.{Books}
-use Rattle.bank_books.specs.Cash.{cash_entry_total, cash_of, vault_opening}
+use Rattle.bank_books.specs.Cash.{cash_entry_total, vault_opening}
 use Rattle.bank_books.specs.Effects.{all_written}
 use Rattle.bank_books.specs.Range.{IsBranch}
 use Rattle.bank_books.specs.WorldLists.{WorldLists}

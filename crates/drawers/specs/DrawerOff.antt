@@ -1,5 +1,5 @@
 -- A drawer that is counted and put off: the rules of the books against it, its effect, and what it leaves.
-use Rattle.std.specs.Prelude.{ℤ, pos, neg_ℤ, ◌+◌, ◌+ℤ◌, ◌&&◌, Bool, true, false, not, List, [], ◌∷◌, Option, option_map, option_and_then}
+use Rattle.std.specs.Prelude.{ℤ, neg_ℤ, ◌+◌, ◌+ℤ◌, ◌&&◌, Bool, true, false, not, List, [], ◌∷◌, Option, option_map, option_and_then}
 use Rattle.std.specs.Option.{option_map_or}
 use Rattle.std.specs.List.{find}
 use Rattle.money.specs.Range.{is_cents}

@@ -1,6 +1,6 @@
 -- What is known of a correction that no rule denies: its rows are there, and its changes are an entry and its cash line where it undoes a post, and two
 -- entries that name each other where it undoes a transfer.
-use Rattle.std.proofs.Common.{◌≡◌, Bool, true, false, not, ap, sym, ◌∙◌, subst, List, [], ◌∷◌, Option, Some, None, refl}
+use Rattle.std.proofs.Common.{◌≡◌, Bool, true, false, not, ap, ◌∙◌, subst, [], ◌∷◌, Option, Some, None, refl}
 use Rattle.std.specs.Prelude.{is_none, option_and_then, option_map, ◌||◌, ◌&&◌, if◌then◌else◌}
 use Rattle.std.specs.Option.{option_map_or}
 use Rattle.std.proofs.lemmas.Bool.{and_parts, not-false, or_parts}

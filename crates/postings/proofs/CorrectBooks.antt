@@ -1,8 +1,8 @@
 -- A correction keeps the books: that of a post as a post does, and that of a transfer as a transfer does, where the entries that are undone are there.
 use Rattle.std.proofs.Common.{◌≡◌, ℕ, ◌+◌, ◌*◌, ◌^◌, arith, Bool, true, false, not, ap, sym, ◌∙◌, subst, ◌==◌, Some, Contains, inl, inr, refl}
-use Rattle.std.specs.Prelude.{◌||◌, ◌&&◌, if◌then◌else◌}
+use Rattle.std.specs.Prelude.{◌||◌, if◌then◌else◌}
 use Rattle.std.proofs.lemmas.Bool.{and_parts, cases_Bool, eqb-true, or_parts}
-use Rattle.bank_books.specs.Balances.{account_row, branch_row, entry_count, turn_count}
+use Rattle.bank_books.specs.Balances.{entry_count, turn_count}
 use Rattle.bank_books.specs.Books.{Books}
 use Rattle.bank_books.specs.Effects.{applied}
 use Rattle.bank_books.specs.Keys.{account_key, branch_key, entry_key}
@@ -20,7 +20,7 @@ use Rattle.counter_ops.specs.Correct.{IsCorrect}
 use Rattle.counter_ops.specs.Ranges.{IsKey, IsKeyOrZero}
 use Rattle.counter_ops.specs.declared.correct.Correct.{Correct}
 use Rattle.row_reads.specs.BookReads as reads
-use Rattle.row_rules.specs.Rules.{account_is_full, cash_book_is_full, drawer_covers, ledger_is_full}
+use Rattle.row_rules.specs.Rules.{cash_book_is_full, drawer_covers, ledger_is_full}
 use Rattle.row_rules.specs.Signed.{IsSigned}
 use Rattle.postings.specs.Correct.{correct_effect, correct_rows, is_of_post, post_in_range, undoing}
 use Rattle.postings.specs.Laws.{CorrectKeepsBooks}
