@@ -3,32 +3,19 @@ ghost use Rattle.serde_json.specs.View.{view};
 ghost use Rattle.store_rows.specs.Status.{Reads};
 ghost use Rattle.decide.specs.Judged.{IsJudged};
 ghost use Rattle.bank_run.specs.Meaning.{by_books};
-ghost use Rattle.drawers.specs.DrawerRows.{drawer_rows};
 ghost use Rattle.bank_run.specs.DrawerOff.{drawer_off_meaning, put_off_data, put_off_text};
 
+use crate::operations::drawer_on::load_drawer_rows;
 use crate::prepared::Prepared;
 use crate::text::compact;
 use bank_books::Signature;
 use bank_terms::Rule;
 use counter_ops::DrawerOff;
-use drawers::{DrawerRows, PutOff, plan_drawer_off};
+use drawers::{PutOff, plan_drawer_off};
 use money::Fault;
 use serde_json::{Value, json};
 use std::alloc::{AllocError, Global};
 use store_rows::BookReads;
-
-/// The rows that a drawer which is put off is judged on. The first rule against it is that of its plan.
-fn load_drawer_rows<B: BookReads>(
-    alloc: Global,
-    store: &mut B,
-    form: &DrawerOff,
-) -> Result<DrawerRows, Fault>
-    ensures { Reads (B.status store.old) (B.status store.new) result (λ w rows. rows ≡ drawer_rows w form.now.teller form.now.branch) }
-{
-    let teller = store.teller(alloc, form.teller)?;
-    let branch = store.branch(alloc, form.branch)?;
-    Ok(DrawerRows::of(teller, branch))
-}
 
 /// What carries a drawer that is put off out, or the first rule of the books against it.
 pub(crate) fn prepare_drawer_off<B: BookReads>(
@@ -39,7 +26,7 @@ pub(crate) fn prepare_drawer_off<B: BookReads>(
 ) -> Result<Result<Prepared, Rule>, Fault>
     ensures { Reads (B.status store.old) (B.status store.new) result (IsJudged (λ w. by_books (drawer_off_meaning form.now by w))) }
 {
-    let rows = load_drawer_rows(alloc, store, form)?;
+    let rows = load_drawer_rows(alloc, store, form.teller, form.branch)?;
     match plan_drawer_off(alloc, &rows, form, by)? {
         Ok(planned) => {
             let text = put_off_text(alloc, &planned.left)?;

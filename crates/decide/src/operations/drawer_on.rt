@@ -17,16 +17,18 @@ use serde_json::{Value, json};
 use std::alloc::{AllocError, Global};
 use store_rows::BookReads;
 
-/// The rows that a drawer which is put on is judged on. The first rule against it is that of its plan.
-fn load_drawer_rows<B: BookReads>(
+/// The rows that a drawer of a teller is judged on, where it is put on or off. The first rule against that is that of its
+/// plan.
+pub(super) fn load_drawer_rows<B: BookReads>(
     alloc: Global,
     store: &mut B,
-    form: &DrawerOn,
+    teller: u32,
+    branch: u32,
 ) -> Result<DrawerRows, Fault>
-    ensures { Reads (B.status store.old) (B.status store.new) result (λ w rows. rows ≡ drawer_rows w form.now.teller form.now.branch) }
+    ensures { Reads (B.status store.old) (B.status store.new) result (λ w rows. rows ≡ drawer_rows w teller branch) }
 {
-    let teller = store.teller(alloc, form.teller)?;
-    let branch = store.branch(alloc, form.branch)?;
+    let teller = store.teller(alloc, teller)?;
+    let branch = store.branch(alloc, branch)?;
     Ok(DrawerRows::of(teller, branch))
 }
 
@@ -39,7 +41,7 @@ pub(crate) fn prepare_drawer_on<B: BookReads>(
 ) -> Result<Result<Prepared, Rule>, Fault>
     ensures { Reads (B.status store.old) (B.status store.new) result (IsJudged (λ w. by_books (drawer_on_meaning form.now by w))) }
 {
-    let rows = load_drawer_rows(alloc, store, form)?;
+    let rows = load_drawer_rows(alloc, store, form.teller, form.branch)?;
     match plan_drawer_on(alloc, &rows, form, by)? {
         Ok(planned) => {
             let text = put_on_text(alloc, &planned.left)?;
