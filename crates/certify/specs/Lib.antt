@@ -1,0 +1,3 @@
+pub mod CommandRows
+pub mod Commands
+pub mod Laws
