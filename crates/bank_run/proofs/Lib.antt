@@ -5,5 +5,6 @@ pub mod OpenedAccount
 pub mod OperationSteps
 pub mod PolicyLemmas
 pub mod RunSums
+pub mod SessionSteps
 pub mod Shares
 pub mod Steps

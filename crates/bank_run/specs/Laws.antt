@@ -1,10 +1,12 @@
 -- What holds of every decision: the rule that is named is the first that denies, the tests of the policy ask what Clark and
--- Wilson's rules E1 and E2 ask, and an account that is opened keeps the books.
-use Rattle.std.specs.Prelude.{ℕ, ◌≡◌, ◌≢◌, ◌↔◌, ◌==◌, ◌≤◌, ◌++◌, true, false, Some, None, List, ◌∷◌, All, count_by}
+-- Wilson's rules E1 and E2 ask, an account that is opened keeps the books, and a session changes nothing else.
+use Rattle.std.specs.Prelude.{ℕ, ◌≡◌, ◌≢◌, ◌↔◌, ◌==◌, ◌≤◌, ◌++◌, true, false, Option, Some, None, List, ◌∷◌, All, count_by}
+use Rattle.std.specs.List.{AllZip}
 use Rattle.bank_policy.specs.Execution.{Certified, Held}
 use Rattle.bank_policy.specs.HeldRows.{standing}
 use Rattle.bank_terms.specs.Rule.{number_of}
 use Rattle.bank_policy.specs.declared.rows.Standing.{Standing}
+use Rattle.bank_policy.specs.declared.rows.User.{User}
 use Rattle.bank_terms.specs.declared.rule.Rule.{Rule}
 use Rattle.bank_terms.specs.declared.rule.Rule.TheVariants as rule
 use Rattle.bank_books.specs.Books.{Books}
@@ -17,7 +19,7 @@ use Rattle.touched.specs.Touched.{amount, touched}
 use Rattle.bank_run.specs.NewAccount.{first_against_new_account, new_account_effect, opening_rows}
 use Rattle.bank_run.specs.PolicyRules.{asker}
 use Rattle.bank_run.specs.Meaning.{by_books}
-use Rattle.bank_run.specs.Requests.{denies, executes, first, rules}
+use Rattle.bank_run.specs.Requests.{denies, effect, ends_session, executes, first, opens_session, rules}
 use Rattle.bank_run.specs.Executions.{books_meaning}
 use Rattle.bank_run.specs.declared.execution.Execution.{Execution}
 use Rattle.bank_run.specs.declared.request.Request.{Request}
@@ -73,3 +75,23 @@ AllowedExactlyWhenHeld = (w : WorldLists) (x : Execution) → first w (executes 
 -- An account that is opened is a well-formed transaction, too: of books that hold it makes books that hold.
 abbrev pub NewAccountKeepsBooks : Type 0
 NewAccountKeepsBooks = (w : WorldLists) (form : NewAccount) → Books w → IsNewAccount form → first_against_new_account (opening_rows w form) ≡ None → Books (new_account_effect w form)
+
+-- The row of a user who stays: only where he is the one who asked, his session may be another one.
+pub record IsSameUser (asked : ℕ) (before after : User) : Type 0 where
+  pub user : after.user ≡ before.user
+  pub name : after.name ≡ before.name
+  pub officer : after.officer ≡ before.officer
+  pub suspended : after.suspended ≡ before.suspended
+  pub session : before.user ≢ asked → (after.session ≡ before.session) × (after.on ≡ before.on)
+
+-- the books are as they were, and of the policy nothing is changed but the session of the one who asked
+pub record ChangesSessionAlone (asked : ℕ) (before after : WorldLists) : Type 0 where
+  pub books : record after { policy = before.policy } ≡ before
+  pub policy : record after.policy { users = before.policy.users } ≡ before.policy
+  pub users : AllZip (IsSameUser asked) before.policy.users after.policy.users
+
+-- The opening of a session and its ending change nothing else.
+abbrev pub SessionsChangeNoMore : Type 0
+SessionsChangeNoMore = (w : WorldLists) →
+    ((user : Option ℕ) → ChangesSessionAlone (asker (opens_session user).who) w (effect w (opens_session user)))
+    × ((who : Who) → ChangesSessionAlone (asker who) w (effect w (ends_session who)))

@@ -14,5 +14,6 @@ pub mod PolicyRules
 pub mod Post
 pub mod Requests
 pub mod Run
+pub mod Sessions
 pub mod Sums
 pub mod Transfer

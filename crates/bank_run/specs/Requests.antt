@@ -6,6 +6,7 @@ use Rattle.bank_terms.specs.declared.rule.Rule.TheVariants as rule
 use Rattle.bank_books.specs.WorldLists.{WorldLists}
 use Rattle.bank_run.specs.Executions.{execution_meaning}
 use Rattle.bank_run.specs.Meaning.{Meaning, ReplyText, Verdict, no_meaning, rules_of_books}
+use Rattle.bank_run.specs.Sessions.{ending_meaning, opening_meaning}
 use Rattle.bank_run.specs.declared.execution.Execution.{Execution}
 use Rattle.bank_run.specs.declared.request.Asked.{Asked}
 use Rattle.bank_run.specs.declared.request.Asked.TheVariants as asked
@@ -16,11 +17,19 @@ use Rattle.bank_run.specs.declared.who.Who.{Who}
 abbrev pub executes : Execution → Request
 executes x = record { who = x.who; moment = x.moment; asked = asked.Operation x.op }
 
--- what it is that is asked for, in a World; sessions, commands and the listing are not served yet
+-- the request for the opening of a session; neither a session nor a moment is looked at
+abbrev pub opens_session : Option ℕ → Request
+opens_session user = record { who = record { user = user; session = 0; release = 0 }; moment = 0; asked = asked.Opening }
+
+-- the request for the ending of a session; no moment is looked at
+abbrev pub ends_session : Who → Request
+ends_session who = record { who = who; moment = 0; asked = asked.Ending }
+
+-- what it is that is asked for, in a World; commands and the listing are not served yet
 abbrev pub asked_meaning : Asked → Who → ℕ → WorldLists → Meaning
 asked_meaning (asked.Operation op) who moment w = execution_meaning w (record { who = who; moment = moment; op = op })
-asked_meaning asked.Opening who moment w = no_meaning w
-asked_meaning asked.Ending who moment w = no_meaning w
+asked_meaning asked.Opening who moment w = opening_meaning who w
+asked_meaning asked.Ending who moment w = ending_meaning who w
 asked_meaning (asked.Command command) who moment w = no_meaning w
 asked_meaning asked.Listing who moment w = no_meaning w
 

@@ -1,6 +1,6 @@
-//! What holds of every decision, of a new account, and along every list of requests. The functions do nothing; their contracts are the laws.
+//! What holds of every decision, of a new account, of sessions, and along every list of requests. The functions do nothing; their contracts are the laws.
 
-ghost use Rattle.bank_run.specs.Laws.{AllowedExactlyWhenHeld, FirstByPlace, NewAccountKeepsBooks, PolicyIsJudged};
+ghost use Rattle.bank_run.specs.Laws.{AllowedExactlyWhenHeld, FirstByPlace, NewAccountKeepsBooks, PolicyIsJudged, SessionsChangeNoMore};
 ghost use Rattle.bank_run.specs.Sums.{NoOneExecutesWhatHeCertifies, SumsAlwaysAgree};
 
 /// The rule that a denial names is the first that denies, by its place in the list of rules, in which each stands once; and
@@ -24,6 +24,11 @@ pub fn allowed_exactly_when_held()
 /// Where the books hold, they hold after an account is opened that no rule of the books denies, too.
 pub fn new_account_keeps_books()
     ensures { NewAccountKeepsBooks }
+{}
+
+/// The opening of a session and its ending change nothing but the session of the user who asks.
+pub fn sessions_change_no_more()
+    ensures { SessionsChangeNoMore }
 {}
 
 /// In a policy that separates them, no one is let execute a procedure that he certifies.
