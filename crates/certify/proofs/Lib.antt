@@ -1,5 +1,6 @@
 pub mod CommandRules
 pub mod RemovedRows
+pub mod SeparatedPolicy
 pub mod SomeRows
 pub mod SoundPolicy
 pub mod SoundTables
