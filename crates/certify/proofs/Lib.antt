@@ -1,3 +1,4 @@
+pub mod CommandBooks
 pub mod CommandRules
 pub mod RemovedRows
 pub mod SeparatedPolicy
