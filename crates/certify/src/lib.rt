@@ -2,6 +2,8 @@
 #![tactic(auto)]
 
 mod command_rows;
+mod commands;
 pub mod laws;
 
 pub use command_rows::CommandRows;
+pub use commands::{plan_policy, rule_against_command};
