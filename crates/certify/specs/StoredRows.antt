@@ -28,7 +28,7 @@ abbrev pub is_held_on : ℕ → List HeldTriple → Bool
 is_held_on set triples = list_any (λ row. row.triple.set == set) triples
 
 abbrev pub define_set_rows : Bool → Bool → ℕ → CommandRows
-define_set_rows certifies is_there count = record (of_certifier certifies) { is_there = is_there; count = count }
+define_set_rows certifies has_set count = record (of_certifier certifies) { is_there = has_set; count = count }
 
 abbrev pub certify_rows : Bool → Bool → List CertifiedSet → RelationKey → CommandRows
 certify_rows certifies has_set relations key = record (of_certifier certifies) { has_set = has_set; is_there = is_among key.set relations; count = length relations }
@@ -51,7 +51,7 @@ revoke_rows certifies triples key = record (of_certifier certifies) { is_there =
 
 -- who asks, the user whom it names, his triples for the procedure, and whether he is a certifier of it
 abbrev pub appoint_rows : Option Standing → Option Standing → List HeldTriple → Bool → CommandRows
-appoint_rows asks user triples is_there = record (of_officer (is_officer_row asks)) { user = user; executes = not (length triples == 0); is_there = is_there }
+appoint_rows asks user triples is_certifier = record (of_officer (is_officer_row asks)) { user = user; executes = not (length triples == 0); is_there = is_certifier }
 
 abbrev pub dismiss_rows : Option Standing → Bool → CommandRows
 dismiss_rows asks is_there = record (of_officer (is_officer_row asks)) { is_there = is_there }

@@ -32,11 +32,11 @@ pub struct CommandRows {
 impl CommandRows {
     /// Of a set to define: whether who asks is a certifier of any procedure, whether the set is there, and
     /// how many sets are.
-    pub fn of_define_set(certifies: bool, is_there: bool, count: u64) -> CommandRows
-        ensures { result ≡ define_set_rows certifies is_there count }
+    pub fn of_define_set(certifies: bool, has_set: bool, count: u64) -> CommandRows
+        ensures { result ≡ define_set_rows certifies has_set count }
     {
         CommandRows {
-            is_there,
+            is_there: has_set,
             count,
             ..of_certifier(certifies)
         }
@@ -116,14 +116,14 @@ impl CommandRows {
         asks: Option<Standing>,
         user: Option<Standing>,
         triples: &[HeldRow],
-        is_there: bool,
+        is_certifier: bool,
     ) -> CommandRows
-        ensures { result ≡ appoint_rows asks user triples.now is_there }
+        ensures { result ≡ appoint_rows asks user triples.now is_certifier }
     {
         CommandRows {
             user,
             executes: !triples.is_empty(),
-            is_there,
+            is_there: is_certifier,
             ..of_officer(asks)
         }
     }
