@@ -5,3 +5,4 @@ pub mod SeparatedPolicy
 pub mod SomeRows
 pub mod SoundPolicy
 pub mod SoundTables
+pub mod StoredRows

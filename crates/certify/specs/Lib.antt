@@ -1,3 +1,4 @@
 pub mod CommandRows
 pub mod Commands
 pub mod Laws
+pub mod StoredRows

@@ -2,6 +2,10 @@
 #![tactic(auto)]
 
 mod command_rows;
+mod commands;
 pub mod laws;
+#[cfg(test)]
+mod tests;
 
 pub use command_rows::CommandRows;
+pub use commands::{plan_policy, rule_against_command};
