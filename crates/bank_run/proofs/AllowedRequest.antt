@@ -35,7 +35,7 @@ row_there : (o : Option User) (session : ℕ) → is_identified (option_map stan
 row_there None session is = absurd cc
 row_there (Some row) session is = (row, refl)
 
-user_there : (w : WorldLists) (user : Option ℕ) (session : ℕ) → is_identified (option_and_then (λ u. standing w.policy u) user) session ≡ true
+pub user_there : (w : WorldLists) (user : Option ℕ) (session : ℕ) → is_identified (option_and_then (λ u. standing w.policy u) user) session ≡ true
     → IsUser w.policy.users (option_map_or (λ u. u) user 0)
 user_there w None session is = absurd cc
 user_there w (Some user) session is =

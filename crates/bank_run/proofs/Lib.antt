@@ -1,4 +1,5 @@
 pub mod AllowedRequest
+pub mod CommandSteps
 pub mod FirstRule
 pub mod JudgedPolicy
 pub mod OpenedAccount

@@ -67,6 +67,7 @@ use Rattle.bank_run.specs.declared.request.Asked.TheVariants as asked
 use Rattle.bank_run.specs.declared.request.Request.{Request}
 use Rattle.bank_run.specs.declared.who.Who.{Who}
 use Rattle.bank_run.proofs.AllowedRequest.{allowed_by_books, allowed_user}
+use Rattle.bank_run.proofs.CommandSteps.{commands_step}
 use Rattle.bank_run.proofs.OpenedAccount.{new_account_keeps_books, opened_is_next}
 use Rattle.bank_run.proofs.SessionSteps.{ends_session, opens_session}
 use Rattle.bank_run.proofs.Shares.{moved_sums, post_sums, put_off_sums, put_on_sums, transfer_sums, undone_post_sums, undone_transfer_sums}
@@ -226,5 +227,5 @@ pub by_asked : (w : WorldLists) (a : Asked) (who : Who) (moment : ℕ) → Passe
 by_asked w (asked.Operation op) who moment checks p is = executed w (record { who = who; moment = moment; op = op }) checks p.asked p.moment is
 by_asked w asked.Opening who moment checks p is = opens_session w who moment checks is
 by_asked w asked.Ending who moment checks p is = ends_session w who moment checks
-by_asked w (asked.Command command) who moment checks p is = stands w checks
+by_asked w (asked.Command command) who moment checks p is = commands_step w command who checks p.asked is
 by_asked w asked.Listing who moment checks p is = stands w checks

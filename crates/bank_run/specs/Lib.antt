@@ -1,5 +1,6 @@
 pub mod Balance
 pub mod CloseDay
+pub mod Commands
 pub mod Correct
 pub mod Denial
 pub mod DrawerOff

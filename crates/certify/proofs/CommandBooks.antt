@@ -117,5 +117,5 @@ users_kept p by (asked.Suspend k) = suspended_anew p.users (record { user = k.us
 users_kept p by (asked.Restore k) = suspended_anew p.users (record { user = k.user; suspended = false })
 
 pub command_keeps_books : CommandKeepsBooks
-command_keeps_books w by command books room none =
+command_keeps_books w by command books room =
     keeps_books w (policy_written (change_of command by) w.policy) (users_kept w.policy by command books.in_range.users) room books

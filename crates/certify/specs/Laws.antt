@@ -9,19 +9,18 @@ use Rattle.policy_check.specs.Soundness.{IsPolicySound}
 use Rattle.policy_ops.specs.Ranges.{IsPolicyOp}
 use Rattle.policy_ops.specs.declared.policy_op.PolicyOp.{PolicyOp}
 use Rattle.certify.specs.CommandRows.{command_rows}
-use Rattle.certify.specs.Commands.{command_effect, first_against_command}
+use Rattle.certify.specs.Commands.{commanded, first_against_command}
 
 -- of a policy without dangling rows it makes one without
 abbrev pub CommandKeepsSoundness : Type 0
 CommandKeepsSoundness = (w : WorldLists) (by : ℕ) (command : PolicyOp) → IsPolicySound w.policy → IsUser w.policy.users by → IsPolicyOp command
-    → first_against_command (command_rows w.policy by command) by command ≡ None → IsPolicySound (command_effect w by command).policy
+    → first_against_command (command_rows w.policy by command) by command ≡ None → IsPolicySound (commanded w by command).policy
 
 -- who certifies what still executes none of it
 abbrev pub CommandKeepsSeparation : Type 0
 CommandKeepsSeparation = (w : WorldLists) (by : ℕ) (command : PolicyOp) → IsPolicySound w.policy → Separated w.policy
-    → first_against_command (command_rows w.policy by command) by command ≡ None → Separated (command_effect w by command).policy
+    → first_against_command (command_rows w.policy by command) by command ≡ None → Separated (commanded w by command).policy
 
--- and the books hold: of the policy they name users alone, and its version has room
+-- And the books hold, whatever the rules say of it, where its version has room: of the policy they name users alone, and those who were there are.
 abbrev pub CommandKeepsBooks : Type 0
-CommandKeepsBooks = (w : WorldLists) (by : ℕ) (command : PolicyOp) → Books w → w.version < max_version
-    → first_against_command (command_rows w.policy by command) by command ≡ None → Books (command_effect w by command)
+CommandKeepsBooks = (w : WorldLists) (by : ℕ) (command : PolicyOp) → Books w → w.version < max_version → Books (commanded w by command)
