@@ -1,9 +1,11 @@
 //! Banks made up, with the policy of the sample, and its branches, tellers and accounts.
 
-ghost use Rattle.std.specs.Prelude.{◌≡◌, true};
+ghost use Rattle.money.specs.Range.{IsCents};
 
+use crate::amounts::{MOST, cents};
 use bank_books::{Account, Branch, CashLine, LineForm, RowWrite, Teller, World};
-use money::Cents;
+use book_check::check_books;
+use book_sums::Kept;
 use sample_bank::sample_policy;
 use std::alloc::Global;
 use std::process::Abort;
@@ -30,9 +32,19 @@ pub(crate) const SAMPLE: Opening = Opening {
     cash: 100_000,
 };
 
-pub(crate) fn cents(rt: &impl Abort, value: i64) -> Cents {
-    Cents::new(value).expect(rt, "an amount of money")
-}
+/// Account 102 stands at the greatest amount, and teller 21 and branch 2 with it.
+pub(crate) const TARGET_AT_MOST: Opening = Opening {
+    accounts: [1_000, MOST, 0],
+    tellers: [1_000, 0, MOST],
+    branches: [1_000, MOST],
+    cash: 100_000,
+};
+
+/// The vault of branch 1 has the greatest amount of cash.
+pub(crate) const VAULT_AT_MOST: Opening = Opening {
+    cash: MOST,
+    ..SAMPLE
+};
 
 /// A bank that opens so, with no drawer on.
 pub(crate) fn opened(rt: &impl Abort, alloc: Global, opening: Opening) -> World {
@@ -130,4 +142,68 @@ pub(crate) fn opening_at(rt: &impl Abort, alloc: Global, balance: i64) -> World 
         cash: 100_000,
     };
     with_drawers_on(rt, alloc, opening)
+}
+
+/// A bank whose teller 12 and branch 1 stand at this balance, with drawers 11 and 12 on. Account 101 has 10.00, and
+/// account 102 owes as much.
+pub(crate) fn teller_12_at(rt: &impl Abort, alloc: Global, balance: i64) -> World
+    requires { IsCents balance }
+{
+    let opening = Opening {
+        accounts: [1_000, -1_000, 0],
+        tellers: [0, balance, -balance],
+        branches: [balance, -balance],
+        cash: 100_000,
+    };
+    with_drawers_on(rt, alloc, opening)
+}
+
+/// A bank whose drawer 11, which Tess holds, is 9 cents below the greatest amount. Nobody holds drawer 12, and the vault
+/// has 109 cents.
+pub(crate) fn with_a_full_drawer(rt: &impl Abort, alloc: Global) -> World {
+    let mut world = opened(rt, alloc, VAULT_AT_MOST);
+    let lines = [
+        (0, -(MOST - 109), LineForm::On, 7),
+        (11, MOST - 109, LineForm::On, 7),
+        (11, 100, LineForm::CashEntry, 7),
+    ];
+    write_lines(rt, alloc, &mut world, &lines);
+    world
+}
+
+/// A bank whose cash that came with entries is the greatest amount. It is in the vault, and drawer 11, which Tess holds,
+/// is empty.
+pub(crate) fn with_all_cash_of_entries(rt: &impl Abort, alloc: Global) -> World {
+    let mut world = opened(rt, alloc, Opening { cash: 0, ..SAMPLE });
+    let lines = [
+        (0, 0, LineForm::On, 7),
+        (11, 0, LineForm::On, 7),
+        (11, MOST, LineForm::CashEntry, 7),
+        (11, -MOST, LineForm::Move, 7),
+        (0, MOST, LineForm::Move, 7),
+    ];
+    write_lines(rt, alloc, &mut world, &lines);
+    world
+}
+
+/// Asks for books that hold.
+fn holds(rt: &impl Abort, alloc: Global, world: &World) {
+    let kept = Kept::of(alloc, world).expect(rt, "memory");
+    let checked = check_books(alloc, world, &kept).expect(rt, "memory");
+    assert_eq!(rt; checked, Ok(()));
+}
+
+#[test]
+fn books_made_up_hold(rt: HostRuntime) {
+    let alloc = rt.alloc();
+    for opening in [SAMPLE, TARGET_AT_MOST, VAULT_AT_MOST] {
+        holds(&rt, alloc, &opened(&rt, alloc, opening));
+        holds(&rt, alloc, &with_drawers_on(&rt, alloc, opening));
+    }
+    for balance in [MOST, -MOST] {
+        holds(&rt, alloc, &teller_12_at(&rt, alloc, balance));
+    }
+    holds(&rt, alloc, &opening_at(&rt, alloc, MOST));
+    holds(&rt, alloc, &with_a_full_drawer(&rt, alloc));
+    holds(&rt, alloc, &with_all_cash_of_entries(&rt, alloc));
 }
