@@ -37,8 +37,9 @@ pub fn no_one_executes_what_he_certifies()
 {}
 
 /// Of every World that passes both checks, and after each request of every list of proper ones, with
-/// any marks: the checks pass, each branch has gained the deltas of the accepted posts at its tellers,
-/// and entries, cash lines and proofs were added alone.
+/// any marks: the checks pass; each branch, teller and account has gained what the accepted requests
+/// move there, and the cash of each branch what its entries brought and its counts differed by; each
+/// history has an entry more for each leg; and entries, cash lines and proofs were added alone.
 pub fn sums()
     ensures { SumsAlwaysAgree }
 {}

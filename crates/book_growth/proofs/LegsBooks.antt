@@ -1,11 +1,10 @@
 -- Two entries that name each other keep the books: the ledger one after the other, what they name and the limits both together.
-use Rattle.std.proofs.Common.{◌≡◌, ◌≢◌, ℕ, ◌+◌, ◌*◌, ◌^◌, ◌≤◌, ℤ, ◌+ℤ◌, arith, Bool, true, false, ap, sym, ◌∙◌, subst, ◌==◌, Contains, ◌⊎◌, inl, inr}
+use Rattle.std.proofs.Common.{◌≡◌, ℕ, ◌+◌, ◌*◌, ◌^◌, ◌≤◌, ℤ, ◌+ℤ◌, arith, Bool, true, false, ap, sym, ◌∙◌, subst, ◌==◌, Contains, ◌⊎◌, inl, inr}
 use Rattle.std.specs.Prelude.{if◌then◌else◌, neg_ℤ}
-use Rattle.std.proofs.lemmas.Bool.{cases_Bool, eq-eqb, eqb-true, ne_eqb}
+use Rattle.std.proofs.lemmas.Bool.{cases_Bool, eqb-true}
 use Rattle.std.proofs.lemmas.Int.{ints}
 use Rattle.keyed_rows.specs.Ordered.{add_row}
 use Rattle.money.specs.Range.{IsCents}
-use Rattle.bank_books.specs.Balances.{entry_count, turn_count}
 use Rattle.bank_books.specs.Effects.{written}
 use Rattle.bank_books.specs.Keys.{account_key, branch_key, entry_key, teller_key}
 use Rattle.bank_books.specs.Range.{IsEntryOrNone}
@@ -17,16 +16,15 @@ use Rattle.bank_books.specs.declared.rows.Branch.{Branch}
 use Rattle.bank_books.specs.declared.rows.Entry.{Entry}
 use Rattle.bank_books.specs.declared.rows.Teller.{Teller}
 use Rattle.book_growth.specs.Laws.{LegsKeepBooks, OppositeLegsKeepBooks}
-use Rattle.book_growth.specs.Ledger.{IsEntrySound, IsOpenLedger, NamesEntries}
+use Rattle.book_growth.specs.Ledger.{IsOpenLedger, NamesEntries}
 use Rattle.book_growth.specs.Limits.{AreWithinLimits, IsAccountWithin, IsBranchWithin, IsTellerWithin}
 use Rattle.book_growth.specs.Moves.{AreLegs, HasRoomForLegs, HasRoomForOppositeLegs, account_entered, branch_entered, teller_entered}
-use Rattle.book_growth.specs.Next.{IsNextEntry}
 use Rattle.book_growth.proofs.BooksSplit.{books_parts}
 use Rattle.book_growth.proofs.EntryAdded.{entry_keeps_ledger}
 use Rattle.book_growth.proofs.EntryBooks.{balance_within, names_still, there_still}
 use Rattle.book_growth.proofs.EntryMoved.{entry_moves, entry_stands_last}
 use Rattle.book_growth.proofs.LimitsKept.{limits_moved}
-use Rattle.book_growth.proofs.Rows.{Contains-add_row, Contains-add_row_cases, Contains-add_row_new, count_named, count_other, each_added, find_of_key, found_row}
+use Rattle.book_growth.proofs.Rows.{Contains-add_row, Contains-add_row_cases, Contains-add_row_new, each_added, find_of_key, found_row}
 
 -- the World with the first, and with both
 abbrev with_first : WorldLists → Entry → WorldLists
@@ -53,23 +51,6 @@ all_named w first second legs named =
     (each_added entry_key first w.entries (NamesEntries after)
     (record { partner = inr (second, (Contains-add_row_new entry_key second before, second_key)); undoes = still first.undoes first.branch legs.first_undoes })
     (λ row there. names_still (with_first w first) second row (names_still w first row (named row there))))
-
--- ---- the second leg
-
--- It may come next behind the first, if it bears the number behind that, and the turn that it would bear without it: the account is
--- another one.
-pub second_is_next : (w : WorldLists) (first second : Entry) → IsNextEntry w first → IsEntrySound w.branches w.tellers w.accounts w.policy.users second → second.branch ≡ first.branch
-    → second.account ≢ first.account → second.number ≡ first.number + 1 → second.turn ≡ turn_count second.account w.entries + 1 → IsNextEntry (with_first w first) second
-second_is_next w first second next sound branch apart number turn = record {
-  sound = sound;
-  number =
-      number
-      ∙ ap (λ n. n + 1) (next.number ∙ ap (λ k. entry_count k w.entries + 1) (sym branch)
-      ∙ sym (count_named entry_key (λ x. x.branch == second.branch) first w.entries (eq-eqb first.branch second.branch (sym branch))));
-  turn =
-      turn
-      ∙ ap (λ n. n + 1) (sym (count_other entry_key (λ x. x.account == second.account) first w.entries (ne_eqb first.account second.account (λ same. apart (sym same)))));
-}
 
 -- ---- the limits
 

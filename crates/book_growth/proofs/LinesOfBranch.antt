@@ -1,14 +1,13 @@
 -- Several lines of one branch, with room for what they come to, keep the books.
 use Rattle.std.proofs.Common.{◌≡◌, ◌≢◌, ℕ, suc, ◌+◌, ◌≤◌, ℤ, pos, ◌+ℤ◌, List, [], ◌∷◌, map, length, Bool, true, false, not, refl, ap, arith, sym, ◌∙◌, subst, ◌==◌, ◌&&◌, Contains, ◌⊎◌, inl, inr}
-use Rattle.std.specs.Prelude.{⊤, IfSome, if◌then◌else◌}
+use Rattle.std.specs.Prelude.{if◌then◌else◌}
 use Rattle.std.specs.List.{AllByRecursion}
 use Rattle.std.proofs.lemmas.Bool.{cases_Bool, eq-eqb, eqb-false, eqb-true, ne_eqb}
 use Rattle.std.proofs.lemmas.Int.{ints}
 use Rattle.keyed_rows.specs.Totals.{total}
-use Rattle.bank_books.specs.Cash.{holder_after, is_cash_entry, is_difference, line_count, place_cash}
+use Rattle.bank_books.specs.Cash.{is_cash_entry, is_difference, line_count, place_cash}
 use Rattle.bank_books.specs.Effects.{written}
 use Rattle.bank_books.specs.Keys.{branch_key, line_key, teller_key}
-use Rattle.bank_books.specs.Range.{IsUserNumber}
 use Rattle.bank_books.specs.Records.{branch_record_of}
 use Rattle.bank_books.specs.WorldLists.{WorldLists}
 use Rattle.bank_books.specs.declared.row_write.RowWrite.TheVariants as write
@@ -19,10 +18,10 @@ use Rattle.counter_ops.specs.Ranges.{IsCash}
 use Rattle.money.specs.Range.{IsCents}
 use Rattle.book_growth.specs.CashGap.{gap_share}
 use Rattle.book_growth.specs.Laws.{LinesOfBranchKeepBooks}
-use Rattle.book_growth.specs.Ledger.{IsLineSound, IsOpenLedger}
+use Rattle.book_growth.specs.Ledger.{IsOpenLedger}
 use Rattle.book_growth.specs.Limits.{AreWithinLimits, IsBranchWithin}
 use Rattle.book_growth.specs.Moves.{HasDrawerRoom, HasRoomForLines, to_place}
-use Rattle.book_growth.specs.Next.{AreNextLines, lined}
+use Rattle.book_growth.specs.Next.{lined}
 use Rattle.book_growth.proofs.BooksSplit.{books_parts}
 use Rattle.book_growth.proofs.LineAdded.{share_moves}
 use Rattle.book_growth.proofs.LinesBooks.{lines_keep_books, one_more}
@@ -123,31 +122,6 @@ counts_none : (w : WorldLists) (branch other : ℕ) (lines : List CashLine) → 
 counts_none w branch other [] of apart = refl
 counts_none w branch other (l ∷ lines) of apart =
     counts_none (written (write.Line l) w) branch other lines of.1 apart ∙ count_other line_key (λ x. x.branch == other) l w.lines (ne_eqb l.branch other (λ same. apart (sym of.0 ∙ same)))
-
--- ---- lines that may come next
-
--- numbered one after another behind this many
-abbrev pub AreNumberedBehind : ℕ → List CashLine → Type 0
-AreNumberedBehind n [] = ⊤
-AreNumberedBehind n (l ∷ lines) = (l.number ≡ n + 1) × AreNumberedBehind (n + 1) lines
-
--- what else is asked of each, which the lines before it do not touch
-abbrev pub MayStand : WorldLists → CashLine → Type 0
-MayStand w l = IsLineSound w.branches w.tellers w.policy.users l × IfSome (holder_after l l.form) IsUserNumber
-
-next_along : (w : WorldLists) (branch n : ℕ) (lines : List CashLine) → line_count branch w.lines ≡ n → AllByRecursion (λ l. l.branch ≡ branch) lines → AllByRecursion (MayStand w) lines
-    → AreNumberedBehind n lines → AreNextLines w lines
-next_along w branch n [] count of stand numbers = tt
-next_along w branch n (l ∷ lines) count of stand numbers = (
-  record { sound = stand.0.0; number = numbers.0 ∙ ap (λ m. m + 1) (sym count ∙ ap (λ k. line_count k w.lines) (sym of.0)); holder = stand.0.1 },
-  next_along (written (write.Line l) w) branch (n + 1) lines
-      (count_named line_key (λ x. x.branch == branch) l w.lines (eq-eqb l.branch branch of.0) ∙ ap (λ m. m + 1) count) of.1 stand.1 numbers.1,
-)
-
--- lines of one branch may come next one after another, if each may stand there and they bear the next numbers
-pub lines_are_next : (w : WorldLists) (branch : ℕ) (lines : List CashLine) → AllByRecursion (λ l. l.branch ≡ branch) lines → AllByRecursion (MayStand w) lines
-    → AreNumberedBehind (line_count branch w.lines) lines → AreNextLines w lines
-lines_are_next w branch lines of stand numbers = next_along w branch (line_count branch w.lines) lines refl of stand numbers
 
 -- ---- the limits
 

@@ -16,7 +16,7 @@ use Rattle.bank_books.specs.declared.rows.Teller.{Teller}
 use Rattle.bank_books.specs.declared.signature.Signature.{Signature}
 use Rattle.book_growth.proofs.RuleTests.{passed_by, source_of}
 use Rattle.counter_ops.specs.declared.correct.Correct.{Correct}
-use Rattle.row_reads.specs.BookReads as reads
+use Rattle.row_reads.specs.BookReads.{entry, undone}
 use Rattle.row_rules.specs.BranchParts.{cash_book_of, ledger_of}
 use Rattle.row_rules.specs.Rules.{drawer_is_held_by, teller_is_of}
 use Rattle.postings.specs.declared.correct.CorrectRows.{CorrectRows}
@@ -124,7 +124,7 @@ rows_of w correct of_post account other teller branch named = record {
   cash_book = option_map cash_book_of (option_map (branch_record_of w) branch);
   entry = named;
   partner = option_and_then (partner_of w) named;
-  is_undone = reads.undone w correct.branch correct.entry;
+  is_undone = undone w correct.branch correct.entry;
 }
 
 -- all but the other account

@@ -10,7 +10,7 @@ use Rattle.bank_books.specs.Range.{IsEntryOrNone}
 use Rattle.bank_books.specs.Records.{account_record_of, branch_record_of, teller_record_of}
 use Rattle.bank_books.specs.WorldLists.{WorldLists}
 use Rattle.bank_books.specs.declared.rows.Entry.{Entry}
-use Rattle.bank_books.specs.declared.rows.EntryForm.TheVariants as entry
+use Rattle.bank_books.specs.declared.rows.EntryForm.TheVariants as form
 use Rattle.bank_books.specs.declared.signature.Signature.{Signature}
 use Rattle.book_growth.specs.Next.{IsNextEntry}
 use Rattle.book_growth.proofs.BooksSplit.{books_parts}
@@ -19,7 +19,7 @@ use Rattle.book_growth.proofs.RuleTests.{none_named}
 use Rattle.counter_ops.specs.Correct.{IsCorrect}
 use Rattle.counter_ops.specs.Ranges.{IsKey, IsKeyOrZero}
 use Rattle.counter_ops.specs.declared.correct.Correct.{Correct}
-use Rattle.row_reads.specs.BookReads as reads
+use Rattle.row_reads.specs.BookReads.{entry, is_entry}
 use Rattle.row_rules.specs.Rules.{cash_book_is_full, drawer_covers, ledger_is_full}
 use Rattle.row_rules.specs.Signed.{IsSigned}
 use Rattle.postings.specs.Correct.{correct_effect, correct_rows, is_of_post, post_in_range, undoing}
@@ -34,9 +34,9 @@ use Rattle.postings.proofs.OppositeLegs.{AreLetThrough, Legs, legs_keep_books}
 -- ---- the entries that are undone
 
 -- the one that is named is there, in the history of its branch
-named_there : (w : WorldLists) (branch number : ℕ) (e : Entry) → reads.entry w branch number ≡ Some e → Contains w.entries e × (e.branch ≡ branch) × (entry_key e ≡ 2 ^ 32 * branch + number)
+named_there : (w : WorldLists) (branch number : ℕ) (e : Entry) → entry w branch number ≡ Some e → Contains w.entries e × (e.branch ≡ branch) × (entry_key e ≡ 2 ^ 32 * branch + number)
 named_there w branch number e is =
-    let there = find-found (reads.is_entry branch number) w.entries e is in
+    let there = find-found (is_entry branch number) w.entries e is in
     let both = and_parts (e.branch == branch) (e.number == number) there.1 in
     let of_branch = eqb-true e.branch branch both.0 in
     (there.0, of_branch, ap (λ b. 2 ^ 32 * b + e.number) of_branch ∙ ap (λ n. 2 ^ 32 * branch + n) (eqb-true e.number number both.1))
@@ -133,7 +133,7 @@ legs_of w correct there by = record {
   source = correct.account;
   target = correct.other;
   given = correct.delta;
-  form = entry.Correction;
+  form = form.Correction;
   source_undoes = correct.entry;
   target_undoes = there.entry.partner;
   by = by;

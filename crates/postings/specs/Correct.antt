@@ -17,9 +17,9 @@ use Rattle.bank_books.specs.declared.signature.Signature.{Signature}
 use Rattle.bank_books.specs.declared.rows.CashLine.{CashLine}
 use Rattle.bank_books.specs.declared.rows.Entry.{Entry}
 use Rattle.bank_books.specs.declared.rows.EntryForm.{EntryForm}
-use Rattle.bank_books.specs.declared.rows.EntryForm.TheVariants as entry
+use Rattle.bank_books.specs.declared.rows.EntryForm.TheVariants as form
 use Rattle.bank_books.specs.declared.rows.LineForm.TheVariants as line
-use Rattle.row_reads.specs.BookReads as reads
+use Rattle.row_reads.specs.BookReads.{entry, undone}
 use Rattle.row_rules.specs.BranchParts.{cash_book_of, ledger_of}
 use Rattle.row_rules.specs.Rules.{account_in_range, account_is_full, account_keeps_floor, cash_book_is_full, cash_entries_in_range, drawer_covers, drawer_in_range, drawer_is_held_by, drawers_in_range, ledger_in_range, ledger_is_full, teller_in_range, teller_is_of}
 use Rattle.row_rules.specs.declared.cash_book.CashBook.{CashBook}
@@ -34,11 +34,11 @@ is_of_post correct = correct.other == 0
 
 -- the entry that it names
 abbrev pub entry_named : WorldLists → Correct → Option Entry
-entry_named w correct = reads.entry w correct.branch correct.entry
+entry_named w correct = entry w correct.branch correct.entry
 
 -- the other leg of an entry, where it names one
 abbrev pub partner_of : WorldLists → Entry → Option Entry
-partner_of w e = if e.partner == 0 then None else reads.entry w e.branch e.partner
+partner_of w e = if e.partner == 0 then None else entry w e.branch e.partner
 
 -- the other account that it names
 abbrev pub other_account : WorldLists → Correct → Option AccountRecord
@@ -54,7 +54,7 @@ correct_rows w correct = record {
   cash_book = option_map cash_book_of (branch_record w correct.branch);
   entry = entry_named w correct;
   partner = option_and_then (partner_of w) (entry_named w correct);
-  is_undone = reads.undone w correct.branch correct.entry;
+  is_undone = undone w correct.branch correct.entry;
 }
 
 -- an account, teller or branch that it names is not there
@@ -69,9 +69,9 @@ is_by_maker rows user = option_map_or (λ e. e.user == user) rows.entry false
 -- Of an entry of this form the other account is as the correction names it: none of a post, and of the leg of a transfer that of the other leg. A correction
 -- is never corrected.
 abbrev pub other_is_as_named : EntryForm → Option Entry → Correct → Bool
-other_is_as_named entry.Post partner correct = is_of_post correct
-other_is_as_named entry.TransferLeg partner correct = not (is_of_post correct) && option_map_or (λ p. p.account == correct.other) partner false
-other_is_as_named entry.Correction partner correct = false
+other_is_as_named form.Post partner correct = is_of_post correct
+other_is_as_named form.TransferLeg partner correct = not (is_of_post correct) && option_map_or (λ p. p.account == correct.other) partner false
+other_is_as_named form.Correction partner correct = false
 
 -- the entry may be corrected: it is no correction itself, is as it is named, and is of the branch's present day
 abbrev pub is_correctable : Entry → CorrectRows → Correct → Bool
@@ -153,7 +153,7 @@ undoing_entry account ledger correct by = record {
   moment = by.moment;
   day = ledger.day;
   user = by.user;
-  form = entry.Correction;
+  form = form.Correction;
   partner = 0;
   undoes = correct.entry;
 }
@@ -183,7 +183,7 @@ undoing_leg account ledger correct by = record {
   moment = by.moment;
   day = ledger.day;
   user = by.user;
-  form = entry.Correction;
+  form = form.Correction;
   partner = ledger.entries + 2;
   undoes = correct.entry;
 }
@@ -200,7 +200,7 @@ undoing_other other ledger number correct by = record {
   moment = by.moment;
   day = ledger.day;
   user = by.user;
-  form = entry.Correction;
+  form = form.Correction;
   partner = ledger.entries + 1;
   undoes = number;
 }

@@ -1,41 +1,12 @@
 //! The books of the sample after its drawers were put on: their sums, worked out by hand, and what a
 //! check says of one number that was changed.
 
-use bank_books::{
-    AccountRecord, BranchRecord, CashLine, LineForm, RowWrite, TellerRecord, World, cash_of,
-    holder_of,
-};
+use bank_books::{AccountRecord, BranchRecord, TellerRecord, World, cash_of, holder_of};
 use book_check::{BooksFault, check_books};
 use book_sums::Kept;
-use money::Cents;
 use sample_bank::sample_world;
 use std::alloc::Global;
 use std::process::Abort;
-
-/// The sample with drawer 11 on, 40,000 cents, by user 7, and drawer 12 on, 5,000 cents, by user 8.
-fn counted_bank(rt: &impl Abort, alloc: Global) -> World {
-    let mut world = sample_world(alloc).expect(rt, "memory");
-    for (number, place, amount, user) in [
-        (1, 0, -40_000, 7),
-        (2, 11, 40_000, 7),
-        (3, 0, -5_000, 8),
-        (4, 12, 5_000, 8),
-    ] {
-        let line = CashLine {
-            branch: 1,
-            number,
-            place,
-            amount: Cents::new(amount).expect(rt, "an amount of money"),
-            form: LineForm::On,
-            moment: 0,
-            day: 1,
-            user,
-        };
-        let plan = vec![in alloc; RowWrite::Line(line)].expect(rt, "memory");
-        world.apply(alloc, plan).expect(rt, "memory");
-    }
-    world
-}
 
 /// What is kept of the bank, with these numbers in place of teller 12's balance, account 101's
 /// balance and the vault of branch 1.
@@ -90,7 +61,7 @@ fn kept_with(
 #[test]
 fn sums_of_the_sample_are_those_worked_out_by_hand(rt: HostRuntime) {
     let alloc = rt.alloc();
-    let world = counted_bank(&rt, alloc);
+    let world = sample_world(alloc).expect(&rt, "memory");
     for (branch, place, cash) in [
         (1, 0, 55_000),
         (1, 11, 40_000),
@@ -128,7 +99,7 @@ fn sums_of_the_sample_are_those_worked_out_by_hand(rt: HostRuntime) {
 #[test]
 fn each_changed_number_is_told_as_its_fault(rt: HostRuntime) {
     let alloc = rt.alloc();
-    let world = counted_bank(&rt, alloc);
+    let world = sample_world(alloc).expect(&rt, "memory");
     for (teller, account, vault, verdict) in [
         (0, 50_000, 55_000, Ok(())),
         (1, 50_000, 55_000, Err(BooksFault::ConditionB { branch: 1 })),

@@ -37,10 +37,14 @@ fn a_store_reads_the_books(rt: HostRuntime) {
     assert!(rt; store.entry(alloc, 1, 1).expect(&rt, "no fault").is_none());
     assert!(rt; !store.undone(alloc, 1, 1).expect(&rt, "no fault"));
     match store.drawer(alloc, 11).expect(&rt, "no fault") {
-        Some(drawer) => assert!(rt; drawer.cash == 0 && drawer.holder.is_none()),
+        Some(drawer) => assert!(rt; drawer.cash == 40_000 && drawer.holder == Some(7)),
         None => panic!(rt; "teller 11 is there"),
     }
-    assert!(rt; store.vault(alloc, 1).expect(&rt, "no fault") == Some(100_000));
+    match store.drawer(alloc, 21).expect(&rt, "no fault") {
+        Some(drawer) => assert!(rt; drawer.cash == 0 && drawer.holder.is_none()),
+        None => panic!(rt; "teller 21 is there"),
+    }
+    assert!(rt; store.vault(alloc, 1).expect(&rt, "no fault") == Some(55_000));
     assert!(rt; store.vault(alloc, 9).expect(&rt, "no fault").is_none());
 }
 

@@ -60,7 +60,10 @@ fn posts_are_judged_by_their_rows(rt: HostRuntime) {
     for (user, account, delta, first) in [
         (8u32, 101u32, 20_000i64, None),
         (8, 101, 60_000, Some(Rule::Limit)),
+        (7, 101, 5, Some(Rule::Drawer)),
         (8, 102, -1, Some(Rule::Floor)),
+        (8, 101, -5_000, None),
+        (8, 101, -5_001, Some(Rule::Cash)),
         (8, 999, 5, Some(Rule::Unknown)),
         (9, 101, 5, Some(Rule::NoTriple)),
         (8, 1_000_000, 5, Some(Rule::NotCertified)),

@@ -3,10 +3,32 @@
 #![tactic(auto)]
 
 #[cfg(test)]
+mod amounts;
+#[cfg(test)]
+mod asking;
+#[cfg(test)]
 mod by_rows;
+#[cfg(test)]
+mod closings;
+#[cfg(test)]
+mod correction_rows;
+#[cfg(test)]
+mod corrections;
+#[cfg(test)]
+mod drawers;
+#[cfg(test)]
+mod moves;
 #[cfg(test)]
 mod opening;
 #[cfg(test)]
+mod plans;
+#[cfg(test)]
+mod posts;
+#[cfg(test)]
 mod requests;
 #[cfg(test)]
+mod rows;
+#[cfg(test)]
 mod streams;
+#[cfg(test)]
+mod transfers;

@@ -2,291 +2,124 @@ ghost use Rattle.std.specs.Prelude.{◌≡◌, true};
 ghost use Rattle.counter_ops.specs.Op.{procedure_of};
 ghost use Rattle.counter_ops.specs.Ranges.{IsKey};
 ghost use Rattle.counter_ops.specs.Operations.{IsOp};
-ghost use Rattle.counter_ops.specs.Post.{IsPost};
 ghost use Rattle.bank_run.specs.Operations.{is_served};
 
+use crate::asking::{Desk, SUE, TESS, TOM};
 use crate::opening::opening_at;
 use bank_books::{account_balance, branch_balance, teller_balance};
 use counter_ops::{Balance, NewAccount, Post};
-use decide::{Decision, Op, Reply, Rule, Who, carry_out, decide, denial_text};
+use decide::{Op, Rule, Who, denial_text};
 use money::Delta;
 use sample_bank::sample_world;
-use std::alloc::Global;
 use std::process::Abort;
-use store_rows::{Bank, BookReads, ListStore, Stands, Store};
 
-/// Tess, who posts at branch 1 and asks for balances there.
-const TESS: Who = Who {
-    user: Some(7),
-    session: 1,
-    release: 0,
-};
-
-/// Tom, who posts up to 500.00 at branch 1, and up to 10.00 anywhere.
-const TOM: Who = Who {
-    user: Some(8),
-    session: 1,
-    release: 0,
-};
-
-/// Sue, who opens accounts.
-const SUE: Who = Who {
-    user: Some(9),
-    session: 1,
-    release: 0,
-};
-
-/// The body of the reply to a request that is carried out, or the rule that denies it.
-fn ask<S: Store>(
-    rt: &impl Abort,
-    bank: &mut Bank<S>,
-    alloc: Global,
-    who: Who,
-    op: Op,
-) -> Result<Vec<u8>, Rule>
-    requires served { is_served (procedure_of op) ≡ true }
-    requires proper { IsOp op }
-{
-    match decide(bank, alloc, who, 700, &op) {
-        Ok(Decision::Allowed(permit)) => match carry_out(permit) {
-            Ok(Reply::Done(done)) => Ok(done.into_body()),
-            Err(fault) => panic!(rt; "{fault}"),
-        },
-        Ok(Decision::Denied(denial)) => Err(denial.rule()),
-        Err(fault) => panic!(rt; "{fault}"),
-    }
-}
-
-/// A post that has to be carried out, with the body of its reply.
-fn posts<S: Store>(
-    rt: &impl Abort,
-    bank: &mut Bank<S>,
-    alloc: Global,
-    who: Who,
-    post: Post,
-    body: &str,
-)
-    requires { IsPost post }
-{
-    match ask(rt, bank, alloc, who, Op::Post(post)) {
-        Ok(given) => assert!(rt; given.as_slice() == body.as_bytes(), "{body}"),
-        Err(rule) => panic!(rt; "{}", rule.name()),
-    }
-}
-
-/// An operation that has to be denied by this rule.
-fn denied<S: Store>(
-    rt: &impl Abort,
-    bank: &mut Bank<S>,
-    alloc: Global,
-    who: Who,
-    op: Op,
-    rule: Rule,
-)
-    requires served { is_served (procedure_of op) ≡ true }
-    requires proper { IsOp op }
-{
-    match ask(rt, bank, alloc, who, op) {
-        Ok(_) => panic!(rt; "carried out"),
-        Err(given) => assert!(rt; given == rule, "{}", given.name()),
-    }
-}
-
-fn post(rt: &impl Abort, account: u32, teller: u32, branch: u32, delta: i64) -> Post
+/// A post of so many cents.
+pub(crate) fn post(rt: &impl Abort, account: u32, teller: u32, branch: u32, delta: i64) -> Op
     requires account { IsKey account }
     requires teller { IsKey teller }
     requires branch { IsKey branch }
-    ensures { IsPost result }
+    ensures served { is_served (procedure_of result) ≡ true }
+    ensures proper { IsOp result }
 {
     let delta = Delta::new(delta).expect(rt, "a delta");
-    Post {
+    Op::Post(Post {
         account,
         branch,
         delta,
         teller,
-    }
+    })
 }
 
 #[test]
-fn posts_move_three_balances(rt: HostRuntime) {
-    let alloc = rt.alloc();
-    let world = sample_world(alloc).expect(&rt, "memory");
+fn the_sample_opens_with_its_balances(rt: HostRuntime) {
+    let world = sample_world(rt.alloc()).expect(&rt, "memory");
     assert!(rt; account_balance(&world, 201) == 30_000);
     assert!(rt; teller_balance(&world, 21) == 20_000 && branch_balance(&world, 2) == 20_000);
-    let mut bank = Bank {
-        store: ListStore::new(world),
-    };
+}
+
+#[test]
+fn posts_move_three_balances_and_a_drawer(rt: HostRuntime) {
+    let mut desk = Desk::of_sample(&rt, rt.alloc());
     let first = post(&rt, 101, 11, 1, 2_500);
-    posts(
-        &rt,
-        &mut bank,
-        alloc,
-        TESS,
-        first,
-        "{\"balance\":52500,\"branch\":1,\"entry\":1}",
-    );
+    let body = "{\"balance\":52500,\"branch\":1,\"entry\":1}";
+    desk.done(&rt, TESS, first, body);
     let remote = post(&rt, 201, 11, 1, -30_000);
-    posts(
-        &rt,
-        &mut bank,
-        alloc,
-        TESS,
-        remote,
-        "{\"balance\":0,\"branch\":1,\"entry\":2}",
-    );
+    let body = "{\"balance\":0,\"branch\":1,\"entry\":2}";
+    desk.done(&rt, TESS, remote, body);
     let nothing = post(&rt, 101, 11, 1, 0);
-    posts(
-        &rt,
-        &mut bank,
-        alloc,
-        TESS,
-        nothing,
-        "{\"balance\":52500,\"branch\":1,\"entry\":3}",
-    );
-    let teller = bank
-        .store
-        .teller(alloc, 11)
-        .expect(&rt, "no fault")
-        .expect(&rt, "teller 11");
-    let branch = bank
-        .store
-        .branch(alloc, 1)
-        .expect(&rt, "no fault")
-        .expect(&rt, "branch 1");
-    let other = bank
-        .store
-        .branch(alloc, 2)
-        .expect(&rt, "no fault")
-        .expect(&rt, "branch 2");
+    let body = "{\"balance\":52500,\"branch\":1,\"entry\":3}";
+    desk.done(&rt, TESS, nothing, body);
+    let (teller, branch) = (desk.teller(&rt, 11), desk.branch(&rt, 1));
     assert!(rt; teller.balance == 32_500 && branch.balance == 32_500 && branch.entries == 3);
-    assert!(rt; other.balance == 20_000 && other.entries == 0);
-    assert!(rt; bank.store.faults() == 0);
+    assert!(rt; teller.cash == 12_500 && branch.vault == 55_000 && branch.lines == 7);
+    assert!(rt; branch.drawers == 17_500 && branch.cash_entries == -27_500);
+    let other = desk.branch(&rt, 2);
+    assert!(rt; other.balance == 20_000 && other.entries == 0 && other.lines == 0);
+    assert!(rt; desk.faults() == 0);
 }
 
 #[test]
 fn a_rule_that_denies_changes_nothing(rt: HostRuntime) {
     let alloc = rt.alloc();
-    let mut bank = Bank {
-        store: ListStore::new(opening_at(&rt, alloc, 999_999_999_999)),
-    };
+    let mut desk = Desk::over(alloc, opening_at(&rt, alloc, 999_999_999_999));
     let too_much = post(&rt, 101, 11, 1, 1);
-    denied(&rt, &mut bank, alloc, TESS, Op::Post(too_much), Rule::Range);
-    let below = post(&rt, 102, 12, 1, -1);
-    denied(&rt, &mut bank, alloc, TESS, Op::Post(below), Rule::Floor);
+    desk.denied(&rt, TESS, too_much, Rule::Range);
+    let not_held = post(&rt, 102, 12, 1, -1);
+    desk.denied(&rt, TESS, not_held, Rule::Drawer);
+    let below = post(&rt, 102, 11, 1, -1);
+    desk.denied(&rt, TESS, below, Rule::Floor);
+    let more_than_cash = post(&rt, 101, 11, 1, -40_001);
+    desk.denied(&rt, TESS, more_than_cash, Rule::Cash);
     let elsewhere = post(&rt, 101, 21, 1, 100);
-    denied(
-        &rt,
-        &mut bank,
-        alloc,
-        TOM,
-        Op::Post(elsewhere),
-        Rule::Branch,
-    );
+    desk.denied(&rt, TOM, elsewhere, Rule::Branch);
     let missing = post(&rt, 999, 11, 1, 100);
-    denied(&rt, &mut bank, alloc, TOM, Op::Post(missing), Rule::Unknown);
-    let account = bank
-        .store
-        .account(alloc, 101)
-        .expect(&rt, "no fault")
-        .expect(&rt, "account 101");
-    let branch = bank
-        .store
-        .branch(alloc, 1)
-        .expect(&rt, "no fault")
-        .expect(&rt, "branch 1");
+    desk.denied(&rt, TOM, missing, Rule::Unknown);
+    let (account, branch) = (desk.account(&rt, 101), desk.branch(&rt, 1));
     assert!(rt; account.balance == 999_999_999_999 && account.turns == 0);
-    assert!(rt; branch.balance == 999_999_999_999 && branch.entries == 0);
+    assert!(rt; branch.balance == 999_999_999_999 && branch.entries == 0 && branch.lines == 4);
     let down = post(&rt, 101, 11, 1, -1);
-    posts(
-        &rt,
-        &mut bank,
-        alloc,
-        TESS,
-        down,
-        "{\"balance\":999999999998,\"branch\":1,\"entry\":1}",
-    );
+    let body = "{\"balance\":999999999998,\"branch\":1,\"entry\":1}";
+    desk.done(&rt, TESS, down, body);
 }
 
 #[test]
 fn balances_are_told(rt: HostRuntime) {
     let alloc = rt.alloc();
-    let world = sample_world(alloc).expect(&rt, "memory");
-    let mut bank = Bank {
-        store: ListStore::new(world),
-    };
-    match ask(
-        &rt,
-        &mut bank,
-        alloc,
-        TESS,
-        Op::Balance(Balance { account: 101 }),
-    ) {
-        Ok(body) => assert!(rt; body.as_slice() == b"{\"balance\":50000}".as_slice()),
-        Err(rule) => panic!(rt; "{}", rule.name()),
-    }
+    let mut desk = Desk::of_sample(&rt, alloc);
+    desk.done(&rt, TESS, balance_of_101(), "{\"balance\":50000}");
     let missing = Op::Balance(Balance { account: 999 });
-    denied(&rt, &mut bank, alloc, TESS, missing, Rule::NoTriple);
+    desk.denied(&rt, TESS, missing, Rule::NoTriple);
     let text = denial_text(alloc, Rule::NoTriple).expect(&rt, "memory");
     assert!(rt; text.as_slice() == b"{\"name\":\"no triple\",\"rule\":3}".as_slice());
 }
 
 #[test]
 fn the_policy_is_asked_before_the_books(rt: HostRuntime) {
-    let alloc = rt.alloc();
-    let world = sample_world(alloc).expect(&rt, "memory");
-    let mut bank = Bank {
-        store: ListStore::new(world),
-    };
-    let uncertified = Op::Post(post(&rt, 1_000_000, 11, 1, 5));
-    denied(&rt, &mut bank, alloc, TESS, uncertified, Rule::NotCertified);
-    let too_high = Op::Post(post(&rt, 101, 12, 1, 60_000));
-    denied(&rt, &mut bank, alloc, TOM, too_high, Rule::Limit);
+    let mut desk = Desk::of_sample(&rt, rt.alloc());
+    let uncertified = post(&rt, 1_000_000, 11, 1, 5);
+    desk.denied(&rt, TESS, uncertified, Rule::NotCertified);
+    let too_high = post(&rt, 101, 12, 1, 60_000);
+    desk.denied(&rt, TOM, too_high, Rule::Limit);
     let within = post(&rt, 101, 12, 1, 20_000);
     let body = "{\"balance\":70000,\"branch\":1,\"entry\":1}";
-    posts(&rt, &mut bank, alloc, TOM, within, body);
-    let elsewhere = Op::Post(post(&rt, 201, 21, 2, 100));
-    denied(&rt, &mut bank, alloc, TESS, elsewhere, Rule::NoTriple);
-    let balance = Op::Balance(Balance { account: 101 });
-    denied(&rt, &mut bank, alloc, TOM, balance, Rule::NoTriple);
+    desk.done(&rt, TOM, within, body);
+    let elsewhere = post(&rt, 201, 21, 2, 100);
+    desk.denied(&rt, TESS, elsewhere, Rule::NoTriple);
+    desk.denied(&rt, TOM, balance_of_101(), Rule::NoTriple);
 }
 
 #[test]
 fn who_asks_has_to_be_known(rt: HostRuntime) {
-    let alloc = rt.alloc();
-    let world = sample_world(alloc).expect(&rt, "memory");
-    let mut bank = Bank {
-        store: ListStore::new(world),
-    };
+    let mut desk = Desk::of_sample(&rt, rt.alloc());
     let nobody = Who { user: None, ..TESS };
-    denied(
-        &rt,
-        &mut bank,
-        alloc,
-        nobody,
-        balance_of_101(),
-        Rule::Identity,
-    );
+    desk.denied(&rt, nobody, balance_of_101(), Rule::Identity);
     let stranger = Who {
         user: Some(55),
         ..TESS
     };
-    denied(
-        &rt,
-        &mut bank,
-        alloc,
-        stranger,
-        balance_of_101(),
-        Rule::Identity,
-    );
+    desk.denied(&rt, stranger, balance_of_101(), Rule::Identity);
     let of_another_session = Who { session: 2, ..TESS };
-    denied(
-        &rt,
-        &mut bank,
-        alloc,
-        of_another_session,
-        balance_of_101(),
-        Rule::Identity,
-    );
+    desk.denied(&rt, of_another_session, balance_of_101(), Rule::Identity);
 }
 
 /// The question for the balance of account 101.
@@ -299,32 +132,25 @@ fn balance_of_101() -> Op
 
 #[test]
 fn accounts_are_opened_once(rt: HostRuntime) {
-    let alloc = rt.alloc();
-    let world = sample_world(alloc).expect(&rt, "memory");
-    let mut bank = Bank {
-        store: ListStore::new(world),
-    };
+    let mut desk = Desk::of_sample(&rt, rt.alloc());
     let form = NewAccount {
         account: 103,
         branch: 1,
         floor: 0,
     };
-    match ask(&rt, &mut bank, alloc, SUE, Op::NewAccount(form)) {
-        Ok(body) => assert!(rt; body.as_slice() == b"{\"account\":103,\"branch\":1}".as_slice()),
-        Err(rule) => panic!(rt; "{}", rule.name()),
-    }
-    let again = Op::NewAccount(form);
-    denied(&rt, &mut bank, alloc, SUE, again, Rule::Taken);
-    let with_credit = Op::NewAccount(NewAccount {
+    let body = "{\"account\":103,\"branch\":1}";
+    desk.done(&rt, SUE, Op::NewAccount(form), body);
+    desk.denied(&rt, SUE, Op::NewAccount(form), Rule::Taken);
+    let with_credit = NewAccount {
         account: 104,
-        branch: 1,
         floor: -1,
-    });
-    denied(&rt, &mut bank, alloc, SUE, with_credit, Rule::Limit);
-    let nowhere = Op::NewAccount(NewAccount {
+        ..form
+    };
+    desk.denied(&rt, SUE, Op::NewAccount(with_credit), Rule::Limit);
+    let nowhere = NewAccount {
         account: 104,
         branch: 9,
-        floor: 0,
-    });
-    denied(&rt, &mut bank, alloc, SUE, nowhere, Rule::Unknown);
+        ..form
+    };
+    desk.denied(&rt, SUE, Op::NewAccount(nowhere), Rule::Unknown);
 }

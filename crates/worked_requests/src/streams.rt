@@ -109,12 +109,13 @@ impl Clock for Standing {
     }
 }
 
-/// What came of a run: how it ended, what was written, and how often account 101 was posted to and its balance then.
+/// What came of a run: how it ended, what was written, and how often account 101 was posted to, its balance and the
+/// cash of drawer 11 then.
 #[derive(Drop)]
 struct Outcome {
     result: Result<Served, ServeFault>,
     bytes: Vec<u8>,
-    posts: (u64, i128),
+    posts: (u64, i128, i128),
 }
 
 /// A reader that gives the pieces, and fails at this call.
@@ -164,10 +165,15 @@ fn served(rt: &impl Abort, alloc: Global, reader: Pieces<'_>, writer: Sink) -> O
         .account(alloc, 101)
         .expect(rt, "no fault")
         .expect(rt, "account 101");
+    let teller = bank
+        .store
+        .teller(alloc, 11)
+        .expect(rt, "no fault")
+        .expect(rt, "teller 11");
     Outcome {
         result,
         bytes: writer.into_inner().bytes,
-        posts: (account.turns, account.balance),
+        posts: (account.turns, account.balance, teller.cash),
     }
 }
 
@@ -191,12 +197,13 @@ const POST_LEN: usize = 144;
 /// The length of one reply.
 const REPLY_LEN: usize = 109;
 
-/// The replies to the first so many posts; how often account 101 was posted to by then, and its balance.
-fn after(posts: u32) -> (&'static [u8], (u64, i128)) {
+/// The replies to the first so many posts; how often account 101 was posted to by then, its balance and the cash of
+/// drawer 11.
+fn after(posts: u32) -> (&'static [u8], (u64, i128, i128)) {
     match posts {
-        0 => (b"", (0, 50_000)),
-        1 => (&REPLIES[..REPLY_LEN], (1, 52_500)),
-        _ => (REPLIES, (2, 55_000)),
+        0 => (b"", (0, 50_000, 40_000)),
+        1 => (&REPLIES[..REPLY_LEN], (1, 52_500, 42_500)),
+        _ => (REPLIES, (2, 55_000, 45_000)),
     }
 }
 

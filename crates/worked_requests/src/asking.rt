@@ -1,0 +1,136 @@
+//! A bank in memory that is asked, and what has to come of it.
+
+ghost use Rattle.std.specs.Prelude.{◌≡◌, ◌≤◌, true};
+ghost use Rattle.bank_terms.specs.Limits.{max_moment};
+ghost use Rattle.counter_ops.specs.Op.{procedure_of};
+ghost use Rattle.counter_ops.specs.Operations.{IsOp};
+ghost use Rattle.bank_run.specs.Operations.{is_served};
+
+use bank_books::{AccountRecord, BranchRecord, Entry, TellerRecord, World};
+use decide::{Decision, Op, Reply, Rule, Who, carry_out, decide};
+use sample_bank::sample_world;
+use std::alloc::Global;
+use std::process::Abort;
+use store_rows::{Bank, BookReads, ListStore, Stands};
+
+/// Tess, who posts at branch 1 and asks for balances there.
+pub(crate) const TESS: Who = Who {
+    user: Some(7),
+    session: 1,
+    release: 0,
+};
+
+/// Tom, who posts up to 500.00 at branch 1, and up to 10.00 anywhere.
+pub(crate) const TOM: Who = Who {
+    user: Some(8),
+    session: 1,
+    release: 0,
+};
+
+/// Sue, who opens accounts and closes the day of branch 1.
+pub(crate) const SUE: Who = Who {
+    user: Some(9),
+    session: 1,
+    release: 0,
+};
+
+/// The moment of requests, where no other is given.
+pub(crate) const MOMENT: u64 = 700;
+
+/// A bank in memory, as it is asked.
+#[derive(Drop)]
+pub(crate) struct Desk {
+    bank: Bank<ListStore>,
+    alloc: Global,
+}
+
+impl Desk {
+    /// That of this bank.
+    pub(crate) fn over(alloc: Global, world: World) -> Desk {
+        let bank = Bank {
+            store: ListStore::new(world),
+        };
+        Desk { bank, alloc }
+    }
+
+    /// That of the sample bank.
+    pub(crate) fn of_sample(rt: &impl Abort, alloc: Global) -> Desk {
+        Desk::over(alloc, sample_world(alloc).expect(rt, "memory"))
+    }
+
+    /// The body of the reply to a request that is carried out, or the rule that denies it.
+    fn ask(&mut self, rt: &impl Abort, who: Who, moment: u64, op: Op) -> Result<Vec<u8>, Rule>
+        requires moment { moment ≤ max_moment }
+        requires served { is_served (procedure_of op) ≡ true }
+        requires proper { IsOp op }
+    {
+        match decide(&mut self.bank, self.alloc, who, moment, &op) {
+            Ok(Decision::Allowed(permit)) => match carry_out(permit) {
+                Ok(Reply::Done(done)) => Ok(done.into_body()),
+                Err(fault) => panic!(rt; "{fault}"),
+            },
+            Ok(Decision::Denied(denial)) => Err(denial.rule()),
+            Err(fault) => panic!(rt; "{fault}"),
+        }
+    }
+
+    /// An operation at this moment that has to be carried out, with the body of its reply.
+    pub(crate) fn done_at(&mut self, rt: &impl Abort, who: Who, moment: u64, op: Op, body: &str)
+        requires moment { moment ≤ max_moment }
+        requires served { is_served (procedure_of op) ≡ true }
+        requires proper { IsOp op }
+    {
+        match self.ask(rt, who, moment, op) {
+            Ok(given) => assert!(rt; given.as_slice() == body.as_bytes(), "{body}"),
+            Err(rule) => panic!(rt; "{}", rule.name()),
+        }
+    }
+
+    /// An operation that has to be carried out, with the body of its reply.
+    pub(crate) fn done(&mut self, rt: &impl Abort, who: Who, op: Op, body: &str)
+        requires served { is_served (procedure_of op) ≡ true }
+        requires proper { IsOp op }
+    {
+        self.done_at(rt, who, MOMENT, op, body);
+    }
+
+    /// An operation that has to be denied by this rule.
+    pub(crate) fn denied(&mut self, rt: &impl Abort, who: Who, op: Op, rule: Rule)
+        requires served { is_served (procedure_of op) ≡ true }
+        requires proper { IsOp op }
+    {
+        match self.ask(rt, who, MOMENT, op) {
+            Ok(_) => panic!(rt; "carried out"),
+            Err(given) => assert!(rt; given == rule, "{}", given.name()),
+        }
+    }
+
+    /// An account of the bank.
+    pub(crate) fn account(&mut self, rt: &impl Abort, account: u32) -> AccountRecord {
+        let row = self.bank.store.account(self.alloc, account);
+        row.expect(rt, "no fault").expect(rt, "the account")
+    }
+
+    /// A teller of the bank.
+    pub(crate) fn teller(&mut self, rt: &impl Abort, teller: u32) -> TellerRecord {
+        let row = self.bank.store.teller(self.alloc, teller);
+        row.expect(rt, "no fault").expect(rt, "the teller")
+    }
+
+    /// A branch of the bank.
+    pub(crate) fn branch(&mut self, rt: &impl Abort, branch: u32) -> BranchRecord {
+        let row = self.bank.store.branch(self.alloc, branch);
+        row.expect(rt, "no fault").expect(rt, "the branch")
+    }
+
+    /// An entry of branch 1.
+    pub(crate) fn entry(&mut self, rt: &impl Abort, number: u32) -> Entry {
+        let row = self.bank.store.entry(self.alloc, 1, number);
+        row.expect(rt, "no fault").expect(rt, "the entry")
+    }
+
+    /// How many calls of the store answered a fault.
+    pub(crate) fn faults(&self) -> u64 {
+        self.bank.store.faults()
+    }
+}

@@ -1,0 +1,172 @@
+//! The rules against a correction, over rows made up: what stays in range, which numbers are left, and their order.
+
+use crate::amounts::{MOST, delta};
+use crate::corrections::{correct, first_post};
+use crate::posts::rows_at;
+use crate::rows::{BY_TESS, CASH_BOOK, LEDGER, account_with, teller_of, teller_with};
+use bank_books::{AccountRecord, Entry, EntryForm};
+use bank_terms::MAX_KEY;
+use decide::Rule;
+use postings::{CorrectRows, rule_against_correct};
+use row_rules::{CashBook, Ledger};
+use std::process::Abort;
+
+/// The rows of the correction of a post of so many cents by Tom. Its numbers stand so, those of the post.
+fn rows_of_post(rt: &impl Abort, added: i64, numbers: [i64; 7]) -> CorrectRows {
+    let rows = rows_at(rt, numbers);
+    let entry = Entry {
+        delta: delta(rt, added),
+        user: 8,
+        ..first_post(rt)
+    };
+    CorrectRows {
+        account: rows.account,
+        other: None,
+        teller: rows.teller,
+        ledger: rows.ledger,
+        cash_book: rows.cash_book,
+        entry: Some(entry),
+        partner: None,
+        is_undone: false,
+    }
+}
+
+#[test]
+fn every_number_that_a_correction_moves_stays_in_range(rt: HostRuntime) {
+    let undoing = correct(&rt, 1, 101, 0, 11, -1);
+    for place in 0..7usize {
+        let mut numbers = [100; 7];
+        numbers[place] = MOST;
+        let rows = rows_of_post(&rt, -1, numbers);
+        let first = rule_against_correct(&rows, &undoing, BY_TESS);
+        assert_eq!(rt; first, Some(Rule::Range), "{place}");
+        numbers[place] = MOST - 1;
+        let rows = rows_of_post(&rt, -1, numbers);
+        let first = rule_against_correct(&rows, &undoing, BY_TESS);
+        assert_eq!(rt; first, None, "{place}");
+    }
+}
+
+#[test]
+fn a_correction_of_a_post_needs_a_number_of_each_kind(rt: HostRuntime) {
+    let undoing = correct(&rt, 1, 101, 0, 11, 100);
+    for (turns, entries, lines, first) in [
+        (999_999_998, 999_999_998, 999_999_998, None),
+        (999_999_999, 0, 0, Some(Rule::Full)),
+        (0, 999_999_999, 0, Some(Rule::Full)),
+        (0, 0, 999_999_999, Some(Rule::Full)),
+    ] {
+        let account = AccountRecord {
+            turns,
+            ..account_with(&rt, 101, 100)
+        };
+        let rows = CorrectRows {
+            account: Some(account),
+            ledger: Some(Ledger { entries, ..LEDGER }),
+            cash_book: Some(CashBook { lines, ..CASH_BOOK }),
+            ..rows_of_post(&rt, 100, [100; 7])
+        };
+        let given = rule_against_correct(&rows, &undoing, BY_TESS);
+        assert_eq!(rt; given, first, "{turns} {entries} {lines}");
+    }
+}
+
+/// The rows of the correction of a transfer of 1.00 to account 102 by Tom, which no rule denies Tess. The accounts have
+/// these numbers of turns.
+fn rows_of_transfer(rt: &impl Abort, turns: u64, other_turns: u64) -> CorrectRows {
+    let account = AccountRecord {
+        turns,
+        ..account_with(rt, 101, 100)
+    };
+    let other = AccountRecord {
+        turns: other_turns,
+        ..account_with(rt, 102, 100)
+    };
+    let leg = Entry {
+        delta: delta(rt, -100),
+        user: 8,
+        form: EntryForm::TransferLeg,
+        partner: 2,
+        ..first_post(rt)
+    };
+    let partner = Entry {
+        number: 2,
+        account: 102,
+        delta: delta(rt, 100),
+        partner: 1,
+        ..leg
+    };
+    CorrectRows {
+        account: Some(account),
+        other: Some(other),
+        entry: Some(leg),
+        partner: Some(partner),
+        ..rows_of_post(rt, 0, [100; 7])
+    }
+}
+
+/// It writes no line, and so needs no number of one.
+#[test]
+fn a_correction_of_a_transfer_needs_two_entry_numbers(rt: HostRuntime) {
+    let undoing = correct(&rt, 1, 101, 102, 11, -100);
+    let cash_book = Some(CashBook {
+        lines: u64::from(MAX_KEY),
+        ..CASH_BOOK
+    });
+    for (turns, other, entries, first) in [
+        (999_999_998, 999_999_998, 999_999_997, None),
+        (999_999_999, 0, 0, Some(Rule::Full)),
+        (0, 999_999_999, 0, Some(Rule::Full)),
+        (0, 0, 999_999_998, Some(Rule::Full)),
+    ] {
+        let rows = CorrectRows {
+            ledger: Some(Ledger { entries, ..LEDGER }),
+            cash_book,
+            ..rows_of_transfer(&rt, turns, other)
+        };
+        let given = rule_against_correct(&rows, &undoing, BY_TESS);
+        assert_eq!(rt; given, first, "{turns} {other} {entries}");
+    }
+}
+
+/// Rows against which every rule speaks, and which are mended one after another.
+#[test]
+fn rules_of_a_correction_stand_in_order(rt: HostRuntime) {
+    let undoing = correct(&rt, 1, 101, 0, 11, 100);
+    let first = |rows: &CorrectRows| rule_against_correct(rows, &undoing, BY_TESS);
+    let mended = rows_of_post(&rt, 100, [100; 7]);
+    let mut rows = CorrectRows {
+        account: None,
+        teller: Some(teller_of(&rt, 2, 99)),
+        ledger: Some(Ledger {
+            history: -i128::from(MOST),
+            ..LEDGER
+        }),
+        cash_book: Some(CashBook {
+            lines: u64::from(MAX_KEY),
+            ..CASH_BOOK
+        }),
+        entry: Some(first_post(&rt)),
+        is_undone: true,
+        ..mended
+    };
+    assert_eq!(rt; first(&rows), Some(Rule::Unknown));
+    rows.account = Some(account_with(&rt, 101, 99));
+    assert_eq!(rt; first(&rows), Some(Rule::Branch));
+    rows.teller = Some(teller_of(&rt, 1, 99));
+    assert_eq!(rt; first(&rows), Some(Rule::Drawer));
+    rows.teller = Some(teller_with(&rt, 99));
+    assert_eq!(rt; first(&rows), Some(Rule::SecondPerson));
+    rows.entry = mended.entry;
+    assert_eq!(rt; first(&rows), Some(Rule::Entry));
+    rows.is_undone = false;
+    assert_eq!(rt; first(&rows), Some(Rule::Floor));
+    rows.account = mended.account;
+    assert_eq!(rt; first(&rows), Some(Rule::Cash));
+    rows.teller = mended.teller;
+    assert_eq!(rt; first(&rows), Some(Rule::Range));
+    rows.ledger = mended.ledger;
+    assert_eq!(rt; first(&rows), Some(Rule::Full));
+    rows.cash_book = mended.cash_book;
+    assert_eq!(rt; first(&rows), None);
+}

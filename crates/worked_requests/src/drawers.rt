@@ -1,0 +1,275 @@
+//! Drawers that are put on and off: what they move, what stays in range, and the order of their rules.
+
+ghost use Rattle.std.specs.Prelude.{◌≡◌};
+ghost use Rattle.counter_ops.specs.DrawerOff.{IsDrawerOff};
+ghost use Rattle.counter_ops.specs.Ranges.{IsCash, IsKey};
+
+use crate::amounts::{MOST, cents};
+use crate::asking::{Desk, TESS, TOM};
+use crate::opening::{VAULT_AT_MOST, with_a_full_drawer, with_drawers_on};
+use crate::plans::{apply, line, plan_of};
+use crate::rows::{BY_TESS, BY_TOM, CASH_BOOK, teller_of, teller_with};
+use bank_books::{LineForm, Signature, World, branch_record, teller_record};
+use bank_terms::MAX_KEY;
+use counter_ops::{DrawerOff, DrawerOn};
+use decide::{Op, Rule};
+use drawers::{
+    DrawerRows, plan_drawer_off, plan_drawer_on, rule_against_drawer_off, rule_against_drawer_on,
+};
+use row_rules::CashBook;
+use sample_bank::{opened_world, sample_world};
+use std::alloc::Global;
+use std::process::Abort;
+
+/// Drawer 11 as Tess puts it on in the sample.
+const ON_11: DrawerOn = DrawerOn {
+    teller: 11,
+    branch: 1,
+    cash: 40_000,
+};
+
+/// Drawer 12 as Tom puts it on there.
+const ON_12: DrawerOn = DrawerOn {
+    teller: 12,
+    branch: 1,
+    cash: 5_000,
+};
+
+/// A drawer of branch 1 in which so many cents were counted.
+pub(crate) fn off(rt: &impl Abort, teller: u32, counted: i64) -> DrawerOff
+    requires teller { IsKey teller }
+    requires counted { IsCash counted }
+    ensures { IsDrawerOff result }
+{
+    DrawerOff {
+        teller,
+        branch: 1,
+        counted: cents(rt, counted),
+    }
+}
+
+/// Has a bank put a drawer on.
+fn put_on(rt: &impl Abort, alloc: Global, world: &mut World, form: DrawerOn, by: Signature) {
+    let rows = DrawerRows::of(
+        teller_record(world, form.teller),
+        branch_record(world, form.branch),
+    );
+    let plan = plan_of(rt, plan_drawer_on(alloc, &rows, &form, by));
+    apply(rt, alloc, world, plan);
+}
+
+#[test]
+fn lines_of_the_sample_are_those_of_two_drawers_put_on(rt: HostRuntime) {
+    let alloc = rt.alloc();
+    let mut world = opened_world(alloc).expect(&rt, "memory");
+    let at = |user: u32| Signature { user, moment: 0 };
+    put_on(&rt, alloc, &mut world, ON_11, at(7));
+    put_on(&rt, alloc, &mut world, ON_12, at(8));
+    let sample = sample_world(alloc).expect(&rt, "memory");
+    assert_eq!(rt; world.lines().len(), 4);
+    assert!(rt; world.lines() == sample.lines());
+}
+
+#[test]
+fn the_sample_is_what_two_requests_make_of_its_opening(rt: HostRuntime) {
+    let alloc = rt.alloc();
+    let mut desk = Desk::over(alloc, opened_world(alloc).expect(&rt, "memory"));
+    let body = "{\"cash\":40000,\"teller\":11,\"vault\":60000}";
+    desk.done_at(&rt, TESS, 0, Op::DrawerOn(ON_11), body);
+    let body = "{\"cash\":5000,\"teller\":12,\"vault\":55000}";
+    desk.done_at(&rt, TOM, 0, Op::DrawerOn(ON_12), body);
+    let mut sample = Desk::of_sample(&rt, alloc);
+    assert_eq!(rt; desk.branch(&rt, 1), sample.branch(&rt, 1));
+    assert_eq!(rt; desk.teller(&rt, 11), sample.teller(&rt, 11));
+    assert_eq!(rt; desk.teller(&rt, 12), sample.teller(&rt, 12));
+    let (first, second) = (desk.teller(&rt, 11), desk.teller(&rt, 12));
+    assert_eq!(rt; (first.cash, first.holder), (40_000, Some(7)));
+    assert_eq!(rt; (second.cash, second.holder), (5_000, Some(8)));
+}
+
+#[test]
+fn drawers_go_off_and_on(rt: HostRuntime) {
+    let mut desk = Desk::of_sample(&rt, rt.alloc());
+    let body = "{\"difference\":-100,\"teller\":12,\"vault\":59900}";
+    desk.done(&rt, TOM, Op::DrawerOff(off(&rt, 12, 4_900)), body);
+    let (teller, branch) = (desk.teller(&rt, 12), desk.branch(&rt, 1));
+    assert_eq!(rt; (teller.cash, teller.holder), (0, None));
+    assert_eq!(rt; (branch.vault, branch.drawers), (59_900, 40_000));
+    assert_eq!(rt; (branch.lines, branch.differences), (7, -100));
+    let on = DrawerOn {
+        cash: 3_000,
+        ..ON_12
+    };
+    let body = "{\"cash\":3000,\"teller\":12,\"vault\":56900}";
+    desk.done(&rt, TESS, Op::DrawerOn(on), body);
+    let (teller, branch) = (desk.teller(&rt, 12), desk.branch(&rt, 1));
+    assert_eq!(rt; (teller.cash, teller.holder), (3_000, Some(7)));
+    assert_eq!(rt; (branch.vault, branch.drawers), (56_900, 43_000));
+    assert_eq!(rt; (branch.lines, branch.differences), (9, -100));
+    desk.denied(&rt, TOM, Op::DrawerOn(on), Rule::Drawer);
+}
+
+#[test]
+fn a_drawer_put_off_writes_three_lines(rt: HostRuntime) {
+    let alloc = rt.alloc();
+    let mut world = sample_world(alloc).expect(&rt, "memory");
+    let rows = DrawerRows::of(teller_record(&world, 12), branch_record(&world, 1));
+    let form = off(&rt, 12, 4_900);
+    let plan = plan_of(&rt, plan_drawer_off(alloc, &rows, &form, BY_TOM));
+    apply(&rt, alloc, &mut world, plan);
+    let lines = [
+        line(&rt, 5, 12, -100, LineForm::Difference, BY_TOM),
+        line(&rt, 6, 12, -4_900, LineForm::Off, BY_TOM),
+        line(&rt, 7, 0, 4_900, LineForm::Off, BY_TOM),
+    ];
+    assert_eq!(rt; world.lines().len(), 7);
+    assert!(rt; world.lines().ends_with(&lines));
+}
+
+#[test]
+fn a_difference_of_nothing_is_a_line_too(rt: HostRuntime) {
+    let mut desk = Desk::of_sample(&rt, rt.alloc());
+    let body = "{\"difference\":0,\"teller\":11,\"vault\":95000}";
+    desk.done(&rt, TESS, Op::DrawerOff(off(&rt, 11, 40_000)), body);
+    let branch = desk.branch(&rt, 1);
+    assert_eq!(rt; (branch.lines, branch.differences), (7, 0));
+}
+
+#[test]
+fn the_vault_stays_in_range_where_a_drawer_is_put_off(rt: HostRuntime) {
+    let alloc = rt.alloc();
+    let mut desk = Desk::over(alloc, with_drawers_on(&rt, alloc, VAULT_AT_MOST));
+    let too_much = Op::DrawerOff(off(&rt, 11, 45_001));
+    desk.denied(&rt, TESS, too_much, Rule::Range);
+    assert_eq!(rt; desk.teller(&rt, 11).holder, Some(7));
+    let body = "{\"difference\":5000,\"teller\":11,\"vault\":999999999999}";
+    desk.done(&rt, TESS, Op::DrawerOff(off(&rt, 11, 45_000)), body);
+}
+
+/// What drawer 12 may be given is bound by what drawer 11 has.
+#[test]
+fn the_drawers_stay_in_range_together(rt: HostRuntime) {
+    let alloc = rt.alloc();
+    let mut desk = Desk::over(alloc, with_a_full_drawer(&rt, alloc));
+    let too_much = DrawerOn { cash: 10, ..ON_12 };
+    desk.denied(&rt, TOM, Op::DrawerOn(too_much), Rule::Range);
+    let fits = DrawerOn { cash: 9, ..ON_12 };
+    let body = "{\"cash\":9,\"teller\":12,\"vault\":100}";
+    desk.done(&rt, TOM, Op::DrawerOn(fits), body);
+}
+
+/// The rows of a drawer of Tess's that holds 1.00, which no rule denies her to put off.
+fn held_rows(rt: &impl Abort) -> DrawerRows {
+    DrawerRows {
+        teller: Some(teller_with(rt, 100)),
+        cash_book: Some(CashBook {
+            drawers: 100,
+            ..CASH_BOOK
+        }),
+        vault: Some(0),
+    }
+}
+
+#[test]
+fn the_differences_stay_in_range(rt: HostRuntime) {
+    let most = i128::from(MOST);
+    for (counted, differences, first) in [
+        (101, most - 1, None),
+        (102, most - 1, Some(Rule::Range)),
+        (99, 1 - most, None),
+        (98, 1 - most, Some(Rule::Range)),
+    ] {
+        let rows = DrawerRows {
+            cash_book: Some(CashBook {
+                differences,
+                ..CASH_BOOK
+            }),
+            ..held_rows(&rt)
+        };
+        let form = off(&rt, 11, counted);
+        let given = rule_against_drawer_off(&rows, &form, BY_TESS);
+        assert_eq!(rt; given, first, "{counted} {differences}");
+    }
+}
+
+#[test]
+fn a_drawer_put_on_needs_two_line_numbers(rt: HostRuntime) {
+    for (lines, first) in [(999_999_997, None), (999_999_998, Some(Rule::Full))] {
+        let rows = DrawerRows {
+            teller: Some(teller_of(&rt, 1, 0)),
+            cash_book: Some(CashBook { lines, ..CASH_BOOK }),
+            vault: Some(40_000),
+        };
+        assert_eq!(rt; rule_against_drawer_on(&rows, &ON_11), first, "{lines}");
+    }
+}
+
+#[test]
+fn a_drawer_put_off_needs_three_line_numbers(rt: HostRuntime) {
+    let form = off(&rt, 11, 100);
+    for (lines, first) in [(999_999_996, None), (999_999_997, Some(Rule::Full))] {
+        let rows = DrawerRows {
+            cash_book: Some(CashBook { lines, ..CASH_BOOK }),
+            ..held_rows(&rt)
+        };
+        let given = rule_against_drawer_off(&rows, &form, BY_TESS);
+        assert_eq!(rt; given, first, "{lines}");
+    }
+}
+
+/// Rows against which every rule speaks, and which are mended one after another.
+#[test]
+fn rules_of_a_drawer_put_on_stand_in_order(rt: HostRuntime) {
+    let first = |rows: &DrawerRows| rule_against_drawer_on(rows, &ON_11);
+    let full = CashBook {
+        lines: u64::from(MAX_KEY),
+        ..CASH_BOOK
+    };
+    let mut rows = DrawerRows {
+        teller: None,
+        cash_book: Some(CashBook {
+            drawers: i128::from(MOST),
+            ..full
+        }),
+        vault: Some(39_999),
+    };
+    assert_eq!(rt; first(&rows), Some(Rule::Unknown));
+    rows.teller = Some(teller_of(&rt, 2, 0));
+    assert_eq!(rt; first(&rows), Some(Rule::Branch));
+    rows.teller = Some(teller_with(&rt, 0));
+    assert_eq!(rt; first(&rows), Some(Rule::Drawer));
+    rows.teller = Some(teller_of(&rt, 1, 0));
+    assert_eq!(rt; first(&rows), Some(Rule::Cash));
+    rows.vault = Some(40_000);
+    assert_eq!(rt; first(&rows), Some(Rule::Range));
+    rows.cash_book = Some(full);
+    assert_eq!(rt; first(&rows), Some(Rule::Full));
+    rows.cash_book = Some(CASH_BOOK);
+    assert_eq!(rt; first(&rows), None);
+}
+
+/// The same. No count brings a place below zero, so the rule of cash does not speak.
+#[test]
+fn rules_of_a_drawer_put_off_stand_in_order(rt: HostRuntime) {
+    let form = off(&rt, 11, 100);
+    let first = |rows: &DrawerRows| rule_against_drawer_off(rows, &form, BY_TESS);
+    let mut rows = DrawerRows {
+        teller: Some(teller_of(&rt, 2, 100)),
+        cash_book: Some(CashBook {
+            lines: u64::from(MAX_KEY),
+            ..CASH_BOOK
+        }),
+        vault: None,
+    };
+    assert_eq!(rt; first(&rows), Some(Rule::Unknown));
+    rows.vault = Some(i128::from(MOST));
+    assert_eq!(rt; first(&rows), Some(Rule::Branch));
+    rows.teller = Some(teller_of(&rt, 1, 100));
+    assert_eq!(rt; first(&rows), Some(Rule::Drawer));
+    rows.teller = Some(teller_with(&rt, 100));
+    assert_eq!(rt; first(&rows), Some(Rule::Range));
+    rows.vault = Some(i128::from(MOST - 100));
+    assert_eq!(rt; first(&rows), Some(Rule::Full));
+    rows.cash_book = Some(CASH_BOOK);
+    assert_eq!(rt; first(&rows), None);
+}

@@ -1,0 +1,48 @@
+//! What the plan of an operation makes of a bank, whose lines and proofs no store tells.
+
+use crate::amounts::cents;
+use bank_books::{CashLine, LineForm, Plan, Signature, World};
+use decide::Rule;
+use money::Fault;
+use row_rules::Planned;
+use std::alloc::Global;
+use std::process::Abort;
+
+/// A line of branch 1 on its first day.
+pub(crate) fn line(
+    rt: &impl Abort,
+    number: u32,
+    place: u32,
+    amount: i64,
+    form: LineForm,
+    by: Signature,
+) -> CashLine {
+    CashLine {
+        branch: 1,
+        number,
+        place,
+        amount: cents(rt, amount),
+        form,
+        moment: by.moment,
+        day: 1,
+        user: by.user,
+    }
+}
+
+/// The plan of an operation that no rule of the books denies.
+pub(crate) fn plan_of<T: Drop>(
+    rt: &impl Abort,
+    answer: Result<Result<Planned<T>, Rule>, Fault>,
+) -> Plan {
+    match answer {
+        Ok(Ok(planned)) => planned.plan,
+        Ok(Err(rule)) => panic!(rt; "{}", rule.name()),
+        Err(fault) => panic!(rt; "{fault}"),
+    }
+}
+
+/// Has a bank apply a plan.
+pub(crate) fn apply(rt: &impl Abort, alloc: Global, world: &mut World, plan: Plan) {
+    assert!(rt; world.has_version_for(&plan));
+    world.apply(alloc, plan).expect(rt, "memory");
+}

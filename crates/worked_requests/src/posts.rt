@@ -1,0 +1,170 @@
+//! Posts where a number of the books stands at the end of its range, and the order of the rules against a post.
+
+use crate::amounts::{MOST, delta};
+use crate::asking::{Desk, TESS};
+use crate::opening::{with_a_full_drawer, with_all_cash_of_entries};
+use crate::plans::{apply, line, plan_of};
+use crate::requests::post;
+use crate::rows::{BY_TESS, CASH_BOOK, LEDGER, account_with, teller_of, teller_with};
+use bank_books::{
+    AccountRecord, LineForm, TellerRecord, account_record, branch_record, teller_record,
+};
+use bank_terms::MAX_KEY;
+use counter_ops::Post;
+use decide::Rule;
+use postings::{PostRows, plan_post, rule_against_post};
+use row_rules::{CashBook, Ledger};
+use sample_bank::sample_world;
+use std::process::Abort;
+
+/// A post to account 101 at teller 11.
+fn post_of(rt: &impl Abort, added: i64) -> Post {
+    Post {
+        account: 101,
+        branch: 1,
+        delta: delta(rt, added),
+        teller: 11,
+    }
+}
+
+#[test]
+fn a_post_writes_its_cash(rt: HostRuntime) {
+    let alloc = rt.alloc();
+    let mut world = sample_world(alloc).expect(&rt, "memory");
+    let rows = PostRows::of(
+        account_record(&world, 101),
+        teller_record(&world, 11),
+        branch_record(&world, 1),
+    );
+    let withdrawal = post_of(&rt, -2_500);
+    let plan = plan_of(&rt, plan_post(alloc, &rows, &withdrawal, BY_TESS));
+    apply(&rt, alloc, &mut world, plan);
+    let cash = line(&rt, 5, 11, -2_500, LineForm::CashEntry, BY_TESS);
+    assert_eq!(rt; world.lines().last().copied(), Some(cash));
+    assert_eq!(rt; (world.lines().len(), world.entries().len()), (5, 1));
+}
+
+#[test]
+fn the_drawer_of_a_post_stays_in_range(rt: HostRuntime) {
+    let alloc = rt.alloc();
+    let mut desk = Desk::over(alloc, with_a_full_drawer(&rt, alloc));
+    desk.denied(&rt, TESS, post(&rt, 101, 11, 1, 10), Rule::Range);
+    let body = "{\"balance\":50009,\"branch\":1,\"entry\":1}";
+    desk.done(&rt, TESS, post(&rt, 101, 11, 1, 9), body);
+    assert_eq!(rt; desk.teller(&rt, 11).cash, 999_999_999_999);
+}
+
+#[test]
+fn the_cash_of_entries_stays_in_range(rt: HostRuntime) {
+    let alloc = rt.alloc();
+    let mut desk = Desk::over(alloc, with_all_cash_of_entries(&rt, alloc));
+    desk.denied(&rt, TESS, post(&rt, 101, 11, 1, 1), Rule::Range);
+    let body = "{\"balance\":50000,\"branch\":1,\"entry\":1}";
+    desk.done(&rt, TESS, post(&rt, 101, 11, 1, 0), body);
+    let branch = desk.branch(&rt, 1);
+    assert_eq!(rt; branch.cash_entries, 999_999_999_999);
+    assert_eq!(rt; (branch.drawers, branch.vault), (0, 999_999_999_999));
+}
+
+/// The rows of a post whose numbers stand so, in cents: the balance of account 101, the balance of teller 11 and the cash
+/// of his drawer, which Tess holds, the balance of branch 1 and the sum of its history, the sum of its drawers and that
+/// of its cash that came with entries.
+pub(crate) fn rows_at(rt: &impl Abort, numbers: [i64; 7]) -> PostRows {
+    let [
+        account,
+        teller,
+        drawer,
+        branch,
+        history,
+        drawers,
+        cash_entries,
+    ] = numbers;
+    PostRows {
+        account: Some(account_with(rt, 101, account)),
+        teller: Some(TellerRecord {
+            balance: i128::from(teller),
+            ..teller_with(rt, drawer)
+        }),
+        ledger: Some(Ledger {
+            balance: i128::from(branch),
+            history: i128::from(history),
+            ..LEDGER
+        }),
+        cash_book: Some(CashBook {
+            drawers: i128::from(drawers),
+            cash_entries: i128::from(cash_entries),
+            ..CASH_BOOK
+        }),
+    }
+}
+
+#[test]
+fn every_number_that_a_post_moves_stays_in_range(rt: HostRuntime) {
+    for place in 0..7usize {
+        let mut numbers = [100; 7];
+        numbers[place] = MOST;
+        let rows = rows_at(&rt, numbers);
+        let first = rule_against_post(&rows, &post_of(&rt, 1), BY_TESS);
+        assert_eq!(rt; first, Some(Rule::Range), "{place}");
+        let first = rule_against_post(&rows, &post_of(&rt, 0), BY_TESS);
+        assert_eq!(rt; first, None, "{place}");
+    }
+}
+
+#[test]
+fn a_post_needs_a_number_of_each_kind(rt: HostRuntime) {
+    let post = post_of(&rt, 1);
+    for (turns, entries, lines, first) in [
+        (999_999_998, 999_999_998, 999_999_998, None),
+        (999_999_999, 0, 0, Some(Rule::Full)),
+        (0, 999_999_999, 0, Some(Rule::Full)),
+        (0, 0, 999_999_999, Some(Rule::Full)),
+    ] {
+        let account = AccountRecord {
+            turns,
+            ..account_with(&rt, 101, 100)
+        };
+        let rows = PostRows {
+            account: Some(account),
+            ledger: Some(Ledger { entries, ..LEDGER }),
+            cash_book: Some(CashBook { lines, ..CASH_BOOK }),
+            ..rows_at(&rt, [100; 7])
+        };
+        let given = rule_against_post(&rows, &post, BY_TESS);
+        assert_eq!(rt; given, first, "{turns} {entries} {lines}");
+    }
+}
+
+/// Rows against which every rule speaks, and which are mended one after another.
+#[test]
+fn rules_of_a_post_stand_in_order(rt: HostRuntime) {
+    let withdrawal = post_of(&rt, -100);
+    let first = |rows: &PostRows| rule_against_post(rows, &withdrawal, BY_TESS);
+    let mut rows = PostRows {
+        account: None,
+        teller: Some(teller_of(&rt, 2, 99)),
+        ledger: Some(Ledger {
+            history: -i128::from(MOST),
+            ..LEDGER
+        }),
+        cash_book: Some(CashBook {
+            lines: u64::from(MAX_KEY),
+            ..CASH_BOOK
+        }),
+    };
+    assert_eq!(rt; first(&rows), Some(Rule::Unknown));
+    rows.account = Some(account_with(&rt, 101, 99));
+    assert_eq!(rt; first(&rows), Some(Rule::Branch));
+    rows.teller = Some(teller_of(&rt, 1, 99));
+    assert_eq!(rt; first(&rows), Some(Rule::Drawer));
+    rows.teller = Some(teller_with(&rt, 99));
+    assert_eq!(rt; first(&rows), Some(Rule::Floor));
+    rows.account = Some(account_with(&rt, 101, 100));
+    assert_eq!(rt; first(&rows), Some(Rule::Cash));
+    rows.teller = Some(teller_with(&rt, 100));
+    assert_eq!(rt; first(&rows), Some(Rule::Range));
+    rows.ledger = Some(LEDGER);
+    assert_eq!(rt; first(&rows), Some(Rule::Full));
+    rows.cash_book = Some(CASH_BOOK);
+    assert_eq!(rt; first(&rows), None);
+}

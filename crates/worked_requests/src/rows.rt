@@ -1,0 +1,71 @@
+//! Rows made up, as a store would answer them. By them the rules are judged on numbers that no bank of a test comes to.
+
+use crate::amounts::cents;
+use bank_books::{Account, AccountRecord, Signature, Teller, TellerRecord};
+use row_rules::{CashBook, Ledger};
+use std::process::Abort;
+
+/// What the rows of Tess's requests bear.
+pub(crate) const BY_TESS: Signature = Signature {
+    user: 7,
+    moment: 700,
+};
+
+/// What those of Tom's bear.
+pub(crate) const BY_TOM: Signature = Signature {
+    user: 8,
+    moment: 700,
+};
+
+/// A history with nothing in it.
+pub(crate) const LEDGER: Ledger = Ledger {
+    day: 1,
+    balance: 0,
+    entries: 0,
+    history: 0,
+};
+
+/// A cash book with nothing in it.
+pub(crate) const CASH_BOOK: CashBook = CashBook {
+    day: 1,
+    lines: 0,
+    drawers: 0,
+    cash_entries: 0,
+    differences: 0,
+};
+
+/// An account of branch 1 with this balance, which may not fall below zero.
+pub(crate) fn account_with(rt: &impl Abort, account: u32, balance: i64) -> AccountRecord {
+    AccountRecord {
+        row: Account {
+            account,
+            home: 1,
+            opening: cents(rt, 0),
+            floor: cents(rt, 0),
+        },
+        balance: i128::from(balance),
+        turns: 0,
+    }
+}
+
+/// Teller 11, of this branch, whose drawer has so much cash and is held by nobody.
+pub(crate) fn teller_of(rt: &impl Abort, branch: u32, cash: i64) -> TellerRecord {
+    TellerRecord {
+        row: Teller {
+            teller: 11,
+            branch,
+            opening: cents(rt, 0),
+        },
+        balance: 0,
+        cash: i128::from(cash),
+        holder: None,
+    }
+}
+
+/// Teller 11, of branch 1, whose drawer has so much cash and is held by Tess.
+pub(crate) fn teller_with(rt: &impl Abort, cash: i64) -> TellerRecord {
+    TellerRecord {
+        holder: Some(7),
+        ..teller_of(rt, 1, cash)
+    }
+}
