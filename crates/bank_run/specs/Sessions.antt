@@ -1,5 +1,6 @@
 -- Sessions: the rules against their opening and their ending, what they leave, what they are replied, and their meanings.
 use Rattle.std.specs.Prelude.{ℕ, ◌+◌, Bool, true, false, not, nat_le, List, [], ◌∷◌, ◌++◌, codes, decimal, Option, option_and_then}
+use Rattle.std.specs.List.{find}
 use Rattle.std.specs.Option.{option_map_or}
 use Rattle.serde_json.specs.Data.{Data, object, member, no_members}
 use Rattle.bank_policy.specs.HeldRows.{standing}
@@ -40,6 +41,10 @@ opening_denies rule.Identity row = not (may_open row)
 opening_denies rule.Full row = option_map_or (λ s. nat_le max_key s.session) row false
 opening_denies _ row = false
 
+-- the first of them that denies
+abbrev pub first_against_opening : Option Standing → Option Rule
+first_against_opening row = find (λ r. opening_denies r row) (rule.Identity ∷ rule.Full ∷ [])
+
 unfoldable pub opening_text : ℕ → List ℕ
 opening_text number = codes "{\"session\":" ++ decimal number ++ codes "}"
 
@@ -61,6 +66,10 @@ opening_meaning who w = record {
 abbrev pub ending_denies : Rule → Option Standing → ℕ → Bool
 ending_denies rule.Identity row session = not (is_identified row session)
 ending_denies _ row session = false
+
+-- the first of them that denies
+abbrev pub first_against_ending : Option Standing → ℕ → Option Rule
+first_against_ending row session = find (λ r. ending_denies r row session) (rule.Identity ∷ [])
 
 unfoldable pub ending_text : ℕ → List ℕ
 ending_text number = codes "{\"ended\":" ++ decimal number ++ codes "}"

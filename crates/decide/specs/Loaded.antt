@@ -1,4 +1,4 @@
--- Rows that were loaded for an operation.
+-- Rows that were loaded for a request.
 use Rattle.std.specs.Prelude.{ℕ, ◌≡◌, Option, Some, None, is_some, option_and_then}
 use Rattle.bank_policy.specs.HeldRows.{relations_of, standing, triples_of}
 use Rattle.bank_books.specs.Records.{account_record}
@@ -16,10 +16,13 @@ use Rattle.touched.specs.Touched.{amount, touched}
 use Rattle.bank_run.specs.NewAccount.{opening_rows}
 use Rattle.bank_run.specs.Operations.{is_served}
 use Rattle.bank_run.specs.PolicyRules.{Grounds, asker}
+use Rattle.bank_run.specs.Sessions.{standing_of_asker}
 use Rattle.bank_run.specs.declared.execution.Execution.{Execution}
 use Rattle.decide.specs.declared.by_rows.BookRows.{BookRows}
 use Rattle.decide.specs.declared.by_rows.BookRows.TheVariants as rows
 use Rattle.decide.specs.declared.by_rows.Loaded.{Loaded}
+use Rattle.decide.specs.declared.by_rows.Loaded.TheVariants as loaded
+use Rattle.decide.specs.declared.by_rows.OperationRows.{OperationRows}
 use Rattle.decide.specs.declared.by_rows.PolicyRows.{PolicyRows}
 use Rattle.bank_run.specs.declared.request.Asked.{Asked}
 use Rattle.bank_run.specs.declared.request.Asked.TheVariants as asked
@@ -43,17 +46,27 @@ book_rows w (op.Proof proof) = None
 book_rows w (op.CloseDay close_day) = Some (rows.CloseDay (closing_rows w close_day))
 
 -- these rows are those of a World by which an operation is judged
-pub record IsLoadedFor (w : WorldLists) (x : Execution) (l : Loaded) : Type 0 where
+pub record IsLoadedFor (w : WorldLists) (x : Execution) (l : OperationRows) : Type 0 where
   pub standing : l.policy.standing ≡ option_and_then (λ user. standing w.policy user) x.who.user
   pub relations : l.policy.relations.items ≡ relations_of w.policy (procedure_of x.op)
   pub held : l.policy.held.items ≡ triples_of w.policy (asker x.who) (procedure_of x.op)
   pub books : book_rows w x.op ≡ Some l.books
 
--- by which a request is judged; only operations have any yet
+-- by which an operation is judged, where the rows are those of an operation
+abbrev pub IsLoadedOperation : WorldLists → Execution → Loaded → Type 0
+IsLoadedOperation w x (loaded.Operation l) = IsLoadedFor w x l
+IsLoadedOperation w x (loaded.Session row) = ⊥
+
+-- by which a session is judged: the row of who asks
+abbrev pub IsLoadedSession : WorldLists → Who → Loaded → Type 0
+IsLoadedSession w who (loaded.Operation l) = ⊥
+IsLoadedSession w who (loaded.Session row) = row ≡ standing_of_asker who w
+
+-- by which a request is judged; commands and the listing have none yet
 abbrev pub IsLoadedOf : WorldLists → Asked → Who → ℕ → Loaded → Type 0
-IsLoadedOf w (asked.Operation op) who moment l = IsLoadedFor w (record { who = who; moment = moment; op = op }) l
-IsLoadedOf w asked.Opening who moment l = ⊥
-IsLoadedOf w asked.Ending who moment l = ⊥
+IsLoadedOf w (asked.Operation op) who moment l = IsLoadedOperation w (record { who = who; moment = moment; op = op }) l
+IsLoadedOf w asked.Opening who moment l = IsLoadedSession w who l
+IsLoadedOf w asked.Ending who moment l = IsLoadedSession w who l
 IsLoadedOf w (asked.Command command) who moment l = ⊥
 IsLoadedOf w asked.Listing who moment l = ⊥
 

@@ -8,6 +8,7 @@ ghost use Rattle.bank_run.specs.Requests.{executes, first};
 
 use crate::operations::{rule_against_balance, rule_against_new_account};
 use crate::policy_rules::{is_certified_for, is_identified, rule_of_triples};
+use crate::sessions::{rule_against_ending, rule_against_opening};
 use bank_books::{AccountRecord, Signature};
 use bank_policy::{CertifiedRow, HeldRow, Standing};
 use bank_run::{Asked, Execution, OpeningRows, Request};
@@ -59,11 +60,21 @@ pub enum BookRows {
 
 /// All rows by which one operation is judged.
 #[derive(Drop)]
-pub struct Loaded {
+pub struct OperationRows {
     /// Those of the policy.
     pub policy: PolicyRows,
     /// Those of the books.
     pub books: BookRows,
+}
+
+/// All rows by which one request is judged.
+#[derive(Drop)]
+pub enum Loaded {
+    /// Of an operation.
+    Operation(OperationRows),
+    /// Of the opening or the ending of a session: what the row of the user who asks says of whether
+    /// he may, or none where he isn't there.
+    Session(Option<Standing>),
 }
 
 /// The first rule that denies a request, or none, where these rows were loaded for it from a World.
@@ -71,8 +82,8 @@ pub struct Loaded {
 pub fn first_rule(rows: &Loaded, request: &Request) -> Option<Rule>
     ensures { (w : WorldLists) → IsLoaded w request.now rows.now → result ≡ first w request.now }
 {
-    match &request.asked {
-        Asked::Operation(op) => first_of_operation(
+    match (rows, &request.asked) {
+        (Loaded::Operation(rows), Asked::Operation(op)) => first_of_operation(
             rows,
             &Execution {
                 who: request.who,
@@ -80,12 +91,16 @@ pub fn first_rule(rows: &Loaded, request: &Request) -> Option<Rule>
                 op: *op,
             },
         ),
-        Asked::Opening | Asked::Ending | Asked::Command(_) | Asked::Listing => None,
+        (Loaded::Session(standing), Asked::Opening) => rule_against_opening(*standing),
+        (Loaded::Session(standing), Asked::Ending) => {
+            rule_against_ending(*standing, request.who.session)
+        }
+        _ => None,
     }
 }
 
 /// The same of an operation: the rules of the policy come first.
-fn first_of_operation(rows: &Loaded, execution: &Execution) -> Option<Rule>
+fn first_of_operation(rows: &OperationRows, execution: &Execution) -> Option<Rule>
     ensures { (w : WorldLists) → IsLoadedFor w execution.now rows.now → result ≡ first w (executes execution.now) }
 {
     match first_of_policy(&rows.policy, execution) {
