@@ -7,6 +7,8 @@ unfolding matchit_on_literals
 invariant_of-result c =
     record {
       table = λ path. rw (
+        c.in_ok-add-15.ensures,
+        c.in_ok-add-14.ensures,
         c.in_ok-add-13.ensures,
         c.in_ok-add-12.ensures,
         c.in_ok-add-11.ensures,
@@ -20,6 +22,6 @@ invariant_of-result c =
         c.in_ok-add-3.ensures,
         c.in_ok-add-2.ensures,
         c.in_ok-add.ensures,
-        c.new-operations.ensures,
+        c.new-paths.ensures,
       ) (table_found path);
     }
