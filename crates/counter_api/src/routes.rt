@@ -34,63 +34,19 @@ impl Routes {
     #[tactic(auto, unfolding(matchit::proofs::OnLiterals::matchit_on_literals))]
     pub(crate) fn new(alloc: Global) -> Result<Routes, AllocError> {
         let mut paths = Router::new(alloc);
-        add(&mut paths, "/do/post", Route::Operation(Procedure::Post))?;
-        add(
-            &mut paths,
-            "/do/transfer",
-            Route::Operation(Procedure::Transfer),
-        )?;
-        add(
-            &mut paths,
-            "/do/correct",
-            Route::Operation(Procedure::Correct),
-        )?;
-        add(
-            &mut paths,
-            "/do/drawer-on",
-            Route::Operation(Procedure::DrawerOn),
-        )?;
-        add(
-            &mut paths,
-            "/do/drawer-off",
-            Route::Operation(Procedure::DrawerOff),
-        )?;
-        add(
-            &mut paths,
-            "/do/move-cash",
-            Route::Operation(Procedure::MoveCash),
-        )?;
-        add(
-            &mut paths,
-            "/do/new-account",
-            Route::Operation(Procedure::NewAccount),
-        )?;
-        add(
-            &mut paths,
-            "/do/release",
-            Route::Operation(Procedure::Release),
-        )?;
-        add(
-            &mut paths,
-            "/do/balance",
-            Route::Operation(Procedure::Balance),
-        )?;
-        add(
-            &mut paths,
-            "/do/statement",
-            Route::Operation(Procedure::Statement),
-        )?;
-        add(
-            &mut paths,
-            "/do/accounts",
-            Route::Operation(Procedure::Accounts),
-        )?;
-        add(&mut paths, "/do/proof", Route::Operation(Procedure::Proof))?;
-        add(
-            &mut paths,
-            "/do/close-day",
-            Route::Operation(Procedure::CloseDay),
-        )?;
+        add_operation(&mut paths, "/do/post", Procedure::Post)?;
+        add_operation(&mut paths, "/do/transfer", Procedure::Transfer)?;
+        add_operation(&mut paths, "/do/correct", Procedure::Correct)?;
+        add_operation(&mut paths, "/do/drawer-on", Procedure::DrawerOn)?;
+        add_operation(&mut paths, "/do/drawer-off", Procedure::DrawerOff)?;
+        add_operation(&mut paths, "/do/move-cash", Procedure::MoveCash)?;
+        add_operation(&mut paths, "/do/new-account", Procedure::NewAccount)?;
+        add_operation(&mut paths, "/do/release", Procedure::Release)?;
+        add_operation(&mut paths, "/do/balance", Procedure::Balance)?;
+        add_operation(&mut paths, "/do/statement", Procedure::Statement)?;
+        add_operation(&mut paths, "/do/accounts", Procedure::Accounts)?;
+        add_operation(&mut paths, "/do/proof", Procedure::Proof)?;
+        add_operation(&mut paths, "/do/close-day", Procedure::CloseDay)?;
         add(&mut paths, "/end", Route::Ending)?;
         add(&mut paths, "/session", Route::Opening)?;
         Ok(Routes { paths })
@@ -108,6 +64,18 @@ impl Routes {
         let found = self.paths.at(path).ok()?;
         Some(*found.value)
     }
+}
+
+/// Adds the path of the operations of a procedure, which conflicts with none that is there.
+fn add_operation(
+    paths: &mut Router<Route>,
+    path: &str,
+    procedure: Procedure,
+) -> Result<(), AllocError>
+    requires { IsOkAnd (parse_route path.now) (λ read. nearest read.pattern paths.old ≡ None) }
+    ensures { OnOk result (IsOkAnd (parse_route path.now) (λ read. paths.new ≡ placed (read.pattern, route_from read (Route.Operation procedure)) paths.old)) }
+{
+    add(paths, path, Route::Operation(procedure))
 }
 
 /// Adds a path that conflicts with none that is there, so that it is refused for want of memory alone.
