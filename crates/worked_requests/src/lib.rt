@@ -9,4 +9,6 @@ mod opening;
 #[cfg(test)]
 mod requests;
 #[cfg(test)]
+mod sessions;
+#[cfg(test)]
 mod streams;
