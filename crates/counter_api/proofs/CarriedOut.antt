@@ -8,7 +8,7 @@ use Rattle.bank_run.specs.Run.{if_allowed, step}
 use Rattle.decide.specs.declared.permit.Permit.{Permit}
 use Rattle.decide.specs.declared.permit.Reply.{Reply}
 use Rattle.bank_run.specs.declared.request.Request.{Request}
-use Rattle.counter_api.specs.CarriedOut.{Settles}
+use Rattle.decide.specs.OneRequest.{Settles}
 
 module _ {S : Type 0} where
   -- the effect of what was permitted is the step of what was asked

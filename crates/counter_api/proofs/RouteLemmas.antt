@@ -8,11 +8,11 @@ use Rattle.std.proofs.lemmas.List.Sums.{AllPass-from_list_all}
 use Rattle.std.proofs.lemmas.Slice.Eq.{bytes_eq-Decides}
 use Rattle.std.proofs.lemmas.Str.{IsUtf8-from_ascii}
 use Rattle.std.proofs.lemmas.Str.Ascii.{IsAscii-from_all}
-use Rattle.bank_terms.specs.declared.procedure.Procedure.{Procedure}
 use Rattle.matchit.specs.Rows.{RowsOf, param_token, catch_all_token}
 use Rattle.matchit.specs.Seek.{own, step, or_else, seek, param_step, first, same_text, has_slash}
 use Rattle.matchit.specs.Router.{RouteOf}
-use Rattle.counter_api.specs.Routes.{asked_procedure, paths, procedure_at}
+use Rattle.counter_api.specs.Routes.{asked_route, paths, route_at}
+use Rattle.counter_api.specs.declared.routes.Route.{Route}
 
 by_not_true : (b : Bool) → ¬ (b ≡ true) → b ≡ false
 by_not_true true never = absurd (never refl)
@@ -96,35 +96,35 @@ module _ {K : Type 0} where
       (λ i. or_else (x i) (or_else (y i) (z i))) ∙ or_none (row_of rs (b ∷ path))
 
 -- a path of a table as the router keeps it
-abbrev row_for : List ℕ × Procedure → List ℕ × RouteOf Procedure
-row_for (path, procedure) = (path, record { pattern = path; text = path; names = []; value = procedure })
+abbrev row_for : List ℕ × Route → List ℕ × RouteOf Route
+row_for (path, asked) = (path, record { pattern = path; text = path; names = []; value = asked })
 
-rows_literal : (table : List (List ℕ × Procedure)) → list_all (λ (row : List ℕ × Procedure). list_all is_ascii row.0) table ≡ true → AreLiteral (map row_for table)
+rows_literal : (table : List (List ℕ × Route)) → list_all (λ (row : List ℕ × Route). list_all is_ascii row.0) table ≡ true → AreLiteral (map row_for table)
 rows_literal [] e = tt
-rows_literal ((path, procedure) ∷ table) e = let parts = and_parts _ _ e in (parts.0, rows_literal table parts.1)
+rows_literal ((path, asked) ∷ table) e = let parts = and_parts _ _ e in (parts.0, rows_literal table parts.1)
 
 paths_literal : AreLiteral (map row_for paths)
 paths_literal = rows_literal paths refl
 
-row_found : (table : List (List ℕ × Procedure)) (path : List ℕ)
-    → option_map (λ (route : RouteOf Procedure). route.value) (row_of (map row_for table) path)
-    ≡ option_map (λ (row : List ℕ × Procedure). row.1) (find (λ (row : List ℕ × Procedure). bytes_eq row.0 path) table)
+row_found : (table : List (List ℕ × Route)) (path : List ℕ)
+    → option_map (λ (route : RouteOf Route). route.value) (row_of (map row_for table) path)
+    ≡ option_map (λ (row : List ℕ × Route). row.1) (find (λ (row : List ℕ × Route). bytes_eq row.0 path) table)
 row_found [] path = refl
-row_found ((text, procedure) ∷ table) path = by_test (bytes_eq text path) (row_found table path)
+row_found ((text, asked) ∷ table) path = by_test (bytes_eq text path) (row_found table path)
   where
     by_test : (c : Bool)
-        → option_map (λ (route : RouteOf Procedure). route.value) (row_of (map row_for table) path)
-        ≡ option_map (λ (row : List ℕ × Procedure). row.1) (find (λ (row : List ℕ × Procedure). bytes_eq row.0 path) table)
-        → option_map (λ (route : RouteOf Procedure). route.value) (cond c (Some (row_for (text, procedure)).1) (row_of (map row_for table) path))
-        ≡ option_map (λ (row : List ℕ × Procedure). row.1) (cond c (Some (text, procedure)) (find (λ (row : List ℕ × Procedure). bytes_eq row.0 path) table))
+        → option_map (λ (route : RouteOf Route). route.value) (row_of (map row_for table) path)
+        ≡ option_map (λ (row : List ℕ × Route). row.1) (find (λ (row : List ℕ × Route). bytes_eq row.0 path) table)
+        → option_map (λ (route : RouteOf Route). route.value) (cond c (Some (row_for (text, asked)).1) (row_of (map row_for table) path))
+        ≡ option_map (λ (row : List ℕ × Route). row.1) (cond c (Some (text, asked)) (find (λ (row : List ℕ × Route). bytes_eq row.0 path) table))
     by_test true later = refl
     by_test false later = later
 
 -- a router of the table's paths answers by the table
-pub table_found : (path : List ℕ) → option_map (λ (route : RouteOf Procedure). route.value) (first (map row_for paths) path) ≡ procedure_at path
-unfolding procedure_at
+pub table_found : (path : List ℕ) → option_map (λ (route : RouteOf Route). route.value) (first (map row_for paths) path) ≡ route_at path
+unfolding route_at
 table_found path =
-    ap (option_map (λ (route : RouteOf Procedure). route.value)) (first-literal (map row_for paths) path paths_literal)
+    ap (option_map (λ (route : RouteOf Route). route.value)) (first-literal (map row_for paths) path paths_literal)
     ∙ row_found paths path
 
 all_ascii : (text : List ℕ) → list_all is_ascii text ≡ true → All (λ b. b < 128) text
@@ -134,20 +134,20 @@ text_of_ascii : (text : List ℕ) → list_all is_ascii text ≡ true → IsUtf8
 text_of_ascii text e = IsUtf8-from_ascii text (IsAscii-from_all text (all_ascii text e))
 
 -- a text of the table is no target that is no text
-no_text_in : (table : List (List ℕ × Procedure)) (target : List ℕ) → AreLiteral (map row_for table) → ¬ (IsUtf8 target)
-    → option_map (λ (row : List ℕ × Procedure). row.1) (find (λ (row : List ℕ × Procedure). bytes_eq row.0 target) table) ≡ None
+no_text_in : (table : List (List ℕ × Route)) (target : List ℕ) → AreLiteral (map row_for table) → ¬ (IsUtf8 target)
+    → option_map (λ (row : List ℕ × Route). row.1) (find (λ (row : List ℕ × Route). bytes_eq row.0 target) table) ≡ None
 no_text_in [] target plain no_text = refl
-no_text_in ((path, procedure) ∷ table) target plain no_text =
+no_text_in ((path, asked) ∷ table) target plain no_text =
     let differ : bytes_eq path target ≡ false =
     by_not_true _ (λ same. no_text (subst IsUtf8 ((bytes_eq-Decides path target).0 same) (text_of_ascii path plain.0))) in
-    ap (λ c. option_map (λ (row : List ℕ × Procedure). row.1) (cond c (Some (path, procedure)) (find (λ (row : List ℕ × Procedure). bytes_eq row.0 target) table))) differ
+    ap (λ c. option_map (λ (row : List ℕ × Route). row.1) (cond c (Some (path, asked)) (find (λ (row : List ℕ × Route). bytes_eq row.0 target) table))) differ
     ∙ no_text_in table target plain.1 no_text
 
-none_either : (b : Bool) (o : Option Procedure) → o ≡ None → None ≡ cond b o None
+none_either : (b : Bool) (o : Option Route) → o ≡ None → None ≡ cond b o None
 none_either true o none = sym none
 none_either false o none = refl
 
 -- a target that is no text asks for nothing
-pub no_text_asked : (method target : List ℕ) → ¬ (IsUtf8 target) → None ≡ asked_procedure method target
-unfolding procedure_at
+pub no_text_asked : (method target : List ℕ) → ¬ (IsUtf8 target) → None ≡ asked_route method target
+unfolding route_at
 no_text_asked method target no_text = none_either _ _ (no_text_in paths target paths_literal no_text)

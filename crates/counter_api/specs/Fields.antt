@@ -38,7 +38,11 @@ who_from (Ok user) (Ok session) = Ok (record { user = user; session = session; r
 who_from (Ok user) (Err fault) = Err fault
 who_from (Err fault) session = Err fault
 
--- who asks, as the fields of a message say
+-- who asks, as the fields of a message say that read the session, too
 abbrev pub who_of : (List ℕ → Option ℕ) → List (List ℕ × List ℕ) → Result Who MessageFault
 who_of users fields =
     who_from (user_of users (values_named (codes "Bank-Badge") fields)) (session_of (values_named (codes "Bank-Session") fields))
+
+-- and by the badge alone, whatever Bank-Session fields there are
+abbrev pub who_by_badge : (List ℕ → Option ℕ) → List (List ℕ × List ℕ) → Result Who MessageFault
+who_by_badge users fields = who_from (user_of users (values_named (codes "Bank-Badge") fields)) (Ok 0)

@@ -1,5 +1,4 @@
 pub mod Answers
-pub mod CarriedOut
 pub mod Exit
 pub mod Fault
 pub mod Fields

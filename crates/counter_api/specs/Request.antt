@@ -1,5 +1,5 @@
 -- The request that a message states, or why it states none.
-use Rattle.std.specs.Prelude.{ℕ, ◌≡◌, true, List, Option, Some, None, Result, Ok, Err, if◌then◌else◌}
+use Rattle.std.specs.Prelude.{ℕ, ◌≡◌, true, List, Option, Some, None, Result, Ok, Err, if◌then◌else◌, ⊤}
 use Rattle.std.specs.Option.{option_map_or}
 use Rattle.bank_terms.specs.declared.procedure.Procedure.{Procedure}
 use Rattle.bodies.specs.Operation.{stated_op}
@@ -12,33 +12,49 @@ use Rattle.bank_run.specs.declared.who.Who.{Who}
 use Rattle.heads.specs.declared.fault.MessageFault.{MessageFault}
 use Rattle.heads.specs.declared.fault.MessageFault.TheVariants.{BadContent, NoSuchRoute}
 use Rattle.messages.specs.Parts.{MessageParts}
-use Rattle.counter_api.specs.Fields.{who_of}
-use Rattle.counter_api.specs.Routes.{asked_procedure}
+use Rattle.counter_api.specs.Fields.{who_by_badge, who_of}
+use Rattle.counter_api.specs.Routes.{asked_route}
+use Rattle.counter_api.specs.declared.routes.Route.{Route}
+use Rattle.counter_api.specs.declared.routes.Route.TheVariants as route
 
 -- the operation that the body states, asked at the moment by who it is
 abbrev pub asked_by : Procedure → ℕ → List ℕ → Result Who MessageFault → Result Request MessageFault
 asked_by procedure moment body (Ok who) = option_map_or (λ op. Ok (record { who = who; moment = moment; asked = asked.Operation op })) (stated_op procedure body) (Err BadContent)
 asked_by procedure moment body (Err fault) = Err fault
 
--- the procedure, where it is served
-abbrev pub served : Option Procedure → Option Procedure
-served (Some procedure) = if is_served procedure then Some procedure else None
+-- the opening or the ending of a session, asked at the moment by who it is; the body is not looked at
+abbrev pub session_by : Asked → ℕ → Result Who MessageFault → Result Request MessageFault
+session_by asked moment (Ok who) = Ok (record { who = who; moment = moment; asked = asked })
+session_by asked moment (Err fault) = Err fault
+
+-- what is asked for, where it is served: an operation, where those of its procedure are
+abbrev pub served : Option Route → Option Route
+served (Some (route.Operation procedure)) = if is_served procedure then Some (route.Operation procedure) else None
+served (Some route.Opening) = Some route.Opening
+served (Some route.Ending) = Some route.Ending
 served None = None
 
--- what is asked of a procedure
-abbrev pub asked_of : (List ℕ → Option ℕ) → ℕ → MessageParts → Option Procedure → Result Request MessageFault
-asked_of users moment m (Some procedure) = asked_by procedure moment m.body (who_of users m.head.fields)
+abbrev pub IsServedRoute : Route → Type 0
+IsServedRoute (route.Operation procedure) = is_served procedure ≡ true
+IsServedRoute route.Opening = ⊤
+IsServedRoute route.Ending = ⊤
+
+-- the request of a route; who opens a session need not have one, and is known by the badge alone
+abbrev pub asked_of : (List ℕ → Option ℕ) → ℕ → MessageParts → Option Route → Result Request MessageFault
+asked_of users moment m (Some (route.Operation procedure)) = asked_by procedure moment m.body (who_of users m.head.fields)
+asked_of users moment m (Some route.Opening) = session_by asked.Opening moment (who_by_badge users m.head.fields)
+asked_of users moment m (Some route.Ending) = session_by asked.Ending moment (who_of users m.head.fields)
 asked_of users moment m None = Err NoSuchRoute
 
 -- The request that a message states at a moment, where the badges name these users. Else its fault: method and path ask
--- for no procedure that is served; or a field or the body is not of its form.
+-- for nothing that is served; or a field or the body is not of its form.
 abbrev pub request_of : (List ℕ → Option ℕ) → ℕ → MessageParts → Result Request MessageFault
-request_of users moment m = asked_of users moment m (served (asked_procedure m.head.method m.head.target))
+request_of users moment m = asked_of users moment m (served (asked_route m.head.method m.head.target))
 
--- what is asked for is served: operations of some procedures, and nothing else yet
+-- what is asked for is served: operations of some procedures, and sessions; nothing else yet
 abbrev pub IsServedAsked : Asked → Type 0
 IsServedAsked (asked.Operation op) = is_served (procedure_of op) ≡ true
-IsServedAsked asked.Opening = ⊥
-IsServedAsked asked.Ending = ⊥
+IsServedAsked asked.Opening = ⊤
+IsServedAsked asked.Ending = ⊤
 IsServedAsked (asked.Command command) = ⊥
 IsServedAsked asked.Listing = ⊥

@@ -1,31 +1,34 @@
--- The operations that messages may ask for, by our own table of paths; which of them are served is said elsewhere.
+-- What messages may ask for, by our own table of paths; which operations are served is said elsewhere.
 use Rattle.std.specs.Prelude.{ℕ, List, [], ◌∷◌, Option, None, codes, option_map, if◌then◌else◌, bytes_eq}
 use Rattle.std.specs.List.{find}
-use Rattle.bank_terms.specs.declared.procedure.Procedure.{Procedure}
 use Rattle.bank_terms.specs.declared.procedure.Procedure.TheVariants.{Post, Transfer, Correct, DrawerOn, DrawerOff, MoveCash, NewAccount, Release, Balance, Statement, Accounts, Proof, CloseDay}
+use Rattle.counter_api.specs.declared.routes.Route.{Route}
+use Rattle.counter_api.specs.declared.routes.Route.TheVariants as route
 
--- the paths of the operations, each with its procedure, in the order of the alphabet
-abbrev pub paths : List (List ℕ × Procedure)
+-- the paths, each with what it asks for, in the order of the alphabet
+abbrev pub paths : List (List ℕ × Route)
 paths =
-    (codes "/do/accounts", Accounts)
-    ∷ (codes "/do/balance", Balance)
-    ∷ (codes "/do/close-day", CloseDay)
-    ∷ (codes "/do/correct", Correct)
-    ∷ (codes "/do/drawer-off", DrawerOff)
-    ∷ (codes "/do/drawer-on", DrawerOn)
-    ∷ (codes "/do/move-cash", MoveCash)
-    ∷ (codes "/do/new-account", NewAccount)
-    ∷ (codes "/do/post", Post)
-    ∷ (codes "/do/proof", Proof)
-    ∷ (codes "/do/release", Release)
-    ∷ (codes "/do/statement", Statement)
-    ∷ (codes "/do/transfer", Transfer)
+    (codes "/do/accounts", route.Operation Accounts)
+    ∷ (codes "/do/balance", route.Operation Balance)
+    ∷ (codes "/do/close-day", route.Operation CloseDay)
+    ∷ (codes "/do/correct", route.Operation Correct)
+    ∷ (codes "/do/drawer-off", route.Operation DrawerOff)
+    ∷ (codes "/do/drawer-on", route.Operation DrawerOn)
+    ∷ (codes "/do/move-cash", route.Operation MoveCash)
+    ∷ (codes "/do/new-account", route.Operation NewAccount)
+    ∷ (codes "/do/post", route.Operation Post)
+    ∷ (codes "/do/proof", route.Operation Proof)
+    ∷ (codes "/do/release", route.Operation Release)
+    ∷ (codes "/do/statement", route.Operation Statement)
+    ∷ (codes "/do/transfer", route.Operation Transfer)
+    ∷ (codes "/end", route.Ending)
+    ∷ (codes "/session", route.Opening)
     ∷ []
 
--- the procedure whose path is this target, byte for byte: a target in origin form (RFC 9112, section 3.2.1) that has a query is none of the table
-unfoldable pub procedure_at : List ℕ → Option Procedure
-procedure_at target = option_map (λ (row : List ℕ × Procedure). row.1) (find (λ (row : List ℕ × Procedure). bytes_eq row.0 target) paths)
+-- what the path that is this target asks for, byte for byte: a target in origin form (RFC 9112, section 3.2.1) that has a query is none of the table
+unfoldable pub route_at : List ℕ → Option Route
+route_at target = option_map (λ (row : List ℕ × Route). row.1) (find (λ (row : List ℕ × Route). bytes_eq row.0 target) paths)
 
--- the procedure that a method and a target ask for: a method is case-sensitive (RFC 9110, section 9.1)
-abbrev pub asked_procedure : List ℕ → List ℕ → Option Procedure
-asked_procedure method target = if bytes_eq method (codes "POST") then procedure_at target else None
+-- what a method and a target ask for: a method is case-sensitive (RFC 9110, section 9.1)
+abbrev pub asked_route : List ℕ → List ℕ → Option Route
+asked_route method target = if bytes_eq method (codes "POST") then route_at target else None

@@ -32,6 +32,9 @@ abbrev pub told_parts : Result ReplyText Rule → ResponseParts
 told_parts (Ok text) = done_parts text
 told_parts (Err rule) = denied_parts rule
 
+abbrev pub IsResponse : Result ReplyText Rule → ResponseParts → Type 0
+IsResponse reply parts = parts ≡ told_parts reply
+
 -- what a message is answered in a World
 abbrev pub response_to : WorldLists → Result Request MessageFault → Option Fault → ResponseParts
 response_to w stated (Some fault) = faulted_parts fault

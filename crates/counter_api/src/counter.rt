@@ -7,19 +7,20 @@ ghost use Rattle.bank_run.specs.Operations.{is_served};
 ghost use Rattle.bank_run.specs.Sums.{IsProper};
 ghost use Rattle.messages.specs.Failures.{CountsByCall};
 ghost use Rattle.store_rows.specs.Status.{Answers, mark_of};
-ghost use Rattle.counter_api.specs.Request.{IsServedAsked, request_of, served};
-ghost use Rattle.counter_api.specs.Routes.{asked_procedure};
-ghost use Rattle.counter_api.specs.Run.{IsHandled, RefusesRequest, framed, parts_or_fault};
-ghost use Rattle.counter_api.specs.CarriedOut.{LeavesBoth, Moves, Replies, Settles};
+ghost use Rattle.decide.specs.OneRequest.{LeavesBoth, Moves, Replies, Settles};
+ghost use Rattle.counter_api.specs.Fields.{who_of};
+ghost use Rattle.counter_api.specs.Request.{IsServedAsked, IsServedRoute, asked_by, request_of, served, session_by};
+ghost use Rattle.counter_api.specs.Routes.{asked_route};
+ghost use Rattle.counter_api.specs.Run.{IsHandled, IsResponse, RefusesRequest, framed, parts_or_fault};
 
 use crate::clock::Clock;
-use crate::fields::who_of;
+use crate::fields::{who_by_badge, who_of};
 use crate::gate::Gate;
 use crate::response::Response;
-use crate::routes::Routes;
+use crate::routes::{Route, Routes};
 use bank_terms::Procedure;
 use bodies::read_op;
-use decide::{Asked, Decision, Reply, Request, carry_out, decide, is_served};
+use decide::{Asked, Decision, Reply, Request, Who, begin, carry_out, decide, end, is_served};
 use heads::MessageFault;
 use messages::{AnswerFault, Engine, Message};
 use money::{Fault, Tallied, WriteStopped};
@@ -37,16 +38,14 @@ pub(crate) struct Counter<'b, 'g, 'c, 'r, S, G, C> {
     pub(crate) routes: &'r Routes,
 }
 
-/// The procedure that a message asks for, if it is served.
-fn served_procedure(routes: &Routes, message: &Message<'_>) -> Option<Procedure>
-    ensures asked { result ≡ served (asked_procedure message.now.head.method message.now.head.target) }
-    ensures served { IfSome result (λ procedure. is_served procedure ≡ true) }
+/// What a message asks for, if it is served.
+fn served_route(routes: &Routes, message: &Message<'_>) -> Option<Route>
+    ensures asked { result ≡ served (asked_route message.now.head.method message.now.head.target) }
+    ensures served { IfSome result IsServedRoute }
 {
-    let procedure = routes.procedure(message.method(), message.target())?;
-    if is_served(procedure) {
-        Some(procedure)
-    } else {
-        None
+    match routes.route(message.method(), message.target()) {
+        Some(Route::Operation(procedure)) if !is_served(procedure) => None,
+        route => route,
     }
 }
 
@@ -64,9 +63,35 @@ fn stated_request<G: Gate>(
     ensures served { IfOk result (λ stated. IfOk stated (λ request. IsServedAsked request.asked)) }
     ensures memory { IsOkUnless result Memory }
 {
-    let Some(procedure) = served_procedure(routes, message) else {
-        return Ok(Err(MessageFault::NoSuchRoute));
-    };
+    match served_route(routes, message) {
+        Some(Route::Operation(procedure)) => {
+            stated_operation(alloc, procedure, gate, message, moment)
+        }
+        Some(Route::Opening) => Ok(stated_session(
+            who_by_badge(message, gate),
+            moment,
+            Asked::Opening,
+        )),
+        Some(Route::Ending) => Ok(stated_session(who_of(message, gate), moment, Asked::Ending)),
+        None => Ok(Err(MessageFault::NoSuchRoute)),
+    }
+}
+
+/// The operation of a procedure that a message states at a moment, or its fault.
+fn stated_operation<G: Gate>(
+    alloc: Global,
+    procedure: Procedure,
+    gate: &G,
+    message: &Message<'_>,
+    moment: u64,
+) -> Result<Result<Request, MessageFault>, Fault>
+    requires moment { moment ≤ max_moment }
+    requires served { is_served procedure ≡ true }
+    ensures stated { IfOk result (λ stated. stated ≡ asked_by procedure moment message.now.body (who_of (G.users gate.now) message.now.head.fields)) }
+    ensures proper { IfOk result (λ stated. IfOk stated IsProper) }
+    ensures served { IfOk result (λ stated. IfOk stated (λ request. IsServedAsked request.asked)) }
+    ensures memory { IsOkUnless result Memory }
+{
     let who = match who_of(message, gate) {
         Ok(who) => who,
         Err(fault) => return Ok(Err(fault)),
@@ -81,6 +106,21 @@ fn stated_request<G: Gate>(
     }
 }
 
+/// The opening or the ending of a session, asked at a moment by who it is. The body isn't looked at.
+fn stated_session(
+    who: Result<Who, MessageFault>,
+    moment: u64,
+    asked: Asked,
+) -> Result<Request, MessageFault>
+    ensures { result ≡ session_by asked moment who }
+{
+    Ok(Request {
+        who: who?,
+        moment,
+        asked,
+    })
+}
+
 /// Decides a request, and carries it out where it is allowed: the reply to it, or the fault that
 /// kept it from being made.
 fn carried_out<S: Store>(
@@ -92,22 +132,32 @@ fn carried_out<S: Store>(
     requires proper { IsProper request.now }
     ensures answers { Answers (S.status bank.old.store) (S.status bank.new.store) (mark_of result) }
     ensures moved { Moves (S.status bank.old.store) (S.status bank.new.store) request.now (mark_of result) }
-    ensures replied { Replies (S.status bank.old.store) (S.status bank.new.store) request.now result }
+    ensures replied { Replies (S.status bank.old.store) (S.status bank.new.store) request.now IsResponse result }
     ensures crash { LeavesBoth (S.status bank.old.store) (S.status bank.new.store) request.now }
     ensures settled { Settles (S.status bank.old.store) (S.status bank.new.store) request.now (mark_of result) }
     ensures refused { IsSome request.now.who.user → RefusesRequest (S.status bank.old.store).is_stopped (mark_of result) }
     ensures stranger { IsNone request.now.who.user → IsOkUnless result Memory }
 {
-    let Asked::Operation(op) = &request.asked else {
-        unreachable!();
-    };
-    match decide(bank, alloc, request.who, request.moment, op) {
-        Ok(Decision::Denied(denial)) => Ok(Response::denied(alloc, denial.rule())?),
-        Ok(Decision::Allowed(permit)) => match carry_out(permit) {
-            Ok(Reply::Done(done)) => Ok(Response::done(done.into_body())),
+    match &request.asked {
+        Asked::Operation(op) => match decide(bank, alloc, request.who, request.moment, op) {
+            Ok(Decision::Denied(denial)) => Ok(Response::denied(alloc, denial.rule())?),
+            Ok(Decision::Allowed(permit)) => match carry_out(permit) {
+                Ok(Reply::Done(done)) => Ok(Response::done(done.into_body())),
+                Err(fault) => Err(fault),
+            },
             Err(fault) => Err(fault),
         },
-        Err(fault) => Err(fault),
+        Asked::Opening => match begin(bank, alloc, request.who.user) {
+            Ok(Ok(body)) => Ok(Response::done(body)),
+            Ok(Err(rule)) => Ok(Response::denied(alloc, rule)?),
+            Err(fault) => Err(fault),
+        },
+        Asked::Ending => match end(bank, alloc, request.who) {
+            Ok(Ok(body)) => Ok(Response::done(body)),
+            Ok(Err(rule)) => Ok(Response::denied(alloc, rule)?),
+            Err(fault) => Err(fault),
+        },
+        Asked::Command(_) | Asked::Listing => unreachable!(),
     }
 }
 

@@ -2,7 +2,7 @@ ghost use Rattle.std.specs.Prelude.{◌≡◌, if◌then◌else◌, List, ℕ, S
 ghost use Rattle.std.specs.Int.{is_in_range};
 ghost use Rattle.std.specs.Str.Parse.{digits_value};
 ghost use Rattle.heads.specs.Found.{IsFound};
-ghost use Rattle.counter_api.specs.Fields.{is_badge, is_session, user_of, session_of, who_of};
+ghost use Rattle.counter_api.specs.Fields.{is_badge, is_session, user_of, session_of, who_by_badge, who_of};
 
 use crate::gate::Gate;
 use bank_terms::MAX_KEY;
@@ -25,6 +25,19 @@ pub(crate) fn who_of<G: Gate>(message: &Message<'_>, gate: &G) -> Result<Who, Me
     Ok(Who {
         user,
         session,
+        release: 0,
+    })
+}
+
+/// The same by the badge alone, of one who need not have a session: Bank-Session is not read, and is no fault however
+/// it looks.
+pub(crate) fn who_by_badge<G: Gate>(message: &Message<'_>, gate: &G) -> Result<Who, MessageFault>
+    ensures { result ≡ who_by_badge (G.users gate.now) message.now.head.fields }
+{
+    let user = user_of(message.field(b"Bank-Badge"), gate)?;
+    Ok(Who {
+        user,
+        session: 0,
         release: 0,
     })
 }

@@ -3,7 +3,7 @@ ghost use Rattle.matchit.specs.Seek.{first};
 ghost use Rattle.matchit.specs.Route.{parse_route};
 ghost use Rattle.matchit.specs.Order.{placed};
 ghost use Rattle.matchit.specs.Router.{nearest, route_from};
-ghost use Rattle.counter_api.specs.Routes.{asked_procedure, procedure_at};
+ghost use Rattle.counter_api.specs.Routes.{asked_route, route_at};
 
 use bank_terms::Procedure;
 use http::Method;
@@ -11,58 +11,79 @@ use matchit::{InsertError, Router};
 use std::alloc::{AllocError, Global};
 use std::str;
 
+/// What a path asks for.
+#[derive(Clone, Copy, Debug, PartialEq, Eq)]
+pub(crate) enum Route {
+    /// An operation of a procedure.
+    Operation(Procedure),
+    /// The opening of a session.
+    Opening,
+    /// The ending of a session.
+    Ending,
+}
+
 /// The paths that are served: the router answers each path by the table of paths.
 #[derive(Drop)]
 pub(crate) struct Routes {
-    operations: Router<Procedure>,
-    ghost table: { (path : List ℕ) → option_map (λ route. route.value) (first operations path) ≡ procedure_at path },
+    paths: Router<Route>,
+    ghost table: { (path : List ℕ) → option_map (λ route. route.value) (first paths path) ≡ route_at path },
 }
 
 impl Routes {
     /// All paths. Only memory keeps them from it: no two of them conflict.
     #[tactic(auto, unfolding(matchit::proofs::OnLiterals::matchit_on_literals))]
     pub(crate) fn new(alloc: Global) -> Result<Routes, AllocError> {
-        let mut operations = Router::new(alloc);
-        add(&mut operations, "/do/post", Procedure::Post)?;
-        add(&mut operations, "/do/transfer", Procedure::Transfer)?;
-        add(&mut operations, "/do/correct", Procedure::Correct)?;
-        add(&mut operations, "/do/drawer-on", Procedure::DrawerOn)?;
-        add(&mut operations, "/do/drawer-off", Procedure::DrawerOff)?;
-        add(&mut operations, "/do/move-cash", Procedure::MoveCash)?;
-        add(&mut operations, "/do/new-account", Procedure::NewAccount)?;
-        add(&mut operations, "/do/release", Procedure::Release)?;
-        add(&mut operations, "/do/balance", Procedure::Balance)?;
-        add(&mut operations, "/do/statement", Procedure::Statement)?;
-        add(&mut operations, "/do/accounts", Procedure::Accounts)?;
-        add(&mut operations, "/do/proof", Procedure::Proof)?;
-        add(&mut operations, "/do/close-day", Procedure::CloseDay)?;
-        Ok(Routes { operations })
+        let mut paths = Router::new(alloc);
+        add_operation(&mut paths, "/do/post", Procedure::Post)?;
+        add_operation(&mut paths, "/do/transfer", Procedure::Transfer)?;
+        add_operation(&mut paths, "/do/correct", Procedure::Correct)?;
+        add_operation(&mut paths, "/do/drawer-on", Procedure::DrawerOn)?;
+        add_operation(&mut paths, "/do/drawer-off", Procedure::DrawerOff)?;
+        add_operation(&mut paths, "/do/move-cash", Procedure::MoveCash)?;
+        add_operation(&mut paths, "/do/new-account", Procedure::NewAccount)?;
+        add_operation(&mut paths, "/do/release", Procedure::Release)?;
+        add_operation(&mut paths, "/do/balance", Procedure::Balance)?;
+        add_operation(&mut paths, "/do/statement", Procedure::Statement)?;
+        add_operation(&mut paths, "/do/accounts", Procedure::Accounts)?;
+        add_operation(&mut paths, "/do/proof", Procedure::Proof)?;
+        add_operation(&mut paths, "/do/close-day", Procedure::CloseDay)?;
+        add(&mut paths, "/end", Route::Ending)?;
+        add(&mut paths, "/session", Route::Opening)?;
+        Ok(Routes { paths })
     }
 
-    /// The procedure that a method and a target ask for, or none where they ask for none: exactly
-    /// POST, in capitals, and exactly a path of the table, with no query.
-    pub(crate) fn procedure(&self, method: &[u8], target: &[u8]) -> Option<Procedure>
-        ensures { result ≡ asked_procedure method.now target.now }
+    /// What a method and a target ask for, or none where they ask for nothing: exactly POST, in
+    /// capitals, and exactly a path of the table, with no query.
+    pub(crate) fn route(&self, method: &[u8], target: &[u8]) -> Option<Route>
+        ensures { result ≡ asked_route method.now target.now }
     {
         if method != Method::POST.as_str().as_bytes() {
             return None;
         }
         let path = str::from_utf8(target).ok()?;
-        let found = self.operations.at(path).ok()?;
+        let found = self.paths.at(path).ok()?;
         Some(*found.value)
     }
 }
 
-/// Adds a path that conflicts with none that is there, so that it is refused for want of memory alone.
-fn add(
-    operations: &mut Router<Procedure>,
+/// Adds the path of the operations of a procedure, which conflicts with none that is there.
+fn add_operation(
+    paths: &mut Router<Route>,
     path: &str,
     procedure: Procedure,
 ) -> Result<(), AllocError>
-    requires { IsOkAnd (parse_route path.now) (λ read. nearest read.pattern operations.old ≡ None) }
-    ensures { OnOk result (IsOkAnd (parse_route path.now) (λ read. operations.new ≡ placed (read.pattern, route_from read procedure) operations.old)) }
+    requires { IsOkAnd (parse_route path.now) (λ read. nearest read.pattern paths.old ≡ None) }
+    ensures { OnOk result (IsOkAnd (parse_route path.now) (λ read. paths.new ≡ placed (read.pattern, route_from read (Route.Operation procedure)) paths.old)) }
 {
-    match operations.insert(path, procedure) {
+    add(paths, path, Route::Operation(procedure))
+}
+
+/// Adds a path that conflicts with none that is there, so that it is refused for want of memory alone.
+fn add(paths: &mut Router<Route>, path: &str, route: Route) -> Result<(), AllocError>
+    requires { IsOkAnd (parse_route path.now) (λ read. nearest read.pattern paths.old ≡ None) }
+    ensures { OnOk result (IsOkAnd (parse_route path.now) (λ read. paths.new ≡ placed (read.pattern, route_from read route) paths.old)) }
+{
+    match paths.insert(path, route) {
         Ok(()) => Ok(()),
         Err(InsertError::OutOfMemory) => Err(AllocError),
         Err(_) => unreachable!(),

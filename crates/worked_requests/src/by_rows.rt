@@ -1,6 +1,7 @@
 use counter_ops::{Balance, NewAccount, Post};
 use decide::{
-    Asked, BookRows, Loaded, Op, OpeningRows, PolicyRows, ReplyKind, Request, Rule, Who, first_rule,
+    Asked, BookRows, Loaded, Op, OpeningRows, OperationRows, PolicyRows, ReplyKind, Request, Rule,
+    Who, first_rule,
 };
 use money::Delta;
 use postings::PostRows;
@@ -76,7 +77,7 @@ fn posts_are_judged_by_their_rows(rt: HostRuntime) {
         let teller = store.teller(alloc, 12).expect(&rt, "no fault");
         let branch = store.branch(alloc, 1).expect(&rt, "no fault");
         let books = BookRows::Post(PostRows::of(account, teller, branch));
-        let rows = Loaded { policy, books };
+        let rows = Loaded::Operation(OperationRows { policy, books });
         assert!(rt; first_rule(&rows, &request(user, op)) == first);
     }
 }
@@ -95,14 +96,41 @@ fn accounts_and_balances_are_judged_by_their_rows(rt: HostRuntime) {
         let there = store.account(alloc, account).expect(&rt, "no fault");
         let branch = store.branch(alloc, 1).expect(&rt, "no fault");
         let books = BookRows::NewAccount(OpeningRows::of(there, branch));
-        let rows = Loaded { policy, books };
+        let rows = Loaded::Operation(OperationRows { policy, books });
         assert!(rt; first_rule(&rows, &request(9, op)) == first);
     }
     let op = Op::Balance(Balance { account: 101 });
     let policy = policy_of(&rt, alloc, &mut store, 7, &op);
     let books = BookRows::Balance(store.account(alloc, 101).expect(&rt, "no fault"));
-    let rows = Loaded { policy, books };
+    let rows = Loaded::Operation(OperationRows { policy, books });
     assert!(rt; first_rule(&rows, &request(7, op)).is_none());
+}
+
+#[test]
+fn sessions_are_judged_by_the_row_of_the_user(rt: HostRuntime) {
+    let alloc = rt.alloc();
+    let mut store = ListStore::new(sample_world(alloc).expect(&rt, "memory"));
+    for (user, session, opened, ended) in [
+        (7u32, 1u32, None, None),
+        (7, 2, None, Some(Rule::Identity)),
+        (7, 0, None, Some(Rule::Identity)),
+        (55, 1, Some(Rule::Identity), Some(Rule::Identity)),
+    ] {
+        let row = store.user(alloc, user).expect(&rt, "no fault");
+        let rows = Loaded::Session(row.map(|row| row.standing));
+        for (asked, first) in [(Asked::Opening, opened), (Asked::Ending, ended)] {
+            let request = Request {
+                who: Who {
+                    user: Some(user),
+                    session,
+                    release: 0,
+                },
+                moment: 700,
+                asked,
+            };
+            assert!(rt; first_rule(&rows, &request) == first);
+        }
+    }
 }
 
 #[test]

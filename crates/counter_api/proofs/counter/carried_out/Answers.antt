@@ -4,7 +4,7 @@ use Rattle.decide.specs.Permit.{reply_bank}
 use Rattle.bank_run.specs.declared.request.Asked.{Asked}
 use Rattle.bank_run.specs.declared.request.Asked.TheVariants as asked
 use Rattle.bank_run.specs.declared.request.Request.{Request}
-use Rattle.counter_api.specs.CarriedOut.{Settles}
+use Rattle.decide.specs.OneRequest.{Settles}
 use Rattle.counter_api.proofs.CarriedOut.{settles}
 use Rattle.counter_api.proofs.counter.carried_out.Goals as goal
 

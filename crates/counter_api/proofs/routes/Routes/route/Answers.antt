@@ -1,6 +1,6 @@
 use Rattle.std.proofs.Common.{rules, ◌≡◌, None, ◌∙◌, IsUtf8}
 use Rattle.counter_api.proofs.RouteLemmas.{no_text_asked}
-use Rattle.counter_api.proofs.routes.Routes.procedure.Goals as goal
+use Rattle.counter_api.proofs.routes.Routes.route.Goals as goal
 
 pub returns-in_err-path : goal.returns-in_err-path
 returns-in_err-path c =
