@@ -1,12 +1,11 @@
 -- The rows of the policy that a command is judged on.
-use Rattle.std.specs.Prelude.{ℕ, ◌==◌, ◌&&◌, ◌||◌, Bool, true, false, List, [], ◌∷◌, Option, Some, None, length, count_by, is_some}
+use Rattle.std.specs.Prelude.{ℕ, ◌==◌, ◌&&◌, ◌||◌, Bool, false, None, length, count_by, is_some}
 use Rattle.std.specs.Option.{option_map_or}
 use Rattle.std.specs.List.{list_any}
 use Rattle.bank_terms.specs.Procedure.{number_of}
 use Rattle.bank_terms.specs.declared.procedure.Procedure.{Procedure}
 use Rattle.bank_policy.specs.HeldRows.{is_relation_of, is_triple_of, standing}
 use Rattle.bank_policy.specs.Policy.{PolicyLists}
-use Rattle.bank_policy.specs.declared.rows.Certifier.{Certifier}
 use Rattle.policy_ops.specs.declared.policy_op.PolicyOp.{PolicyOp}
 use Rattle.policy_ops.specs.declared.policy_op.PolicyOp.TheVariants as asked
 use Rattle.certify.specs.declared.command_rows.CommandRows.{CommandRows}

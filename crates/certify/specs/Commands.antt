@@ -6,7 +6,6 @@ use Rattle.std.specs.List.{find}
 use Rattle.bank_terms.specs.Limits.{max_relations, max_sets, max_triples}
 use Rattle.bank_terms.specs.declared.rule.Rule.{Rule}
 use Rattle.bank_terms.specs.declared.rule.Rule.TheVariants as rule
-use Rattle.bank_policy.specs.Policy.{PolicyLists}
 use Rattle.bank_policy.specs.declared.policy_write.PolicyWrite.{PolicyWrite}
 use Rattle.bank_policy.specs.declared.policy_write.PolicyWrite.TheVariants as change
 use Rattle.bank_books.specs.Effects.{applied}
@@ -15,7 +14,6 @@ use Rattle.bank_books.specs.declared.row_write.RowWrite.{RowWrite}
 use Rattle.bank_books.specs.declared.row_write.RowWrite.TheVariants as write
 use Rattle.policy_ops.specs.declared.policy_op.PolicyOp.{PolicyOp}
 use Rattle.policy_ops.specs.declared.policy_op.PolicyOp.TheVariants as asked
-use Rattle.certify.specs.CommandRows.{command_rows}
 use Rattle.certify.specs.declared.command_rows.CommandRows.{CommandRows}
 
 -- an officer asks for it; for the others a certifier of the procedure does, and for a set a certifier of any
