@@ -10,7 +10,6 @@ use Rattle.bank_policy.specs.SetRow.{SetRow}
 use Rattle.bank_policy.specs.declared.policy_write.RelationKey.{RelationKey}
 use Rattle.bank_policy.specs.declared.policy_write.TripleKey.{TripleKey}
 use Rattle.bank_policy.specs.declared.rows.Certifier.{Certifier}
-use Rattle.bank_policy.specs.declared.rows.Relation.{Relation}
 use Rattle.bank_policy.specs.declared.rows.Triple.{Triple}
 use Rattle.bank_terms.specs.Procedure.{number_of, procedures}
 use Rattle.bank_terms.specs.declared.procedure.Procedure.{Procedure}
