@@ -1,0 +1,3 @@
+pub mod Entries
+mod Keys
+pub mod Standing
