@@ -44,4 +44,75 @@ impl<S: Store> Cached<S> {
         let kept = self.cache.remember_triples(alloc, key, version, &rows);
         Ok(Answered { rows, kept })
     }
+
+    /// The relations of a procedure, from what is kept where that is of the present version, and otherwise
+    /// from the store below.
+    pub fn relations_of_procedure(
+        &mut self,
+        alloc: Global,
+        procedure: Procedure,
+    ) -> Result<Answered<CertifiedRow>, Fault>
+        ensures reads { ReadsRow (cached_status S.status self.old) (cached_status S.status self.new) result (λ w answer. answer.rows.items ≡ relations_of w.policy procedure) }
+        ensures kept { Tells (cached_status S.status self.old) (cached_status S.status self.new) (λ w. IfOk result (λ answer. OnOk answer.kept (IsFirst (record { user = 0; procedure = procedure }) w.version (remembered self.new)))) }
+    {
+        let version = self.store.version(alloc)?;
+        let key = Key { user: 0, procedure };
+        if let Some(Rows::Relations(rows)) = self.cache.recall(alloc, key, version) {
+            return Ok(Answered { rows, kept: Ok(()) });
+        }
+        let rows = self.store.relations_of(alloc, procedure)?;
+        let kept = self.cache.remember_relations(alloc, key, version, &rows);
+        Ok(Answered { rows, kept })
+    }
+}
+
+impl<S: Store> PolicyReads for Cached<S> {
+    fn user(&mut self, alloc: Global, user: u32) -> Result<Option<UserRecord>, Fault> {
+        self.store.user(alloc, user)
+    }
+
+    /// No user has the number 0: such triples are read of the store below, and never kept.
+    fn triples_of(
+        &mut self,
+        alloc: Global,
+        user: u32,
+        procedure: Procedure,
+    ) -> Result<Vec<HeldRow>, Fault> {
+        if user == 0 {
+            return self.store.triples_of(alloc, user, procedure);
+        }
+        Ok(self.triples_of_user(alloc, user, procedure)?.rows)
+    }
+
+    fn relations_of(
+        &mut self,
+        alloc: Global,
+        procedure: Procedure,
+    ) -> Result<Vec<CertifiedRow>, Fault> {
+        Ok(self.relations_of_procedure(alloc, procedure)?.rows)
+    }
+
+    fn triples(&mut self, alloc: Global, user: u32) -> Result<u64, Fault> {
+        self.store.triples(alloc, user)
+    }
+
+    fn sets(&mut self, alloc: Global) -> Result<u64, Fault> {
+        self.store.sets(alloc)
+    }
+
+    fn set(&mut self, alloc: Global, number: u32) -> Result<bool, Fault> {
+        self.store.set(alloc, number)
+    }
+
+    fn certifier(&mut self, alloc: Global, user: u32, procedure: Procedure) -> Result<bool, Fault> {
+        self.store.certifier(alloc, user, procedure)
+    }
+
+    fn release(&mut self, alloc: Global, user: u32, number: u32) -> Result<Option<Release>, Fault> {
+        self.store.release(alloc, user, number)
+    }
+
+    fn version(&mut self, alloc: Global) -> Result<u64, Fault> {
+        self.store.version(alloc)
+    }
 }

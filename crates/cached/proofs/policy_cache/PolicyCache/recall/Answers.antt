@@ -9,8 +9,8 @@ use Rattle.lru.specs.LruCache.{promoted}
 pub returns-clause-told : goal.returns-clause-told
 returns-clause-told c = λ w fresh present.
     copy-HasRows w c.args.key c.in-Some.kept.now.rows c.in_ok-rows-in-Some.rows
-      (copied c.in-Some.kept.now.rows c.in_ok-rows-in-Some.rows c.copied_rows.result c.copied_rows.ensures (sym c.ok.ensures.value ∙ c.in_ok-rows-in-Some.was))
-      (found-fresh w c.self.inside.entries.entries c.args.key c.in-Some.kept.now (sym c.peek.ensures ∙ ap option_copied c.in-Some.is) (c.if-kept-version.true ∙ present) (subst (AreFresh w) (sym c.self.view_is) fresh))
+    (copied c.in-Some.kept.now.rows c.in_ok-rows-in-Some.rows c.copied_rows.result c.copied_rows.ensures (sym c.ok.ensures.value ∙ c.in_ok-rows-in-Some.was))
+    (found-fresh w c.self.inside.entries.entries c.args.key c.in-Some.kept.now (sym c.peek.ensures ∙ ap option_copied c.in-Some.is) (c.if-kept-version.true ∙ present) (subst (AreFresh w) (sym c.self.view_is) fresh))
 
 pub returns-clause-fresh : goal.returns-clause-fresh
 returns-clause-fresh c = λ w fresh. rw c.promote.ensures.entries (promoted-fresh w c.self.inside.entries.entries c.args.key (subst (AreFresh w) (sym c.self.view_is) fresh))
@@ -18,4 +18,4 @@ returns-clause-fresh c = λ w fresh. rw c.promote.ensures.entries (promoted-fres
 pub returns-clause-first : goal.returns-clause-first
 returns-clause-first c = rw c.promote.ensures.entries
     (subst (λ v. IsFirst c.args.key v (promoted (same c.args.key) c.self.inside.entries.entries)) c.if-kept-version.true
-      (promoted-first c.self.inside.entries.entries c.args.key c.in-Some.kept.now (sym c.peek.ensures ∙ ap option_copied c.in-Some.is)))
+    (promoted-first c.self.inside.entries.entries c.args.key c.in-Some.kept.now (sym c.peek.ensures ∙ ap option_copied c.in-Some.is)))
