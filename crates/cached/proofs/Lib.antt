@@ -1,0 +1,4 @@
+pub mod Entries
+mod Keys
+pub mod Plans
+pub mod Standing

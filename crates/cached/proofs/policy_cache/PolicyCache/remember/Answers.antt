@@ -1,0 +1,14 @@
+use Rattle.std.proofs.Common.{◌≡◌, sym, subst}
+use Rattle.cached.specs.Fresh.{AreFresh, IsFirst}
+use Rattle.cached.proofs.Entries.{put-first, put-fresh}
+use Rattle.cached.proofs.policy_cache.PolicyCache.remember.Goals as goal
+
+pub returns-in-Ok-clause-fresh : goal.returns-in-Ok-clause-fresh
+returns-in-Ok-clause-fresh c = λ w fresh present rows. rw c.in-Ok.ensures.entries
+    (put-fresh w c.self.inside.entries c.args.key (record { version = c.args.version; rows = c.args.rows }) present rows (subst (AreFresh w) (sym c.self.view_is) fresh))
+
+pub returns-in-Ok-clause-first : goal.returns-in-Ok-clause-first
+returns-in-Ok-clause-first c = rw c.in-Ok.ensures.entries (put-first c.self.inside.entries c.args.key (record { version = c.args.version; rows = c.args.rows }))
+
+pub returns-clause-fresh : goal.returns-clause-fresh
+returns-clause-fresh c = λ w fresh present rows. rw c.in-Err.ensures.err (subst (AreFresh w) (sym c.self.view_is) fresh)

@@ -1,0 +1,19 @@
+//! A store that keeps the rows of the policy that it read last.
+#![tactic(auto)]
+
+mod book_reads;
+mod cached;
+mod copies;
+#[cfg(test)]
+mod counting_store;
+mod entry;
+mod policy_cache;
+mod policy_reads;
+mod report_reads;
+mod store;
+#[cfg(test)]
+mod tests;
+
+pub use cached::Cached;
+pub use policy_cache::MAX_ENTRIES;
+pub use policy_reads::Answered;

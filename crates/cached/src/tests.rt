@@ -1,0 +1,148 @@
+use crate::counting_store::CountingStore;
+use crate::{Cached, MAX_ENTRIES};
+use bank_books::{Plan, RowWrite, World};
+use bank_policy::{
+    ItemSet, Member, Policy, PolicyWrite, Relation, RelationKey, Session, Triple, TripleKey,
+};
+use bank_terms::{Kind, Procedure};
+use std::alloc::{AllocError, Global};
+use std::test::Fail;
+use store_rows::{ListStore, PolicyReads, Store};
+
+/// A plan of one change of the policy.
+fn one_change(alloc: Global, change: PolicyWrite) -> Result<Plan, AllocError> {
+    Ok(vec![in alloc; RowWrite::Policy(change)]?)
+}
+
+/// A set of all accounts, a relation of the procedure to post on it, and a triple of user 7.
+fn first_policy(alloc: Global) -> Result<Plan, AllocError> {
+    let members = vec![in alloc;
+        Member {
+            kind: Kind::Account,
+            low: 1,
+            high: 999,
+        },
+    ]?;
+    Ok(vec![in alloc;
+        RowWrite::Policy(PolicyWrite::Set(ItemSet::new(1, members))),
+        RowWrite::Policy(PolicyWrite::Relation(Relation {
+            procedure: Procedure::Post,
+            set: 1,
+            by: 2,
+        })),
+        RowWrite::Policy(PolicyWrite::Triple(Triple {
+            user: 7,
+            procedure: Procedure::Post,
+            set: 1,
+            limit: 50_000,
+        })),
+    ]?)
+}
+
+fn empty_store(alloc: Global) -> ListStore {
+    ListStore::new(World::new(alloc, Policy::new(alloc)))
+}
+
+/// A store with a cache over one that counts, or none where memory is refused.
+fn counting(alloc: Global) -> Option<Cached<CountingStore>> {
+    let below = CountingStore {
+        store: empty_store(alloc),
+        reads: 0,
+    };
+    Cached::new(alloc, below).ok()
+}
+
+#[test]
+fn rows_follow_the_policy(rt: HostRuntime) -> Result<(), Fail> {
+    let alloc = rt.alloc();
+    let mut store = Cached::new(alloc, empty_store(alloc))
+        .ok()
+        .expect(&rt, "memory");
+    assert!(rt; store.triples_of(alloc, 7, Procedure::Post)?.is_empty());
+    assert!(rt; store.relations_of(alloc, Procedure::Post)?.is_empty());
+
+    store.apply(alloc, first_policy(alloc)?)?;
+    for _ in 0..2 {
+        let rows = store.triples_of(alloc, 7, Procedure::Post)?;
+        assert!(rt;
+            rows.len() == 1 && rows[0].triple().limit == 50_000 && rows[0].members().len() == 1
+        );
+        let rows = store.relations_of(alloc, Procedure::Post)?;
+        assert!(rt; rows.len() == 1 && rows[0].relation().by == 2 && rows[0].members().len() == 1);
+    }
+
+    let withdrawn = PolicyWrite::NoTriple(TripleKey {
+        user: 7,
+        procedure: Procedure::Post,
+        set: 1,
+    });
+    store.apply(alloc, one_change(alloc, withdrawn)?)?;
+    assert!(rt; store.triples_of(alloc, 7, Procedure::Post)?.is_empty());
+    assert!(rt; store.relations_of(alloc, Procedure::Post)?.len() == 1);
+
+    let revoked = PolicyWrite::NoRelation(RelationKey {
+        procedure: Procedure::Post,
+        set: 1,
+    });
+    store.apply(alloc, one_change(alloc, revoked)?)?;
+    assert!(rt; store.relations_of(alloc, Procedure::Post)?.is_empty());
+    Ok(())
+}
+
+#[test]
+fn the_second_of_two_equal_reads_makes_none(rt: HostRuntime) -> Result<(), Fail> {
+    let alloc = rt.alloc();
+    let mut store = counting(alloc).expect(&rt, "memory");
+    store.apply(alloc, first_policy(alloc)?)?;
+    for _ in 0..2 {
+        assert_eq!(rt; store.triples_of(alloc, 7, Procedure::Post)?.len(), 1);
+        assert_eq!(rt; store.relations_of(alloc, Procedure::Post)?.len(), 1);
+    }
+    assert_eq!(rt; store.store.reads, 2);
+
+    let begun = Session {
+        user: 7,
+        session: 1,
+        on: true,
+    };
+    store.apply(alloc, vec![in alloc; RowWrite::Session(begun)]?)?;
+    store.triples_of(alloc, 7, Procedure::Post)?;
+    assert_eq!(rt; store.store.reads, 2);
+
+    let withdrawn = PolicyWrite::NoTriple(TripleKey {
+        user: 7,
+        procedure: Procedure::Post,
+        set: 1,
+    });
+    store.apply(alloc, one_change(alloc, withdrawn)?)?;
+    assert!(rt; store.triples_of(alloc, 7, Procedure::Post)?.is_empty());
+    assert_eq!(rt; store.store.reads, 3);
+    Ok(())
+}
+
+#[test]
+fn triples_of_nobody_are_never_kept(rt: HostRuntime) -> Result<(), Fail> {
+    let alloc = rt.alloc();
+    let mut store = counting(alloc).expect(&rt, "memory");
+    store.triples_of(alloc, 0, Procedure::Post)?;
+    store.triples_of(alloc, 0, Procedure::Post)?;
+    assert_eq!(rt; store.store.reads, 2);
+    assert_eq!(rt; store.entry_count(), 0);
+    Ok(())
+}
+
+#[test]
+fn the_entry_used_longest_ago_goes_first(rt: HostRuntime) -> Result<(), Fail> {
+    let alloc = rt.alloc();
+    let mut store = counting(alloc).expect(&rt, "memory");
+    for user in 1..=65 {
+        store.triples_of(alloc, user, Procedure::Post)?;
+    }
+    assert_eq!(rt; store.entry_count(), MAX_ENTRIES);
+    assert_eq!(rt; store.store.reads, 65);
+    store.triples_of(alloc, 65, Procedure::Post)?;
+    assert_eq!(rt; store.store.reads, 65);
+    store.triples_of(alloc, 1, Procedure::Post)?;
+    assert_eq!(rt; store.store.reads, 66);
+    Ok(())
+}
