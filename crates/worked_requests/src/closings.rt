@@ -3,11 +3,11 @@
 use crate::amounts::{MOST, cents};
 use crate::asking::{Desk, SUE, TESS, TOM};
 use crate::corrections::correct;
-use crate::drawers::off;
 use crate::opening::{SAMPLE, opened};
 use crate::plans::{apply, plan_of};
 use crate::requests::post;
 use crate::rows::LEDGER;
+use crate::turnovers::off;
 use bank_books::{Proof, branch_record};
 use counter_ops::{CloseDay, DrawerOn};
 use decide::{Op, Rule};
@@ -52,8 +52,8 @@ fn an_entry_of_an_ended_day_stands(rt: HostRuntime) {
     };
     let body = "{\"cash\":0,\"teller\":12,\"vault\":102500}";
     desk.done(&rt, TOM, Op::DrawerOn(on), body);
-    let undoing = Op::Correct(correct(&rt, 1, 101, 0, 12, 2_500));
-    desk.denied(&rt, TOM, undoing, Rule::Entry);
+    let undoing = correct(&rt, 1, 101, 0, 12, 2_500);
+    desk.denied(&rt, TOM, Op::Correct(undoing), Rule::Entry);
     let body = "{\"balance\":52500,\"branch\":1,\"entry\":2}";
     desk.done(&rt, TOM, post(&rt, 101, 12, 1, 0), body);
     assert_eq!(rt; (desk.entry(&rt, 1).day, desk.entry(&rt, 2).day), (1, 2));

@@ -68,11 +68,11 @@ fn a_post_is_undone_at_another_teller(rt: HostRuntime) {
     let body = "{\"balance\":52500,\"branch\":1,\"entry\":1}";
     desk.done(&rt, TESS, post(&rt, 101, 11, 1, 2_500), body);
     assert_eq!(rt; desk.entry(&rt, 1), first_post(&rt));
-    let by_maker = Op::Correct(correct(&rt, 1, 101, 0, 11, 2_500));
-    desk.denied(&rt, TESS, by_maker, Rule::SecondPerson);
-    let undoing = Op::Correct(correct(&rt, 1, 101, 0, 12, 2_500));
+    let by_maker = correct(&rt, 1, 101, 0, 11, 2_500);
+    desk.denied(&rt, TESS, Op::Correct(by_maker), Rule::SecondPerson);
+    let undoing = correct(&rt, 1, 101, 0, 12, 2_500);
     let body = "{\"balance\":50000,\"branch\":1,\"entry\":2}";
-    desk.done(&rt, TOM, undoing, body);
+    desk.done(&rt, TOM, Op::Correct(undoing), body);
     let undone = Entry {
         number: 2,
         turn: 2,
@@ -84,9 +84,10 @@ fn a_post_is_undone_at_another_teller(rt: HostRuntime) {
         ..first_post(&rt)
     };
     assert_eq!(rt; desk.entry(&rt, 2), undone);
-    desk.denied(&rt, TOM, undoing, Rule::Entry);
-    let of_correction = Op::Correct(correct(&rt, 2, 101, 0, 11, -2_500));
-    desk.denied(&rt, TESS, of_correction, Rule::Entry);
+    let again = correct(&rt, 1, 101, 0, 12, 2_500);
+    desk.denied(&rt, TOM, Op::Correct(again), Rule::Entry);
+    let of_correction = correct(&rt, 2, 101, 0, 11, -2_500);
+    desk.denied(&rt, TESS, Op::Correct(of_correction), Rule::Entry);
 }
 
 #[test]
@@ -95,8 +96,8 @@ fn a_post_that_is_undone_leaves_its_cash_elsewhere(rt: HostRuntime) {
     let body = "{\"balance\":52500,\"branch\":1,\"entry\":1}";
     desk.done(&rt, TESS, post(&rt, 101, 11, 1, 2_500), body);
     let body = "{\"balance\":50000,\"branch\":1,\"entry\":2}";
-    let undoing = Op::Correct(correct(&rt, 1, 101, 0, 12, 2_500));
-    desk.done(&rt, TOM, undoing, body);
+    let undoing = correct(&rt, 1, 101, 0, 12, 2_500);
+    desk.done(&rt, TOM, Op::Correct(undoing), body);
     let (first, second) = (desk.teller(&rt, 11), desk.teller(&rt, 12));
     assert_eq!(rt; (first.balance, first.cash), (62_500, 42_500));
     assert_eq!(rt; (second.balance, second.cash), (-2_500, 2_500));
@@ -164,9 +165,9 @@ fn after_transfer(rt: &impl Abort, desk: &mut Desk) {
 fn a_transfer_is_undone_as_a_whole(rt: HostRuntime) {
     let mut desk = Desk::of_sample(&rt, rt.alloc());
     after_transfer(&rt, &mut desk);
-    let undoing = Op::Correct(correct(&rt, 1, 101, 102, 11, -20_000));
+    let undoing = correct(&rt, 1, 101, 102, 11, -20_000);
     let body = "{\"branch\":1,\"first\":3,\"second\":4,\"source\":50000,\"target\":0}";
-    desk.done(&rt, TESS, undoing, body);
+    desk.done(&rt, TESS, Op::Correct(undoing), body);
     let other = Entry {
         number: 4,
         account: 102,
@@ -177,8 +178,8 @@ fn a_transfer_is_undone_as_a_whole(rt: HostRuntime) {
     };
     assert_eq!(rt; desk.entry(&rt, 3), undone_leg(&rt));
     assert_eq!(rt; desk.entry(&rt, 4), other);
-    let of_other_leg = Op::Correct(correct(&rt, 2, 102, 101, 11, 20_000));
-    desk.denied(&rt, TESS, of_other_leg, Rule::Entry);
+    let of_other_leg = correct(&rt, 2, 102, 101, 11, 20_000);
+    desk.denied(&rt, TESS, Op::Correct(of_other_leg), Rule::Entry);
     let (branch, teller) = (desk.branch(&rt, 1), desk.teller(&rt, 11));
     assert_eq!(rt; (branch.entries, branch.lines, branch.history), (4, 4, 0));
     assert_eq!(rt; (teller.balance, teller.cash), (60_000, 40_000));
@@ -188,11 +189,11 @@ fn a_transfer_is_undone_as_a_whole(rt: HostRuntime) {
 fn a_transfer_is_undone_by_its_second_leg(rt: HostRuntime) {
     let mut desk = Desk::of_sample(&rt, rt.alloc());
     after_transfer(&rt, &mut desk);
-    let of_one_leg = Op::Correct(correct(&rt, 2, 102, 0, 11, 20_000));
-    desk.denied(&rt, TESS, of_one_leg, Rule::Entry);
-    let undoing = Op::Correct(correct(&rt, 2, 102, 101, 11, 20_000));
+    let of_one_leg = correct(&rt, 2, 102, 0, 11, 20_000);
+    desk.denied(&rt, TESS, Op::Correct(of_one_leg), Rule::Entry);
+    let undoing = correct(&rt, 2, 102, 101, 11, 20_000);
     let body = "{\"branch\":1,\"first\":3,\"second\":4,\"source\":0,\"target\":50000}";
-    desk.done(&rt, TESS, undoing, body);
+    desk.done(&rt, TESS, Op::Correct(undoing), body);
     let leg = Entry {
         account: 102,
         delta: delta(&rt, -20_000),
@@ -217,13 +218,14 @@ fn a_post_that_is_undone_stays_in_range(rt: HostRuntime) {
     desk.done(&rt, TESS, post(&rt, 101, 11, 1, -5), body);
     let body = "{\"balance\":999999999999,\"branch\":1,\"entry\":2}";
     desk.done(&rt, TESS, post(&rt, 101, 11, 1, 5), body);
-    let upwards = Op::Correct(correct(&rt, 1, 101, 0, 12, -5));
-    desk.denied(&rt, TOM, upwards, Rule::Range);
-    let downwards = Op::Correct(correct(&rt, 2, 101, 0, 12, 5));
+    let upwards = correct(&rt, 1, 101, 0, 12, -5);
+    desk.denied(&rt, TOM, Op::Correct(upwards), Rule::Range);
+    let downwards = correct(&rt, 2, 101, 0, 12, 5);
     let body = "{\"balance\":999999999994,\"branch\":1,\"entry\":3}";
-    desk.done(&rt, TOM, downwards, body);
+    desk.done(&rt, TOM, Op::Correct(downwards), body);
+    let upwards = correct(&rt, 1, 101, 0, 12, -5);
     let body = "{\"balance\":999999999999,\"branch\":1,\"entry\":4}";
-    desk.done(&rt, TOM, upwards, body);
+    desk.done(&rt, TOM, Op::Correct(upwards), body);
 }
 
 #[test]
@@ -240,12 +242,13 @@ fn a_transfer_that_is_undone_stays_in_range(rt: HostRuntime) {
     desk.done(&rt, TOM, Op::Transfer(down), body);
     let body = "{\"balance\":999999999999,\"branch\":1,\"entry\":3}";
     desk.done(&rt, TESS, post(&rt, 102, 11, 1, 5), body);
-    let by_first = Op::Correct(correct(&rt, 1, 102, 101, 11, -5));
-    desk.denied(&rt, TESS, by_first, Rule::Range);
-    let by_second = Op::Correct(correct(&rt, 2, 101, 102, 11, 5));
-    desk.denied(&rt, TESS, by_second, Rule::Range);
+    let by_first = correct(&rt, 1, 102, 101, 11, -5);
+    desk.denied(&rt, TESS, Op::Correct(by_first), Rule::Range);
+    let by_second = correct(&rt, 2, 101, 102, 11, 5);
+    desk.denied(&rt, TESS, Op::Correct(by_second), Rule::Range);
     let body = "{\"balance\":999999999994,\"branch\":1,\"entry\":4}";
     desk.done(&rt, TESS, post(&rt, 102, 11, 1, -5), body);
+    let by_second = correct(&rt, 2, 101, 102, 11, 5);
     let body = "{\"branch\":1,\"first\":5,\"second\":6,\"source\":1000,\"target\":999999999999}";
-    desk.done(&rt, TESS, by_second, body);
+    desk.done(&rt, TESS, Op::Correct(by_second), body);
 }

@@ -15,8 +15,6 @@ mod correction_rows;
 #[cfg(test)]
 mod corrections;
 #[cfg(test)]
-mod drawers;
-#[cfg(test)]
 mod moves;
 #[cfg(test)]
 mod opening;
@@ -32,3 +30,5 @@ mod rows;
 mod streams;
 #[cfg(test)]
 mod transfers;
+#[cfg(test)]
+mod turnovers;
