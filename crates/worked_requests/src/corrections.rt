@@ -91,6 +91,21 @@ fn a_post_is_undone_at_another_teller(rt: HostRuntime) {
 }
 
 #[test]
+fn an_entry_that_is_undone_is_as_it_is_named(rt: HostRuntime) {
+    let mut desk = Desk::of_sample(&rt, rt.alloc());
+    let body = "{\"balance\":52500,\"branch\":1,\"entry\":1}";
+    desk.done(&rt, TESS, post(&rt, 101, 11, 1, 2_500), body);
+    let missing = correct(&rt, 2, 101, 0, 12, 2_500);
+    desk.denied(&rt, TOM, Op::Correct(missing), Rule::Entry);
+    let of_another_account = correct(&rt, 1, 102, 0, 12, 2_500);
+    desk.denied(&rt, TOM, Op::Correct(of_another_account), Rule::Entry);
+    let with_another = correct(&rt, 1, 101, 102, 12, 2_500);
+    desk.denied(&rt, TOM, Op::Correct(with_another), Rule::Entry);
+    let of_another_amount = correct(&rt, 1, 101, 0, 12, 2_501);
+    desk.denied(&rt, TOM, Op::Correct(of_another_amount), Rule::Entry);
+}
+
+#[test]
 fn a_post_that_is_undone_leaves_its_cash_elsewhere(rt: HostRuntime) {
     let mut desk = Desk::of_sample(&rt, rt.alloc());
     let body = "{\"balance\":52500,\"branch\":1,\"entry\":1}";
@@ -191,6 +206,8 @@ fn a_transfer_is_undone_by_its_second_leg(rt: HostRuntime) {
     after_transfer(&rt, &mut desk);
     let of_one_leg = correct(&rt, 2, 102, 0, 11, 20_000);
     desk.denied(&rt, TESS, Op::Correct(of_one_leg), Rule::Entry);
+    let with_another = correct(&rt, 2, 102, 201, 11, 20_000);
+    desk.denied(&rt, TESS, Op::Correct(with_another), Rule::Entry);
     let undoing = correct(&rt, 2, 102, 101, 11, 20_000);
     let body = "{\"branch\":1,\"first\":3,\"second\":4,\"source\":0,\"target\":50000}";
     desk.done(&rt, TESS, Op::Correct(undoing), body);

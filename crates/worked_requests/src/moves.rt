@@ -1,11 +1,12 @@
 //! Cash moved between the vault and the drawers of a branch: what stays in range, and the order of the rules.
 
 use crate::amounts::MOST;
-use crate::asking::{Desk, TESS};
+use crate::asking::{Desk, TESS, TOM};
 use crate::opening::{VAULT_AT_MOST, with_a_full_drawer, with_drawers_on};
 use crate::plans::{apply, line, plan_of};
 use crate::requests::post;
 use crate::rows::{BY_TESS, CASH_BOOK, teller_of, teller_with};
+use crate::turnovers::off;
 use bank_books::{LineForm, branch_record, teller_record};
 use bank_terms::MAX_KEY;
 use counter_ops::MoveCash;
@@ -62,6 +63,30 @@ fn cash_moves_from_place_to_place(rt: HostRuntime) {
         ..TO_12
     };
     desk.denied(&rt, TESS, Op::MoveCash(more_than_cash), Rule::Cash);
+}
+
+#[test]
+fn who_moves_cash_holds_the_drawer_that_gives(rt: HostRuntime) {
+    let mut desk = Desk::of_sample(&rt, rt.alloc());
+    let to_hers = MoveCash {
+        source: 12,
+        target: 11,
+        ..TO_12
+    };
+    desk.denied(&rt, TESS, Op::MoveCash(to_hers), Rule::Drawer);
+    let to_vault = MoveCash {
+        source: 12,
+        ..TO_VAULT
+    };
+    desk.denied(&rt, TESS, Op::MoveCash(to_vault), Rule::Drawer);
+    let from_vault = MoveCash {
+        target: 12,
+        ..FROM_VAULT
+    };
+    desk.denied(&rt, TESS, Op::MoveCash(from_vault), Rule::Drawer);
+    let body = "{\"difference\":0,\"teller\":12,\"vault\":60000}";
+    desk.done(&rt, TOM, Op::DrawerOff(off(&rt, 12, 5_000)), body);
+    desk.denied(&rt, TESS, Op::MoveCash(TO_12), Rule::Drawer);
 }
 
 #[test]
