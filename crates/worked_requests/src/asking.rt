@@ -6,8 +6,9 @@ ghost use Rattle.counter_ops.specs.Op.{procedure_of};
 ghost use Rattle.counter_ops.specs.Operations.{IsOp};
 ghost use Rattle.bank_run.specs.Operations.{is_served};
 
-use bank_books::{AccountRecord, BranchRecord, Entry, TellerRecord, World};
+use bank_books::{BranchRecord, Entry, TellerRecord, World};
 use decide::{Decision, Op, Reply, Rule, Who, carry_out, decide};
+use row_rules::{CashBook, Ledger};
 use sample_bank::sample_world;
 use std::alloc::Global;
 use std::process::Abort;
@@ -36,6 +37,23 @@ pub(crate) const SUE: Who = Who {
 
 /// The moment of requests, where no other is given.
 pub(crate) const MOMENT: u64 = 700;
+
+/// The history of branch 1 of the sample.
+pub(crate) const SAMPLE_LEDGER: Ledger = Ledger {
+    day: 1,
+    balance: 60_000,
+    entries: 0,
+    history: 0,
+};
+
+/// The cash book of branch 1 of the sample, whose vault has 550.00.
+pub(crate) const SAMPLE_CASH_BOOK: CashBook = CashBook {
+    day: 1,
+    lines: 4,
+    drawers: 45_000,
+    cash_entries: 0,
+    differences: 0,
+};
 
 /// A bank in memory, as it is asked.
 #[derive(Drop)]
@@ -105,28 +123,58 @@ impl Desk {
         }
     }
 
-    /// An account of the bank.
-    pub(crate) fn account(&mut self, rt: &impl Abort, account: u32) -> AccountRecord {
+    /// Asks for the balance of an account, and how many entries name it.
+    pub(crate) fn account_is(&mut self, rt: &impl Abort, account: u32, balance: i128, turns: u64) {
         let row = self.bank.store.account(self.alloc, account);
-        row.expect(rt, "no fault").expect(rt, "the account")
+        let row = row.expect(rt, "no fault").expect(rt, "the account");
+        assert_eq!(rt; (row.balance, row.turns), (balance, turns), "{account}");
     }
 
-    /// A teller of the bank.
-    pub(crate) fn teller(&mut self, rt: &impl Abort, teller: u32) -> TellerRecord {
+    /// Asks for the balance of a teller.
+    pub(crate) fn teller_is(&mut self, rt: &impl Abort, teller: u32, balance: i128) {
+        assert_eq!(rt; self.teller(rt, teller).balance, balance, "{teller}");
+    }
+
+    /// Asks for the cash of the drawer of a teller, and who holds it.
+    pub(crate) fn drawer_is(
+        &mut self,
+        rt: &impl Abort,
+        teller: u32,
+        cash: i128,
+        holder: Option<u32>,
+    ) {
+        let row = self.teller(rt, teller);
+        assert_eq!(rt; (row.cash, row.holder), (cash, holder), "{teller}");
+    }
+
+    fn teller(&mut self, rt: &impl Abort, teller: u32) -> TellerRecord {
         let row = self.bank.store.teller(self.alloc, teller);
         row.expect(rt, "no fault").expect(rt, "the teller")
     }
 
-    /// A branch of the bank.
-    pub(crate) fn branch(&mut self, rt: &impl Abort, branch: u32) -> BranchRecord {
+    /// Asks for the history of a branch.
+    pub(crate) fn ledger_is(&mut self, rt: &impl Abort, branch: u32, ledger: Ledger) {
+        let row = self.branch(rt, branch);
+        assert_eq!(rt; Ledger::of(&row), ledger, "{branch}");
+    }
+
+    /// Asks for the cash book of branch 1, and for the cash of its vault.
+    pub(crate) fn cash_is(&mut self, rt: &impl Abort, book: CashBook, vault: i128) {
+        let row = self.branch(rt, 1);
+        assert_eq!(rt; CashBook::of(&row), book);
+        assert_eq!(rt; row.vault, vault);
+    }
+
+    fn branch(&mut self, rt: &impl Abort, branch: u32) -> BranchRecord {
         let row = self.bank.store.branch(self.alloc, branch);
         row.expect(rt, "no fault").expect(rt, "the branch")
     }
 
-    /// An entry of branch 1.
-    pub(crate) fn entry(&mut self, rt: &impl Abort, number: u32) -> Entry {
-        let row = self.bank.store.entry(self.alloc, 1, number);
-        row.expect(rt, "no fault").expect(rt, "the entry")
+    /// Asks for an entry of branch 1, at its number.
+    pub(crate) fn entry_is(&mut self, rt: &impl Abort, entry: Entry) {
+        let row = self.bank.store.entry(self.alloc, 1, entry.number);
+        let row = row.expect(rt, "no fault").expect(rt, "the entry");
+        assert_eq!(rt; row, entry);
     }
 
     /// How many calls of the store answered a fault.

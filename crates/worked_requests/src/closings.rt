@@ -1,14 +1,14 @@
 //! The closing of a day: its proof, the day that follows, and the order of its rules.
 
-use crate::amounts::{MOST, cents};
-use crate::asking::{Desk, SUE, TESS, TOM};
-use crate::corrections::correct;
-use crate::drawers::off;
+use crate::amounts::{MOST, cents, delta};
+use crate::asking::{Desk, SAMPLE_LEDGER, SUE, TESS, TOM};
+use crate::corrections::{correct, first_post};
 use crate::opening::{SAMPLE, opened};
 use crate::plans::{apply, plan_of};
 use crate::requests::post;
 use crate::rows::LEDGER;
-use bank_books::{Proof, branch_record};
+use crate::turnovers::off;
+use bank_books::{Entry, Proof, branch_record};
 use counter_ops::{CloseDay, DrawerOn};
 use decide::{Op, Rule};
 use drawers::{ClosingRows, plan_close_day, rule_against_close_day};
@@ -27,11 +27,18 @@ fn a_day_ends_when_no_drawer_is_held(rt: HostRuntime) {
     desk.done(&rt, TESS, Op::DrawerOff(off(&rt, 11, 40_000)), body);
     let body = "{\"balance\":60000,\"cash\":99900,\"closed\":1,\"entries\":0}";
     desk.done(&rt, SUE, Op::CloseDay(CLOSE), body);
-    let (branch, other) = (desk.branch(&rt, 1), desk.branch(&rt, 2));
-    assert_eq!(rt; (branch.row.day, other.row.day), (2, 1));
+    let second_day = Ledger {
+        day: 2,
+        ..SAMPLE_LEDGER
+    };
+    desk.ledger_is(&rt, 1, second_day);
     let body = "{\"balance\":60000,\"cash\":99900,\"closed\":2,\"entries\":0}";
     desk.done(&rt, SUE, Op::CloseDay(CLOSE), body);
-    assert_eq!(rt; desk.branch(&rt, 1).row.day, 3);
+    let third_day = Ledger {
+        day: 3,
+        ..SAMPLE_LEDGER
+    };
+    desk.ledger_is(&rt, 1, third_day);
 }
 
 #[test]
@@ -52,11 +59,21 @@ fn an_entry_of_an_ended_day_stands(rt: HostRuntime) {
     };
     let body = "{\"cash\":0,\"teller\":12,\"vault\":102500}";
     desk.done(&rt, TOM, Op::DrawerOn(on), body);
-    let undoing = Op::Correct(correct(&rt, 1, 101, 0, 12, 2_500));
-    desk.denied(&rt, TOM, undoing, Rule::Entry);
+    let undoing = correct(&rt, 1, 101, 0, 12, 2_500);
+    desk.denied(&rt, TOM, Op::Correct(undoing), Rule::Entry);
     let body = "{\"balance\":52500,\"branch\":1,\"entry\":2}";
     desk.done(&rt, TOM, post(&rt, 101, 12, 1, 0), body);
-    assert_eq!(rt; (desk.entry(&rt, 1).day, desk.entry(&rt, 2).day), (1, 2));
+    desk.entry_is(&rt, first_post(&rt));
+    let of_next_day = Entry {
+        number: 2,
+        turn: 2,
+        teller: 12,
+        delta: delta(&rt, 0),
+        day: 2,
+        user: 8,
+        ..first_post(&rt)
+    };
+    desk.entry_is(&rt, of_next_day);
 }
 
 #[test]

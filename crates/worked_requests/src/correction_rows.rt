@@ -129,11 +129,16 @@ fn a_correction_of_a_transfer_needs_two_entry_numbers(rt: HostRuntime) {
     }
 }
 
+/// Asks for this first rule against the correction of a post of 1.00.
+fn first_is(rt: &impl Abort, rows: &CorrectRows, rule: Option<Rule>) {
+    let undoing = correct(rt, 1, 101, 0, 11, 100);
+    let first = rule_against_correct(rows, &undoing, BY_TESS);
+    assert_eq!(rt; first, rule);
+}
+
 /// Rows against which every rule speaks, and which are mended one after another.
 #[test]
 fn rules_of_a_correction_stand_in_order(rt: HostRuntime) {
-    let undoing = correct(&rt, 1, 101, 0, 11, 100);
-    let first = |rows: &CorrectRows| rule_against_correct(rows, &undoing, BY_TESS);
     let mended = rows_of_post(&rt, 100, [100; 7]);
     let mut rows = CorrectRows {
         account: None,
@@ -150,23 +155,23 @@ fn rules_of_a_correction_stand_in_order(rt: HostRuntime) {
         is_undone: true,
         ..mended
     };
-    assert_eq!(rt; first(&rows), Some(Rule::Unknown));
+    first_is(&rt, &rows, Some(Rule::Unknown));
     rows.account = Some(account_with(&rt, 101, 99));
-    assert_eq!(rt; first(&rows), Some(Rule::Branch));
+    first_is(&rt, &rows, Some(Rule::Branch));
     rows.teller = Some(teller_of(&rt, 1, 99));
-    assert_eq!(rt; first(&rows), Some(Rule::Drawer));
+    first_is(&rt, &rows, Some(Rule::Drawer));
     rows.teller = Some(teller_with(&rt, 99));
-    assert_eq!(rt; first(&rows), Some(Rule::SecondPerson));
+    first_is(&rt, &rows, Some(Rule::SecondPerson));
     rows.entry = mended.entry;
-    assert_eq!(rt; first(&rows), Some(Rule::Entry));
+    first_is(&rt, &rows, Some(Rule::Entry));
     rows.is_undone = false;
-    assert_eq!(rt; first(&rows), Some(Rule::Floor));
+    first_is(&rt, &rows, Some(Rule::Floor));
     rows.account = mended.account;
-    assert_eq!(rt; first(&rows), Some(Rule::Cash));
+    first_is(&rt, &rows, Some(Rule::Cash));
     rows.teller = mended.teller;
-    assert_eq!(rt; first(&rows), Some(Rule::Range));
+    first_is(&rt, &rows, Some(Rule::Range));
     rows.ledger = mended.ledger;
-    assert_eq!(rt; first(&rows), Some(Rule::Full));
+    first_is(&rt, &rows, Some(Rule::Full));
     rows.cash_book = mended.cash_book;
-    assert_eq!(rt; first(&rows), None);
+    first_is(&rt, &rows, None);
 }

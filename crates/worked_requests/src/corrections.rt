@@ -6,15 +6,16 @@ ghost use Rattle.counter_ops.specs.Correct.{IsCorrect};
 ghost use Rattle.counter_ops.specs.Ranges.{IsKey};
 
 use crate::amounts::{MOST, delta};
-use crate::asking::{Desk, TESS, TOM};
+use crate::asking::{Desk, SAMPLE_CASH_BOOK, SAMPLE_LEDGER, TESS, TOM};
 use crate::opening::{TARGET_AT_MOST, opening_at, with_drawers_on};
-use crate::plans::{apply, line, plan_of};
+use crate::plans::{apply, line, lines_end_with, plan_of};
 use crate::requests::post;
 use crate::rows::BY_TOM;
 use bank_books::{Entry, EntryForm, LineForm, account_record, branch_record, teller_record};
 use counter_ops::{Correct, Transfer};
 use decide::{Op, Rule};
 use postings::{CorrectRows, plan_correct};
+use row_rules::{CashBook, Ledger};
 use sample_bank::sample_world;
 use std::process::Abort;
 
@@ -67,12 +68,12 @@ fn a_post_is_undone_at_another_teller(rt: HostRuntime) {
     let mut desk = Desk::of_sample(&rt, rt.alloc());
     let body = "{\"balance\":52500,\"branch\":1,\"entry\":1}";
     desk.done(&rt, TESS, post(&rt, 101, 11, 1, 2_500), body);
-    assert_eq!(rt; desk.entry(&rt, 1), first_post(&rt));
-    let by_maker = Op::Correct(correct(&rt, 1, 101, 0, 11, 2_500));
-    desk.denied(&rt, TESS, by_maker, Rule::SecondPerson);
-    let undoing = Op::Correct(correct(&rt, 1, 101, 0, 12, 2_500));
+    desk.entry_is(&rt, first_post(&rt));
+    let by_maker = correct(&rt, 1, 101, 0, 11, 2_500);
+    desk.denied(&rt, TESS, Op::Correct(by_maker), Rule::SecondPerson);
+    let undoing = correct(&rt, 1, 101, 0, 12, 2_500);
     let body = "{\"balance\":50000,\"branch\":1,\"entry\":2}";
-    desk.done(&rt, TOM, undoing, body);
+    desk.done(&rt, TOM, Op::Correct(undoing), body);
     let undone = Entry {
         number: 2,
         turn: 2,
@@ -83,10 +84,26 @@ fn a_post_is_undone_at_another_teller(rt: HostRuntime) {
         undoes: 1,
         ..first_post(&rt)
     };
-    assert_eq!(rt; desk.entry(&rt, 2), undone);
-    desk.denied(&rt, TOM, undoing, Rule::Entry);
-    let of_correction = Op::Correct(correct(&rt, 2, 101, 0, 11, -2_500));
-    desk.denied(&rt, TESS, of_correction, Rule::Entry);
+    desk.entry_is(&rt, undone);
+    let again = correct(&rt, 1, 101, 0, 12, 2_500);
+    desk.denied(&rt, TOM, Op::Correct(again), Rule::Entry);
+    let of_correction = correct(&rt, 2, 101, 0, 11, -2_500);
+    desk.denied(&rt, TESS, Op::Correct(of_correction), Rule::Entry);
+}
+
+#[test]
+fn an_entry_that_is_undone_is_as_it_is_named(rt: HostRuntime) {
+    let mut desk = Desk::of_sample(&rt, rt.alloc());
+    let body = "{\"balance\":52500,\"branch\":1,\"entry\":1}";
+    desk.done(&rt, TESS, post(&rt, 101, 11, 1, 2_500), body);
+    let missing = correct(&rt, 2, 101, 0, 12, 2_500);
+    desk.denied(&rt, TOM, Op::Correct(missing), Rule::Entry);
+    let of_another_account = correct(&rt, 1, 102, 0, 12, 2_500);
+    desk.denied(&rt, TOM, Op::Correct(of_another_account), Rule::Entry);
+    let with_another = correct(&rt, 1, 101, 102, 12, 2_500);
+    desk.denied(&rt, TOM, Op::Correct(with_another), Rule::Entry);
+    let of_another_amount = correct(&rt, 1, 101, 0, 12, 2_501);
+    desk.denied(&rt, TOM, Op::Correct(of_another_amount), Rule::Entry);
 }
 
 #[test]
@@ -95,15 +112,22 @@ fn a_post_that_is_undone_leaves_its_cash_elsewhere(rt: HostRuntime) {
     let body = "{\"balance\":52500,\"branch\":1,\"entry\":1}";
     desk.done(&rt, TESS, post(&rt, 101, 11, 1, 2_500), body);
     let body = "{\"balance\":50000,\"branch\":1,\"entry\":2}";
-    let undoing = Op::Correct(correct(&rt, 1, 101, 0, 12, 2_500));
-    desk.done(&rt, TOM, undoing, body);
-    let (first, second) = (desk.teller(&rt, 11), desk.teller(&rt, 12));
-    assert_eq!(rt; (first.balance, first.cash), (62_500, 42_500));
-    assert_eq!(rt; (second.balance, second.cash), (-2_500, 2_500));
-    let branch = desk.branch(&rt, 1);
-    assert_eq!(rt; (branch.balance, branch.history), (60_000, 0));
-    assert_eq!(rt; (branch.entries, branch.lines), (2, 6));
-    assert_eq!(rt; (branch.drawers, branch.cash_entries), (45_000, 0));
+    let undoing = correct(&rt, 1, 101, 0, 12, 2_500);
+    desk.done(&rt, TOM, Op::Correct(undoing), body);
+    desk.teller_is(&rt, 11, 62_500);
+    desk.drawer_is(&rt, 11, 42_500, Some(7));
+    desk.teller_is(&rt, 12, -2_500);
+    desk.drawer_is(&rt, 12, 2_500, Some(8));
+    let ledger = Ledger {
+        entries: 2,
+        ..SAMPLE_LEDGER
+    };
+    desk.ledger_is(&rt, 1, ledger);
+    let book = CashBook {
+        lines: 6,
+        ..SAMPLE_CASH_BOOK
+    };
+    desk.cash_is(&rt, book, 55_000);
 }
 
 #[test]
@@ -123,8 +147,7 @@ fn a_correction_writes_its_cash(rt: HostRuntime) {
     let plan = plan_of(&rt, plan_correct(alloc, &rows, &undoing, BY_TOM));
     apply(&rt, alloc, &mut world, plan);
     let cash = line(&rt, 5, 12, -2_500, LineForm::CashEntry, BY_TOM);
-    assert_eq!(rt; world.lines().last().copied(), Some(cash));
-    assert_eq!(rt; (world.lines().len(), world.entries().len()), (5, 1));
+    lines_end_with(&rt, &world, 5, &[cash]);
 }
 
 /// A transfer of 200.00 at teller 12, who is Tom's.
@@ -164,9 +187,9 @@ fn after_transfer(rt: &impl Abort, desk: &mut Desk) {
 fn a_transfer_is_undone_as_a_whole(rt: HostRuntime) {
     let mut desk = Desk::of_sample(&rt, rt.alloc());
     after_transfer(&rt, &mut desk);
-    let undoing = Op::Correct(correct(&rt, 1, 101, 102, 11, -20_000));
+    let undoing = correct(&rt, 1, 101, 102, 11, -20_000);
     let body = "{\"branch\":1,\"first\":3,\"second\":4,\"source\":50000,\"target\":0}";
-    desk.done(&rt, TESS, undoing, body);
+    desk.done(&rt, TESS, Op::Correct(undoing), body);
     let other = Entry {
         number: 4,
         account: 102,
@@ -175,24 +198,30 @@ fn a_transfer_is_undone_as_a_whole(rt: HostRuntime) {
         undoes: 2,
         ..undone_leg(&rt)
     };
-    assert_eq!(rt; desk.entry(&rt, 3), undone_leg(&rt));
-    assert_eq!(rt; desk.entry(&rt, 4), other);
-    let of_other_leg = Op::Correct(correct(&rt, 2, 102, 101, 11, 20_000));
-    desk.denied(&rt, TESS, of_other_leg, Rule::Entry);
-    let (branch, teller) = (desk.branch(&rt, 1), desk.teller(&rt, 11));
-    assert_eq!(rt; (branch.entries, branch.lines, branch.history), (4, 4, 0));
-    assert_eq!(rt; (teller.balance, teller.cash), (60_000, 40_000));
+    desk.entry_is(&rt, undone_leg(&rt));
+    desk.entry_is(&rt, other);
+    let of_other_leg = correct(&rt, 2, 102, 101, 11, 20_000);
+    desk.denied(&rt, TESS, Op::Correct(of_other_leg), Rule::Entry);
+    let ledger = Ledger {
+        entries: 4,
+        ..SAMPLE_LEDGER
+    };
+    desk.ledger_is(&rt, 1, ledger);
+    desk.cash_is(&rt, SAMPLE_CASH_BOOK, 55_000);
+    desk.teller_is(&rt, 11, 60_000);
 }
 
 #[test]
 fn a_transfer_is_undone_by_its_second_leg(rt: HostRuntime) {
     let mut desk = Desk::of_sample(&rt, rt.alloc());
     after_transfer(&rt, &mut desk);
-    let of_one_leg = Op::Correct(correct(&rt, 2, 102, 0, 11, 20_000));
-    desk.denied(&rt, TESS, of_one_leg, Rule::Entry);
-    let undoing = Op::Correct(correct(&rt, 2, 102, 101, 11, 20_000));
+    let of_one_leg = correct(&rt, 2, 102, 0, 11, 20_000);
+    desk.denied(&rt, TESS, Op::Correct(of_one_leg), Rule::Entry);
+    let with_another = correct(&rt, 2, 102, 201, 11, 20_000);
+    desk.denied(&rt, TESS, Op::Correct(with_another), Rule::Entry);
+    let undoing = correct(&rt, 2, 102, 101, 11, 20_000);
     let body = "{\"branch\":1,\"first\":3,\"second\":4,\"source\":0,\"target\":50000}";
-    desk.done(&rt, TESS, undoing, body);
+    desk.done(&rt, TESS, Op::Correct(undoing), body);
     let leg = Entry {
         account: 102,
         delta: delta(&rt, -20_000),
@@ -205,8 +234,8 @@ fn a_transfer_is_undone_by_its_second_leg(rt: HostRuntime) {
         undoes: 1,
         ..undone_leg(&rt)
     };
-    assert_eq!(rt; desk.entry(&rt, 3), leg);
-    assert_eq!(rt; desk.entry(&rt, 4), other);
+    desk.entry_is(&rt, leg);
+    desk.entry_is(&rt, other);
 }
 
 #[test]
@@ -217,13 +246,14 @@ fn a_post_that_is_undone_stays_in_range(rt: HostRuntime) {
     desk.done(&rt, TESS, post(&rt, 101, 11, 1, -5), body);
     let body = "{\"balance\":999999999999,\"branch\":1,\"entry\":2}";
     desk.done(&rt, TESS, post(&rt, 101, 11, 1, 5), body);
-    let upwards = Op::Correct(correct(&rt, 1, 101, 0, 12, -5));
-    desk.denied(&rt, TOM, upwards, Rule::Range);
-    let downwards = Op::Correct(correct(&rt, 2, 101, 0, 12, 5));
+    let upwards = correct(&rt, 1, 101, 0, 12, -5);
+    desk.denied(&rt, TOM, Op::Correct(upwards), Rule::Range);
+    let downwards = correct(&rt, 2, 101, 0, 12, 5);
     let body = "{\"balance\":999999999994,\"branch\":1,\"entry\":3}";
-    desk.done(&rt, TOM, downwards, body);
+    desk.done(&rt, TOM, Op::Correct(downwards), body);
+    let upwards = correct(&rt, 1, 101, 0, 12, -5);
     let body = "{\"balance\":999999999999,\"branch\":1,\"entry\":4}";
-    desk.done(&rt, TOM, upwards, body);
+    desk.done(&rt, TOM, Op::Correct(upwards), body);
 }
 
 #[test]
@@ -240,12 +270,13 @@ fn a_transfer_that_is_undone_stays_in_range(rt: HostRuntime) {
     desk.done(&rt, TOM, Op::Transfer(down), body);
     let body = "{\"balance\":999999999999,\"branch\":1,\"entry\":3}";
     desk.done(&rt, TESS, post(&rt, 102, 11, 1, 5), body);
-    let by_first = Op::Correct(correct(&rt, 1, 102, 101, 11, -5));
-    desk.denied(&rt, TESS, by_first, Rule::Range);
-    let by_second = Op::Correct(correct(&rt, 2, 101, 102, 11, 5));
-    desk.denied(&rt, TESS, by_second, Rule::Range);
+    let by_first = correct(&rt, 1, 102, 101, 11, -5);
+    desk.denied(&rt, TESS, Op::Correct(by_first), Rule::Range);
+    let by_second = correct(&rt, 2, 101, 102, 11, 5);
+    desk.denied(&rt, TESS, Op::Correct(by_second), Rule::Range);
     let body = "{\"balance\":999999999994,\"branch\":1,\"entry\":4}";
     desk.done(&rt, TESS, post(&rt, 102, 11, 1, -5), body);
+    let by_second = correct(&rt, 2, 101, 102, 11, 5);
     let body = "{\"branch\":1,\"first\":5,\"second\":6,\"source\":1000,\"target\":999999999999}";
-    desk.done(&rt, TESS, by_second, body);
+    desk.done(&rt, TESS, Op::Correct(by_second), body);
 }

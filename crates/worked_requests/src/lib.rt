@@ -15,8 +15,6 @@ mod correction_rows;
 #[cfg(test)]
 mod corrections;
 #[cfg(test)]
-mod drawers;
-#[cfg(test)]
 mod moves;
 #[cfg(test)]
 mod opening;
@@ -34,3 +32,5 @@ mod sessions;
 mod streams;
 #[cfg(test)]
 mod transfers;
+#[cfg(test)]
+mod turnovers;

@@ -1,11 +1,12 @@
 //! Cash moved between the vault and the drawers of a branch: what stays in range, and the order of the rules.
 
 use crate::amounts::MOST;
-use crate::asking::{Desk, TESS};
+use crate::asking::{Desk, SAMPLE_CASH_BOOK, TESS, TOM};
 use crate::opening::{VAULT_AT_MOST, with_a_full_drawer, with_drawers_on};
-use crate::plans::{apply, line, plan_of};
+use crate::plans::{apply, line, lines_end_with, plan_of};
 use crate::requests::post;
 use crate::rows::{BY_TESS, CASH_BOOK, teller_of, teller_with};
+use crate::turnovers::off;
 use bank_books::{LineForm, branch_record, teller_record};
 use bank_terms::MAX_KEY;
 use counter_ops::MoveCash;
@@ -48,20 +49,42 @@ fn cash_moves_from_place_to_place(rt: HostRuntime) {
     desk.done(&rt, TESS, Op::MoveCash(TO_VAULT), body);
     let body = "{\"moved\":5000,\"source\":55000,\"target\":35000}";
     desk.done(&rt, TESS, Op::MoveCash(FROM_VAULT), body);
-    let (first, second) = (desk.teller(&rt, 11), desk.teller(&rt, 12));
-    assert_eq!(rt; (first.cash, first.holder), (35_000, Some(7)));
-    assert_eq!(rt; (second.cash, second.holder), (10_000, Some(8)));
-    let branch = desk.branch(&rt, 1);
-    assert_eq!(rt;
-        (branch.lines, branch.vault, branch.drawers),
-        (10, 55_000, 45_000)
-    );
-    assert_eq!(rt; (branch.cash_entries, branch.differences), (0, 0));
+    desk.drawer_is(&rt, 11, 35_000, Some(7));
+    desk.drawer_is(&rt, 12, 10_000, Some(8));
+    let book = CashBook {
+        lines: 10,
+        ..SAMPLE_CASH_BOOK
+    };
+    desk.cash_is(&rt, book, 55_000);
     let more_than_cash = MoveCash {
         amount: 35_001,
         ..TO_12
     };
     desk.denied(&rt, TESS, Op::MoveCash(more_than_cash), Rule::Cash);
+}
+
+#[test]
+fn who_moves_cash_holds_the_drawer_that_gives(rt: HostRuntime) {
+    let mut desk = Desk::of_sample(&rt, rt.alloc());
+    let to_hers = MoveCash {
+        source: 12,
+        target: 11,
+        ..TO_12
+    };
+    desk.denied(&rt, TESS, Op::MoveCash(to_hers), Rule::Drawer);
+    let to_vault = MoveCash {
+        source: 12,
+        ..TO_VAULT
+    };
+    desk.denied(&rt, TESS, Op::MoveCash(to_vault), Rule::Drawer);
+    let from_vault = MoveCash {
+        target: 12,
+        ..FROM_VAULT
+    };
+    desk.denied(&rt, TESS, Op::MoveCash(from_vault), Rule::Drawer);
+    let body = "{\"difference\":0,\"teller\":12,\"vault\":60000}";
+    desk.done(&rt, TOM, Op::DrawerOff(off(&rt, 12, 5_000)), body);
+    desk.denied(&rt, TESS, Op::MoveCash(TO_12), Rule::Drawer);
 }
 
 #[test]
@@ -80,8 +103,7 @@ fn a_move_writes_two_lines(rt: HostRuntime) {
         line(&rt, 5, 0, -5_000, LineForm::Move, BY_TESS),
         line(&rt, 6, 11, 5_000, LineForm::Move, BY_TESS),
     ];
-    assert_eq!(rt; world.lines().len(), 6);
-    assert!(rt; world.lines().ends_with(&lines));
+    lines_end_with(&rt, &world, 6, &lines);
 }
 
 #[test]
@@ -134,10 +156,15 @@ fn a_move_needs_two_line_numbers(rt: HostRuntime) {
     }
 }
 
+/// Asks for this first rule against the move from the vault.
+fn first_is(rt: &impl Abort, rows: &MoveRows, rule: Option<Rule>) {
+    let first = rule_against_move_cash(rows, &FROM_VAULT, BY_TESS);
+    assert_eq!(rt; first, rule);
+}
+
 /// Rows against which every rule speaks, and which are mended one after another.
 #[test]
 fn rules_of_a_move_stand_in_order(rt: HostRuntime) {
-    let first = |rows: &MoveRows| rule_against_move_cash(rows, &FROM_VAULT, BY_TESS);
     let full = CashBook {
         lines: u64::from(MAX_KEY),
         ..CASH_BOOK
@@ -151,17 +178,17 @@ fn rules_of_a_move_stand_in_order(rt: HostRuntime) {
         }),
         vault: Some(4_999),
     };
-    assert_eq!(rt; first(&rows), Some(Rule::Unknown));
+    first_is(&rt, &rows, Some(Rule::Unknown));
     rows.target = Some(teller_of(&rt, 2, 0));
-    assert_eq!(rt; first(&rows), Some(Rule::Branch));
+    first_is(&rt, &rows, Some(Rule::Branch));
     rows.target = Some(teller_of(&rt, 1, 0));
-    assert_eq!(rt; first(&rows), Some(Rule::Drawer));
+    first_is(&rt, &rows, Some(Rule::Drawer));
     rows.target = Some(teller_with(&rt, 0));
-    assert_eq!(rt; first(&rows), Some(Rule::Cash));
+    first_is(&rt, &rows, Some(Rule::Cash));
     rows.vault = Some(5_000);
-    assert_eq!(rt; first(&rows), Some(Rule::Range));
+    first_is(&rt, &rows, Some(Rule::Range));
     rows.cash_book = Some(full);
-    assert_eq!(rt; first(&rows), Some(Rule::Full));
+    first_is(&rt, &rows, Some(Rule::Full));
     rows.cash_book = Some(CASH_BOOK);
-    assert_eq!(rt; first(&rows), None);
+    first_is(&rt, &rows, None);
 }

@@ -3,7 +3,7 @@
 use crate::amounts::{MOST, delta};
 use crate::asking::{Desk, TESS};
 use crate::opening::{with_a_full_drawer, with_all_cash_of_entries};
-use crate::plans::{apply, line, plan_of};
+use crate::plans::{apply, line, lines_end_with, plan_of};
 use crate::requests::post;
 use crate::rows::{BY_TESS, CASH_BOOK, LEDGER, account_with, teller_of, teller_with};
 use bank_books::{
@@ -40,8 +40,7 @@ fn a_post_writes_its_cash(rt: HostRuntime) {
     let plan = plan_of(&rt, plan_post(alloc, &rows, &withdrawal, BY_TESS));
     apply(&rt, alloc, &mut world, plan);
     let cash = line(&rt, 5, 11, -2_500, LineForm::CashEntry, BY_TESS);
-    assert_eq!(rt; world.lines().last().copied(), Some(cash));
-    assert_eq!(rt; (world.lines().len(), world.entries().len()), (5, 1));
+    lines_end_with(&rt, &world, 5, &[cash]);
 }
 
 #[test]
@@ -51,7 +50,7 @@ fn the_drawer_of_a_post_stays_in_range(rt: HostRuntime) {
     desk.denied(&rt, TESS, post(&rt, 101, 11, 1, 10), Rule::Range);
     let body = "{\"balance\":50009,\"branch\":1,\"entry\":1}";
     desk.done(&rt, TESS, post(&rt, 101, 11, 1, 9), body);
-    assert_eq!(rt; desk.teller(&rt, 11).cash, 999_999_999_999);
+    desk.drawer_is(&rt, 11, 999_999_999_999, Some(7));
 }
 
 #[test]
@@ -61,9 +60,12 @@ fn the_cash_of_entries_stays_in_range(rt: HostRuntime) {
     desk.denied(&rt, TESS, post(&rt, 101, 11, 1, 1), Rule::Range);
     let body = "{\"balance\":50000,\"branch\":1,\"entry\":1}";
     desk.done(&rt, TESS, post(&rt, 101, 11, 1, 0), body);
-    let branch = desk.branch(&rt, 1);
-    assert_eq!(rt; branch.cash_entries, 999_999_999_999);
-    assert_eq!(rt; (branch.drawers, branch.vault), (0, 999_999_999_999));
+    let book = CashBook {
+        lines: 6,
+        cash_entries: 999_999_999_999,
+        ..CASH_BOOK
+    };
+    desk.cash_is(&rt, book, 999_999_999_999);
 }
 
 /// The rows of a post whose numbers stand so, in cents: the balance of account 101, the balance of teller 11 and the cash
@@ -135,11 +137,15 @@ fn a_post_needs_a_number_of_each_kind(rt: HostRuntime) {
     }
 }
 
+/// Asks for this first rule against a withdrawal of 1.00.
+fn first_is(rt: &impl Abort, rows: &PostRows, rule: Option<Rule>) {
+    let first = rule_against_post(rows, &post_of(rt, -100), BY_TESS);
+    assert_eq!(rt; first, rule);
+}
+
 /// Rows against which every rule speaks, and which are mended one after another.
 #[test]
 fn rules_of_a_post_stand_in_order(rt: HostRuntime) {
-    let withdrawal = post_of(&rt, -100);
-    let first = |rows: &PostRows| rule_against_post(rows, &withdrawal, BY_TESS);
     let mut rows = PostRows {
         account: None,
         teller: Some(teller_of(&rt, 2, 99)),
@@ -152,19 +158,19 @@ fn rules_of_a_post_stand_in_order(rt: HostRuntime) {
             ..CASH_BOOK
         }),
     };
-    assert_eq!(rt; first(&rows), Some(Rule::Unknown));
+    first_is(&rt, &rows, Some(Rule::Unknown));
     rows.account = Some(account_with(&rt, 101, 99));
-    assert_eq!(rt; first(&rows), Some(Rule::Branch));
+    first_is(&rt, &rows, Some(Rule::Branch));
     rows.teller = Some(teller_of(&rt, 1, 99));
-    assert_eq!(rt; first(&rows), Some(Rule::Drawer));
+    first_is(&rt, &rows, Some(Rule::Drawer));
     rows.teller = Some(teller_with(&rt, 99));
-    assert_eq!(rt; first(&rows), Some(Rule::Floor));
+    first_is(&rt, &rows, Some(Rule::Floor));
     rows.account = Some(account_with(&rt, 101, 100));
-    assert_eq!(rt; first(&rows), Some(Rule::Cash));
+    first_is(&rt, &rows, Some(Rule::Cash));
     rows.teller = Some(teller_with(&rt, 100));
-    assert_eq!(rt; first(&rows), Some(Rule::Range));
+    first_is(&rt, &rows, Some(Rule::Range));
     rows.ledger = Some(LEDGER);
-    assert_eq!(rt; first(&rows), Some(Rule::Full));
+    first_is(&rt, &rows, Some(Rule::Full));
     rows.cash_book = Some(CASH_BOOK);
-    assert_eq!(rt; first(&rows), None);
+    first_is(&rt, &rows, None);
 }

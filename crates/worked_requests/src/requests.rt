@@ -4,12 +4,13 @@ ghost use Rattle.counter_ops.specs.Ranges.{IsKey};
 ghost use Rattle.counter_ops.specs.Operations.{IsOp};
 ghost use Rattle.bank_run.specs.Operations.{is_served};
 
-use crate::asking::{Desk, SUE, TESS, TOM};
+use crate::asking::{Desk, SAMPLE_CASH_BOOK, SAMPLE_LEDGER, SUE, TESS, TOM};
 use crate::opening::opening_at;
 use bank_books::{account_balance, branch_balance, teller_balance};
 use counter_ops::{Balance, NewAccount, Post};
 use decide::{Op, Rule, Who, denial_text};
 use money::Delta;
+use row_rules::{CashBook, Ledger};
 use sample_bank::sample_world;
 use std::process::Abort;
 
@@ -49,12 +50,27 @@ fn posts_move_three_balances_and_a_drawer(rt: HostRuntime) {
     let nothing = post(&rt, 101, 11, 1, 0);
     let body = "{\"balance\":52500,\"branch\":1,\"entry\":3}";
     desk.done(&rt, TESS, nothing, body);
-    let (teller, branch) = (desk.teller(&rt, 11), desk.branch(&rt, 1));
-    assert!(rt; teller.balance == 32_500 && branch.balance == 32_500 && branch.entries == 3);
-    assert!(rt; teller.cash == 12_500 && branch.vault == 55_000 && branch.lines == 7);
-    assert!(rt; branch.drawers == 17_500 && branch.cash_entries == -27_500);
-    let other = desk.branch(&rt, 2);
-    assert!(rt; other.balance == 20_000 && other.entries == 0 && other.lines == 0);
+    desk.teller_is(&rt, 11, 32_500);
+    desk.drawer_is(&rt, 11, 12_500, Some(7));
+    let ledger = Ledger {
+        balance: 32_500,
+        entries: 3,
+        history: -27_500,
+        ..SAMPLE_LEDGER
+    };
+    desk.ledger_is(&rt, 1, ledger);
+    let book = CashBook {
+        lines: 7,
+        drawers: 17_500,
+        cash_entries: -27_500,
+        ..SAMPLE_CASH_BOOK
+    };
+    desk.cash_is(&rt, book, 55_000);
+    let other = Ledger {
+        balance: 20_000,
+        ..SAMPLE_LEDGER
+    };
+    desk.ledger_is(&rt, 2, other);
     assert!(rt; desk.faults() == 0);
 }
 
@@ -74,9 +90,13 @@ fn a_rule_that_denies_changes_nothing(rt: HostRuntime) {
     desk.denied(&rt, TOM, elsewhere, Rule::Branch);
     let missing = post(&rt, 999, 11, 1, 100);
     desk.denied(&rt, TOM, missing, Rule::Unknown);
-    let (account, branch) = (desk.account(&rt, 101), desk.branch(&rt, 1));
-    assert!(rt; account.balance == 999_999_999_999 && account.turns == 0);
-    assert!(rt; branch.balance == 999_999_999_999 && branch.entries == 0 && branch.lines == 4);
+    desk.account_is(&rt, 101, 999_999_999_999, 0);
+    let ledger = Ledger {
+        balance: 999_999_999_999,
+        ..SAMPLE_LEDGER
+    };
+    desk.ledger_is(&rt, 1, ledger);
+    desk.cash_is(&rt, SAMPLE_CASH_BOOK, 55_000);
     let down = post(&rt, 101, 11, 1, -1);
     let body = "{\"balance\":999999999998,\"branch\":1,\"entry\":1}";
     desk.done(&rt, TESS, down, body);

@@ -1,7 +1,7 @@
 //! Transfers, whose two entries stand at one teller: what they move, what stays in range, and the order of their rules.
 
 use crate::amounts::{MOST, delta};
-use crate::asking::{Desk, TOM};
+use crate::asking::{Desk, SAMPLE_CASH_BOOK, SAMPLE_LEDGER, TOM};
 use crate::opening::{TARGET_AT_MOST, teller_12_at, with_drawers_on};
 use crate::rows::{BY_TESS, LEDGER, account_with, teller_of, teller_with};
 use bank_books::{AccountRecord, Entry, EntryForm};
@@ -47,8 +47,8 @@ fn a_transfer_makes_two_entries(rt: HostRuntime) {
         partner: 1,
         ..first
     };
-    assert_eq!(rt; desk.entry(&rt, 1), first);
-    assert_eq!(rt; desk.entry(&rt, 2), second);
+    desk.entry_is(&rt, first);
+    desk.entry_is(&rt, second);
 }
 
 #[test]
@@ -58,13 +58,16 @@ fn a_transfer_moves_no_cash(rt: HostRuntime) {
     desk.done(&rt, TOM, Op::Transfer(TO_102), body);
     let body = "{\"branch\":1,\"first\":3,\"second\":4,\"source\":10000,\"target\":40000}";
     desk.done(&rt, TOM, Op::Transfer(TO_102), body);
-    let (source, target) = (desk.account(&rt, 101), desk.account(&rt, 102));
-    assert_eq!(rt; (source.balance, source.turns), (10_000, 2));
-    assert_eq!(rt; (target.balance, target.turns), (40_000, 2));
-    let (teller, branch) = (desk.teller(&rt, 12), desk.branch(&rt, 1));
-    assert_eq!(rt; (teller.balance, teller.cash), (0, 5_000));
-    assert_eq!(rt; (branch.balance, branch.history), (60_000, 0));
-    assert_eq!(rt; (branch.entries, branch.lines), (4, 4));
+    desk.account_is(&rt, 101, 10_000, 2);
+    desk.account_is(&rt, 102, 40_000, 2);
+    desk.teller_is(&rt, 12, 0);
+    desk.drawer_is(&rt, 12, 5_000, Some(8));
+    let ledger = Ledger {
+        entries: 4,
+        ..SAMPLE_LEDGER
+    };
+    desk.ledger_is(&rt, 1, ledger);
+    desk.cash_is(&rt, SAMPLE_CASH_BOOK, 55_000);
     desk.denied(&rt, TOM, Op::Transfer(TO_102), Rule::Floor);
 }
 
@@ -77,7 +80,7 @@ fn the_target_of_a_transfer_stays_in_range(rt: HostRuntime) {
         ..TO_102
     };
     desk.denied(&rt, TOM, Op::Transfer(up), Rule::Range);
-    assert_eq!(rt; desk.account(&rt, 101).turns, 0);
+    desk.account_is(&rt, 101, 1_000, 0);
     let down = Transfer {
         source: 102,
         target: 101,
@@ -101,8 +104,13 @@ fn the_range_is_judged_after_both_entries(rt: HostRuntime) {
         let mut desk = Desk::over(alloc, teller_12_at(&rt, alloc, end));
         let body = "{\"branch\":1,\"first\":1,\"second\":2,\"source\":0,\"target\":0}";
         desk.done(&rt, TOM, Op::Transfer(transfer), body);
-        assert_eq!(rt; desk.teller(&rt, 12).balance, i128::from(end));
-        assert_eq!(rt; desk.branch(&rt, 1).balance, i128::from(end));
+        desk.teller_is(&rt, 12, i128::from(end));
+        let ledger = Ledger {
+            balance: i128::from(end),
+            entries: 2,
+            ..LEDGER
+        };
+        desk.ledger_is(&rt, 1, ledger);
     }
 }
 
@@ -146,6 +154,12 @@ fn a_transfer_needs_two_entry_numbers(rt: HostRuntime) {
     }
 }
 
+/// Asks for this first rule against the transfer at teller 11.
+fn first_is(rt: &impl Abort, rows: &TransferRows, rule: Option<Rule>) {
+    let first = rule_against_transfer(rows, &AT_TELLER_11, BY_TESS);
+    assert_eq!(rt; first, rule);
+}
+
 /// Rows against which every rule speaks, and which are mended one after another.
 #[test]
 fn rules_of_a_transfer_stand_in_order(rt: HostRuntime) {
@@ -158,18 +172,17 @@ fn rules_of_a_transfer_stand_in_order(rt: HostRuntime) {
             ..LEDGER
         }),
     };
-    let first = |rows: &TransferRows| rule_against_transfer(rows, &AT_TELLER_11, BY_TESS);
-    assert_eq!(rt; first(&rows), Some(Rule::Unknown));
+    first_is(&rt, &rows, Some(Rule::Unknown));
     rows.target = Some(account_with(&rt, 102, MOST));
-    assert_eq!(rt; first(&rows), Some(Rule::Branch));
+    first_is(&rt, &rows, Some(Rule::Branch));
     rows.teller = Some(teller_of(&rt, 1, 0));
-    assert_eq!(rt; first(&rows), Some(Rule::Drawer));
+    first_is(&rt, &rows, Some(Rule::Drawer));
     rows.teller = Some(teller_with(&rt, 0));
-    assert_eq!(rt; first(&rows), Some(Rule::Floor));
+    first_is(&rt, &rows, Some(Rule::Floor));
     rows.source = Some(account_with(&rt, 101, 100));
-    assert_eq!(rt; first(&rows), Some(Rule::Range));
+    first_is(&rt, &rows, Some(Rule::Range));
     rows.target = Some(account_with(&rt, 102, MOST - 100));
-    assert_eq!(rt; first(&rows), Some(Rule::Full));
+    first_is(&rt, &rows, Some(Rule::Full));
     rows.ledger = Some(LEDGER);
-    assert_eq!(rt; first(&rows), None);
+    first_is(&rt, &rows, None);
 }

@@ -5,9 +5,9 @@ ghost use Rattle.counter_ops.specs.DrawerOff.{IsDrawerOff};
 ghost use Rattle.counter_ops.specs.Ranges.{IsCash, IsKey};
 
 use crate::amounts::{MOST, cents};
-use crate::asking::{Desk, TESS, TOM};
+use crate::asking::{Desk, SAMPLE_CASH_BOOK, SAMPLE_LEDGER, TESS, TOM};
 use crate::opening::{VAULT_AT_MOST, with_a_full_drawer, with_drawers_on};
-use crate::plans::{apply, line, plan_of};
+use crate::plans::{apply, line, lines_end_with, plan_of};
 use crate::rows::{BY_TESS, BY_TOM, CASH_BOOK, teller_of, teller_with};
 use bank_books::{LineForm, Signature, World, branch_record, teller_record};
 use bank_terms::MAX_KEY;
@@ -70,6 +70,16 @@ fn lines_of_the_sample_are_those_of_two_drawers_put_on(rt: HostRuntime) {
     assert!(rt; world.lines() == sample.lines());
 }
 
+/// Asks for the numbers of branch 1 of the sample.
+fn stands_as_the_sample(rt: &impl Abort, desk: &mut Desk) {
+    desk.drawer_is(rt, 11, 40_000, Some(7));
+    desk.drawer_is(rt, 12, 5_000, Some(8));
+    desk.teller_is(rt, 11, 60_000);
+    desk.teller_is(rt, 12, 0);
+    desk.ledger_is(rt, 1, SAMPLE_LEDGER);
+    desk.cash_is(rt, SAMPLE_CASH_BOOK, 55_000);
+}
+
 #[test]
 fn the_sample_is_what_two_requests_make_of_its_opening(rt: HostRuntime) {
     let alloc = rt.alloc();
@@ -78,13 +88,8 @@ fn the_sample_is_what_two_requests_make_of_its_opening(rt: HostRuntime) {
     desk.done_at(&rt, TESS, 0, Op::DrawerOn(ON_11), body);
     let body = "{\"cash\":5000,\"teller\":12,\"vault\":55000}";
     desk.done_at(&rt, TOM, 0, Op::DrawerOn(ON_12), body);
-    let mut sample = Desk::of_sample(&rt, alloc);
-    assert_eq!(rt; desk.branch(&rt, 1), sample.branch(&rt, 1));
-    assert_eq!(rt; desk.teller(&rt, 11), sample.teller(&rt, 11));
-    assert_eq!(rt; desk.teller(&rt, 12), sample.teller(&rt, 12));
-    let (first, second) = (desk.teller(&rt, 11), desk.teller(&rt, 12));
-    assert_eq!(rt; (first.cash, first.holder), (40_000, Some(7)));
-    assert_eq!(rt; (second.cash, second.holder), (5_000, Some(8)));
+    stands_as_the_sample(&rt, &mut desk);
+    stands_as_the_sample(&rt, &mut Desk::of_sample(&rt, alloc));
 }
 
 #[test]
@@ -92,20 +97,27 @@ fn drawers_go_off_and_on(rt: HostRuntime) {
     let mut desk = Desk::of_sample(&rt, rt.alloc());
     let body = "{\"difference\":-100,\"teller\":12,\"vault\":59900}";
     desk.done(&rt, TOM, Op::DrawerOff(off(&rt, 12, 4_900)), body);
-    let (teller, branch) = (desk.teller(&rt, 12), desk.branch(&rt, 1));
-    assert_eq!(rt; (teller.cash, teller.holder), (0, None));
-    assert_eq!(rt; (branch.vault, branch.drawers), (59_900, 40_000));
-    assert_eq!(rt; (branch.lines, branch.differences), (7, -100));
+    desk.drawer_is(&rt, 12, 0, None);
+    let after_off = CashBook {
+        lines: 7,
+        drawers: 40_000,
+        differences: -100,
+        ..SAMPLE_CASH_BOOK
+    };
+    desk.cash_is(&rt, after_off, 59_900);
     let on = DrawerOn {
         cash: 3_000,
         ..ON_12
     };
     let body = "{\"cash\":3000,\"teller\":12,\"vault\":56900}";
     desk.done(&rt, TESS, Op::DrawerOn(on), body);
-    let (teller, branch) = (desk.teller(&rt, 12), desk.branch(&rt, 1));
-    assert_eq!(rt; (teller.cash, teller.holder), (3_000, Some(7)));
-    assert_eq!(rt; (branch.vault, branch.drawers), (56_900, 43_000));
-    assert_eq!(rt; (branch.lines, branch.differences), (9, -100));
+    desk.drawer_is(&rt, 12, 3_000, Some(7));
+    let after_on = CashBook {
+        lines: 9,
+        drawers: 43_000,
+        ..after_off
+    };
+    desk.cash_is(&rt, after_on, 56_900);
     desk.denied(&rt, TOM, Op::DrawerOn(on), Rule::Drawer);
 }
 
@@ -122,8 +134,7 @@ fn a_drawer_put_off_writes_three_lines(rt: HostRuntime) {
         line(&rt, 6, 12, -4_900, LineForm::Off, BY_TOM),
         line(&rt, 7, 0, 4_900, LineForm::Off, BY_TOM),
     ];
-    assert_eq!(rt; world.lines().len(), 7);
-    assert!(rt; world.lines().ends_with(&lines));
+    lines_end_with(&rt, &world, 7, &lines);
 }
 
 #[test]
@@ -131,8 +142,12 @@ fn a_difference_of_nothing_is_a_line_too(rt: HostRuntime) {
     let mut desk = Desk::of_sample(&rt, rt.alloc());
     let body = "{\"difference\":0,\"teller\":11,\"vault\":95000}";
     desk.done(&rt, TESS, Op::DrawerOff(off(&rt, 11, 40_000)), body);
-    let branch = desk.branch(&rt, 1);
-    assert_eq!(rt; (branch.lines, branch.differences), (7, 0));
+    let book = CashBook {
+        lines: 7,
+        drawers: 5_000,
+        ..SAMPLE_CASH_BOOK
+    };
+    desk.cash_is(&rt, book, 95_000);
 }
 
 #[test]
@@ -141,7 +156,7 @@ fn the_vault_stays_in_range_where_a_drawer_is_put_off(rt: HostRuntime) {
     let mut desk = Desk::over(alloc, with_drawers_on(&rt, alloc, VAULT_AT_MOST));
     let too_much = Op::DrawerOff(off(&rt, 11, 45_001));
     desk.denied(&rt, TESS, too_much, Rule::Range);
-    assert_eq!(rt; desk.teller(&rt, 11).holder, Some(7));
+    desk.drawer_is(&rt, 11, 40_000, Some(7));
     let body = "{\"difference\":5000,\"teller\":11,\"vault\":999999999999}";
     desk.done(&rt, TESS, Op::DrawerOff(off(&rt, 11, 45_000)), body);
 }
@@ -217,10 +232,15 @@ fn a_drawer_put_off_needs_three_line_numbers(rt: HostRuntime) {
     }
 }
 
+/// Asks for this first rule against drawer 11 as it is put on.
+fn first_on_is(rt: &impl Abort, rows: &DrawerRows, rule: Option<Rule>) {
+    let first = rule_against_drawer_on(rows, &ON_11);
+    assert_eq!(rt; first, rule);
+}
+
 /// Rows against which every rule speaks, and which are mended one after another.
 #[test]
 fn rules_of_a_drawer_put_on_stand_in_order(rt: HostRuntime) {
-    let first = |rows: &DrawerRows| rule_against_drawer_on(rows, &ON_11);
     let full = CashBook {
         lines: u64::from(MAX_KEY),
         ..CASH_BOOK
@@ -233,26 +253,30 @@ fn rules_of_a_drawer_put_on_stand_in_order(rt: HostRuntime) {
         }),
         vault: Some(39_999),
     };
-    assert_eq!(rt; first(&rows), Some(Rule::Unknown));
+    first_on_is(&rt, &rows, Some(Rule::Unknown));
     rows.teller = Some(teller_of(&rt, 2, 0));
-    assert_eq!(rt; first(&rows), Some(Rule::Branch));
+    first_on_is(&rt, &rows, Some(Rule::Branch));
     rows.teller = Some(teller_with(&rt, 0));
-    assert_eq!(rt; first(&rows), Some(Rule::Drawer));
+    first_on_is(&rt, &rows, Some(Rule::Drawer));
     rows.teller = Some(teller_of(&rt, 1, 0));
-    assert_eq!(rt; first(&rows), Some(Rule::Cash));
+    first_on_is(&rt, &rows, Some(Rule::Cash));
     rows.vault = Some(40_000);
-    assert_eq!(rt; first(&rows), Some(Rule::Range));
+    first_on_is(&rt, &rows, Some(Rule::Range));
     rows.cash_book = Some(full);
-    assert_eq!(rt; first(&rows), Some(Rule::Full));
+    first_on_is(&rt, &rows, Some(Rule::Full));
     rows.cash_book = Some(CASH_BOOK);
-    assert_eq!(rt; first(&rows), None);
+    first_on_is(&rt, &rows, None);
+}
+
+/// Asks for this first rule against drawer 11 as it is put off, with 1.00 in it.
+fn first_off_is(rt: &impl Abort, rows: &DrawerRows, rule: Option<Rule>) {
+    let first = rule_against_drawer_off(rows, &off(rt, 11, 100), BY_TESS);
+    assert_eq!(rt; first, rule);
 }
 
 /// The same. No count brings a place below zero, so the rule of cash does not speak.
 #[test]
 fn rules_of_a_drawer_put_off_stand_in_order(rt: HostRuntime) {
-    let form = off(&rt, 11, 100);
-    let first = |rows: &DrawerRows| rule_against_drawer_off(rows, &form, BY_TESS);
     let mut rows = DrawerRows {
         teller: Some(teller_of(&rt, 2, 100)),
         cash_book: Some(CashBook {
@@ -261,15 +285,15 @@ fn rules_of_a_drawer_put_off_stand_in_order(rt: HostRuntime) {
         }),
         vault: None,
     };
-    assert_eq!(rt; first(&rows), Some(Rule::Unknown));
+    first_off_is(&rt, &rows, Some(Rule::Unknown));
     rows.vault = Some(i128::from(MOST));
-    assert_eq!(rt; first(&rows), Some(Rule::Branch));
+    first_off_is(&rt, &rows, Some(Rule::Branch));
     rows.teller = Some(teller_of(&rt, 1, 100));
-    assert_eq!(rt; first(&rows), Some(Rule::Drawer));
+    first_off_is(&rt, &rows, Some(Rule::Drawer));
     rows.teller = Some(teller_with(&rt, 100));
-    assert_eq!(rt; first(&rows), Some(Rule::Range));
+    first_off_is(&rt, &rows, Some(Rule::Range));
     rows.vault = Some(i128::from(MOST - 100));
-    assert_eq!(rt; first(&rows), Some(Rule::Full));
+    first_off_is(&rt, &rows, Some(Rule::Full));
     rows.cash_book = Some(CASH_BOOK);
-    assert_eq!(rt; first(&rows), None);
+    first_off_is(&rt, &rows, None);
 }
