@@ -14,14 +14,14 @@ use std::alloc::Global;
 use std::process::Abort;
 use store_rows::{Bank, BookReads, ListStore, Stands};
 
-/// Tess, who posts at branch 1 and asks for balances there.
+/// Tess, who holds drawer 11 of the sample, and posts, moves cash and asks for balances at branch 1.
 pub(crate) const TESS: Who = Who {
     user: Some(7),
     session: 1,
     release: 0,
 };
 
-/// Tom, who posts up to 500.00 at branch 1, and up to 10.00 anywhere.
+/// Tom, who holds drawer 12, and posts and transfers up to 500.00 at branch 1, and up to 10.00 anywhere.
 pub(crate) const TOM: Who = Who {
     user: Some(8),
     session: 1,

@@ -1,6 +1,7 @@
 //! Rows made up, as a store would answer them. By them the rules are judged on numbers that no bank of a test comes to.
 
 use crate::amounts::cents;
+use crate::asking::MOMENT;
 use bank_books::{Account, AccountRecord, Signature, Teller, TellerRecord};
 use row_rules::{CashBook, Ledger};
 use std::process::Abort;
@@ -8,13 +9,13 @@ use std::process::Abort;
 /// What the rows of Tess's requests bear.
 pub(crate) const BY_TESS: Signature = Signature {
     user: 7,
-    moment: 700,
+    moment: MOMENT,
 };
 
 /// What those of Tom's bear.
 pub(crate) const BY_TOM: Signature = Signature {
     user: 8,
-    moment: 700,
+    moment: MOMENT,
 };
 
 /// A history with nothing in it.

@@ -1,6 +1,5 @@
 //! Drawers that are put on and off: what they move, what stays in range, and the order of their rules.
 
-ghost use Rattle.std.specs.Prelude.{◌≡◌};
 ghost use Rattle.counter_ops.specs.DrawerOff.{IsDrawerOff};
 ghost use Rattle.counter_ops.specs.Ranges.{IsCash, IsKey};
 
