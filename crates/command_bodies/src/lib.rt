@@ -1,0 +1,9 @@
+//! The commands of the policy that the bodies of requests state.
+#![tactic(auto)]
+
+mod certifier;
+mod named;
+mod relation;
+mod triple;
+mod triple_key;
+mod user_key;
