@@ -1,4 +1,8 @@
 pub mod Certifier
+pub mod Command
+pub mod Enrolment
+pub mod ItemSet
+pub mod Member
 pub mod Named
 pub mod Relation
 pub mod Triple

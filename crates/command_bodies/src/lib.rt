@@ -2,6 +2,7 @@
 #![tactic(auto)]
 
 mod certifier;
+mod enrolment;
 mod named;
 mod relation;
 mod triple;
