@@ -1,5 +1,5 @@
 -- The intervals of a set that the items of an array state: each is an array of a kind, a least and a greatest key.
-use Rattle.std.specs.Prelude.{ℕ, ℤ, pos, negsuc, ◌==◌, ◌&&◌, List, [], ◌∷◌, Bool, Option, Some, None, option_and_then, option_map, unsigned_abs, if◌then◌else◌, nat_le}
+use Rattle.std.specs.Prelude.{ℕ, ℤ, pos, negsuc, ◌==◌, List, [], ◌∷◌, Option, Some, None, option_and_then, option_map, unsigned_abs, if◌then◌else◌, nat_le}
 use Rattle.bank_terms.specs.Limits.{max_key}
 use Rattle.serde_json.specs.Data.{Data, Items, no_items, item}
 use Rattle.serde_json.specs.Events.{items_len}
@@ -22,23 +22,20 @@ kind_numbered (negsuc _) = None
 abbrev pub key_of : Data → Option ℕ
 key_of value = option_map unsigned_abs (option_and_then (within (pos 1) (pos max_key)) (option_and_then as_i64 (as_number value)))
 
--- an interval is never empty
+-- three items: the kind, the least key and the greatest, which is not below it
 abbrev pub interval_of : Items → Option Member
-interval_of items = do
+interval_of items = if items_len items == 3 then (do
   kind ← option_and_then kind_numbered (option_and_then as_i64 (option_and_then as_number (get_item 0 items)))
   low ← option_and_then key_of (get_item 1 items)
   high ← option_and_then key_of (get_item 2 items)
-  if nat_le low high then Some (record { kind = kind; low = low; high = high }) else None
+  if nat_le low high then Some (record { kind = kind; low = low; high = high }) else None) else None
 
 abbrev pub member_of : Data → Option Member
-member_of value = do
-  items ← as_array value
-  if items_len items == 3 then interval_of items else None
+member_of value = option_and_then interval_of (as_array value)
 
 -- all of them in order, or none where one of the items states none
 abbrev pub members_of : Items → Option (List Member)
 members_of no_items = Some []
 members_of (item value rest) = do
   first ← member_of value
-  others ← members_of rest
-  Some (first ∷ others)
+  option_map (λ others. first ∷ others) (members_of rest)

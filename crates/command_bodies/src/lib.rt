@@ -3,6 +3,8 @@
 
 mod certifier;
 mod enrolment;
+mod item_set;
+mod member;
 mod named;
 mod relation;
 mod triple;
