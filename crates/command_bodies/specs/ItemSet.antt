@@ -1,5 +1,5 @@
 -- The set of items that a value states: an object with exactly these members, each in its range. Any other value states none.
-use Rattle.std.specs.Prelude.{ℕ, ◌&&◌, Bool, Option, Some, None, option_and_then, codes, if◌then◌else◌, nat_le}
+use Rattle.std.specs.Prelude.{◌&&◌, Bool, Option, Some, None, option_and_then, codes, if◌then◌else◌, nat_le}
 use Rattle.serde_json.specs.Data.{Data, Items}
 use Rattle.serde_json.specs.Events.{items_len}
 use Rattle.serde_json.specs.Find.{get, as_array}

@@ -17,7 +17,11 @@ use serde_json::{Error, Value};
 use std::alloc::{AllocError, Global};
 
 /// What the value states for the command. An error is refused memory.
-fn policy_op_stated(alloc: Global, command: Command, body: &Value) -> Result<Option<PolicyOp>, AllocError>
+fn policy_op_stated(
+    alloc: Global,
+    command: Command,
+    body: &Value,
+) -> Result<Option<PolicyOp>, AllocError>
     ensures value { IfOk result (λ stated. stated ≡ policy_op_of command (view body.now)) }
     ensures range { IfOk result (λ stated. IfSome stated IsPolicyOp) }
     ensures command { IfOk result (λ stated. IfSome stated (λ asked. command_of asked ≡ command)) }
@@ -53,7 +57,11 @@ fn stated_at(error: &Error) -> Result<Option<PolicyOp>, AllocError>
 /// What the bytes of a request's body state for the command, or none exactly where they state
 /// nothing: where they are no text or no JSON, or no object with exactly the members of the command's
 /// form, each in its range. An error is refused memory and nothing else.
-pub fn read_command(alloc: Global, command: Command, body: &[u8]) -> Result<Option<PolicyOp>, AllocError>
+pub fn read_command(
+    alloc: Global,
+    command: Command,
+    body: &[u8],
+) -> Result<Option<PolicyOp>, AllocError>
     ensures exact { IfOk result (λ stated. stated ≡ stated_command command body.now) }
     ensures range { IfOk result (λ stated. IfSome stated IsPolicyOp) }
     ensures command { IfOk result (λ stated. IfSome stated (λ asked. command_of asked ≡ command)) }
@@ -65,3 +73,6 @@ pub fn read_command(alloc: Global, command: Command, body: &[u8]) -> Result<Opti
         Err(error) => stated_at(&error),
     }
 }
+
+#[cfg(test)]
+mod tests;

@@ -1,4 +1,4 @@
-use Rattle.std.proofs.Common.{◌≡◌, ◌++◌, List, length, drop, option_map, All}
+use Rattle.std.proofs.Common.{◌≡◌, ◌++◌, length, drop, option_map, All}
 use Rattle.serde_json.specs.View.{items_view}
 use Rattle.policy_check.specs.Soundness.{IsMemberSound}
 use Rattle.command_bodies.specs.Member.{members_of}
