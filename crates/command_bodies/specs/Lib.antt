@@ -1,0 +1,10 @@
+pub mod Certifier
+pub mod Command
+pub mod Enrolment
+pub mod ItemSet
+pub mod Member
+pub mod Named
+pub mod Relation
+pub mod Triple
+pub mod TripleKey
+pub mod UserKey
