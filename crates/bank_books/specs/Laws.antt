@@ -6,12 +6,12 @@ use Rattle.bank_terms.specs.Limits.{max_version}
 use Rattle.bank_books.specs.WorldLists.{WorldLists}
 use Rattle.bank_books.specs.declared.row_write.RowWrite.{RowWrite}
 
--- one more change, which is none of the policy, makes of a World what it makes of that which the rest made
+-- one more change, which is none of the policy, makes of a World what it makes of that which the rest made, where its version has room for them
 abbrev pub PlanGrows : Type 0
 PlanGrows = (rows : List RowWrite) (row : RowWrite) (w : WorldLists) →
-    is_of_policy row ≡ false → applied (rows ++ row ∷ []) w ≡ written row (applied rows w)
+    is_of_policy row ≡ false → has_version_for rows w.version ≡ true → applied (rows ++ row ∷ []) w ≡ written row (applied rows w)
 
--- a version that is in its limits, and has room for the plan, is in its limits after it
+-- a version that is in its limits is in its limits after every plan
 abbrev pub VersionStays : Type 0
 VersionStays = (rows : List RowWrite) (w : WorldLists) →
-    w.version ≤ max_version → has_version_for rows w.version ≡ true → (applied rows w).version ≤ max_version
+    w.version ≤ max_version → (applied rows w).version ≤ max_version

@@ -1,7 +1,7 @@
 -- A plan leaves no entry of a cache wrong: a change of the policy makes each of them one of an older version.
-use Rattle.std.proofs.Common.{◌≡◌, ℕ, ◌+◌, ◌≤◌, Bool, true, false, ◌||◌, List, [], ◌∷◌, Option, Some, None, refl, ap, subst, sym, ◌∙◌, arith}
-use Rattle.bank_books.specs.Effects.{all_written, applied, written}
-use Rattle.bank_books.specs.Version.{changes_policy, is_of_policy, with_version}
+use Rattle.std.proofs.Common.{◌≡◌, ℕ, ◌+◌, if◌then◌else◌, ◌≤◌, Bool, true, false, ◌||◌, List, [], ◌∷◌, Option, Some, None, refl, ap, subst, sym, ◌∙◌, arith}
+use Rattle.bank_books.specs.Effects.{all_written, applied, in_full, written}
+use Rattle.bank_books.specs.Version.{changes_policy, has_version_for, is_of_policy, with_version}
 use Rattle.bank_books.specs.WorldLists.{WorldLists}
 use Rattle.bank_books.specs.declared.row_write.RowWrite.{RowWrite}
 use Rattle.bank_books.specs.declared.row_write.RowWrite.TheVariants as write
@@ -65,12 +65,19 @@ written_version (row ∷ plan) w = written_version plan (written row w) ∙ same
     same (write.Session s) = refl
     same (write.Policy p) = refl
 
-applied_fresh : (plan : List RowWrite) (w : WorldLists) (entries : List (Key × Kept)) → AreFresh w entries → AreFresh (applied plan w) entries
-applied_fresh plan w entries fresh = by (changes_policy plan) refl
+in_full_fresh : (plan : List RowWrite) (w : WorldLists) (entries : List (Key × Kept)) → AreFresh w entries → AreFresh (in_full plan w) entries
+in_full_fresh plan w entries fresh = by (changes_policy plan) refl
   where
     by : (b : Bool) → changes_policy plan ≡ b → AreFresh (with_version b (all_written plan w)) entries
     by true some = later w (with_version true (all_written plan w)) entries (ap (λ (n : ℕ). n + 1) (written_version plan w)) fresh
     by false none = written_fresh plan w entries none fresh
+
+applied_fresh : (plan : List RowWrite) (w : WorldLists) (entries : List (Key × Kept)) → AreFresh w entries → AreFresh (applied plan w) entries
+applied_fresh plan w entries fresh = by (has_version_for plan w.version)
+  where
+    by : (b : Bool) → AreFresh (if b then in_full plan w else w) entries
+    by true = in_full_fresh plan w entries fresh
+    by false = fresh
 
 after_fresh : (mark : Option Fault) (plan : List RowWrite) (w : WorldLists) (entries : List (Key × Kept)) → AreFresh w entries → AreFresh (after_mark mark (applied plan w) w) entries
 after_fresh None plan w entries fresh = applied_fresh plan w entries fresh

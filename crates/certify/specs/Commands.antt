@@ -1,14 +1,14 @@
 -- A command of the policy: the rules against it, and its effect. Clark and Wilson's rule E4 is what they are for: the lists of who may execute what are changed
 -- by those alone who may certify it, and these may not execute it.
-use Rattle.std.specs.Prelude.{ℕ, ◌==◌, ◌&&◌, ◌||◌, Bool, true, false, not, nat_le, nat_lt, is_none, List, [], ◌∷◌, Option, if◌then◌else◌}
+use Rattle.std.specs.Prelude.{ℕ, ◌==◌, ◌&&◌, ◌||◌, Bool, true, false, not, nat_le, is_none, List, [], ◌∷◌, Option}
 use Rattle.std.specs.Option.{option_map_or}
 use Rattle.std.specs.List.{find}
-use Rattle.bank_terms.specs.Limits.{max_relations, max_sets, max_triples, max_version}
+use Rattle.bank_terms.specs.Limits.{max_relations, max_sets, max_triples}
 use Rattle.bank_terms.specs.declared.rule.Rule.{Rule}
 use Rattle.bank_terms.specs.declared.rule.Rule.TheVariants as rule
 use Rattle.bank_policy.specs.declared.policy_write.PolicyWrite.{PolicyWrite}
 use Rattle.bank_policy.specs.declared.policy_write.PolicyWrite.TheVariants as change
-use Rattle.bank_books.specs.Effects.{applied}
+use Rattle.bank_books.specs.Effects.{applied, in_full}
 use Rattle.bank_books.specs.WorldLists.{WorldLists}
 use Rattle.bank_books.specs.declared.row_write.RowWrite.{RowWrite}
 use Rattle.bank_books.specs.declared.row_write.RowWrite.TheVariants as write
@@ -111,8 +111,8 @@ command_changes command by = write.Policy (change_of command by) ∷ []
 
 -- the World with its change
 abbrev pub commanded : WorldLists → ℕ → PolicyOp → WorldLists
-commanded w by command = applied (command_changes command by) w
+commanded w by command = in_full (command_changes command by) w
 
--- The World after it. The policy of the last version is changed no more: a store has no room for that, and says so.
+-- The World after it. The policy of the greatest version is changed no more: a store has no room for that, and says so.
 abbrev pub command_effect : WorldLists → ℕ → PolicyOp → WorldLists
-command_effect w by command = if nat_lt w.version max_version then commanded w by command else w
+command_effect w by command = applied (command_changes command by) w
