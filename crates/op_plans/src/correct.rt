@@ -5,8 +5,8 @@ ghost use Rattle.bank_run.specs.Meaning.{by_books};
 ghost use Rattle.postings.specs.Correct.{correct_rows, other_account, partner_of};
 ghost use Rattle.bank_run.specs.Correct.{correct_meaning, corrected_text};
 
-use crate::operations::post::posted_text;
-use crate::operations::transfer::transferred_text;
+use crate::post::posted_text;
+use crate::transfer::transferred_text;
 use crate::prepared::Prepared;
 use bank_books::{AccountRecord, Entry, Signature};
 use bank_terms::Rule;

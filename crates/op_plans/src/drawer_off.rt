@@ -5,7 +5,7 @@ ghost use Rattle.op_plans.specs.Judged.{IsJudged};
 ghost use Rattle.bank_run.specs.Meaning.{by_books};
 ghost use Rattle.bank_run.specs.DrawerOff.{drawer_off_meaning, put_off_data, put_off_text};
 
-use crate::operations::drawer_on::load_drawer_rows;
+use crate::drawer_on::load_drawer_rows;
 use crate::compact::compact;
 use crate::prepared::Prepared;
 use bank_books::Signature;

@@ -19,7 +19,7 @@ use store_rows::BookReads;
 
 /// The rows that a drawer of a teller is judged on, where it is put on or off. The first rule against that is that of its
 /// plan.
-pub(super) fn load_drawer_rows<B: BookReads>(
+pub(crate) fn load_drawer_rows<B: BookReads>(
     alloc: Global,
     store: &mut B,
     teller: u32,

@@ -54,7 +54,7 @@ pub(crate) fn prepare_post<B: BookReads>(
 }
 
 /// The bytes of the reply.
-pub(super) fn posted_text(alloc: Global, posted: &Posted) -> Result<Vec<u8>, AllocError>
+pub(crate) fn posted_text(alloc: Global, posted: &Posted) -> Result<Vec<u8>, AllocError>
     ensures { IfOk result (λ text. text.items ≡ posted_text posted.now) }
 {
     let value = posted_value(alloc, posted)?;

@@ -57,7 +57,7 @@ pub(crate) fn prepare_transfer<B: BookReads>(
 }
 
 /// The bytes of the reply.
-pub(super) fn transferred_text(
+pub(crate) fn transferred_text(
     alloc: Global,
     transferred: &Transferred,
 ) -> Result<Vec<u8>, AllocError>
