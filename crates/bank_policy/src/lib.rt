@@ -11,8 +11,6 @@ mod policy_rows;
 mod policy_write;
 mod reading;
 mod rows;
-#[cfg(test)]
-mod tests;
 
 pub use bank_terms::{Cdi, Kind, OperationRow, Procedure, Rule};
 pub use coverage::{best_limit, covers, is_certified};

@@ -77,6 +77,3 @@ pub fn read_op(alloc: Global, procedure: Procedure, body: &[u8]) -> Result<Optio
         Err(error) => stated_at(&error),
     }
 }
-
-#[cfg(test)]
-mod tests;

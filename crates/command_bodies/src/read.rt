@@ -73,6 +73,3 @@ pub fn read_command(
         Err(error) => stated_at(&error),
     }
 }
-
-#[cfg(test)]
-mod tests;

@@ -19,8 +19,6 @@ mod row_key;
 mod row_numbers;
 mod row_places;
 mod statement;
-#[cfg(test)]
-mod tests;
 mod to_row;
 mod transfer;
 

@@ -15,5 +15,3 @@ pub use framing::Framing;
 pub use head::{Head, MAX_BODY_LEN};
 pub use judging::{Judged, MAX_FIELDS, MAX_HEAD_LEN, judge};
 
-#[cfg(test)]
-mod tests;

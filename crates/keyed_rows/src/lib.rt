@@ -5,8 +5,6 @@ mod changes;
 mod groups;
 mod ordered;
 mod sums;
-#[cfg(test)]
-mod tests;
 
 pub use changes::{Change, change_rows, remove_rows};
 pub use groups::{Grouped, has_small_groups};

@@ -5,8 +5,6 @@ mod cents;
 mod fault;
 mod sending;
 mod tallied;
-#[cfg(test)]
-mod tests;
 mod text;
 
 pub use cents::{Cents, Delta, MAX_CENTS, MAX_DELTA, add, plus};

@@ -6,8 +6,6 @@ mod policy_fault;
 mod references;
 mod separation;
 mod soundness;
-#[cfg(test)]
-mod tests;
 
 pub use check::check_policy;
 pub use policy_fault::PolicyFault;

@@ -3,8 +3,6 @@
 
 mod command;
 mod policy_op;
-#[cfg(test)]
-mod tests;
 
 pub use bank_policy::{RelationKey, TripleKey};
 pub use command::Command;

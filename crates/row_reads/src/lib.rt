@@ -10,8 +10,6 @@ mod places;
 mod policy_reads;
 mod policy_row;
 mod records;
-#[cfg(test)]
-mod tests;
 
 pub use accounts::{next_shown, shown};
 pub use entries::{entries_of, entry, entry_at, undone};

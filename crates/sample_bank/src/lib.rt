@@ -4,8 +4,6 @@
 mod badges;
 mod opening;
 mod policy;
-#[cfg(test)]
-mod tests;
 
 pub use badges::badge_user;
 pub use opening::{opened_world, sample_world};

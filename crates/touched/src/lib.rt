@@ -2,8 +2,6 @@
 #![tactic(auto)]
 
 mod item_list;
-#[cfg(test)]
-mod tests;
 mod touched;
 
 pub use item_list::ItemList;

@@ -12,3 +12,7 @@ mod plans;
 mod policy_rows;
 #[cfg(test)]
 mod reads;
+#[cfg(test)]
+mod sample;
+#[cfg(test)]
+mod world_reads;

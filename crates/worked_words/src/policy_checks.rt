@@ -1,4 +1,4 @@
-use crate::{PolicyFault, check_policy};
+use policy_check::{PolicyFault, check_policy};
 use bank_policy::{Certifier, ItemSet, Member, Name, Policy, Relation, Triple, User};
 use bank_terms::{Kind, Procedure};
 use std::alloc::{AllocError, Global};

@@ -1,4 +1,4 @@
-use crate::{Command, Enrolment, PolicyOp, RelationKey, TripleKey, UserKey};
+use policy_ops::{Command, Enrolment, PolicyOp, RelationKey, TripleKey, UserKey};
 use bank_policy::{Certifier, ItemSet, Member, Name, Triple};
 use bank_terms::{Kind, Procedure};
 use std::alloc::{AllocError, Global};

@@ -1,9 +1,11 @@
-use super::*;
+use bank_terms::Procedure;
+use bodies::read_op;
 use counter_ops::{
-    Accounts, Balance, CloseDay, Correct, DrawerOff, DrawerOn, MoveCash, NewAccount, Post, Proof,
+    Accounts, Balance, CloseDay, Correct, DrawerOff, DrawerOn, MoveCash, NewAccount, Op, Post, Proof,
     Releasable, Release, Statement, Transfer,
 };
-use money::{Cents, Delta};
+use money::{Cents, Delta, Fault};
+use std::alloc::Global;
 use std::test::Fail;
 
 /// A post at the sample's teller 11.

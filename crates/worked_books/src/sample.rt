@@ -1,4 +1,4 @@
-use crate::{badge_user, sample_world};
+use sample_bank::{badge_user, sample_world};
 use bank_policy::user_row;
 use policy_check::check_policy;
 use std::alloc::AllocError;

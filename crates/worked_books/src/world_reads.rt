@@ -1,4 +1,4 @@
-use crate::{
+use row_reads::{
     DrawerRecord, PolicyKey, PolicyRow, UserRecord, drawer, entries_of, entry, entry_at,
     is_certifier, is_set, next_policy, next_shown, next_teller, policy_rows, release, roster,
     set_count, shown, triple_count, undone, user_record, vault,

@@ -1,4 +1,4 @@
-use crate::{
+use money::{
     Cents, Delta, Fault, MAX_CENTS, MAX_DELTA, Tallied, WriteStopped, add, cents_text, plus,
     write_cents, write_parts, write_whole,
 };

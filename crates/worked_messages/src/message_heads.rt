@@ -1,4 +1,4 @@
-use crate::{
+use heads::{
     Found, Framing, Head, Judged, MAX_BODY_LEN, MAX_FIELDS, MAX_HEAD_LEN, MessageFault, find_field,
     judge,
 };

@@ -1,4 +1,4 @@
-use crate::{amount, touches};
+use touched::{amount, touches};
 use bank_terms::{Cdi, Kind};
 use counter_ops::{
     Accounts, CloseDay, Correct, DrawerOn, MoveCash, NewAccount, Op, Post, Releasable, Release,

@@ -1,7 +1,8 @@
-use super::*;
 use bank_policy::{Certifier, ItemSet, Member, Name, RelationKey, Triple, TripleKey};
 use bank_terms::{Kind, Procedure};
-use policy_ops::{Enrolment, UserKey};
+use command_bodies::read_command;
+use policy_ops::{Command, Enrolment, PolicyOp, UserKey};
+use std::alloc::{AllocError, Global};
 use std::test::Fail;
 
 const RELATION: RelationKey = RelationKey {

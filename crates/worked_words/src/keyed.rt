@@ -1,4 +1,4 @@
-use crate::{
+use keyed_rows::{
     Change, Grouped, Keyed, Tally, are_in_order, change_rows, find_row, has_distinct_keys,
     has_small_groups, insert_row, insert_row_reserved, is_there, place_of, remove_rows,
     rows_between, sum_of,

@@ -1,4 +1,4 @@
-use crate::{
+use counter_ops::{
     Accounts, Balance, CloseDay, Correct, DrawerOff, DrawerOn, MoveCash, NewAccount, Op, Post,
     Proof, Releasable, Release, Statement, Transfer,
 };
