@@ -36,10 +36,10 @@ pub(crate) fn prepare<S: PolicyReads + BookReads>(
         Ok(leave) => {
             let by = execution.signature();
             match prepare_by_books(alloc, store, &execution.op, by)? {
-                Ok(prepared) => Ok(Ok(Prepared {
-                    plan: with_leave(prepared.plan, leave, by.user)?,
-                    text: prepared.text,
-                })),
+                Ok(Prepared { plan, text }) => {
+                    let plan = with_leave(plan, leave, by.user)?;
+                    Ok(Ok(Prepared { plan, text }))
+                }
                 Err(rule) => Ok(Err(rule)),
             }
         }
