@@ -10,7 +10,7 @@ use Rattle.bank_terms.specs.declared.rule.Rule.{Rule}
 use Rattle.bank_terms.specs.declared.rule.Rule.TheVariants as rule
 use Rattle.bank_policy.proofs.Tested.{certified_tested, certified_told, held_for, held_up_to, none_held, not_held_for, some_held}
 use Rattle.bank_books.specs.WorldLists.{WorldLists}
-use Rattle.bank_run.specs.PolicyRules.{Grounds, first_of_policy, grounds, is_identified, is_in_limit, is_released, leave_by_policy, leave_by_triples, leave_of, unless_denied, used_by}
+use Rattle.bank_run.specs.PolicyRules.{Grounds, first_of_policy, grounds, is_identified, is_in_limit, is_released, leave_by_policy, leave_by_triples, leave_of, leave_sought, unless_denied, used_by}
 use Rattle.bank_run.specs.Meaning.{by_books}
 use Rattle.bank_run.specs.Requests.{executes, first}
 use Rattle.bank_run.specs.Executions.{books_meaning}
@@ -72,37 +72,31 @@ by_five known certified held enough none_named counts release =
     (cond (not enough && none_named) (Some rule.Limit) (cond (not enough && (not none_named && not counts)) (Some rule.Release) None)))))
     (if enough then leave.Triple else leave.Release release)
 
--- what the triples say, once it is known whether the release counts
+-- the leave that is sought, once it is known whether the release counts
 abbrev pub if_counts : Bool → Result Leave Rule → Result Leave Rule
 if_counts counts (Err rule) = Err rule
 if_counts counts (Ok leave.Triple) = Ok leave.Triple
 if_counts counts (Ok (leave.Release number)) = if counts then Ok (leave.Release number) else Err rule.Release
 
-abbrev by_three : Bool → Bool → Bool → ℕ → Result Leave Rule
-by_three held enough none_named release =
-    if not held then Err rule.NoTriple else (if enough then Ok leave.Triple else (if none_named then Err rule.Limit else Ok (leave.Release release)))
+abbrev by_four : Bool → Bool → Bool → Bool → Bool → ℕ → Result Leave Rule
+by_four known certified held enough none_named release =
+    if not known then Err rule.Identity
+    else (if not certified then Err rule.NotCertified
+    else (if not held then Err rule.NoTriple else (if enough then Ok leave.Triple else (if none_named then Err rule.Limit else Ok (leave.Release release)))))
 
-joined : (held enough none_named counts : Bool) (release : ℕ) → by_five true true held enough none_named counts release ≡ if_counts counts (by_three held enough none_named release)
-joined false enough none_named counts release = refl
-joined true true none_named counts release = refl
-joined true false true counts release = refl
-joined true false false true release = refl
-joined true false false false release = refl
+joined : (known certified held enough none_named counts : Bool) (release : ℕ)
+    → by_five known certified held enough none_named counts release ≡ if_counts counts (by_four known certified held enough none_named release)
+joined false certified held enough none_named counts release = refl
+joined true false held enough none_named counts release = refl
+joined true true false enough none_named counts release = refl
+joined true true true true none_named counts release = refl
+joined true true true false true counts release = refl
+joined true true true false false true release = refl
+joined true true true false false false release = refl
 
-pub leave_joined : (g : Grounds) → is_identified g.standing g.session ≡ true → is_certified g.relations g.items ≡ true
-    → leave_by_policy g ≡ if_counts (is_released g) (leave_by_triples g.held g.items g.amount g.release)
-leave_joined g known certified =
-    ap (λ b. by_five b (is_certified g.relations g.items) (is_held g.held g.items) (is_in_limit g) (g.release == 0) (is_released g) g.release) known
-    ∙ ap (λ b. by_five true b (is_held g.held g.items) (is_in_limit g) (g.release == 0) (is_released g) g.release) certified
-    ∙ joined (is_held g.held g.items) (is_in_limit g) (g.release == 0) (is_released g) g.release
-
-pub unknown_refused : (g : Grounds) → is_identified g.standing g.session ≡ false → leave_by_policy g ≡ Err rule.Identity
-unknown_refused g unknown = ap (λ b. by_five b (is_certified g.relations g.items) (is_held g.held g.items) (is_in_limit g) (g.release == 0) (is_released g) g.release) unknown
-
-pub uncertified_refused : (g : Grounds) → is_identified g.standing g.session ≡ true → is_certified g.relations g.items ≡ false → leave_by_policy g ≡ Err rule.NotCertified
-uncertified_refused g known none =
-    ap (λ b. by_five b (is_certified g.relations g.items) (is_held g.held g.items) (is_in_limit g) (g.release == 0) (is_released g) g.release) known
-    ∙ ap (λ b. by_five true b (is_held g.held g.items) (is_in_limit g) (g.release == 0) (is_released g) g.release) none
+pub leave_joined : (g : Grounds) → leave_by_policy g ≡ if_counts (is_released g) (leave_sought g)
+leave_joined g =
+    joined (is_identified g.standing g.session) (is_certified g.relations g.items) (is_held g.held g.items) (is_in_limit g) (g.release == 0) (is_released g) g.release
 
 -- five tests of the policy stand in front of those of the books
 none_of_five : (a b c d e : Bool) (rest : Option Rule) →

@@ -97,12 +97,17 @@ unless_denied (Some rule) value = Err rule
 abbrev pub leave_by_policy : Grounds → Result Leave Rule
 leave_by_policy g = unless_denied (first_of_policy g) (leave_of g)
 
--- The leave that a user's triples give, or the first rule by which they give none: a triple that reaches the amount, or else the release that is named, if it
--- counts.
+-- the leave that a user's triples give, or the first rule by which they give none: a triple that reaches the amount, or else the release that is named
 abbrev pub leave_by_triples : List HeldTriple → List Cdi → ℕ → ℕ → Result Leave Rule
 leave_by_triples held items amount release =
     if not (is_held held items) then Err rule.NoTriple
     else (if is_held_for held items amount then Ok leave.Triple else (if release == 0 then Err rule.Limit else Ok (leave.Release release)))
+
+-- The leave that is sought, or the first rule in front of that on releases: it is a release where no triple reaches the amount, whether that counts or not.
+abbrev pub leave_sought : Grounds → Result Leave Rule
+leave_sought g =
+    if not (is_identified g.standing g.session) then Err rule.Identity
+    else (if not (is_certified g.relations g.items) then Err rule.NotCertified else leave_by_triples g.held g.items g.amount g.release)
 
 -- the World where a leave was used up: a release is marked as used
 abbrev pub used_by : Leave → ℕ → WorldLists → WorldLists
