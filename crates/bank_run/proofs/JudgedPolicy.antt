@@ -1,11 +1,11 @@
 -- The tests of the policy ask what the model asks.
-use Rattle.std.proofs.Common.{◌≡◌, ◌≢◌, ℕ, ◌==◌, ◌&&◌, Bool, true, false, not, List, [], ◌∷◌, Option, Some, None, refl, ap, ◌∙◌}
+use Rattle.std.proofs.Common.{◌≡◌, ◌≢◌, ◌⊎◌, inl, inr, ℕ, ◌==◌, ◌&&◌, Bool, true, false, not, List, [], ◌∷◌, Option, Some, None, refl, ap, ◌∙◌}
 use Rattle.std.specs.Prelude.{option_and_then, if◌then◌else◌}
 use Rattle.std.specs.List.{find}
 use Rattle.std.proofs.lemmas.Bool.{and_parts, eq-eqb, eqb-false, eqb-true, ne_eqb, not-true}
 use Rattle.bank_policy.specs.Execution.{Certified, Held}
 use Rattle.bank_policy.specs.HeldRows.{relations_of, standing, triples_of}
-use Rattle.bank_policy.specs.Tests.{is_certified, is_held, is_held_for}
+use Rattle.bank_policy.specs.Tests.{is_certified, is_held}
 use Rattle.bank_policy.specs.declared.rows.Standing.{Standing}
 use Rattle.bank_terms.specs.declared.rule.Rule.{Rule}
 use Rattle.bank_terms.specs.declared.rule.Rule.TheVariants as rule
@@ -14,11 +14,13 @@ use Rattle.bank_policy.proofs.Tested.{certified_tested, certified_told, held_by_
 use Rattle.bank_books.specs.WorldLists.{WorldLists}
 use Rattle.counter_ops.specs.Op.{procedure_of}
 use Rattle.touched.specs.Touched.{amount, touched}
-use Rattle.bank_run.specs.Laws.{AllowedExactlyWhenHeld, InLimit, IsIdentified, PolicyIsJudged}
-use Rattle.bank_run.specs.PolicyRules.{asker, grounds, is_identified, policy_denies, rules_of_policy}
+use Rattle.bank_run.specs.Laws.{AllowedExactlyWhenHeld, InLimit, InLimitOrReleased, IsIdentified, PolicyIsJudged, Released}
+use Rattle.bank_run.specs.PolicyRules.{asker, grounds, is_identified, is_in_limit, is_released, leave_of, policy_denies, rules_of_policy}
 use Rattle.bank_run.specs.Requests.{denies, executes}
 use Rattle.bank_run.specs.declared.execution.Execution.{Execution}
+use Rattle.bank_run.specs.declared.leave.Leave.TheVariants as leave
 use Rattle.bank_run.proofs.AllowedRequest.{allowed_by_books}
+use Rattle.bank_run.proofs.CountingRelease.{released_by_grounds}
 use Rattle.bank_run.proofs.PolicyLemmas.{books_decide}
 use Rattle.bank_run.specs.declared.who.Who.{Who}
 use Rattle.bank_run.proofs.FirstRule.{none_denies}
@@ -84,41 +86,75 @@ held_passed w q =
     (λ is. let some = held_by_some rows (touched q.op) is in (some.0, (held_by_rows w.policy (asker q.who) (procedure_of q.op) (touched q.op) some.0).1 some.1))
     (λ some. some_holds rows (touched q.op) some.0 ((held_by_rows w.policy (asker q.who) (procedure_of q.op) (touched q.op) some.0).0 some.1))
 
--- whether a release is named or not, one of the two rules denies
-neither : (b named : Bool) → (not b && named) ≡ false → (not b && not named) ≡ false → not b ≡ false
-neither true named limit release = refl
-neither false true limit release = absurd cc
-neither false false limit release = absurd cc
-
-both_pass : (b named : Bool) → not b ≡ false → ((not b && named) ≡ false) × ((not b && not named) ≡ false)
-both_pass true named is = (refl, refl)
-both_pass false named is = absurd cc
-
-limit_passed : (w : WorldLists) (q : Execution) →
-    ((denies rule.Limit w (executes q) ≡ false) × (denies rule.Release w (executes q) ≡ false) → InLimit w (asker q.who) q.op)
-    × (InLimit w (asker q.who) q.op → (denies rule.Limit w (executes q) ≡ false) × (denies rule.Release w (executes q) ≡ false))
-limit_passed w q =
-    let rows = triples_of w.policy (asker q.who) (procedure_of q.op) in
-    let says = passed (is_held_for rows (touched q.op) (amount q.op))
-    (λ is. let some = held_up_to rows (touched q.op) (amount q.op) is in (some.0, ((held_by_rows w.policy (asker q.who) (procedure_of q.op) (touched q.op) some.0).1 some.1.0, some.1.1)))
-    (λ some. up_to_holds rows (touched q.op) some.0 (amount q.op) ((held_by_rows w.policy (asker q.who) (procedure_of q.op) (touched q.op) some.0).0 some.1.0) some.1.1) in (
-      λ both. says.0 (neither (is_held_for rows (touched q.op) (amount q.op)) (q.who.release == 0) both.0 both.1),
-      λ holds. both_pass (is_held_for rows (touched q.op) (amount q.op)) (q.who.release == 0) (says.1 holds),
+-- some one triple reaches the amount
+in_limit_passed : (w : WorldLists) (q : Execution) → (is_in_limit (grounds w q) ≡ true → InLimit w (asker q.who) q.op) × (InLimit w (asker q.who) q.op → is_in_limit (grounds w q) ≡ true)
+in_limit_passed w q =
+    let rows = triples_of w.policy (asker q.who) (procedure_of q.op) in (
+      λ is. let some = held_up_to rows (touched q.op) (amount q.op) is in (some.0, ((held_by_rows w.policy (asker q.who) (procedure_of q.op) (touched q.op) some.0).1 some.1.0, some.1.1)),
+      λ some. up_to_holds rows (touched q.op) some.0 (amount q.op) ((held_by_rows w.policy (asker q.who) (procedure_of q.op) (touched q.op) some.0).0 some.1.0) some.1.1,
     )
 
--- where no release is named
-no_release : (b : Bool) (k : ℕ) → k ≡ 0 → (not b && not (k == 0)) ≡ false
-no_release b k none = ap (λ n. not b && not (n == 0)) none ∙ go b
-  where
-    go : (b : Bool) → (not b && false) ≡ false
-    go true = refl
-    go false = refl
+-- of two tests that let pass, one of them does
+one_passes : (enough named : Bool) {P Q : Type 0} → (enough ≡ true → P) → (named ≡ false → Q) → (not enough && named) ≡ false → P ⊎ Q
+one_passes true named reaches none is = inl (reaches refl)
+one_passes false true reaches none is = absurd cc
+one_passes false false reaches none is = inr (none refl)
 
-limit_told : (w : WorldLists) (q : Execution) → q.who.release ≡ 0 → denies rule.Release w (executes q) ≡ false
-limit_told w q none = no_release (is_held_for (triples_of w.policy (asker q.who) (procedure_of q.op)) (touched q.op) (amount q.op)) q.who.release none
+enough_passes : (enough rest : Bool) → enough ≡ true → (not enough && rest) ≡ false
+enough_passes true rest is = refl
+enough_passes false rest is = absurd cc
+
+rest_passes : (enough rest : Bool) → rest ≡ false → (not enough && rest) ≡ false
+rest_passes true rest is = refl
+rest_passes false rest is = is
+
+limit_passed : (w : WorldLists) (q : Execution) →
+    (denies rule.Limit w (executes q) ≡ false → InLimit w (asker q.who) q.op ⊎ (q.who.release ≢ 0))
+    × (InLimit w (asker q.who) q.op ⊎ (q.who.release ≢ 0) → denies rule.Limit w (executes q) ≡ false)
+limit_passed w q =
+    let enough : Bool = is_in_limit (grounds w q) in (
+      λ is. one_passes enough (q.who.release == 0) (in_limit_passed w q).0 (λ none. eqb-false q.who.release 0 none) is,
+      λ either. elim either [
+        | inl holds ↦ enough_passes enough (q.who.release == 0) ((in_limit_passed w q).1 holds)
+        | inr named ↦ rest_passes enough (q.who.release == 0) (ne_eqb q.who.release 0 named)
+      ],
+    )
+
+-- a release that is named counts, or none is named
+one_counts : (none counts : Bool) {P Q : Type 0} → (none ≡ true → P) → (counts ≡ true → Q) → (not none && not counts) ≡ false → P ⊎ Q
+one_counts true counts unnamed tells is = inl (unnamed refl)
+one_counts false true unnamed tells is = inr (tells refl)
+one_counts false false unnamed tells is = absurd cc
+
+none_passes : (none counts : Bool) → none ≡ true → (not none && not counts) ≡ false
+none_passes true counts is = refl
+none_passes false counts is = absurd cc
+
+counting_passes : (none counts : Bool) → counts ≡ true → (not none && not counts) ≡ false
+counting_passes true counts is = refl
+counting_passes false true is = refl
+counting_passes false false is = absurd cc
+
+release_passed : (w : WorldLists) (q : Execution) →
+    (denies rule.Release w (executes q) ≡ false → InLimit w (asker q.who) q.op ⊎ ((q.who.release ≡ 0) ⊎ Released w (asker q.who) q.who.release q.op))
+    × (InLimit w (asker q.who) q.op ⊎ ((q.who.release ≡ 0) ⊎ Released w (asker q.who) q.who.release q.op) → denies rule.Release w (executes q) ≡ false)
+release_passed w q =
+    let enough : Bool = is_in_limit (grounds w q) in
+    let counts : Bool = is_released (grounds w q) in
+    let none : Bool = q.who.release == 0 in
+    let law = released_by_grounds w (asker q.who) q.who.release q.op in (
+      λ is. one_passes enough (not none && not counts) (in_limit_passed w q).0 (λ rest. one_counts none counts (λ zero. eqb-true q.who.release 0 zero) law.0 rest) is,
+      λ any. elim any [
+        | inl holds ↦ enough_passes enough (not none && not counts) ((in_limit_passed w q).1 holds)
+        | inr rest ↦ rest_passes enough (not none && not counts) (elim rest [
+          | inl zero ↦ none_passes none counts (eq-eqb q.who.release 0 zero)
+          | inr released ↦ counting_passes none counts (law.1 released)
+        ])
+      ],
+    )
 
 pub policy_is_judged : PolicyIsJudged
-policy_is_judged w q = record { identified = identified_passed w q; certified = certified_passed w q; held = held_passed w q; in_limit = limit_passed w q; limit_told = limit_told w q }
+policy_is_judged w q = record { identified = identified_passed w q; certified = certified_passed w q; held = held_passed w q; in_limit = limit_passed w q; released = release_passed w q }
 
 -- ---- and all rules together
 
@@ -126,15 +162,36 @@ none_found : {X : Type 0} (p : X → Bool) (xs : List X) → ((x : X) → p x �
 none_found p [] fails = refl
 none_found p (x ∷ xs) fails = ap (λ b. if b then Some x else find p xs) (fails x) ∙ none_found p xs fails
 
--- each rule of the policy passes
-policy_passes : (w : WorldLists) (q : Execution) → IsIdentified w q.who → Certified w.policy (procedure_of q.op) (touched q.op) → InLimit w (asker q.who) q.op
+-- each rule of the policy passes, where these do of the limit and of the release
+policy_passes : (w : WorldLists) (q : Execution) → IsIdentified w q.who → Certified w.policy (procedure_of q.op) (touched q.op)
+    → (limit : ℕ) × Held w.policy (asker q.who) (procedure_of q.op) (touched q.op) limit → denies rule.Limit w (executes q) ≡ false → denies rule.Release w (executes q) ≡ false
     → (r : Rule) → policy_denies r (grounds w q) ≡ false
-policy_passes w q known certified held rule.Identity = (identified_passed w q).1 known
-policy_passes w q known certified held rule.NotCertified = (certified_passed w q).1 certified
-policy_passes w q known certified held rule.NoTriple = (held_passed w q).1 (held.0, held.1.0)
-policy_passes w q known certified held rule.Limit = ((limit_passed w q).1 held).0
-policy_passes w q known certified held rule.Release = ((limit_passed w q).1 held).1
-policy_passes w q known certified held _ = refl
+policy_passes w q known certified held limit release rule.Identity = (identified_passed w q).1 known
+policy_passes w q known certified held limit release rule.NotCertified = (certified_passed w q).1 certified
+policy_passes w q known certified held limit release rule.NoTriple = (held_passed w q).1 held
+policy_passes w q known certified held limit release rule.Limit = limit
+policy_passes w q known certified held limit release rule.Release = release
+policy_passes w q known certified held limit release _ = refl
+
+-- the limit and the release together
+told_either : (w : WorldLists) (q : Execution) → (limit : ℕ) × Held w.policy (asker q.who) (procedure_of q.op) (touched q.op) limit
+    → InLimit w (asker q.who) q.op ⊎ (q.who.release ≢ 0) → InLimit w (asker q.who) q.op ⊎ ((q.who.release ≡ 0) ⊎ Released w (asker q.who) q.who.release q.op) → InLimitOrReleased w q
+told_either w q held (inl in_limit) released = inl in_limit
+told_either w q held (inr named) (inl in_limit) = inl in_limit
+told_either w q held (inr named) (inr (inl none)) = absurd (named none)
+told_either w q held (inr named) (inr (inr released)) = inr (held, record { named = named; counts = released })
+
+held_either : (w : WorldLists) (q : Execution) → InLimitOrReleased w q → (limit : ℕ) × Held w.policy (asker q.who) (procedure_of q.op) (touched q.op) limit
+held_either w q (inl in_limit) = (in_limit.0, in_limit.1.0)
+held_either w q (inr released) = released.0
+
+limit_either : (w : WorldLists) (q : Execution) → InLimitOrReleased w q → denies rule.Limit w (executes q) ≡ false
+limit_either w q (inl in_limit) = (limit_passed w q).1 (inl in_limit)
+limit_either w q (inr released) = (limit_passed w q).1 (inr released.1.named)
+
+release_either : (w : WorldLists) (q : Execution) → InLimitOrReleased w q → denies rule.Release w (executes q) ≡ false
+release_either w q (inl in_limit) = (release_passed w q).1 (inl in_limit)
+release_either w q (inr released) = (release_passed w q).1 (inr (inr released.1.counts))
 
 pub allowed_exactly_when_held : AllowedExactlyWhenHeld
 allowed_exactly_when_held w q = (
@@ -142,8 +199,23 @@ allowed_exactly_when_held w q = (
       let each : (r : Rule) → denies r w (executes q) ≡ false = λ r. none_denies w (executes q) r is in (
         (identified_passed w q).0 (each rule.Identity),
         (certified_passed w q).0 (each rule.NotCertified),
-        (limit_passed w q).0 (each rule.Limit, each rule.Release),
+        told_either w q ((held_passed w q).0 (each rule.NoTriple)) ((limit_passed w q).0 (each rule.Limit)) ((release_passed w q).0 (each rule.Release)),
         allowed_by_books w q is,
       ),
-  λ says. books_decide w q (none_found (λ r. policy_denies r (grounds w q)) rules_of_policy (policy_passes w q says.0 says.1 says.2)) ∙ says.3,
+  λ says.
+      books_decide w q (none_found (λ r. policy_denies r (grounds w q)) rules_of_policy
+      (policy_passes w q says.0 says.1 (held_either w q says.2) (limit_either w q says.2) (release_either w q says.2)))
+      ∙ says.3,
 )
+
+-- what lets an operation be: a triple where one reaches the amount
+pub leave_in_limit : (w : WorldLists) (q : Execution) → InLimit w (asker q.who) q.op → leave_of (grounds w q) ≡ leave.Triple
+leave_in_limit w q holds = ap (λ (b : Bool). if b then leave.Triple else leave.Release q.who.release) ((in_limit_passed w q).1 holds)
+
+-- and else the release
+pub leave_past_limit : (w : WorldLists) (q : Execution) → ¬ InLimit w (asker q.who) q.op → leave_of (grounds w q) ≡ leave.Release q.who.release
+leave_past_limit w q past = go (is_in_limit (grounds w q)) (in_limit_passed w q).0
+  where
+    go : (b : Bool) → (b ≡ true → InLimit w (asker q.who) q.op) → (if b then leave.Triple else leave.Release q.who.release) ≡ leave.Release q.who.release
+    go true tells = absurd (past (tells refl))
+    go false tells = refl

@@ -1,6 +1,8 @@
 pub mod AllowedRequest
 pub mod CommandSteps
+pub mod CountingRelease
 pub mod FirstRule
+pub mod GivenRelease
 pub mod JudgedPolicy
 pub mod OpenedAccount
 pub mod OperationSteps
@@ -9,3 +11,4 @@ pub mod RunSums
 pub mod SessionSteps
 pub mod Shares
 pub mod Steps
+pub mod UsedRelease

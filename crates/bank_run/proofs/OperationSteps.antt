@@ -7,23 +7,27 @@ use Rattle.policy_check.specs.Soundness.{IsUserSound}
 use Rattle.bank_books.specs.Balances.{account_balance, branch_balance, entry_count, teller_balance}
 use Rattle.bank_books.specs.Books.{Books}
 use Rattle.bank_books.specs.Cash.{cash_entry_total, place_cash, vault_opening}
-use Rattle.bank_books.specs.Effects.{applied}
+use Rattle.bank_books.specs.Effects.{applied, written}
 use Rattle.bank_books.specs.Range.{IsUserNumber}
-use Rattle.bank_books.specs.Records.{account_record_of, branch_record_of, teller_record_of}
+use Rattle.bank_books.specs.Records.{account_record_of, branch_record_of, release_count, teller_record_of}
 use Rattle.bank_books.specs.WorldLists.{WorldLists}
+use Rattle.bank_books.specs.declared.row_write.RowWrite.TheVariants as write
 use Rattle.bank_books.specs.declared.rows.Proof.{Proof}
+use Rattle.bank_books.specs.declared.rows.Release.{Release as ReleaseRow}
 use Rattle.bank_books.specs.declared.signature.Signature.{Signature}
 use Rattle.book_growth.specs.Moves.{with_proof}
 use Rattle.book_growth.proofs.AccountAdded.{account_moves}
 use Rattle.book_growth.proofs.BooksSplit.{books_parts}
 use Rattle.book_growth.proofs.DayProved.{branch_still, proof_and_day_move_nothing}
 use Rattle.book_growth.proofs.Kept.{kept_beside, kept_same}
+use Rattle.book_growth.proofs.ReleaseAdded.{release_moves_nothing}
 use Rattle.bank_books.specs.Keys.{proof_key}
 use Rattle.counter_ops.specs.Correct.{IsCorrect}
 use Rattle.counter_ops.specs.DrawerOff.{IsDrawerOff}
 use Rattle.counter_ops.specs.DrawerOn.{IsDrawerOn}
 use Rattle.counter_ops.specs.MoveCash.{IsMoveCash}
 use Rattle.counter_ops.specs.Operations.{IsOp}
+use Rattle.counter_ops.specs.Release.{IsRelease}
 use Rattle.counter_ops.specs.declared.drawer_off.DrawerOff.{DrawerOff}
 use Rattle.counter_ops.specs.declared.drawer_on.DrawerOn.{DrawerOn}
 use Rattle.counter_ops.specs.declared.move_cash.MoveCash.{MoveCash}
@@ -35,6 +39,7 @@ use Rattle.counter_ops.specs.declared.new_account.NewAccount.{NewAccount}
 use Rattle.counter_ops.specs.declared.op.Op.{Op}
 use Rattle.counter_ops.specs.declared.op.Op.TheVariants as op
 use Rattle.counter_ops.specs.declared.post.Post.{Post}
+use Rattle.counter_ops.specs.declared.release.Release.{Release}
 use Rattle.row_rules.specs.BranchParts.{cash_book_of, ledger_of}
 use Rattle.row_rules.specs.Signed.{IsSigned}
 use Rattle.postings.specs.Post.{first_against_post, post_effect, post_rows}
@@ -55,10 +60,12 @@ use Rattle.drawers.proofs.AllowedMove as move_allowed
 use Rattle.drawers.proofs.AllowedOff as off_allowed
 use Rattle.drawers.proofs.AllowedOn as on_allowed
 use Rattle.drawers.proofs.DrawerThere.{book_of, are_there}
-use Rattle.bank_run.specs.Executions.{signature_of}
+use Rattle.bank_run.specs.Executions.{books_meaning, signature_of}
 use Rattle.bank_run.specs.Meaning.{by_books}
 use Rattle.bank_run.specs.NewAccount.{first_against_new_account, new_account_effect, opened, opening_rows}
 use Rattle.bank_run.specs.Operations.{meaning_of}
+use Rattle.bank_run.specs.PolicyRules.{asker, grounds, leave_of}
+use Rattle.bank_run.specs.Release.{first_against_release, given_release, release_effect, release_rows}
 use Rattle.bank_run.specs.Requests.{effect, executes, first}
 use Rattle.bank_run.specs.Sums.{IsProper, PassesChecks, moves_nothing, moves_of, moves_of_asked}
 use Rattle.bank_run.specs.declared.execution.Execution.{Execution}
@@ -68,10 +75,12 @@ use Rattle.bank_run.specs.declared.request.Request.{Request}
 use Rattle.bank_run.specs.declared.who.Who.{Who}
 use Rattle.bank_run.proofs.AllowedRequest.{allowed_by_books, allowed_user}
 use Rattle.bank_run.proofs.CommandSteps.{commands_step}
+use Rattle.bank_run.proofs.GivenRelease as release_given
 use Rattle.bank_run.proofs.OpenedAccount.{new_account_keeps_books, opened_is_next}
 use Rattle.bank_run.proofs.SessionSteps.{ends_session, opens_session}
 use Rattle.bank_run.proofs.Shares.{moved_sums, post_sums, put_off_sums, put_on_sums, transfer_sums, undone_post_sums, undone_transfer_sums}
 use Rattle.bank_run.proofs.Steps.{IsStep, none_more, passes, plan_step, plus_zero, stands}
+use Rattle.bank_run.proofs.UsedRelease.{used_step}
 
 posts : (w : WorldLists) (post : Post) (by : Signature) → PassesChecks w → IsSigned w by → first_against_post (post_rows w post) post by ≡ None
     → IsStep w (post_effect w post by) (moves_of (op.Post post))
@@ -171,6 +180,27 @@ opens w form checks proper is =
       added = record { entries = kept_same w.entries; lines = kept_same w.lines; proofs = kept_same w.proofs };
     }
 
+-- ---- a release
+
+gives : (w : WorldLists) (form : Release) (by : Signature) → PassesChecks w → IsRelease form → IsSigned w by → first_against_release (release_rows w form) form by ≡ None
+    → IsStep w (release_effect w form by) moves_nothing
+gives w form by checks proper signed is =
+    let there = release_given.are_there w form by is in
+    let row : ReleaseRow = given_release (release_count there.user.user w.releases) there.branch.day form by in
+    let effect = release_given.effect_is w form by there in
+    let nothing = release_moves_nothing w row in
+    subst (λ after. IsStep w after moves_nothing) (sym effect) (record {
+      checks = passes w (written (write.Release row) w) checks refl (subst Books effect (release_given.release_keeps_books w form by checks.books signed proper is));
+      branches = λ key. nothing.branch_balances key ∙ plus_zero (branch_balance w key);
+      tellers = λ key. nothing.teller_balances key ∙ plus_zero (teller_balance w key);
+      accounts = λ key. nothing.account_balances key ∙ plus_zero (account_balance w key);
+      history = λ branch. none_more (entry_count branch w.entries);
+      cash_entries = λ branch. plus_zero (cash_entry_total branch w.lines);
+      stay = λ branch there. there;
+      vaults = λ branch. refl;
+      added = record { entries = kept_same w.entries; lines = kept_same w.lines; proofs = kept_same w.proofs };
+    })
+
 -- ---- the end of a day
 
 same_opening : (before after rest : ℤ) → after +ℤ rest ≡ before +ℤ rest → after ≡ before
@@ -208,7 +238,7 @@ by_form w (op.DrawerOn form) by checks proper signed is = puts_on w form by chec
 by_form w (op.DrawerOff form) by checks proper signed is = puts_off w form by checks proper signed is
 by_form w (op.MoveCash move) by checks proper signed is = moves_cash w move by checks proper signed is
 by_form w (op.NewAccount form) by checks proper signed is = opens w form checks proper is
-by_form w (op.Release form) by checks proper signed is = stands w checks
+by_form w (op.Release form) by checks proper signed is = gives w form by checks proper signed is
 by_form w (op.Balance form) by checks proper signed is = stands w checks
 by_form w (op.Statement form) by checks proper signed is = stands w checks
 by_form w (op.Accounts form) by checks proper signed is = stands w checks
@@ -217,7 +247,8 @@ by_form w (op.CloseDay form) by checks proper signed is = closes w form checks i
 
 executed : (w : WorldLists) (x : Execution) → PassesChecks w → IsOp x.op → x.moment ≤ 99999999999 → first w (executes x) ≡ None → IsStep w (effect w (executes x)) (moves_of x.op)
 executed w x checks proper high is =
-    by_form w x.op (signature_of x) checks proper (record { user = allowed_user w x is; moment = high }) (allowed_by_books w x is)
+    used_step w (books_meaning w x).effect (moves_of x.op) (leave_of (grounds w x)) (asker x.who)
+    (by_form w x.op (signature_of x) checks proper (record { user = allowed_user w x is; moment = high }) (allowed_by_books w x is))
 
 abbrev asks : Asked → Who → ℕ → Request
 asks a who moment = record { who = who; moment = moment; asked = a }

@@ -6,7 +6,7 @@ use Rattle.bank_books.specs.WorldLists.{WorldLists}
 use Rattle.bank_books.specs.declared.signature.Signature.{Signature}
 use Rattle.bank_run.specs.Meaning.{Meaning}
 use Rattle.bank_run.specs.Operations.{meaning_of}
-use Rattle.bank_run.specs.PolicyRules.{asker, grounds, policy_denies}
+use Rattle.bank_run.specs.PolicyRules.{asker, grounds, leave_of, policy_denies, used_by}
 use Rattle.bank_run.specs.declared.execution.Execution.{Execution}
 
 -- who makes the rows that it adds, and when
@@ -26,10 +26,10 @@ is_of_policy rule.Limit = true
 is_of_policy rule.Release = true
 is_of_policy _ = false
 
--- what it is in a World, by the rules of the policy and of the books
+-- What it is in a World, by the rules of the policy and of the books. Where a release is what lets it be, that is used up with it.
 abbrev pub execution_meaning : WorldLists → Execution → Meaning
 execution_meaning w x = record {
   denies = λ r. if is_of_policy r then policy_denies r (grounds w x) else (books_meaning w x).denies r;
-  effect = (books_meaning w x).effect;
+  effect = used_by (leave_of (grounds w x)) (asker x.who) (books_meaning w x).effect;
   reply = (books_meaning w x).reply;
 }

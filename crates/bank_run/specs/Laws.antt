@@ -1,22 +1,33 @@
 -- What holds of every decision: the rule that is named is the first that denies, the tests of the policy ask what Clark and
--- Wilson's rules E1 and E2 ask, an account that is opened keeps the books, and a session changes nothing else.
-use Rattle.std.specs.Prelude.{ℕ, ◌≡◌, ◌≢◌, ◌↔◌, ◌==◌, ◌≤◌, ◌++◌, true, false, Option, Some, None, List, ◌∷◌, All, count_by}
+-- Wilson's rules E1 and E2 ask, a release counts once, an account that is opened and a release that is given keep the books, and a session changes nothing else.
+use Rattle.std.specs.Prelude.{ℕ, ◌≡◌, ◌≢◌, ◌↔◌, ◌⊎◌, ◌==◌, ◌≤◌, ◌++◌, true, false, Option, Some, None, List, ◌∷◌, All, count_by}
 use Rattle.std.specs.List.{AllZip}
 use Rattle.bank_policy.specs.Execution.{Certified, Held}
 use Rattle.bank_policy.specs.HeldRows.{standing}
 use Rattle.bank_terms.specs.Rule.{number_of}
 use Rattle.bank_policy.specs.declared.rows.Standing.{Standing}
 use Rattle.bank_policy.specs.declared.rows.User.{User}
+use Rattle.bank_terms.specs.declared.procedure.Procedure.TheVariants as procedure
 use Rattle.bank_terms.specs.declared.rule.Rule.{Rule}
 use Rattle.bank_terms.specs.declared.rule.Rule.TheVariants as rule
+use Rattle.bank_books.specs.Balances.{branch_row}
 use Rattle.bank_books.specs.Books.{Books}
 use Rattle.bank_books.specs.WorldLists.{WorldLists}
+use Rattle.bank_books.specs.declared.rows.Branch.{Branch}
+use Rattle.bank_books.specs.declared.rows.Release.{Release}
+use Rattle.bank_books.specs.declared.signature.Signature.{Signature}
 use Rattle.counter_ops.specs.Op.{procedure_of}
 use Rattle.counter_ops.specs.NewAccount.{IsNewAccount}
+use Rattle.counter_ops.specs.Release.{IsRelease}
+use Rattle.counter_ops.specs.Rows.{row_of}
 use Rattle.counter_ops.specs.declared.new_account.NewAccount.{NewAccount}
 use Rattle.counter_ops.specs.declared.op.Op.{Op}
+use Rattle.counter_ops.specs.declared.release.Release.{Release as Given}
+use Rattle.row_reads.specs.BookReads.{release}
+use Rattle.row_rules.specs.Signed.{IsSigned}
 use Rattle.touched.specs.Touched.{amount, touched}
 use Rattle.bank_run.specs.NewAccount.{first_against_new_account, new_account_effect, opening_rows}
+use Rattle.bank_run.specs.Release.{first_against_release, release_effect, release_rows}
 use Rattle.bank_run.specs.PolicyRules.{asker}
 use Rattle.bank_run.specs.Meaning.{by_books}
 use Rattle.bank_run.specs.Requests.{denies, effect, ends_session, executes, first, opens_session, rules}
@@ -54,23 +65,65 @@ pub record IsIdentified (w : WorldLists) (who : Who) : Type 0 where
   pub present : row.session ≡ who.session
   pub given : who.session ≢ 0
 
--- What it is that a rule of the policy does not deny, in the words of the model. Where the limit denies and a release is named, it is
--- the release that is told; none counts yet.
+-- The release of this number of a user counts for an operation: it is there and unused, names exactly that operation, and bears the present day of its branch; who
+-- gave it is another, is there and not suspended, and some one triple of his for releases holds all that is touched, up to the amount at least.
+pub record Released (w : WorldLists) (user number : ℕ) (op : Op) : Type 0 where
+  pub row : Release
+  pub there : release w user number ≡ Some row
+  pub unused : row.used ≡ false
+  pub operation : row.operation ≡ row_of op
+  pub branch : Branch
+  pub branch_there : branch_row row.branch w.branches ≡ Some branch
+  pub today : row.day ≡ branch.day
+  pub other : row.giver ≢ user
+  pub giver : Standing
+  pub giver_there : standing w.policy row.giver ≡ Some giver
+  pub active : giver.suspended ≡ false
+  pub limit : ℕ
+  pub held : Held w.policy row.giver procedure.Release (touched op) limit
+  pub enough : amount op ≤ limit
+
+-- a release is named, and counts for what is asked for
+pub record IsReleased (w : WorldLists) (x : Execution) : Type 0 where
+  pub named : x.who.release ≢ 0
+  pub counts : Released w (asker x.who) x.who.release x.op
+
+-- What it is that a rule of the policy does not deny, in the words of the model. Where no triple of the user's own reaches the amount, it is the limit that is told
+-- where no release is named, and the release where one is.
 pub record IsPolicyJudged (w : WorldLists) (x : Execution) : Type 0 where
   pub identified : denies rule.Identity w (executes x) ≡ false ↔ IsIdentified w x.who
   pub certified : denies rule.NotCertified w (executes x) ≡ false ↔ Certified w.policy (procedure_of x.op) (touched x.op)
   pub held : denies rule.NoTriple w (executes x) ≡ false ↔ ((limit : ℕ) × Held w.policy (asker x.who) (procedure_of x.op) (touched x.op) limit)
-  pub in_limit : ((denies rule.Limit w (executes x) ≡ false) × (denies rule.Release w (executes x) ≡ false)) ↔ InLimit w (asker x.who) x.op
-  pub limit_told : x.who.release ≡ 0 → denies rule.Release w (executes x) ≡ false
+  pub in_limit : denies rule.Limit w (executes x) ≡ false ↔ (InLimit w (asker x.who) x.op ⊎ (x.who.release ≢ 0))
+  pub released : denies rule.Release w (executes x) ≡ false ↔ (InLimit w (asker x.who) x.op ⊎ ((x.who.release ≡ 0) ⊎ Released w (asker x.who) x.who.release x.op))
 
 abbrev pub PolicyIsJudged : Type 0
 PolicyIsJudged = (w : WorldLists) (x : Execution) → IsPolicyJudged w x
 
--- An operation is allowed exactly when its user is known, its procedure is certified for what it touches,
--- some one triple of his holds all of that, up to the amount at least, and no rule of the books denies it.
+-- some one triple of his holds all that is touched: up to the amount at least, or a release that is named counts
+abbrev pub InLimitOrReleased : WorldLists → Execution → Type 0
+InLimitOrReleased w x =
+    InLimit w (asker x.who) x.op ⊎ (((limit : ℕ) × Held w.policy (asker x.who) (procedure_of x.op) (touched x.op) limit) × IsReleased w x)
+
+-- An operation is allowed exactly when its user is known, its procedure is certified for what it touches, some one triple of his holds all of that, within its limit
+-- or by a release that counts, and no rule of the books denies it.
 abbrev pub AllowedExactlyWhenHeld : Type 0
 AllowedExactlyWhenHeld = (w : WorldLists) (x : Execution) → first w (executes x) ≡ None
-    ↔ (IsIdentified w x.who × Certified w.policy (procedure_of x.op) (touched x.op) × InLimit w (asker x.who) x.op × ((by_books (books_meaning w x)).first ≡ None))
+    ↔ (IsIdentified w x.who × Certified w.policy (procedure_of x.op) (touched x.op) × InLimitOrReleased w x × ((by_books (books_meaning w x)).first ≡ None))
+
+-- A release is used up exactly where it is what lets an operation be: what a triple of the user's own reaches leaves the release that it names as it was, and one that
+-- let an operation be counts for none afterwards.
+pub record IsUsedOnce (w : WorldLists) (x : Execution) : Type 0 where
+  pub kept : InLimit w (asker x.who) x.op → effect w (executes x) ≡ (books_meaning w x).effect
+  pub used : ¬ InLimit w (asker x.who) x.op → (op : Op) → ¬ Released (effect w (executes x)) (asker x.who) x.who.release op
+
+abbrev pub ReleasesAreUsedOnce : Type 0
+ReleasesAreUsedOnce = (w : WorldLists) (x : Execution) → IsUsedOnce w x
+
+-- A release that is given is a well-formed transaction: of books that hold it makes books that hold.
+abbrev pub ReleaseKeepsBooks : Type 0
+ReleaseKeepsBooks = (w : WorldLists) (form : Given) (by : Signature) → Books w → IsSigned w by → IsRelease form → first_against_release (release_rows w form) form by ≡ None
+    → Books (release_effect w form by)
 
 -- An account that is opened is a well-formed transaction, too: of books that hold it makes books that hold.
 abbrev pub NewAccountKeepsBooks : Type 0

@@ -9,10 +9,12 @@ pub mod Executions
 pub mod Laws
 pub mod Meaning
 pub mod MoveCash
+pub mod NamedRelease
 pub mod NewAccount
 pub mod Operations
 pub mod PolicyRules
 pub mod Post
+pub mod Release
 pub mod Requests
 pub mod Run
 pub mod Sessions

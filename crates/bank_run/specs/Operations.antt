@@ -15,6 +15,7 @@ use Rattle.bank_run.specs.Meaning.{Meaning, no_meaning}
 use Rattle.bank_run.specs.MoveCash.{move_meaning}
 use Rattle.bank_run.specs.NewAccount.{new_account_meaning}
 use Rattle.bank_run.specs.Post.{post_meaning}
+use Rattle.bank_run.specs.Release.{release_meaning}
 use Rattle.bank_run.specs.Transfer.{transfer_meaning}
 
 -- the procedures that are served
@@ -26,7 +27,7 @@ is_served procedure.DrawerOn = true
 is_served procedure.DrawerOff = true
 is_served procedure.MoveCash = true
 is_served procedure.NewAccount = true
-is_served procedure.Release = false
+is_served procedure.Release = true
 is_served procedure.Balance = true
 is_served procedure.Statement = false
 is_served procedure.Accounts = false
@@ -42,7 +43,7 @@ meaning_of (op.DrawerOn form) by w = drawer_on_meaning form by w
 meaning_of (op.DrawerOff form) by w = drawer_off_meaning form by w
 meaning_of (op.MoveCash move) by w = move_meaning move by w
 meaning_of (op.NewAccount form) by w = new_account_meaning form w
-meaning_of (op.Release release) by w = no_meaning w
+meaning_of (op.Release release) by w = release_meaning release by w
 meaning_of (op.Balance balance) by w = balance_meaning balance w
 meaning_of (op.Statement statement) by w = no_meaning w
 meaning_of (op.Accounts accounts) by w = no_meaning w

@@ -1,16 +1,21 @@
 -- The rules of the policy: who asks, and rules E1 to E3 of Clark and Wilson's model.
-use Rattle.std.specs.Prelude.{ℕ, ◌==◌, ◌&&◌, Bool, false, not, List, [], ◌∷◌, Option, None, Some, Result, Ok, Err, option_and_then}
+use Rattle.std.specs.Prelude.{ℕ, ◌==◌, ◌&&◌, Bool, false, not, List, [], ◌∷◌, Option, None, Some, Result, Ok, Err, if◌then◌else◌, option_and_then}
 use Rattle.std.specs.Option.{option_map_or}
 use Rattle.std.specs.List.{find}
 use Rattle.bank_policy.specs.HeldRows.{CertifiedSet, HeldTriple, relations_of, standing, triples_of}
 use Rattle.bank_policy.specs.Tests.{is_certified, is_held, is_held_for}
 use Rattle.bank_terms.specs.declared.item.Cdi.{Cdi}
 use Rattle.bank_policy.specs.declared.rows.Standing.{Standing}
+use Rattle.bank_terms.specs.declared.operation_row.OperationRow.{OperationRow}
 use Rattle.bank_terms.specs.declared.rule.Rule.{Rule}
 use Rattle.bank_terms.specs.declared.rule.Rule.TheVariants as rule
+use Rattle.bank_books.specs.Effects.{written}
 use Rattle.bank_books.specs.WorldLists.{WorldLists}
+use Rattle.bank_books.specs.declared.row_write.RowWrite.TheVariants as write
 use Rattle.counter_ops.specs.Op.{procedure_of}
+use Rattle.counter_ops.specs.Rows.{row_of}
 use Rattle.touched.specs.Touched.{amount, touched}
+use Rattle.bank_run.specs.NamedRelease.{ReleaseGrounds, counts, release_grounds}
 use Rattle.bank_run.specs.declared.leave.Leave.{Leave}
 use Rattle.bank_run.specs.declared.leave.Leave.TheVariants as leave
 use Rattle.bank_run.specs.declared.execution.Execution.{Execution}
@@ -22,48 +27,55 @@ asker who = option_map_or (λ user. user) who.user 0
 
 -- all that the rules of the policy judge one operation by
 pub record Grounds : Type 0 where
+  -- who asks, 0 where the gate names none
+  pub user : ℕ
   pub standing : Option Standing
   pub session : ℕ
   pub relations : List CertifiedSet
   pub held : List HeldTriple
+  -- the operation as a row, what it touches and what it comes to
+  pub operation : OperationRow
   pub items : List Cdi
   pub amount : ℕ
-  -- the number of the release that is named, 0 for none
+  -- the number of the release that is named, 0 for none, and what it is judged by, where it is there
   pub release : ℕ
+  pub released : Option ReleaseGrounds
 
 abbrev pub grounds : WorldLists → Execution → Grounds
 grounds w x = record {
+  user = asker x.who;
   standing = option_and_then (λ user. standing w.policy user) x.who.user;
   session = x.who.session;
   relations = relations_of w.policy (procedure_of x.op);
   held = triples_of w.policy (asker x.who) (procedure_of x.op);
+  operation = row_of x.op;
   items = touched x.op;
   amount = amount x.op;
   release = x.who.release;
+  released = release_grounds w (asker x.who) x.who.release;
 }
 
 -- he is there, is not suspended, and his session is open and the one that he names; 0 names none
 abbrev pub is_identified : Option Standing → ℕ → Bool
 is_identified row session = option_map_or (λ s. not (session == 0) && (not s.suspended && (s.on && s.session == session))) row false
 
--- A rule denies by a user's triples: no one of them has a set that holds all that is touched; none that has reaches the amount, and
--- no release is named; or one is named. No release counts yet, as none can be given.
-abbrev pub triples_deny : Rule → List HeldTriple → List Cdi → ℕ → ℕ → Bool
-triples_deny rule.NoTriple held items amount release = not (is_held held items)
-triples_deny rule.Limit held items amount release = not (is_held_for held items amount) && release == 0
-triples_deny rule.Release held items amount release = not (is_held_for held items amount) && not (release == 0)
-triples_deny _ held items amount release = false
+-- some one triple of his holds all that is touched, and reaches the amount
+abbrev pub is_in_limit : Grounds → Bool
+is_in_limit g = is_held_for g.held g.items g.amount
 
--- the first of these that denies
-abbrev pub first_of_triples : List HeldTriple → List Cdi → ℕ → ℕ → Option Rule
-first_of_triples held items amount release = find (λ r. triples_deny r held items amount release) (rule.NoTriple ∷ rule.Limit ∷ rule.Release ∷ [])
+-- the release that is named is there and counts
+abbrev pub is_released : Grounds → Bool
+is_released g = option_map_or (λ r. counts r g.user g.operation g.items g.amount) g.released false
 
--- A rule of the policy denies: who asks is not known; no relation of the procedure has a set that holds all that is touched; or by
--- the user's triples.
+-- A rule of the policy denies: who asks is not known; no relation of the procedure has a set that holds all that is touched; no one triple of his has; none that
+-- has reaches the amount, and no release is named; or one is named, and does not count.
 abbrev pub policy_denies : Rule → Grounds → Bool
 policy_denies rule.Identity g = not (is_identified g.standing g.session)
 policy_denies rule.NotCertified g = not (is_certified g.relations g.items)
-policy_denies r g = triples_deny r g.held g.items g.amount g.release
+policy_denies rule.NoTriple g = not (is_held g.held g.items)
+policy_denies rule.Limit g = not (is_in_limit g) && g.release == 0
+policy_denies rule.Release g = not (is_in_limit g) && (not (g.release == 0) && not (is_released g))
+policy_denies _ g = false
 
 -- the rules of the policy that an operation is judged by, in their order
 abbrev pub rules_of_policy : List Rule
@@ -73,10 +85,31 @@ rules_of_policy = rule.Identity ∷ rule.NotCertified ∷ rule.NoTriple ∷ rule
 abbrev pub first_of_policy : Grounds → Option Rule
 first_of_policy g = find (λ r. policy_denies r g) rules_of_policy
 
+-- what lets him execute it, where no rule denies: a triple of his own, or else the release that is named
+abbrev pub leave_of : Grounds → Leave
+leave_of g = if is_in_limit g then leave.Triple else leave.Release g.release
+
 abbrev pub unless_denied : {A : Type 0} → Option Rule → A → Result A Rule
 unless_denied None value = Ok value
 unless_denied (Some rule) value = Err rule
 
--- the leave that the policy gives, a triple, or its first rule against it
+-- the leave that the policy gives, or its first rule against it
 abbrev pub leave_by_policy : Grounds → Result Leave Rule
-leave_by_policy g = unless_denied (first_of_policy g) leave.Triple
+leave_by_policy g = unless_denied (first_of_policy g) (leave_of g)
+
+-- the leave that a user's triples give, or the first rule by which they give none: a triple that reaches the amount, or else the release that is named
+abbrev pub leave_by_triples : List HeldTriple → List Cdi → ℕ → ℕ → Result Leave Rule
+leave_by_triples held items amount release =
+    if not (is_held held items) then Err rule.NoTriple
+    else (if is_held_for held items amount then Ok leave.Triple else (if release == 0 then Err rule.Limit else Ok (leave.Release release)))
+
+-- The leave that is sought, or the first rule in front of that on releases: it is a release where no triple reaches the amount, whether that counts or not.
+abbrev pub leave_sought : Grounds → Result Leave Rule
+leave_sought g =
+    if not (is_identified g.standing g.session) then Err rule.Identity
+    else (if not (is_certified g.relations g.items) then Err rule.NotCertified else leave_by_triples g.held g.items g.amount g.release)
+
+-- the World where a leave was used up: a release is marked as used
+abbrev pub used_by : Leave → ℕ → WorldLists → WorldLists
+used_by leave.Triple user w = w
+used_by (leave.Release number) user w = written (write.Used (record { user = user; number = number })) w

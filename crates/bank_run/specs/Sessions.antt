@@ -14,6 +14,7 @@ use Rattle.bank_books.specs.WorldLists.{WorldLists}
 use Rattle.bank_books.specs.declared.row_write.RowWrite.TheVariants as write
 use Rattle.bank_run.specs.Denial.{natural}
 use Rattle.bank_run.specs.Meaning.{Meaning, json}
+use Rattle.bank_run.specs.NamedRelease.{is_active}
 use Rattle.bank_run.specs.PolicyRules.{asker, is_identified}
 use Rattle.bank_run.specs.declared.who.Who.{Who}
 
@@ -31,13 +32,9 @@ session_of who number on = record { user = asker who; session = number; on = on 
 
 -- ---- opening
 
--- he is there and is not suspended; no session is looked at
-abbrev pub may_open : Option Standing → Bool
-may_open row = option_map_or (λ s. not s.suspended) row false
-
 -- The rule denies the opening: who asks may not open a session; his next session would pass the greatest number.
 abbrev pub opening_denies : Rule → Option Standing → Bool
-opening_denies rule.Identity row = not (may_open row)
+opening_denies rule.Identity row = not (is_active row)
 opening_denies rule.Full row = option_map_or (λ s. nat_le max_key s.session) row false
 opening_denies _ row = false
 

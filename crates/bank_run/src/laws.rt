@@ -1,6 +1,6 @@
-//! What holds of every decision, of a new account, of sessions, and along every list of requests. The functions do nothing; their contracts are the laws.
+//! What holds of every decision, of releases, of a new account, of sessions, and along every list of requests. The functions do nothing; their contracts are the laws.
 
-ghost use Rattle.bank_run.specs.Laws.{AllowedExactlyWhenHeld, FirstByPlace, NewAccountKeepsBooks, PolicyIsJudged, SessionsChangeNoMore};
+ghost use Rattle.bank_run.specs.Laws.{AllowedExactlyWhenHeld, FirstByPlace, NewAccountKeepsBooks, PolicyIsJudged, ReleaseKeepsBooks, ReleasesAreUsedOnce, SessionsChangeNoMore};
 ghost use Rattle.bank_run.specs.Sums.{NoOneExecutesWhatHeCertifies, SumsAlwaysAgree};
 
 /// The rule that a denial names is the first that denies, by its place in the list of rules, in which each stands once; and
@@ -10,15 +10,27 @@ pub fn first_by_place()
 {}
 
 /// The rules of the policy do not deny exactly where who asks is known, some relation, some one triple,
-/// and one up to the amount holds all that is touched.
+/// and one up to the amount holds all that is touched, or a release that is named counts.
 pub fn policy_is_judged()
     ensures { PolicyIsJudged }
 {}
 
 /// An operation is allowed exactly when its user is known, some one triple of his holds all that it
-/// touches, up to its amount, the procedure is certified for that, and no rule of the books denies it.
+/// touches, up to its amount or by a release that counts, the procedure is certified for that, and no
+/// rule of the books denies it.
 pub fn allowed_exactly_when_held()
     ensures { AllowedExactlyWhenHeld }
+{}
+
+/// A release that is what lets an operation be counts for none afterwards, and one that is named where a
+/// triple of the user's own suffices stays as it was.
+pub fn releases_are_used_once()
+    ensures { ReleasesAreUsedOnce }
+{}
+
+/// Where the books hold, they hold after a release is given that no rule of the books denies, too.
+pub fn release_keeps_books()
+    ensures { ReleaseKeepsBooks }
 {}
 
 /// Where the books hold, they hold after an account is opened that no rule of the books denies, too.

@@ -1,6 +1,8 @@
-/// What lets a user execute an operation up to its amount. Leave by a release is still to come.
+/// What lets a user execute an operation up to its amount.
 #[derive(Clone, Copy, Debug, PartialEq, Eq)]
 pub enum Leave {
     /// A triple of the user's own.
     Triple,
+    /// A release of this number that the user was given, which is used up by it.
+    Release(u32),
 }

@@ -2,6 +2,6 @@ pub mod CarriedOut
 pub mod CounterLemmas
 pub mod ExitLemmas
 pub mod FramingLemmas
+pub mod NumberLemmas
 pub mod RouteLemmas
 pub mod RunLemmas
-pub mod SessionLemmas

@@ -15,9 +15,9 @@ use Rattle.heads.specs.Fields.{values_named}
 unfoldable pub is_badge : List ℕ → Bool
 is_badge value = nat_lt 0 (length value) && nat_le (length value) 64 && list_all is_ascii_graphic value
 
--- the number of a session: digits that come to 999,999,999 at most, and the first is 1 to 9
-unfoldable pub is_session : List ℕ → Bool
-is_session value = is_in_range 49 57 (get_or value 0 0) && all_ascii_digits value && nat_le (digits_value 10 value) max_key
+-- the number of a session or of a release: digits that come to 999,999,999 at most, and the first is 1 to 9
+unfoldable pub is_number : List ℕ → Bool
+is_number value = is_in_range 49 57 (get_or value 0 0) && all_ascii_digits value && nat_le (digits_value 10 value) max_key
 
 -- the user whom the values of Bank-Badge fields name; a fault where there are two, or one that is no badge
 abbrev pub user_of : (List ℕ → Option ℕ) → List (List ℕ) → Result (Option ℕ) MessageFault
@@ -25,12 +25,12 @@ user_of users [] = Ok None
 user_of users (value ∷ []) = if is_badge value then Ok (users value) else Err BadContent
 user_of users (value ∷ other ∷ values) = Err BadContent
 
--- the session that the values of Bank-Session fields state, 0 where there is none; a fault where there are two,
+-- the number that the values of Bank-Session or of Bank-Release fields state, 0 where there is none; a fault where there are two,
 -- or one that is no such number
-abbrev pub session_of : List (List ℕ) → Result ℕ MessageFault
-session_of [] = Ok 0
-session_of (value ∷ []) = if is_session value then Ok (digits_value 10 value) else Err BadContent
-session_of (value ∷ other ∷ values) = Err BadContent
+abbrev pub number_of : List (List ℕ) → Result ℕ MessageFault
+number_of [] = Ok 0
+number_of (value ∷ []) = if is_number value then Ok (digits_value 10 value) else Err BadContent
+number_of (value ∷ other ∷ values) = Err BadContent
 
 -- both together, with no release
 abbrev pub who_from : Result (Option ℕ) MessageFault → Result ℕ MessageFault → Result Who MessageFault
@@ -41,8 +41,18 @@ who_from (Err fault) session = Err fault
 -- who asks, as the fields of a message say that read the session, too
 abbrev pub who_of : (List ℕ → Option ℕ) → List (List ℕ × List ℕ) → Result Who MessageFault
 who_of users fields =
-    who_from (user_of users (values_named (codes "Bank-Badge") fields)) (session_of (values_named (codes "Bank-Session") fields))
+    who_from (user_of users (values_named (codes "Bank-Badge") fields)) (number_of (values_named (codes "Bank-Session") fields))
 
 -- and by the badge alone, whatever Bank-Session fields there are
 abbrev pub who_by_badge : (List ℕ → Option ℕ) → List (List ℕ × List ℕ) → Result Who MessageFault
 who_by_badge users fields = who_from (user_of users (values_named (codes "Bank-Badge") fields)) (Ok 0)
+
+-- who asks, with the release that he names
+abbrev pub with_release : Result Who MessageFault → Result ℕ MessageFault → Result Who MessageFault
+with_release (Ok who) (Ok release) = Ok (record who { release = release })
+with_release (Ok who) (Err fault) = Err fault
+with_release (Err fault) release = Err fault
+
+-- who asks for an operation: of operations alone the release is read, too
+abbrev pub who_of_operation : (List ℕ → Option ℕ) → List (List ℕ × List ℕ) → Result Who MessageFault
+who_of_operation users fields = with_release (who_of users fields) (number_of (values_named (codes "Bank-Release") fields))

@@ -12,7 +12,7 @@ use Rattle.bank_run.specs.declared.who.Who.{Who}
 use Rattle.heads.specs.declared.fault.MessageFault.{MessageFault}
 use Rattle.heads.specs.declared.fault.MessageFault.TheVariants.{BadContent, NoSuchRoute}
 use Rattle.messages.specs.Parts.{MessageParts}
-use Rattle.counter_api.specs.Fields.{who_by_badge, who_of}
+use Rattle.counter_api.specs.Fields.{who_by_badge, who_of, who_of_operation}
 use Rattle.counter_api.specs.Routes.{asked_route}
 use Rattle.counter_api.specs.declared.routes.Route.{Route}
 use Rattle.counter_api.specs.declared.routes.Route.TheVariants as route
@@ -41,7 +41,7 @@ IsServedRoute route.Ending = ⊤
 
 -- the request of a route; who opens a session need not have one, and is known by the badge alone
 abbrev pub asked_of : (List ℕ → Option ℕ) → ℕ → MessageParts → Option Route → Result Request MessageFault
-asked_of users moment m (Some (route.Operation procedure)) = asked_by procedure moment m.body (who_of users m.head.fields)
+asked_of users moment m (Some (route.Operation procedure)) = asked_by procedure moment m.body (who_of_operation users m.head.fields)
 asked_of users moment m (Some route.Opening) = session_by asked.Opening moment (who_by_badge users m.head.fields)
 asked_of users moment m (Some route.Ending) = session_by asked.Ending moment (who_of users m.head.fields)
 asked_of users moment m None = Err NoSuchRoute

@@ -8,13 +8,13 @@ ghost use Rattle.bank_run.specs.Sums.{IsProper};
 ghost use Rattle.messages.specs.Failures.{CountsByCall};
 ghost use Rattle.store_rows.specs.Status.{Answers, mark_of};
 ghost use Rattle.decide.specs.OneRequest.{LeavesBoth, Moves, Replies, Settles};
-ghost use Rattle.counter_api.specs.Fields.{who_of};
+ghost use Rattle.counter_api.specs.Fields.{who_of_operation};
 ghost use Rattle.counter_api.specs.Request.{IsServedAsked, IsServedRoute, asked_by, request_of, served, session_by};
 ghost use Rattle.counter_api.specs.Routes.{asked_route};
 ghost use Rattle.counter_api.specs.Run.{IsHandled, IsResponse, RefusesRequest, framed, parts_or_fault};
 
 use crate::clock::Clock;
-use crate::fields::{who_by_badge, who_of};
+use crate::fields::{who_by_badge, who_of, who_of_operation};
 use crate::gate::Gate;
 use crate::response::Response;
 use crate::routes::{Route, Routes};
@@ -87,12 +87,12 @@ fn stated_operation<G: Gate>(
 ) -> Result<Result<Request, MessageFault>, Fault>
     requires moment { moment ≤ max_moment }
     requires served { is_served procedure ≡ true }
-    ensures stated { IfOk result (λ stated. stated ≡ asked_by procedure moment message.now.body (who_of (G.users gate.now) message.now.head.fields)) }
+    ensures stated { IfOk result (λ stated. stated ≡ asked_by procedure moment message.now.body (who_of_operation (G.users gate.now) message.now.head.fields)) }
     ensures proper { IfOk result (λ stated. IfOk stated IsProper) }
     ensures served { IfOk result (λ stated. IfOk stated (λ request. IsServedAsked request.asked)) }
     ensures memory { IsOkUnless result Memory }
 {
-    let who = match who_of(message, gate) {
+    let who = match who_of_operation(message, gate) {
         Ok(who) => who,
         Err(fault) => return Ok(Err(fault)),
     };

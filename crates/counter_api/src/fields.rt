@@ -2,7 +2,7 @@ ghost use Rattle.std.specs.Prelude.{◌≡◌, if◌then◌else◌, List, ℕ, S
 ghost use Rattle.std.specs.Int.{is_in_range};
 ghost use Rattle.std.specs.Str.Parse.{digits_value};
 ghost use Rattle.heads.specs.Found.{IsFound};
-ghost use Rattle.counter_api.specs.Fields.{is_badge, is_session, user_of, session_of, who_by_badge, who_of};
+ghost use Rattle.counter_api.specs.Fields.{is_badge, is_number, number_of, user_of, who_by_badge, who_of, who_of_operation};
 
 use crate::gate::Gate;
 use bank_terms::MAX_KEY;
@@ -15,18 +15,30 @@ use std::str;
 const MAX_BADGE_LEN: usize = 64;
 
 /// Who asks, as the fields of a message say it, or the fault M6 where one of them is not of its form. The user is none
-/// where there is no badge, or one that the gate does not know, and the session is 0 where there is none. Releases are
-/// not looked at.
+/// where there is no badge, or one that the gate does not know, and the session is 0 where there is none. Bank-Release
+/// is not read, and is no fault however it looks.
 pub(crate) fn who_of<G: Gate>(message: &Message<'_>, gate: &G) -> Result<Who, MessageFault>
     ensures { result ≡ who_of (G.users gate.now) message.now.head.fields }
 {
     let user = user_of(message.field(b"Bank-Badge"), gate)?;
-    let session = session_of(message.field(b"Bank-Session"))?;
+    let session = number_of(message.field(b"Bank-Session"))?;
     Ok(Who {
         user,
         session,
         release: 0,
     })
+}
+
+/// The same of who asks for an operation, which may name a release: it is 0 where none is named.
+pub(crate) fn who_of_operation<G: Gate>(
+    message: &Message<'_>,
+    gate: &G,
+) -> Result<Who, MessageFault>
+    ensures { result ≡ who_of_operation (G.users gate.now) message.now.head.fields }
+{
+    let who = who_of(message, gate)?;
+    let release = number_of(message.field(b"Bank-Release"))?;
+    Ok(Who { release, ..who })
 }
 
 /// The same by the badge alone, of one who need not have a session: Bank-Session is not read, and is no fault however
@@ -53,13 +65,13 @@ fn user_of<G: Gate>(badge: Found<'_>, gate: &G) -> Result<Option<u32>, MessageFa
     }
 }
 
-/// The session that a message bears, or 0 where it bears none.
-fn session_of(session: Found<'_>) -> Result<u32, MessageFault>
-    ensures { (values : List (List ℕ)) → IsFound values session.entry → result ≡ session_of values }
+/// The number of the session or of the release that a message bears, or 0 where it bears none.
+fn number_of(field: Found<'_>) -> Result<u32, MessageFault>
+    ensures { (values : List (List ℕ)) → IsFound values field.entry → result ≡ number_of values }
 {
-    match session {
+    match field {
         Found::Missing => Ok(0),
-        Found::One(value) => parse_session(value).ok_or(MessageFault::BadContent),
+        Found::One(value) => parse_number(value).ok_or(MessageFault::BadContent),
         Found::Several => Err(MessageFault::BadContent),
     }
 }
@@ -73,17 +85,17 @@ fn is_badge(value: &[u8]) -> bool
         && value.iter().all(|byte| byte.is_ascii_graphic())
 }
 
-/// The number of a session that the value of a field states: digits that come to 999,999,999 at most, and the first is
-/// 1 to 9.
-fn parse_session(value: &[u8]) -> Option<u32>
-    ensures { result ≡ (if is_session value.now then Some (digits_value 10 value.now) else None) }
+/// The number of a session or of a release that the value of a field states: digits that come to 999,999,999 at most,
+/// and the first is 1 to 9.
+fn parse_number(value: &[u8]) -> Option<u32>
+    ensures { result ≡ (if is_number value.now then Some (digits_value 10 value.now) else None) }
 {
     if !starts_number(value) {
         return None;
     }
-    let session: u32 = str::from_utf8(value).ok()?.parse().ok()?;
-    if session <= MAX_KEY {
-        Some(session)
+    let number: u32 = str::from_utf8(value).ok()?.parse().ok()?;
+    if number <= MAX_KEY {
+        Some(number)
     } else {
         None
     }
@@ -98,7 +110,7 @@ fn starts_number(value: &[u8]) -> bool
 
 #[cfg(test)]
 mod tests {
-    use super::{is_badge, parse_session, session_of, user_of};
+    use super::{is_badge, number_of, parse_number, user_of};
     use crate::gate::Gate;
     use heads::{Found, MessageFault};
 
@@ -125,12 +137,12 @@ mod tests {
     }
 
     #[test]
-    fn no_session_is_zero(rt: HostRuntime) {
+    fn no_number_is_zero(rt: HostRuntime) {
         let fault = Err(MessageFault::BadContent);
-        assert_eq!(rt; session_of(Found::Missing), Ok(0));
-        assert_eq!(rt; session_of(Found::One(b"12")), Ok(12));
-        assert_eq!(rt; session_of(Found::One(b"012")), fault);
-        assert_eq!(rt; session_of(Found::Several), fault);
+        assert_eq!(rt; number_of(Found::Missing), Ok(0));
+        assert_eq!(rt; number_of(Found::One(b"12")), Ok(12));
+        assert_eq!(rt; number_of(Found::One(b"012")), fault);
+        assert_eq!(rt; number_of(Found::Several), fault);
     }
 
     #[test]
@@ -146,10 +158,10 @@ mod tests {
     }
 
     #[test]
-    fn sessions_are_plain_numbers(rt: HostRuntime) {
-        assert_eq!(rt; parse_session(b"1"), Some(1));
-        assert_eq!(rt; parse_session(b"10"), Some(10));
-        assert_eq!(rt; parse_session(b"999999999"), Some(999_999_999));
+    fn numbers_are_plain_digits(rt: HostRuntime) {
+        assert_eq!(rt; parse_number(b"1"), Some(1));
+        assert_eq!(rt; parse_number(b"10"), Some(10));
+        assert_eq!(rt; parse_number(b"999999999"), Some(999_999_999));
         for value in [
             "",
             "0",
@@ -161,7 +173,7 @@ mod tests {
             "1000000000",
             "4294967297",
         ] {
-            assert_eq!(rt; parse_session(value.as_bytes()), None, "{value}");
+            assert_eq!(rt; parse_number(value.as_bytes()), None, "{value}");
         }
     }
 }

@@ -1,13 +1,16 @@
 -- Rows that were loaded for a request.
-use Rattle.std.specs.Prelude.{ℕ, ◌≡◌, Some, option_and_then}
+use Rattle.std.specs.Prelude.{ℕ, ◌≡◌, Some, option_and_then, option_map}
 use Rattle.bank_policy.specs.HeldRows.{relations_of, standing, triples_of}
 use Rattle.bank_books.specs.WorldLists.{WorldLists}
 use Rattle.counter_ops.specs.Op.{procedure_of}
+use Rattle.counter_ops.specs.Rows.{row_of}
 use Rattle.touched.specs.Touched.{amount, touched}
+use Rattle.bank_run.specs.NamedRelease.{release_grounds}
 use Rattle.bank_run.specs.PolicyRules.{Grounds, asker}
 use Rattle.bank_run.specs.Sessions.{standing_of_asker}
 use Rattle.bank_run.specs.declared.execution.Execution.{Execution}
 use Rattle.op_plans.specs.BookRows.{book_rows}
+use Rattle.decide.specs.NamedRelease.{grounds_of}
 use Rattle.decide.specs.declared.by_rows.Loaded.{Loaded}
 use Rattle.decide.specs.declared.by_rows.Loaded.TheVariants as loaded
 use Rattle.decide.specs.declared.by_rows.OperationRows.{OperationRows}
@@ -22,6 +25,7 @@ pub record IsLoadedFor (w : WorldLists) (x : Execution) (l : OperationRows) : Ty
   pub standing : l.policy.standing ≡ option_and_then (λ user. standing w.policy user) x.who.user
   pub relations : l.policy.relations.items ≡ relations_of w.policy (procedure_of x.op)
   pub held : l.policy.held.items ≡ triples_of w.policy (asker x.who) (procedure_of x.op)
+  pub released : option_map grounds_of l.policy.released ≡ release_grounds w (asker x.who) x.who.release
   pub books : book_rows w x.op ≡ Some l.books
 
 -- by which an operation is judged, where the rows are those of an operation
@@ -48,11 +52,14 @@ IsLoaded w q l = IsLoadedOf w q.asked q.who q.moment l
 -- what the rules of the policy judge an operation by, of rows that were loaded
 abbrev pub loaded_grounds : PolicyRows → Execution → Grounds
 loaded_grounds rows x = record {
+  user = asker x.who;
   standing = rows.standing;
   session = x.who.session;
   relations = rows.relations.items;
   held = rows.held.items;
+  operation = row_of x.op;
   items = touched x.op;
   amount = amount x.op;
   release = x.who.release;
+  released = option_map grounds_of rows.released;
 }

@@ -4,10 +4,11 @@ ghost use Rattle.decide.specs.Loaded.{IsLoaded, IsLoadedFor, loaded_grounds};
 ghost use Rattle.bank_run.specs.PolicyRules.{first_of_policy};
 ghost use Rattle.bank_run.specs.Requests.{executes, first};
 
-use crate::policy_rules::{is_certified_for, is_identified, rule_of_triples};
+use crate::named_release::{NamedRelease, is_released};
+use crate::policy_rules::{is_certified_for, is_identified, leave_by_triples};
 use crate::sessions::{rule_against_ending, rule_against_opening};
 use bank_policy::{CertifiedRow, HeldRow, Standing};
-use bank_run::{Asked, Execution, Request};
+use bank_run::{Asked, Execution, Leave, Request};
 use bank_terms::Rule;
 use op_plans::{BookRows, first_of_books};
 use touched::{amount, touches};
@@ -21,6 +22,8 @@ pub struct PolicyRows {
     pub relations: Vec<CertifiedRow>,
     /// The user's triples for it.
     pub held: Vec<HeldRow>,
+    /// What the release that is named is judged by, or none where it isn't there.
+    pub released: Option<NamedRelease>,
 }
 
 /// All rows by which one operation is judged.
@@ -85,10 +88,14 @@ fn first_of_policy(rows: &PolicyRows, execution: &Execution) -> Option<Rule>
     if !is_certified_for(&rows.relations, items.as_slice()) {
         return Some(Rule::NotCertified);
     }
-    rule_of_triples(
+    match leave_by_triples(
         &rows.held,
         items.as_slice(),
         amount(&execution.op),
         execution.who.release,
-    )
+    ) {
+        Err(rule) => Some(rule),
+        Ok(Leave::Release(_)) if !is_released(&rows.released, execution) => Some(Rule::Release),
+        Ok(_) => None,
+    }
 }

@@ -1,17 +1,22 @@
-ghost use Rattle.std.specs.Prelude.{◌≡◌, IsSome, true};
+ghost use Rattle.std.specs.Prelude.{◌≡◌, IfOk, IsSome, false, true};
+ghost use Rattle.bank_books.specs.Effects.{applied};
+ghost use Rattle.bank_books.specs.Version.{changes_policy};
+ghost use Rattle.bank_books.specs.WorldLists.{WorldLists};
 ghost use Rattle.counter_ops.specs.Op.{procedure_of};
 ghost use Rattle.counter_ops.specs.Operations.{IsOp};
 ghost use Rattle.store_rows.specs.Status.{Reads};
 ghost use Rattle.op_plans.specs.Judged.{IsJudged};
 ghost use Rattle.bank_run.specs.Operations.{is_served};
+ghost use Rattle.bank_run.specs.PolicyRules.{used_by};
 ghost use Rattle.bank_run.specs.Requests.{executes, verdict};
 
 use crate::policy_rules::policy_leave;
+use bank_books::{Plan, ReleaseKey, RowWrite};
 use bank_run::{Execution, Leave};
 use bank_terms::Rule;
 use money::Fault;
 use op_plans::{Prepared, prepare_by_books};
-use std::alloc::Global;
+use std::alloc::{AllocError, Global};
 use store_rows::{BookReads, PolicyReads};
 
 /// What carries an operation out, or the first rule that denies it. The rules of the policy come
@@ -28,8 +33,26 @@ pub(crate) fn prepare<S: PolicyReads + BookReads>(
 {
     match policy_leave(alloc, store, execution)? {
         Err(rule) => Ok(Err(rule)),
-        Ok(Leave::Triple) => {
-            prepare_by_books(alloc, store, &execution.op, execution.signature())
+        Ok(leave) => {
+            let by = execution.signature();
+            match prepare_by_books(alloc, store, &execution.op, by)? {
+                Ok(Prepared { plan, text }) => {
+                    let plan = with_leave(plan, leave, by.user)?;
+                    Ok(Ok(Prepared { plan, text }))
+                }
+                Err(rule) => Ok(Err(rule)),
+            }
         }
     }
+}
+
+/// A plan of the books with what its leave takes: a release is used up with it.
+fn with_leave(mut plan: Plan, leave: Leave, user: u32) -> Result<Plan, AllocError>
+    ensures { IfOk result (λ p. changes_policy plan.items ≡ false → (w : WorldLists) → applied p.items w ≡ used_by leave user (applied plan.items w)) }
+{
+    match leave {
+        Leave::Triple => {}
+        Leave::Release(number) => plan.push(RowWrite::Used(ReleaseKey { user, number }))?,
+    }
+    Ok(plan)
 }

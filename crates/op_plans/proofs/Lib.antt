@@ -1,10 +1,12 @@
 pub mod BalanceText
+pub mod BookChanges
 pub mod CloseDayText
 pub mod DrawerOffText
 pub mod DrawerOnText
 pub mod MoveCashText
 pub mod NewAccountText
 pub mod PostText
+pub mod ReleaseText
 pub mod ServedRows
 pub mod TransferText
 pub mod WholeNumbers

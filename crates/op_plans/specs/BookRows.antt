@@ -13,6 +13,7 @@ use Rattle.postings.specs.Post.{post_rows}
 use Rattle.postings.specs.Transfer.{transfer_rows}
 use Rattle.bank_run.specs.NewAccount.{opening_rows}
 use Rattle.bank_run.specs.Operations.{is_served}
+use Rattle.bank_run.specs.Release.{release_rows}
 use Rattle.op_plans.specs.declared.book_rows.BookRows.{BookRows}
 use Rattle.op_plans.specs.declared.book_rows.BookRows.TheVariants as rows
 
@@ -25,7 +26,7 @@ book_rows w (op.DrawerOn drawer_on) = Some (rows.DrawerOn (drawer_rows w drawer_
 book_rows w (op.DrawerOff drawer_off) = Some (rows.DrawerOff (drawer_rows w drawer_off.teller drawer_off.branch))
 book_rows w (op.MoveCash move_cash) = Some (rows.MoveCash (move_rows w move_cash))
 book_rows w (op.NewAccount form) = Some (rows.NewAccount (opening_rows w form))
-book_rows w (op.Release release) = None
+book_rows w (op.Release release) = Some (rows.Release (release_rows w release))
 book_rows w (op.Balance balance) = Some (rows.Balance (account_record w balance.account))
 book_rows w (op.Statement statement) = None
 book_rows w (op.Accounts accounts) = None

@@ -1,7 +1,9 @@
 -- What a judge of a request answers.
-use Rattle.std.specs.Prelude.{◌≡◌, Some, None, Result, Ok, Err}
+use Rattle.std.specs.Prelude.{◌≡◌, false, Some, None, Result, Ok, Err, IfOk}
+use Rattle.money.specs.declared.fault.Fault.{Fault}
 use Rattle.bank_terms.specs.declared.rule.Rule.{Rule}
 use Rattle.bank_books.specs.Effects.{applied}
+use Rattle.bank_books.specs.Version.{changes_policy}
 use Rattle.bank_books.specs.WorldLists.{WorldLists}
 use Rattle.bank_run.specs.Meaning.{Verdict, json}
 use Rattle.op_plans.specs.declared.prepared.Prepared.{Prepared}
@@ -16,3 +18,7 @@ pub record IsPrepared (w : WorldLists) (v : Verdict) (p : Prepared) : Type 0 whe
 abbrev pub IsJudged : (WorldLists → Verdict) → WorldLists → Result Prepared Rule → Type 0
 IsJudged says w (Err rule) = (says w).first ≡ Some rule
 IsJudged says w (Ok p) = IsPrepared w (says w) p
+
+-- what carries it out leaves the policy as it is
+abbrev pub LeavesPolicy : Result (Result Prepared Rule) Fault → Type 0
+LeavesPolicy result = IfOk result (λ judged. IfOk judged (λ p. changes_policy p.plan.items ≡ false))

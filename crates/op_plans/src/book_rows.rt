@@ -1,5 +1,5 @@
 use bank_books::AccountRecord;
-use bank_run::OpeningRows;
+use bank_run::{OpeningRows, ReleaseRows};
 use drawers::{ClosingRows, DrawerRows, MoveRows};
 use postings::{CorrectRows, PostRows, TransferRows};
 
@@ -20,6 +20,8 @@ pub enum BookRows {
     MoveCash(MoveRows),
     /// Of an account that is opened.
     NewAccount(OpeningRows),
+    /// Of a release that is given.
+    Release(ReleaseRows),
     /// Of the question for a balance: the account.
     Balance(Option<AccountRecord>),
     /// Of the closing of a day.

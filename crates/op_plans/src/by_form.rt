@@ -6,7 +6,7 @@ ghost use Rattle.store_rows.specs.Status.{Reads};
 ghost use Rattle.bank_run.specs.Meaning.{by_books};
 ghost use Rattle.bank_run.specs.Operations.{is_served, meaning_of};
 ghost use Rattle.op_plans.specs.BookRows.{book_rows};
-ghost use Rattle.op_plans.specs.Judged.{IsJudged};
+ghost use Rattle.op_plans.specs.Judged.{IsJudged, LeavesPolicy};
 
 use crate::balance::{prepare_balance, rule_against_balance};
 use crate::book_rows::BookRows;
@@ -18,6 +18,7 @@ use crate::move_cash::prepare_move_cash;
 use crate::new_account::{prepare_new_account, rule_against_new_account};
 use crate::post::prepare_post;
 use crate::prepared::Prepared;
+use crate::release::{prepare_release, rule_against_release};
 use crate::transfer::prepare_transfer;
 use bank_books::Signature;
 use bank_terms::Rule;
@@ -28,19 +29,20 @@ use drawers::{
 use money::Fault;
 use postings::{rule_against_correct, rule_against_post, rule_against_transfer};
 use std::alloc::Global;
-use store_rows::BookReads;
+use store_rows::{BookReads, PolicyReads};
 
 /// What carries out an operation with this signature, or the first rule of the books against it. Its procedure is one that is
-/// served.
-pub fn prepare_by_books<B: BookReads>(
+/// served. It changes no policy.
+pub fn prepare_by_books<S: PolicyReads + BookReads>(
     alloc: Global,
-    store: &mut B,
+    store: &mut S,
     op: &Op,
     by: Signature,
 ) -> Result<Result<Prepared, Rule>, Fault>
     requires served { is_served (procedure_of op.now) ≡ true }
     requires proper { IsOp op.now }
-    ensures { Reads (B.status store.old) (B.status store.new) result (IsJudged (λ w. by_books (meaning_of op.now by w))) }
+    ensures judged { Reads (S.status store.old) (S.status store.new) result (IsJudged (λ w. by_books (meaning_of op.now by w))) }
+    ensures policy { LeavesPolicy result }
 {
     match op {
         Op::Post(post) => prepare_post(alloc, store, post, by),
@@ -50,9 +52,10 @@ pub fn prepare_by_books<B: BookReads>(
         Op::DrawerOff(form) => prepare_drawer_off(alloc, store, form, by),
         Op::MoveCash(move_cash) => prepare_move_cash(alloc, store, move_cash, by),
         Op::NewAccount(form) => prepare_new_account(alloc, store, form),
+        Op::Release(form) => prepare_release(alloc, store, form, by),
         Op::Balance(form) => prepare_balance(alloc, store, form),
         Op::CloseDay(form) => prepare_close_day(alloc, store, form),
-        Op::Release(_) | Op::Statement(_) | Op::Accounts(_) | Op::Proof(_) => unreachable!(),
+        Op::Statement(_) | Op::Accounts(_) | Op::Proof(_) => unreachable!(),
     }
 }
 
@@ -74,6 +77,7 @@ pub fn first_of_books(rows: &BookRows, op: &Op, by: Signature) -> Option<Rule>
             rule_against_move_cash(rows, move_cash, by)
         }
         (BookRows::NewAccount(rows), Op::NewAccount(_)) => rule_against_new_account(rows),
+        (BookRows::Release(rows), Op::Release(form)) => rule_against_release(rows, form, by),
         (BookRows::Balance(row), Op::Balance(_)) => rule_against_balance(*row),
         (BookRows::CloseDay(rows), Op::CloseDay(_)) => rule_against_close_day(rows),
         _ => None,

@@ -1,7 +1,7 @@
 ghost use Rattle.std.specs.Prelude.{◌≡◌, IfOk};
 ghost use Rattle.serde_json.specs.View.{view};
 ghost use Rattle.store_rows.specs.Status.{Reads};
-ghost use Rattle.op_plans.specs.Judged.{IsJudged};
+ghost use Rattle.op_plans.specs.Judged.{IsJudged, LeavesPolicy};
 ghost use Rattle.bank_run.specs.Meaning.{by_books};
 ghost use Rattle.drawers.specs.CloseDay.{closing_rows};
 ghost use Rattle.bank_run.specs.CloseDay.{close_day_meaning, closed_data, closed_text};
@@ -35,7 +35,8 @@ pub(crate) fn prepare_close_day<B: BookReads>(
     store: &mut B,
     form: &CloseDay,
 ) -> Result<Result<Prepared, Rule>, Fault>
-    ensures { Reads (B.status store.old) (B.status store.new) result (IsJudged (λ w. by_books (close_day_meaning form.now w))) }
+    ensures judged { Reads (B.status store.old) (B.status store.new) result (IsJudged (λ w. by_books (close_day_meaning form.now w))) }
+    ensures policy { LeavesPolicy result }
 {
     let rows = load_closing_rows(alloc, store, form)?;
     match plan_close_day(alloc, &rows, form)? {

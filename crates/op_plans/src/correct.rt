@@ -1,6 +1,6 @@
 ghost use Rattle.std.specs.Prelude.{◌≡◌, IfOk, option_and_then};
 ghost use Rattle.store_rows.specs.Status.{MayRead, Reads};
-ghost use Rattle.op_plans.specs.Judged.{IsJudged};
+ghost use Rattle.op_plans.specs.Judged.{IsJudged, LeavesPolicy};
 ghost use Rattle.bank_run.specs.Meaning.{by_books};
 ghost use Rattle.postings.specs.Correct.{correct_rows, other_account, partner_of};
 ghost use Rattle.bank_run.specs.Correct.{correct_meaning, corrected_text};
@@ -69,7 +69,8 @@ pub(crate) fn prepare_correct<B: BookReads>(
     correct: &Correct,
     by: Signature,
 ) -> Result<Result<Prepared, Rule>, Fault>
-    ensures { Reads (B.status store.old) (B.status store.new) result (IsJudged (λ w. by_books (correct_meaning correct.now by w))) }
+    ensures judged { Reads (B.status store.old) (B.status store.new) result (IsJudged (λ w. by_books (correct_meaning correct.now by w))) }
+    ensures policy { LeavesPolicy result }
 {
     let rows = load_correct_rows(alloc, store, correct)?;
     match plan_correct(alloc, &rows, correct, by)? {

@@ -1,7 +1,7 @@
 ghost use Rattle.std.specs.Prelude.{◌≡◌, IfOk};
 ghost use Rattle.serde_json.specs.View.{view};
 ghost use Rattle.store_rows.specs.Status.{Reads};
-ghost use Rattle.op_plans.specs.Judged.{IsJudged};
+ghost use Rattle.op_plans.specs.Judged.{IsJudged, LeavesPolicy};
 ghost use Rattle.bank_run.specs.Meaning.{by_books};
 ghost use Rattle.bank_run.specs.DrawerOff.{drawer_off_meaning, put_off_data, put_off_text};
 
@@ -24,7 +24,8 @@ pub(crate) fn prepare_drawer_off<B: BookReads>(
     form: &DrawerOff,
     by: Signature,
 ) -> Result<Result<Prepared, Rule>, Fault>
-    ensures { Reads (B.status store.old) (B.status store.new) result (IsJudged (λ w. by_books (drawer_off_meaning form.now by w))) }
+    ensures judged { Reads (B.status store.old) (B.status store.new) result (IsJudged (λ w. by_books (drawer_off_meaning form.now by w))) }
+    ensures policy { LeavesPolicy result }
 {
     let rows = load_drawer_rows(alloc, store, form.teller, form.branch)?;
     match plan_drawer_off(alloc, &rows, form, by)? {

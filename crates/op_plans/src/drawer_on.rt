@@ -1,7 +1,7 @@
 ghost use Rattle.std.specs.Prelude.{◌≡◌, IfOk};
 ghost use Rattle.serde_json.specs.View.{view};
 ghost use Rattle.store_rows.specs.Status.{Reads};
-ghost use Rattle.op_plans.specs.Judged.{IsJudged};
+ghost use Rattle.op_plans.specs.Judged.{IsJudged, LeavesPolicy};
 ghost use Rattle.bank_run.specs.Meaning.{by_books};
 ghost use Rattle.drawers.specs.DrawerRows.{drawer_rows};
 ghost use Rattle.bank_run.specs.DrawerOn.{drawer_on_meaning, put_on_data, put_on_text};
@@ -39,7 +39,8 @@ pub(crate) fn prepare_drawer_on<B: BookReads>(
     form: &DrawerOn,
     by: Signature,
 ) -> Result<Result<Prepared, Rule>, Fault>
-    ensures { Reads (B.status store.old) (B.status store.new) result (IsJudged (λ w. by_books (drawer_on_meaning form.now by w))) }
+    ensures judged { Reads (B.status store.old) (B.status store.new) result (IsJudged (λ w. by_books (drawer_on_meaning form.now by w))) }
+    ensures policy { LeavesPolicy result }
 {
     let rows = load_drawer_rows(alloc, store, form.teller, form.branch)?;
     match plan_drawer_on(alloc, &rows, form, by)? {

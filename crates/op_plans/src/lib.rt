@@ -15,6 +15,7 @@ mod move_cash;
 mod new_account;
 mod post;
 mod prepared;
+mod release;
 mod served;
 mod transfer;
 

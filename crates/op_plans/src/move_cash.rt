@@ -1,7 +1,7 @@
 ghost use Rattle.std.specs.Prelude.{◌≡◌, IfOk};
 ghost use Rattle.serde_json.specs.View.{view};
 ghost use Rattle.store_rows.specs.Status.{MayRead, Reads};
-ghost use Rattle.op_plans.specs.Judged.{IsJudged};
+ghost use Rattle.op_plans.specs.Judged.{IsJudged, LeavesPolicy};
 ghost use Rattle.bank_run.specs.Meaning.{by_books};
 ghost use Rattle.drawers.specs.MoveCash.{move_rows, teller_at};
 ghost use Rattle.bank_run.specs.MoveCash.{move_meaning, moved_data, moved_text};
@@ -52,7 +52,8 @@ pub(crate) fn prepare_move_cash<B: BookReads>(
     move_cash: &MoveCash,
     by: Signature,
 ) -> Result<Result<Prepared, Rule>, Fault>
-    ensures { Reads (B.status store.old) (B.status store.new) result (IsJudged (λ w. by_books (move_meaning move_cash.now by w))) }
+    ensures judged { Reads (B.status store.old) (B.status store.new) result (IsJudged (λ w. by_books (move_meaning move_cash.now by w))) }
+    ensures policy { LeavesPolicy result }
 {
     let rows = load_move_rows(alloc, store, move_cash)?;
     match plan_move(alloc, &rows, move_cash, by)? {

@@ -1,7 +1,7 @@
 ghost use Rattle.std.specs.Prelude.{◌≡◌, IfOk};
 ghost use Rattle.serde_json.specs.View.{view};
 ghost use Rattle.store_rows.specs.Status.{Reads};
-ghost use Rattle.op_plans.specs.Judged.{IsJudged};
+ghost use Rattle.op_plans.specs.Judged.{IsJudged, LeavesPolicy};
 ghost use Rattle.bank_run.specs.Meaning.{by_books};
 ghost use Rattle.bank_run.specs.NewAccount.{first_against_new_account, new_account_meaning, opened, opened_data, opened_text, opening_rows};
 
@@ -50,7 +50,8 @@ pub(crate) fn prepare_new_account<B: BookReads>(
     store: &mut B,
     form: &NewAccount,
 ) -> Result<Result<Prepared, Rule>, Fault>
-    ensures { Reads (B.status store.old) (B.status store.new) result (IsJudged (λ w. by_books (new_account_meaning form.now w))) }
+    ensures judged { Reads (B.status store.old) (B.status store.new) result (IsJudged (λ w. by_books (new_account_meaning form.now w))) }
+    ensures policy { LeavesPolicy result }
 {
     let rows = load_opening_rows(alloc, store, form)?;
     if let Some(rule) = rule_against_new_account(&rows) {

@@ -1,7 +1,7 @@
 ghost use Rattle.std.specs.Prelude.{◌≡◌, IfOk};
 ghost use Rattle.serde_json.specs.View.{view};
 ghost use Rattle.store_rows.specs.Status.{Reads};
-ghost use Rattle.op_plans.specs.Judged.{IsJudged};
+ghost use Rattle.op_plans.specs.Judged.{IsJudged, LeavesPolicy};
 ghost use Rattle.bank_run.specs.Meaning.{by_books};
 ghost use Rattle.postings.specs.Post.{post_rows};
 ghost use Rattle.bank_run.specs.Post.{post_meaning, posted_data, posted_text};
@@ -38,7 +38,8 @@ pub(crate) fn prepare_post<B: BookReads>(
     post: &Post,
     by: Signature,
 ) -> Result<Result<Prepared, Rule>, Fault>
-    ensures { Reads (B.status store.old) (B.status store.new) result (IsJudged (λ w. by_books (post_meaning post.now by w))) }
+    ensures judged { Reads (B.status store.old) (B.status store.new) result (IsJudged (λ w. by_books (post_meaning post.now by w))) }
+    ensures policy { LeavesPolicy result }
 {
     let rows = load_post_rows(alloc, store, post)?;
     match plan_post(alloc, &rows, post, by)? {

@@ -1,7 +1,7 @@
 ghost use Rattle.std.specs.Prelude.{◌≡◌, IfOk};
 ghost use Rattle.serde_json.specs.View.{view};
 ghost use Rattle.store_rows.specs.Status.{Reads};
-ghost use Rattle.op_plans.specs.Judged.{IsJudged};
+ghost use Rattle.op_plans.specs.Judged.{IsJudged, LeavesPolicy};
 ghost use Rattle.bank_run.specs.Meaning.{by_books};
 ghost use Rattle.postings.specs.Transfer.{transfer_rows};
 ghost use Rattle.bank_run.specs.Transfer.{transfer_meaning, transferred_data, transferred_text};
@@ -41,7 +41,8 @@ pub(crate) fn prepare_transfer<B: BookReads>(
     by: Signature,
 ) -> Result<Result<Prepared, Rule>, Fault>
     requires { IsTransfer transfer.now }
-    ensures { Reads (B.status store.old) (B.status store.new) result (IsJudged (λ w. by_books (transfer_meaning transfer.now by w))) }
+    ensures judged { Reads (B.status store.old) (B.status store.new) result (IsJudged (λ w. by_books (transfer_meaning transfer.now by w))) }
+    ensures policy { LeavesPolicy result }
 {
     let rows = load_transfer_rows(alloc, store, transfer)?;
     match plan_transfer(alloc, &rows, transfer, by)? {

@@ -6,13 +6,13 @@ ghost use Rattle.counter_ops.specs.Op.{procedure_of};
 ghost use Rattle.counter_ops.specs.Operations.{IsOp};
 ghost use Rattle.bank_run.specs.Operations.{is_served};
 
-use bank_books::{BranchRecord, Entry, TellerRecord, World};
+use bank_books::{BranchRecord, Entry, Plan, TellerRecord, World};
 use decide::{Decision, Op, Reply, Rule, Who, carry_out, decide};
 use row_rules::{CashBook, Ledger};
 use sample_bank::sample_world;
 use std::alloc::Global;
 use std::process::Abort;
-use store_rows::{Bank, BookReads, ListStore, Stands};
+use store_rows::{Bank, BookReads, ListStore, Stands, Store};
 
 /// Tess, who holds drawer 11 of the sample, and posts, moves cash and asks for balances at branch 1.
 pub(crate) const TESS: Who = Who {
@@ -74,6 +74,12 @@ impl Desk {
     /// That of the sample bank.
     pub(crate) fn of_sample(rt: &impl Abort, alloc: Global) -> Desk {
         Desk::over(alloc, sample_world(alloc).expect(rt, "memory"))
+    }
+
+    /// Has the bank carry a plan out.
+    pub(crate) fn change(&mut self, rt: &impl Abort, plan: Plan) {
+        let done = self.bank.store.apply(self.alloc, plan);
+        done.expect(rt, "no fault");
     }
 
     /// The body of the reply to a request that is carried out, or the rule that denies it.

@@ -42,6 +42,7 @@ fn policy_of(
         standing: row.map(|row| row.standing),
         relations,
         held,
+        released: None,
     }
 }
 

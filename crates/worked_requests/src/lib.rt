@@ -23,6 +23,8 @@ mod plans;
 #[cfg(test)]
 mod posts;
 #[cfg(test)]
+mod releases;
+#[cfg(test)]
 mod requests;
 #[cfg(test)]
 mod rows;

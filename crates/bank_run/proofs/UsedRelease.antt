@@ -1,0 +1,83 @@
+-- What is left where a release was used up: the books hold as they did, nothing is moved, and it counts no more.
+use Rattle.std.proofs.Common.{◌≡◌, ℕ, ◌==◌, ◌&&◌, ◌+◌, ◌*◌, ◌^◌, List, [], ◌∷◌, Bool, true, false, cond, Option, Some, None, refl, ap, sym, subst, ◌∙◌}
+use Rattle.std.specs.Prelude.{if◌then◌else◌}
+use Rattle.std.specs.List.{find}
+use Rattle.std.proofs.lemmas.Bool.{and_parts, eq-eqb, eqb-true, false≢true}
+use Rattle.keyed_rows.specs.Changed.{change_rows}
+use Rattle.bank_books.specs.Effects.{used_up, written}
+use Rattle.bank_books.specs.Keys.{release_key, release_number}
+use Rattle.bank_books.specs.WorldLists.{WorldLists}
+use Rattle.bank_books.specs.declared.row_write.RowWrite.TheVariants as write
+use Rattle.bank_books.specs.declared.rows.Release.{Release}
+use Rattle.book_growth.proofs.ReleaseUsed.{used_keeps_books}
+use Rattle.counter_ops.specs.declared.op.Op.{Op}
+use Rattle.row_reads.specs.BookReads.{is_release, release}
+use Rattle.bank_run.specs.Executions.{books_meaning}
+use Rattle.bank_run.specs.Laws.{IsUsedOnce, InLimit, Released, ReleasesAreUsedOnce}
+use Rattle.bank_run.specs.PolicyRules.{asker, grounds, leave_of, used_by}
+use Rattle.bank_run.specs.Requests.{effect, executes}
+use Rattle.bank_run.specs.Sums.{Moves}
+use Rattle.bank_run.specs.declared.execution.Execution.{Execution}
+use Rattle.bank_run.specs.declared.leave.Leave.{Leave}
+use Rattle.bank_run.specs.declared.leave.Leave.TheVariants as leave
+use Rattle.bank_run.proofs.JudgedPolicy.{leave_in_limit, leave_past_limit}
+use Rattle.bank_run.proofs.Steps.{IsStep}
+
+-- ---- the step
+
+pub used_step : (w after : WorldLists) (m : Moves) (l : Leave) (user : ℕ) → IsStep w after m → IsStep w (used_by l user after) m
+used_step w after m leave.Triple user step = step
+used_step w after m (leave.Release number) user step = record {
+  checks = record { books = used_keeps_books after (record { user = user; number = number }) step.checks.books; sound = step.checks.sound; separated = step.checks.separated };
+  branches = step.branches;
+  tellers = step.tellers;
+  accounts = step.accounts;
+  history = step.history;
+  cash_entries = step.cash_entries;
+  stay = step.stay;
+  vaults = step.vaults;
+  added = step.added;
+}
+
+-- ---- the release that is found afterwards
+
+-- a row after the use of one
+abbrev seen : ℕ → ℕ → Release → Release
+seen user number r = if release_key r == release_number user number then used_up r else r
+
+-- the row of the user and of the number is used
+seen_used : (user number : ℕ) (r : Release) → is_release user number (seen user number r) ≡ true → (seen user number r).used ≡ true
+seen_used user number r is = go (release_key r == release_number user number) refl is
+  where
+    go : (b : Bool) → (release_key r == release_number user number) ≡ b → is_release user number (if b then used_up r else r) ≡ true → (if b then used_up r else r).used ≡ true
+    go true at is = refl
+    go false at is =
+        let parts = and_parts (r.user == user) (r.number == number) is in
+        let same : release_key r ≡ release_number user number =
+        ap (λ k. release_number k r.number) (eqb-true r.user user parts.0) ∙ ap (λ k. release_number user k) (eqb-true r.number number parts.1) in
+        absurd (false≢true (sym at ∙ eq-eqb (release_key r) (release_number user number) same))
+
+found_used : (user number : ℕ) (rows : List Release) (row : Release) → find (is_release user number) (change_rows release_key (release_number user number) used_up rows) ≡ Some row → row.used ≡ true
+found_used user number [] row is = absurd cc
+found_used user number (r ∷ rows) row is = go (is_release user number (seen user number r)) refl is
+  where
+    go : (b : Bool) → is_release user number (seen user number r) ≡ b
+        → cond b (Some (seen user number r)) (find (is_release user number) (change_rows release_key (release_number user number) used_up rows)) ≡ Some row → row.used ≡ true
+    go true at is = let same : seen user number r ≡ row = cc in subst (λ (x : Release). x.used ≡ true) same (seen_used user number r at)
+    go false at is = found_used user number rows row is
+
+pub counts_no_more : (w : WorldLists) (user number : ℕ) (op : Op) → ¬ Released (used_by (leave.Release number) user w) user number op
+counts_no_more w user number op counts = false≢true (sym counts.unused ∙ found_used user number w.releases counts.row counts.there)
+
+-- ---- the law
+
+is_used_once : (w : WorldLists) (x : Execution) → IsUsedOnce w x
+is_used_once w x = record {
+  kept = λ holds. ap (λ l. used_by l (asker x.who) (books_meaning w x).effect) (leave_in_limit w x holds);
+  used = λ past op counts.
+      counts_no_more (books_meaning w x).effect (asker x.who) x.who.release op
+      (subst (λ l. Released (used_by l (asker x.who) (books_meaning w x).effect) (asker x.who) x.who.release op) (leave_past_limit w x past) counts);
+}
+
+pub releases_are_used_once : ReleasesAreUsedOnce
+releases_are_used_once w x = is_used_once w x
