@@ -11,6 +11,7 @@ use Rattle.std.proofs.lemmas.Str.Ascii.{IsAscii-from_all}
 use Rattle.matchit.specs.Rows.{RowsOf, param_token, catch_all_token}
 use Rattle.matchit.specs.Seek.{own, step, or_else, seek, param_step, first, same_text, has_slash}
 use Rattle.matchit.specs.Router.{RouteOf}
+use Rattle.counter_api.specs.RouterRows.{row_for}
 use Rattle.counter_api.specs.Routes.{asked_route, paths, route_at}
 use Rattle.counter_api.specs.declared.routes.Route.{Route}
 
@@ -94,10 +95,6 @@ module _ {K : Type 0} where
       (ap (λ (s : RowsOf K). (param_step s (b ∷ path)).1) (step-none param_token rs (omega arith) a) ∙ param_none (b ∷ path)) in
       let z = ap own (step-none catch_all_token rs (omega arith) a) in
       (λ i. or_else (x i) (or_else (y i) (z i))) ∙ or_none (row_of rs (b ∷ path))
-
--- a path of a table as the router keeps it
-abbrev row_for : List ℕ × Route → List ℕ × RouteOf Route
-row_for (path, asked) = (path, record { pattern = path; text = path; names = []; value = asked })
 
 rows_literal : (table : List (List ℕ × Route)) → list_all (λ (row : List ℕ × Route). list_all is_ascii row.0) table ≡ true → AreLiteral (map row_for table)
 rows_literal [] e = tt

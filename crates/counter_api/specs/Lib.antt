@@ -4,5 +4,6 @@ pub mod Fault
 pub mod Fields
 pub mod Request
 pub mod Response
+pub mod RouterRows
 pub mod Routes
 pub mod Run

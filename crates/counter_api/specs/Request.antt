@@ -3,6 +3,8 @@ use Rattle.std.specs.Prelude.{ℕ, ◌≡◌, true, List, Option, Some, None, Re
 use Rattle.std.specs.Option.{option_map_or}
 use Rattle.bank_terms.specs.declared.procedure.Procedure.{Procedure}
 use Rattle.bodies.specs.Operation.{stated_op}
+use Rattle.command_bodies.specs.Command.{stated_command}
+use Rattle.policy_ops.specs.declared.command.Command.{Command}
 use Rattle.counter_ops.specs.Op.{procedure_of}
 use Rattle.bank_run.specs.Operations.{is_served}
 use Rattle.bank_run.specs.declared.request.Asked.{Asked}
@@ -22,6 +24,11 @@ abbrev pub asked_by : Procedure → ℕ → List ℕ → Result Who MessageFault
 asked_by procedure moment body (Ok who) = option_map_or (λ op. Ok (record { who = who; moment = moment; asked = asked.Operation op })) (stated_op procedure body) (Err BadContent)
 asked_by procedure moment body (Err fault) = Err fault
 
+-- the command of the policy that the body states
+abbrev pub commanded_by : Command → ℕ → List ℕ → Result Who MessageFault → Result Request MessageFault
+commanded_by command moment body (Ok who) = option_map_or (λ op. Ok (record { who = who; moment = moment; asked = asked.Command op })) (stated_command command body) (Err BadContent)
+commanded_by command moment body (Err fault) = Err fault
+
 -- the opening or the ending of a session, asked at the moment by who it is; the body is not looked at
 abbrev pub session_by : Asked → ℕ → Result Who MessageFault → Result Request MessageFault
 session_by asked moment (Ok who) = Ok (record { who = who; moment = moment; asked = asked })
@@ -32,18 +39,21 @@ abbrev pub served : Option Route → Option Route
 served (Some (route.Operation procedure)) = if is_served procedure then Some (route.Operation procedure) else None
 served (Some route.Opening) = Some route.Opening
 served (Some route.Ending) = Some route.Ending
+served (Some (route.Policy command)) = Some (route.Policy command)
 served None = None
 
 abbrev pub IsServedRoute : Route → Type 0
 IsServedRoute (route.Operation procedure) = is_served procedure ≡ true
 IsServedRoute route.Opening = ⊤
 IsServedRoute route.Ending = ⊤
+IsServedRoute (route.Policy command) = ⊤
 
 -- the request of a route; who opens a session need not have one, and is known by the badge alone
 abbrev pub asked_of : (List ℕ → Option ℕ) → ℕ → MessageParts → Option Route → Result Request MessageFault
 asked_of users moment m (Some (route.Operation procedure)) = asked_by procedure moment m.body (who_of_operation users m.head.fields)
 asked_of users moment m (Some route.Opening) = session_by asked.Opening moment (who_by_badge users m.head.fields)
 asked_of users moment m (Some route.Ending) = session_by asked.Ending moment (who_of users m.head.fields)
+asked_of users moment m (Some (route.Policy command)) = commanded_by command moment m.body (who_of users m.head.fields)
 asked_of users moment m None = Err NoSuchRoute
 
 -- The request that a message states at a moment, where the badges name these users. Else its fault: method and path ask
@@ -51,10 +61,10 @@ asked_of users moment m None = Err NoSuchRoute
 abbrev pub request_of : (List ℕ → Option ℕ) → ℕ → MessageParts → Result Request MessageFault
 request_of users moment m = asked_of users moment m (served (asked_route m.head.method m.head.target))
 
--- what is asked for is served: operations of some procedures, and sessions; nothing else yet
+-- what is asked for is served: operations of some procedures, sessions, and commands of the policy; not the listing yet
 abbrev pub IsServedAsked : Asked → Type 0
 IsServedAsked (asked.Operation op) = is_served (procedure_of op) ≡ true
 IsServedAsked asked.Opening = ⊤
 IsServedAsked asked.Ending = ⊤
-IsServedAsked (asked.Command command) = ⊥
+IsServedAsked (asked.Command command) = ⊤
 IsServedAsked asked.Listing = ⊥

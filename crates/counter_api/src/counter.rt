@@ -8,8 +8,8 @@ ghost use Rattle.bank_run.specs.Sums.{IsProper};
 ghost use Rattle.messages.specs.Failures.{CountsByCall};
 ghost use Rattle.store_rows.specs.Status.{Answers, mark_of};
 ghost use Rattle.decide.specs.OneRequest.{LeavesBoth, Moves, Replies, Settles};
-ghost use Rattle.counter_api.specs.Fields.{who_of_operation};
-ghost use Rattle.counter_api.specs.Request.{IsServedAsked, IsServedRoute, asked_by, request_of, served, session_by};
+ghost use Rattle.counter_api.specs.Fields.{who_of, who_of_operation};
+ghost use Rattle.counter_api.specs.Request.{IsServedAsked, IsServedRoute, asked_by, commanded_by, request_of, served, session_by};
 ghost use Rattle.counter_api.specs.Routes.{asked_route};
 ghost use Rattle.counter_api.specs.Run.{IsHandled, IsResponse, RefusesRequest, framed, parts_or_fault};
 
@@ -20,10 +20,14 @@ use crate::response::Response;
 use crate::routes::{Route, Routes};
 use bank_terms::Procedure;
 use bodies::read_op;
-use decide::{Asked, Decision, Reply, Request, Who, begin, carry_out, decide, end, is_served};
+use command_bodies::read_command;
+use decide::{
+    Asked, Decision, Reply, Request, Who, begin, carry_out, decide, decide_policy, end, is_served,
+};
 use heads::MessageFault;
 use messages::{AnswerFault, Engine, Message};
 use money::{Fault, Tallied, WriteStopped};
+use policy_ops::Command;
 use std::alloc::Global;
 use std::io::Write;
 use store_rows::{Bank, Store};
@@ -73,6 +77,7 @@ fn stated_request<G: Gate>(
             Asked::Opening,
         )),
         Some(Route::Ending) => Ok(stated_session(who_of(message, gate), moment, Asked::Ending)),
+        Some(Route::Policy(command)) => stated_policy(alloc, command, gate, message, moment),
         None => Ok(Err(MessageFault::NoSuchRoute)),
     }
 }
@@ -106,6 +111,34 @@ fn stated_operation<G: Gate>(
     }
 }
 
+/// The command of the policy that a message states at a moment, or its fault.
+fn stated_policy<G: Gate>(
+    alloc: Global,
+    command: Command,
+    gate: &G,
+    message: &Message<'_>,
+    moment: u64,
+) -> Result<Result<Request, MessageFault>, Fault>
+    requires { moment ≤ max_moment }
+    ensures stated { IfOk result (λ stated. stated ≡ commanded_by command moment message.now.body (who_of (G.users gate.now) message.now.head.fields)) }
+    ensures proper { IfOk result (λ stated. IfOk stated IsProper) }
+    ensures served { IfOk result (λ stated. IfOk stated (λ request. IsServedAsked request.asked)) }
+    ensures memory { IsOkUnless result Memory }
+{
+    let who = match who_of(message, gate) {
+        Ok(who) => who,
+        Err(fault) => return Ok(Err(fault)),
+    };
+    match read_command(alloc, command, message.body())? {
+        Some(command) => Ok(Ok(Request {
+            who,
+            moment,
+            asked: Asked::Command(command),
+        })),
+        None => Ok(Err(MessageFault::BadContent)),
+    }
+}
+
 /// The opening or the ending of a session, asked at a moment by who it is. The body isn't looked at.
 fn stated_session(
     who: Result<Who, MessageFault>,
@@ -126,20 +159,21 @@ fn stated_session(
 fn carried_out<S: Store>(
     bank: &mut Bank<S>,
     alloc: Global,
-    request: &Request,
+    request: Request,
 ) -> Result<Response, Fault>
-    requires served { IsServedAsked request.now.asked }
-    requires proper { IsProper request.now }
+    requires served { IsServedAsked request.asked }
+    requires proper { IsProper request }
     ensures answers { Answers (S.status bank.old.store) (S.status bank.new.store) (mark_of result) }
-    ensures moved { Moves (S.status bank.old.store) (S.status bank.new.store) request.now (mark_of result) }
-    ensures replied { Replies (S.status bank.old.store) (S.status bank.new.store) request.now IsResponse result }
-    ensures crash { LeavesBoth (S.status bank.old.store) (S.status bank.new.store) request.now }
-    ensures settled { Settles (S.status bank.old.store) (S.status bank.new.store) request.now (mark_of result) }
-    ensures refused { IsSome request.now.who.user → RefusesRequest (S.status bank.old.store).is_stopped (mark_of result) }
-    ensures stranger { IsNone request.now.who.user → IsOkUnless result Memory }
+    ensures moved { Moves (S.status bank.old.store) (S.status bank.new.store) request (mark_of result) }
+    ensures replied { Replies (S.status bank.old.store) (S.status bank.new.store) request IsResponse result }
+    ensures crash { LeavesBoth (S.status bank.old.store) (S.status bank.new.store) request }
+    ensures settled { Settles (S.status bank.old.store) (S.status bank.new.store) request (mark_of result) }
+    ensures refused { IsSome request.who.user → RefusesRequest (S.status bank.old.store).is_stopped (mark_of result) }
+    ensures stranger { IsNone request.who.user → IsOkUnless result Memory }
 {
-    match &request.asked {
-        Asked::Operation(op) => match decide(bank, alloc, request.who, request.moment, op) {
+    let Request { who, moment, asked } = request;
+    match asked {
+        Asked::Operation(op) => match decide(bank, alloc, who, moment, &op) {
             Ok(Decision::Denied(denial)) => Ok(Response::denied(alloc, denial.rule())?),
             Ok(Decision::Allowed(permit)) => match carry_out(permit) {
                 Ok(Reply::Done(done)) => Ok(Response::done(done.into_body())),
@@ -147,17 +181,22 @@ fn carried_out<S: Store>(
             },
             Err(fault) => Err(fault),
         },
-        Asked::Opening => match begin(bank, alloc, request.who.user) {
+        Asked::Opening => match begin(bank, alloc, who.user) {
             Ok(Ok(body)) => Ok(Response::done(body)),
             Ok(Err(rule)) => Ok(Response::denied(alloc, rule)?),
             Err(fault) => Err(fault),
         },
-        Asked::Ending => match end(bank, alloc, request.who) {
+        Asked::Ending => match end(bank, alloc, who) {
             Ok(Ok(body)) => Ok(Response::done(body)),
             Ok(Err(rule)) => Ok(Response::denied(alloc, rule)?),
             Err(fault) => Err(fault),
         },
-        Asked::Command(_) | Asked::Listing => unreachable!(),
+        Asked::Command(command) => match decide_policy(bank, alloc, who, command) {
+            Ok(Ok(body)) => Ok(Response::done(body)),
+            Ok(Err(rule)) => Ok(Response::denied(alloc, rule)?),
+            Err(fault) => Err(fault),
+        },
+        Asked::Listing => unreachable!(),
     }
 }
 
@@ -178,7 +217,7 @@ fn handled<S: Store, G: Gate>(
         Err(fault) => return Err(fault),
     };
     match stated {
-        Ok(request) => carried_out(bank, alloc, &request),
+        Ok(request) => carried_out(bank, alloc, request),
         Err(fault) => Ok(Response::refused(fault)),
     }
 }

@@ -6,11 +6,14 @@ use Rattle.counter_ops.specs.Op.{procedure_of}
 use Rattle.counter_ops.specs.Rows.{row_of}
 use Rattle.touched.specs.Touched.{amount, touched}
 use Rattle.bank_run.specs.NamedRelease.{release_grounds}
+use Rattle.certify.specs.CommandRows.{command_rows}
+use Rattle.policy_ops.specs.declared.policy_op.PolicyOp.{PolicyOp}
 use Rattle.bank_run.specs.PolicyRules.{Grounds, asker}
 use Rattle.bank_run.specs.Sessions.{standing_of_asker}
 use Rattle.bank_run.specs.declared.execution.Execution.{Execution}
 use Rattle.op_plans.specs.BookRows.{book_rows}
 use Rattle.decide.specs.NamedRelease.{grounds_of}
+use Rattle.decide.specs.declared.by_rows.CommandGrounds.{CommandGrounds}
 use Rattle.decide.specs.declared.by_rows.Loaded.{Loaded}
 use Rattle.decide.specs.declared.by_rows.Loaded.TheVariants as loaded
 use Rattle.decide.specs.declared.by_rows.OperationRows.{OperationRows}
@@ -28,22 +31,35 @@ pub record IsLoadedFor (w : WorldLists) (x : Execution) (l : OperationRows) : Ty
   pub released : option_map grounds_of l.policy.released ≡ release_grounds w (asker x.who) x.who.release
   pub books : book_rows w x.op ≡ Some l.books
 
+-- by which a command of who asks is judged
+pub record IsLoadedForCommand (w : WorldLists) (who : Who) (command : PolicyOp) (l : CommandGrounds) : Type 0 where
+  pub standing : l.standing ≡ standing_of_asker who w
+  pub rows : l.rows ≡ command_rows w.policy (asker who) command
+
 -- by which an operation is judged, where the rows are those of an operation
 abbrev pub IsLoadedOperation : WorldLists → Execution → Loaded → Type 0
 IsLoadedOperation w x (loaded.Operation l) = IsLoadedFor w x l
 IsLoadedOperation w x (loaded.Session row) = ⊥
+IsLoadedOperation w x (loaded.Command l) = ⊥
 
 -- by which a session is judged: the row of who asks
 abbrev pub IsLoadedSession : WorldLists → Who → Loaded → Type 0
 IsLoadedSession w who (loaded.Operation l) = ⊥
 IsLoadedSession w who (loaded.Session row) = row ≡ standing_of_asker who w
+IsLoadedSession w who (loaded.Command l) = ⊥
 
--- by which a request is judged; commands and the listing have none yet
+-- by which a command is judged, where the rows are those of a command
+abbrev pub IsLoadedCommand : WorldLists → Who → PolicyOp → Loaded → Type 0
+IsLoadedCommand w who command (loaded.Operation l) = ⊥
+IsLoadedCommand w who command (loaded.Session row) = ⊥
+IsLoadedCommand w who command (loaded.Command l) = IsLoadedForCommand w who command l
+
+-- by which a request is judged; the listing has none yet
 abbrev pub IsLoadedOf : WorldLists → Asked → Who → ℕ → Loaded → Type 0
 IsLoadedOf w (asked.Operation op) who moment l = IsLoadedOperation w (record { who = who; moment = moment; op = op }) l
 IsLoadedOf w asked.Opening who moment l = IsLoadedSession w who l
 IsLoadedOf w asked.Ending who moment l = IsLoadedSession w who l
-IsLoadedOf w (asked.Command command) who moment l = ⊥
+IsLoadedOf w (asked.Command command) who moment l = IsLoadedCommand w who command l
 IsLoadedOf w asked.Listing who moment l = ⊥
 
 abbrev pub IsLoaded : WorldLists → Request → Loaded → Type 0

@@ -4,12 +4,14 @@ ghost use Rattle.decide.specs.Loaded.{IsLoaded, IsLoadedFor, loaded_grounds};
 ghost use Rattle.bank_run.specs.PolicyRules.{first_of_policy};
 ghost use Rattle.bank_run.specs.Requests.{executes, first};
 
+use crate::commands::rule_against_asked;
 use crate::named_release::{NamedRelease, is_released};
 use crate::policy_rules::{is_certified_for, is_identified, leave_by_triples};
 use crate::sessions::{rule_against_ending, rule_against_opening};
 use bank_policy::{CertifiedRow, HeldRow, Standing};
 use bank_run::{Asked, Execution, Leave, Request};
 use bank_terms::Rule;
+use certify::CommandRows;
 use op_plans::{BookRows, first_of_books};
 use touched::{amount, touches};
 
@@ -35,6 +37,15 @@ pub struct OperationRows {
     pub books: BookRows,
 }
 
+/// All rows by which one command of the policy is judged.
+#[derive(Drop)]
+pub struct CommandGrounds {
+    /// What the row of the user who asks says of whether he may, or none where he isn't there.
+    pub standing: Option<Standing>,
+    /// What the policy has of him and of what the command names.
+    pub rows: CommandRows,
+}
+
 /// All rows by which one request is judged.
 #[derive(Drop)]
 pub enum Loaded {
@@ -43,6 +54,8 @@ pub enum Loaded {
     /// Of the opening or the ending of a session: what the row of the user who asks says of whether
     /// he may, or none where he isn't there.
     Session(Option<Standing>),
+    /// Of a command of the policy.
+    Command(CommandGrounds),
 }
 
 /// The first rule that denies a request, or none, where these rows were loaded for it from a World.
@@ -62,6 +75,9 @@ pub fn first_rule(rows: &Loaded, request: &Request) -> Option<Rule>
         (Loaded::Session(standing), Asked::Opening) => rule_against_opening(*standing),
         (Loaded::Session(standing), Asked::Ending) => {
             rule_against_ending(*standing, request.who.session)
+        }
+        (Loaded::Command(grounds), Asked::Command(command)) => {
+            rule_against_asked(grounds, request.who, command)
         }
         _ => None,
     }

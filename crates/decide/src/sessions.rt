@@ -7,10 +7,9 @@ ghost use Rattle.store_rows.specs.Status.{Answers, Reads, Refuses, mark_of};
 ghost use Rattle.bank_run.specs.Requests.{ends_session, opens_session, verdict};
 ghost use Rattle.bank_run.specs.Sessions.{ending_data, ending_text, first_against_ending, first_against_opening, latest, opening_data, opening_text};
 ghost use Rattle.op_plans.specs.Judged.{IsJudged};
-ghost use Rattle.decide.specs.Judged.{IsCarriedOut};
 ghost use Rattle.decide.specs.OneRequest.{IsToldInJson, LeavesBoth, Moves, Replies, Settles};
 
-use crate::permit::apply_plan;
+use crate::carried_out::carry_out_prepared;
 use crate::policy_rules::{is_identified, standing_of};
 use bank_books::RowWrite;
 use bank_policy::{Session, Standing};
@@ -67,23 +66,6 @@ pub fn end<S: Store>(
     }
     let judged = prepare_ending(alloc, &mut bank.store, who)?;
     carry_out_prepared(alloc, &mut bank.store, judged)
-}
-
-/// Has a store change what was prepared, and gives the reply that was formed with it; or the rule that denies.
-fn carry_out_prepared<S: Store>(
-    alloc: Global,
-    store: &mut S,
-    judged: Result<Prepared, Rule>,
-) -> Result<Result<Vec<u8>, Rule>, Fault>
-    ensures { IsCarriedOut (S.status store.old) (S.status store.new) judged result }
-{
-    match judged {
-        Ok(Prepared { plan, text }) => {
-            apply_plan(alloc, store, plan)?;
-            Ok(Ok(text))
-        }
-        Err(rule) => Ok(Err(rule)),
-    }
 }
 
 /// What opens a session of this user, or the first rule that denies it.

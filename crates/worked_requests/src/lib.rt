@@ -11,6 +11,8 @@ mod by_rows;
 #[cfg(test)]
 mod closings;
 #[cfg(test)]
+mod commands;
+#[cfg(test)]
 mod correction_rows;
 #[cfg(test)]
 mod corrections;
