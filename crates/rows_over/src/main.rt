@@ -3,6 +3,8 @@
 #![tactic(auto)]
 
 mod answer;
+#[cfg(test)]
+mod tests;
 mod words;
 
 use crate::answer::answer;
@@ -19,31 +21,35 @@ fn main(rt: HostRuntime) -> ExitCode {
     let mut errors = Tallied::new(rt.stderr());
     let status = match run(&rt) {
         Ok(Some(status)) => status,
-        Ok(None) => {
+        Err(error) if error.kind() != io::ErrorKind::InvalidData => {
+            fail(&mut errors, ServeFault::Memory)
+        }
+        Ok(None) | Err(_) => {
             tell(&mut errors, "words: list or cached, and a moment\n");
             REFUSED_WORDS
         }
-        Err(_) => fail(&mut errors, ServeFault::Memory),
     };
     ExitCode::from(status)
 }
 
-/// Reads the words, serves as they say, and answers the status; none where they are refused. The error is that memory is
-/// refused for them.
+/// Reads the words, serves as they say, and answers the status; none where they are refused. The error is that they are
+/// no text, or that memory is refused for them.
 fn run(rt: &HostRuntime) -> io::Result<Option<u8>> {
-    let given: Vec<String> = match env::args(rt) {
-        Ok(given) => given.collect(rt.alloc())?,
-        Err(error) if error.kind() == io::ErrorKind::InvalidData => return Ok(None),
-        Err(error) => return Err(error),
-    };
-    let Some(words) = words_of(&given) else {
+    let alloc = rt.alloc();
+    let given: Vec<String> = env::args(rt)?.collect(alloc)?;
+    let given: Vec<&str> = given
+        .iter()
+        .skip(1)
+        .map(|word| word.as_str())
+        .collect(alloc)?;
+    let Some(words) = words_of(given.as_slice()) else {
         return Ok(None);
     };
     let mut input = Tallied::new(rt.stdin());
     let mut output = Tallied::new(rt.stdout());
     let mut errors = Tallied::new(rt.stderr());
     Ok(Some(answer(
-        rt.alloc(),
+        alloc,
         words,
         &mut input,
         &mut output,

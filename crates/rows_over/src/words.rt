@@ -29,14 +29,13 @@ pub struct Words {
     pub moment: Moment,
 }
 
-/// What the words of the command line ask for, of which the first is the program's name. None where they are refused.
-pub fn words_of(given: &[String]) -> Option<Words> {
-    let [_, store, moment] = given else {
+/// What the words behind the program's name ask for. None where they are refused.
+pub fn words_of(given: &[&str]) -> Option<Words> {
+    let [store, moment] = given else {
         return None;
     };
-    let seconds = moment.as_str().parse::<u64>().ok()?;
     Some(Words {
-        store: StoreName::named(store.as_str())?,
-        moment: Moment::new(seconds)?,
+        store: StoreName::named(store)?,
+        moment: Moment::new(moment.parse::<u64>().ok()?)?,
     })
 }

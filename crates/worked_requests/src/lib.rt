@@ -9,11 +9,15 @@ mod asking;
 #[cfg(test)]
 mod by_rows;
 #[cfg(test)]
+mod cached_reads;
+#[cfg(test)]
 mod closings;
 #[cfg(test)]
 mod correction_rows;
 #[cfg(test)]
 mod corrections;
+#[cfg(test)]
+mod counting_store;
 #[cfg(test)]
 mod moves;
 #[cfg(test)]
