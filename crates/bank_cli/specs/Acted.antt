@@ -11,12 +11,13 @@ use Rattle.bank_cli.specs.declared.words.Action.TheVariants as action
 use Rattle.messages.specs.declared.serving.ServeFault.TheVariants.{Memory}
 use Rattle.sample_service.specs.Ends.{IsFailed, IsSampleEnd, IsShown}
 use Rattle.sample_service.specs.Lines.{line}
+use Rattle.sample_service.specs.Stores.{cached_list_status}
 use Rattle.sample_service.specs.Streams.{IsWritten, Stream, Streams}
 
 -- the action was carried out, and the status and standard error tell how that ended
 abbrev pub IsActed : Action → Streams → Streams → Stream → Stream → ℕ → Type 0
 IsActed (action.Sample moment) old new errors_old errors_new status =
-    IsSampleEnd moment old new errors_old errors_new status
+    IsSampleEnd cached_list_status moment old new errors_old errors_new status
 
 -- help, or the version, is asked for
 abbrev pub IsHelp : Error → Type 0

@@ -6,7 +6,7 @@ use crate::words::{Action, read_words};
 use clap::Error;
 use clap::error::ErrorKind;
 use money::Tallied;
-use sample_service::{ServeFault, answer_sample, fail, show, tell};
+use sample_service::{ServeFault, answer_sample, cached_sample, fail, show, tell};
 use std::alloc::Global;
 use std::io;
 use std::io::{Read, Write};
@@ -48,8 +48,11 @@ pub fn act<R: Read, W: Write, E: Write>(
         (streams_at R.remaining W.contents input.new output.new)
         (stream_at E.contents errors.old) (stream_at E.contents errors.new) result }
 {
+    let alloc = rt.alloc();
     match action {
-        Action::Sample { moment } => answer_sample(rt.alloc(), moment, input, output, errors),
+        Action::Sample { moment } => {
+            answer_sample(alloc, cached_sample(alloc), moment, input, output, errors)
+        }
     }
 }
 

@@ -31,6 +31,13 @@ impl<S: Store> Cached<S> {
         }
     }
 
+    /// The store below.
+    pub fn below(&self) -> &S
+        ensures { result.now ≡ below self.now }
+    {
+        &self.store
+    }
+
     /// How many entries it keeps.
     pub fn entry_count(&self) -> usize
         ensures count { result ≡ length (remembered self.now) }

@@ -4,8 +4,6 @@
 mod book_reads;
 mod cached;
 mod copies;
-#[cfg(test)]
-mod counting_store;
 mod entry;
 mod policy_cache;
 mod policy_reads;

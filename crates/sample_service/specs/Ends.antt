@@ -6,6 +6,7 @@ use Rattle.messages.specs.declared.serving.Served.{Served}
 use Rattle.sample_service.specs.Lines.{line, text_of}
 use Rattle.sample_service.specs.Serving.{IsSampleServed}
 use Rattle.sample_service.specs.Streams.{GetsAll, GetsBeginning, IsWritten, Stream, Streams}
+use Rattle.store_rows.specs.Status.{Status}
 
 -- standard error got the line of the fault, and the status is 3
 abbrev pub IsFailed : ServeFault → Stream → Stream → ℕ → Type 0
@@ -17,10 +18,10 @@ abbrev pub IsTold : {A : Type 0} → Result A ServeFault → Stream → Stream �
 IsTold (Ok done) errors_old errors_new status = (errors_new ≡ errors_old) × (status ≡ 0)
 IsTold (Err fault) errors_old errors_new status = IsFailed fault errors_old errors_new status
 
--- a stream was served over the sample bank, and it was told how that ended
-pub record IsSampleEnd (moment : ℕ) (old new : Streams) (errors_old errors_new : Stream) (status : ℕ) : Type 0 where
+-- a stream was served over the sample bank, in a store that stands for what this says, and it was told how that ended
+pub record IsSampleEnd {S : Type 0} (stands : S → Status) (moment : ℕ) (old new : Streams) (errors_old errors_new : Stream) (status : ℕ) : Type 0 where
   pub result : Result Served ServeFault
-  pub served : IsSampleServed moment old new result
+  pub served : IsSampleServed stands moment old new result
   pub told : IsTold result errors_old errors_new status
 
 -- a text was shown whole, and the status is 0; or a beginning of it, and that was told

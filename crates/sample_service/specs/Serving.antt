@@ -1,4 +1,4 @@
--- What serving a stream over the sample bank comes to.
+-- What serving a stream over the sample bank comes to, in any store.
 use Rattle.std.specs.Prelude.{◌≡◌, ◌⊎◌, ℕ, Result, Ok, Err}
 use Rattle.bank_books.specs.WorldLists.{WorldLists}
 use Rattle.counter_api.specs.Exit.{IsServed}
@@ -10,17 +10,11 @@ use Rattle.sample_bank.specs.Opening.{sample_opening}
 use Rattle.sample_service.specs.Standing.{gives_its_own, standing_at}
 use Rattle.sample_service.specs.Streams.{FailsNever, FailsOnce, Streams}
 use Rattle.sample_service.specs.declared.clock.Fixed.{Fixed}
-use Rattle.store_rows.specs.ListStore.{list_status}
-use Rattle.store_rows.specs.declared.list_store.ListStore.{ListStore}
+use Rattle.store_rows.specs.Status.{Status}
 
 -- how many messages are answered on one stream at most
 abbrev pub most_messages : ℕ
 most_messages = 1000000
-
--- the store stands for the opening books of the sample bank, and for no others
-pub record IsOpening (store : ListStore) : Type 0 where
-  pub holds : (list_status store).holds sample_opening
-  pub only : (w : WorldLists) → (list_status store).holds w → w ≡ sample_opening
 
 -- What the two streams counted, by the exit: the failed read or the failed write that ended the call, and no other. Behind a broken
 -- report its beginning is flushed, and that may fail too.
@@ -32,15 +26,26 @@ FailuresByExit old new (Err Cut) = FailsNever old.input new.input × FailsNever 
 FailuresByExit old new (Err Report) = FailsNever old.input new.input × (FailsNever old.output new.output ⊎ FailsOnce old.output new.output)
 FailuresByExit old new (Err Memory) = FailsNever old.input new.input × FailsNever old.output new.output
 
--- The stream was served over one bank, which began as the sample bank is opened, to the users of its badges, with one moment
--- for every message.
-pub record IsSampleServed (moment : ℕ) (old new : Streams) (result : Result Served ServeFault) : Type 0 where
-  pub opened : ListStore
-  pub left : ListStore
-  pub clock : Fixed
-  pub opens : IsOpening opened
-  pub exit : IsServed list_status badge_user gives_its_own most_messages
-      (record { left = old.input.bytes; written = old.output.bytes; store = opened; clock = standing_at moment })
-      (record { left = new.input.bytes; written = new.output.bytes; store = left; clock = clock })
-      result
-  pub failures : FailuresByExit old new result
+module _ {S : Type 0} (status : S → Status) where
+  -- the store stands for the opening books of the sample bank, and for no others
+  pub record IsOpening (store : S) : Type 0 where
+    pub holds : (status store).holds sample_opening
+    pub only : (w : WorldLists) → (status store).holds w → w ≡ sample_opening
+
+  -- The stream was served over one bank, which began with this store, to the users of the sample's badges, with one moment for
+  -- every message.
+  pub record IsServedOver (opened : S) (moment : ℕ) (old new : Streams) (result : Result Served ServeFault) : Type 0 where
+    pub left : S
+    pub clock : Fixed
+    pub exit : IsServed status badge_user gives_its_own most_messages
+        (record { left = old.input.bytes; written = old.output.bytes; store = opened; clock = standing_at moment })
+        (record { left = new.input.bytes; written = new.output.bytes; store = left; clock = clock })
+        result
+    pub failures : FailuresByExit old new result
+
+  -- It was served over the sample bank as its books are opened; or memory was refused for that bank, and nothing was read, done or
+  -- written.
+  abbrev pub IsSampleServed : ℕ → Streams → Streams → Result Served ServeFault → Type 0
+  IsSampleServed moment old new result =
+      ((opened : S) × IsOpening opened × IsServedOver opened moment old new result)
+      ⊎ ((result ≡ Err Memory) × (new ≡ old))

@@ -1,14 +1,16 @@
-ghost use Rattle.std.specs.Prelude.{◌≡◌};
+ghost use Rattle.std.specs.Prelude.{◌≡◌, IfOk};
 ghost use Rattle.sample_service.specs.Ends.{IsFailed, IsSampleEnd, IsShown, IsTold};
 ghost use Rattle.sample_service.specs.Lines.{line, text_of};
+ghost use Rattle.sample_service.specs.Serving.{IsOpening};
 ghost use Rattle.sample_service.specs.Streams.{IsWritten, stream_at, streams_at};
 
 use crate::moment::Moment;
 use crate::service::serve_sample;
 use counter_api::{ServeFault, Served};
 use money::{Tallied, write_whole};
-use std::alloc::Global;
+use std::alloc::{AllocError, Global};
 use std::io::{Read, Write};
+use store_rows::Store;
 
 /// The status of a program that did what it was asked for.
 pub const DONE: u8 = 0;
@@ -16,21 +18,23 @@ pub const DONE: u8 = 0;
 /// The status of a program that was kept from it by a stream or by want of memory.
 pub const FAILED: u8 = 3;
 
-/// Serves a stream over the sample bank with one moment for every message, and answers the status: `DONE` exactly where
+/// Serves a stream over a store of the sample bank, as `serve_sample` does, and answers the status: `DONE` exactly where
 /// that went well, otherwise `FAILED` behind a line on `errors` that says what failed.
-pub fn answer_sample<R: Read, W: Write, E: Write>(
+pub fn answer_sample<S: Store + Drop, R: Read, W: Write, E: Write>(
     alloc: Global,
+    store: Result<S, AllocError>,
     moment: Moment,
     input: &mut Tallied<R>,
     output: &mut Tallied<W>,
     errors: &mut Tallied<E>,
 ) -> u8
-    ensures { IsSampleEnd moment
+    requires opened { IfOk store (IsOpening S.status) }
+    ensures { IsSampleEnd S.status moment
         (streams_at R.remaining W.contents input.old output.old)
         (streams_at R.remaining W.contents input.new output.new)
         (stream_at E.contents errors.old) (stream_at E.contents errors.new) result }
 {
-    let served = serve_sample(alloc, moment, input, output);
+    let served = serve_sample(alloc, store, moment, input, output);
     tell_end(errors, served)
 }
 

@@ -6,6 +6,7 @@ mod clock;
 mod ends;
 mod moment;
 mod service;
+mod stores;
 
 pub use badges::SampleBadges;
 pub use bank_terms::MAX_MOMENT;
@@ -14,3 +15,4 @@ pub use counter_api::{ServeFault, Served};
 pub use ends::{DONE, FAILED, answer_sample, fail, line_of, show, tell};
 pub use moment::Moment;
 pub use service::serve_sample;
+pub use stores::{cached_sample, listed_sample};

@@ -55,6 +55,29 @@ pub(crate) const SAMPLE_CASH_BOOK: CashBook = CashBook {
     differences: 0,
 };
 
+/// The body of the reply to an operation that is carried out, or the rule that denies it.
+pub(crate) fn asked<S: Store>(
+    rt: &impl Abort,
+    bank: &mut Bank<S>,
+    alloc: Global,
+    who: Who,
+    moment: u64,
+    op: Op,
+) -> Result<Vec<u8>, Rule>
+    requires moment { moment ≤ max_moment }
+    requires served { is_served (procedure_of op) ≡ true }
+    requires proper { IsOp op }
+{
+    match decide(bank, alloc, who, moment, &op) {
+        Ok(Decision::Allowed(permit)) => match carry_out(permit) {
+            Ok(Reply::Done(done)) => Ok(done.into_body()),
+            Err(fault) => panic!(rt; "{fault}"),
+        },
+        Ok(Decision::Denied(denial)) => Err(denial.rule()),
+        Err(fault) => panic!(rt; "{fault}"),
+    }
+}
+
 /// A bank in memory, as it is asked.
 #[derive(Drop)]
 pub(crate) struct Desk {
@@ -82,29 +105,13 @@ impl Desk {
         done.expect(rt, "no fault");
     }
 
-    /// The body of the reply to a request that is carried out, or the rule that denies it.
-    fn ask(&mut self, rt: &impl Abort, who: Who, moment: u64, op: Op) -> Result<Vec<u8>, Rule>
-        requires moment { moment ≤ max_moment }
-        requires served { is_served (procedure_of op) ≡ true }
-        requires proper { IsOp op }
-    {
-        match decide(&mut self.bank, self.alloc, who, moment, &op) {
-            Ok(Decision::Allowed(permit)) => match carry_out(permit) {
-                Ok(Reply::Done(done)) => Ok(done.into_body()),
-                Err(fault) => panic!(rt; "{fault}"),
-            },
-            Ok(Decision::Denied(denial)) => Err(denial.rule()),
-            Err(fault) => panic!(rt; "{fault}"),
-        }
-    }
-
     /// An operation at this moment that has to be carried out, with the body of its reply.
     pub(crate) fn done_at(&mut self, rt: &impl Abort, who: Who, moment: u64, op: Op, body: &str)
         requires moment { moment ≤ max_moment }
         requires served { is_served (procedure_of op) ≡ true }
         requires proper { IsOp op }
     {
-        match self.ask(rt, who, moment, op) {
+        match asked(rt, &mut self.bank, self.alloc, who, moment, op) {
             Ok(given) => assert!(rt; given.as_slice() == body.as_bytes(), "{body}"),
             Err(rule) => panic!(rt; "{}", rule.name()),
         }
@@ -123,7 +130,7 @@ impl Desk {
         requires served { is_served (procedure_of op) ≡ true }
         requires proper { IsOp op }
     {
-        match self.ask(rt, who, MOMENT, op) {
+        match asked(rt, &mut self.bank, self.alloc, who, MOMENT, op) {
             Ok(_) => panic!(rt; "carried out"),
             Err(given) => assert!(rt; given == rule, "{}", given.name()),
         }

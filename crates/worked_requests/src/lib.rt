@@ -9,6 +9,8 @@ mod asking;
 #[cfg(test)]
 mod by_rows;
 #[cfg(test)]
+mod cached_reads;
+#[cfg(test)]
 mod closings;
 #[cfg(test)]
 mod commands;
@@ -16,6 +18,8 @@ mod commands;
 mod correction_rows;
 #[cfg(test)]
 mod corrections;
+#[cfg(test)]
+mod counting_store;
 #[cfg(test)]
 mod moves;
 #[cfg(test)]

@@ -143,7 +143,7 @@ fn who_asks_has_to_be_known(rt: HostRuntime) {
 }
 
 /// The question for the balance of account 101.
-fn balance_of_101() -> Op
+pub(crate) fn balance_of_101() -> Op
     ensures served { is_served (procedure_of result) ≡ true }
     ensures proper { IsOp result }
 {
