@@ -6,7 +6,7 @@ ghost use Rattle.op_plans.specs.Judged.{IsJudged, LeavesPolicy};
 ghost use Rattle.bank_run.specs.Meaning.{by_books};
 ghost use Rattle.bank_run.specs.Release.{first_against_release, given_release, release_data, release_meaning, release_rows, release_text};
 
-use crate::compact::compact;
+use crate::json_text::compact;
 use crate::prepared::Prepared;
 use bank_books::{RowWrite, Signature};
 use bank_run::ReleaseRows;
