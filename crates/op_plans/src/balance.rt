@@ -6,7 +6,7 @@ ghost use Rattle.bank_run.specs.Balance.{balance_data, balance_meaning, balance_
 ghost use Rattle.op_plans.specs.Judged.{IsJudged};
 ghost use Rattle.bank_run.specs.Meaning.{by_books};
 
-use crate::compact::compact;
+use crate::json_text::compact;
 use crate::prepared::Prepared;
 use bank_books::AccountRecord;
 use bank_terms::Rule;

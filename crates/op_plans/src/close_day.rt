@@ -6,7 +6,7 @@ ghost use Rattle.bank_run.specs.Meaning.{by_books};
 ghost use Rattle.drawers.specs.CloseDay.{closing_rows};
 ghost use Rattle.bank_run.specs.CloseDay.{close_day_meaning, closed_data, closed_text};
 
-use crate::compact::compact;
+use crate::json_text::compact;
 use crate::prepared::Prepared;
 use bank_terms::Rule;
 use counter_ops::CloseDay;

@@ -6,7 +6,7 @@ ghost use Rattle.bank_run.specs.Meaning.{by_books};
 ghost use Rattle.bank_run.specs.DrawerOff.{drawer_off_meaning, put_off_data, put_off_text};
 
 use crate::drawer_on::load_drawer_rows;
-use crate::compact::compact;
+use crate::json_text::compact;
 use crate::prepared::Prepared;
 use bank_books::Signature;
 use bank_terms::Rule;

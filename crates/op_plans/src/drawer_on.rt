@@ -6,7 +6,7 @@ ghost use Rattle.bank_run.specs.Meaning.{by_books};
 ghost use Rattle.drawers.specs.DrawerRows.{drawer_rows};
 ghost use Rattle.bank_run.specs.DrawerOn.{drawer_on_meaning, put_on_data, put_on_text};
 
-use crate::compact::compact;
+use crate::json_text::compact;
 use crate::prepared::Prepared;
 use bank_books::Signature;
 use bank_terms::Rule;

@@ -6,7 +6,7 @@ ghost use Rattle.bank_run.specs.Meaning.{by_books};
 ghost use Rattle.drawers.specs.MoveCash.{move_rows, teller_at};
 ghost use Rattle.bank_run.specs.MoveCash.{move_meaning, moved_data, moved_text};
 
-use crate::compact::compact;
+use crate::json_text::compact;
 use crate::prepared::Prepared;
 use bank_books::{Signature, TellerRecord};
 use bank_terms::Rule;

@@ -5,7 +5,7 @@ ghost use Rattle.op_plans.specs.Judged.{IsJudged};
 ghost use Rattle.bank_run.specs.Meaning.{by_books};
 ghost use Rattle.bank_run.specs.NewAccount.{first_against_new_account, new_account_meaning, opened, opened_data, opened_text, opening_rows};
 
-use crate::compact::compact;
+use crate::json_text::compact;
 use crate::prepared::Prepared;
 use bank_books::{Account, RowWrite};
 use bank_run::OpeningRows;

@@ -6,7 +6,7 @@ ghost use Rattle.bank_run.specs.Meaning.{by_books};
 ghost use Rattle.postings.specs.Post.{post_rows};
 ghost use Rattle.bank_run.specs.Post.{post_meaning, posted_data, posted_text};
 
-use crate::compact::compact;
+use crate::json_text::compact;
 use crate::prepared::Prepared;
 use bank_books::Signature;
 use bank_terms::Rule;

@@ -7,7 +7,7 @@ ghost use Rattle.postings.specs.Transfer.{transfer_rows};
 ghost use Rattle.bank_run.specs.Transfer.{transfer_meaning, transferred_data, transferred_text};
 ghost use Rattle.counter_ops.specs.Transfer.{IsTransfer};
 
-use crate::compact::compact;
+use crate::json_text::compact;
 use crate::prepared::Prepared;
 use bank_books::Signature;
 use bank_terms::Rule;
