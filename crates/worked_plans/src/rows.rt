@@ -1,21 +1,25 @@
 //! Rows made up, as a store would answer them. By them the rules are judged on numbers that no bank of a test comes to.
 
-use crate::amounts::cents;
-use crate::asking::MOMENT;
+ghost use Rattle.std.specs.Prelude.{◌≡◌};
+
 use bank_books::{Account, AccountRecord, Signature, Teller, TellerRecord};
+use money::{Cents, Delta};
 use row_rules::{CashBook, Ledger};
 use std::process::Abort;
+
+/// The greatest amount of money, in cents.
+pub(crate) const MOST: i64 = 999_999_999_999;
 
 /// What the rows of Tess's requests bear.
 pub(crate) const BY_TESS: Signature = Signature {
     user: 7,
-    moment: MOMENT,
+    moment: 700,
 };
 
 /// What those of Tom's bear.
 pub(crate) const BY_TOM: Signature = Signature {
     user: 8,
-    moment: MOMENT,
+    moment: 700,
 };
 
 /// A history with nothing in it.
@@ -34,6 +38,24 @@ pub(crate) const CASH_BOOK: CashBook = CashBook {
     cash_entries: 0,
     differences: 0,
 };
+
+/// A cash book that has no number left for a line, and whose lines come to nothing.
+pub(crate) const FULL_CASH_BOOK: CashBook = CashBook {
+    lines: 999_999_999,
+    ..CASH_BOOK
+};
+
+pub(crate) fn cents(rt: &impl Abort, value: i64) -> Cents
+    ensures { result ≡ value }
+{
+    Cents::new(value).expect(rt, "an amount of money")
+}
+
+pub(crate) fn delta(rt: &impl Abort, value: i64) -> Delta
+    ensures { result ≡ value }
+{
+    Delta::new(value).expect(rt, "what an entry may add")
+}
 
 /// An account of branch 1 with this balance, which may not fall below zero.
 pub(crate) fn account_with(rt: &impl Abort, account: u32, balance: i64) -> AccountRecord {

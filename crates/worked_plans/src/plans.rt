@@ -1,8 +1,8 @@
 //! What the plan of an operation makes of a bank, whose lines and proofs no store tells.
 
-use crate::amounts::cents;
+use crate::rows::cents;
 use bank_books::{CashLine, LineForm, Plan, Signature, World};
-use decide::Rule;
+use bank_terms::Rule;
 use money::Fault;
 use row_rules::Planned;
 use std::alloc::Global;

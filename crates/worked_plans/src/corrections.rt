@@ -1,15 +1,72 @@
-//! The rules against a correction, over rows made up: what stays in range, which numbers are left, and their order.
+//! Corrections whose rows are made up: what their plan writes, what stays in range, which numbers are left, and the order
+//! of their rules.
 
-use crate::amounts::{MOST, delta};
-use crate::corrections::{correct, first_post};
+use crate::plans::{apply, line, lines_end_with, plan_of};
 use crate::posts::rows_at;
-use crate::rows::{BY_TESS, CASH_BOOK, LEDGER, account_with, teller_of, teller_with};
-use bank_books::{AccountRecord, Entry, EntryForm};
-use bank_terms::MAX_KEY;
-use decide::Rule;
-use postings::{CorrectRows, rule_against_correct};
+use crate::rows::{
+    BY_TESS, BY_TOM, CASH_BOOK, FULL_CASH_BOOK, LEDGER, MOST, account_with, delta, teller_of,
+    teller_with,
+};
+use bank_books::{
+    AccountRecord, Entry, EntryForm, LineForm, account_record, branch_record, teller_record,
+};
+use bank_terms::Rule;
+use counter_ops::Correct;
+use postings::{CorrectRows, plan_correct, rule_against_correct};
 use row_rules::{CashBook, Ledger};
+use sample_bank::sample_world;
 use std::process::Abort;
+
+/// The correction of the first entry of branch 1, that names account 101 and added so much to it. Where there is another
+/// account, it is that of a transfer.
+fn correct(rt: &impl Abort, other: u32, teller: u32, added: i64) -> Correct {
+    Correct {
+        branch: 1,
+        entry: 1,
+        account: 101,
+        other,
+        teller,
+        delta: delta(rt, added),
+    }
+}
+
+/// The post of 25.00 that is the first entry of branch 1, made by Tess.
+fn first_post(rt: &impl Abort) -> Entry {
+    Entry {
+        branch: 1,
+        number: 1,
+        account: 101,
+        turn: 1,
+        teller: 11,
+        delta: delta(rt, 2_500),
+        moment: 700,
+        day: 1,
+        user: 7,
+        form: EntryForm::Post,
+        partner: 0,
+        undoes: 0,
+    }
+}
+
+#[test]
+fn a_correction_writes_its_cash(rt: HostRuntime) {
+    let alloc = rt.alloc();
+    let mut world = sample_world(alloc).expect(&rt, "memory");
+    let rows = CorrectRows::of(
+        account_record(&world, 101),
+        None,
+        teller_record(&world, 12),
+        branch_record(&world, 1),
+        Some(first_post(&rt)),
+        None,
+        false,
+    );
+    let undoing = correct(&rt, 0, 12, 2_500);
+    let plan = plan_of(&rt, plan_correct(alloc, &rows, &undoing, BY_TOM));
+    apply(&rt, alloc, &mut world, plan);
+    let cash = line(&rt, 5, 12, -2_500, LineForm::CashEntry, BY_TOM);
+    lines_end_with(&rt, &world, 5, &[cash]);
+}
 
 /// The rows of the correction of a post of so many cents by Tom. Its numbers stand so, those of the post.
 fn rows_of_post(rt: &impl Abort, added: i64, numbers: [i64; 7]) -> CorrectRows {
@@ -33,7 +90,7 @@ fn rows_of_post(rt: &impl Abort, added: i64, numbers: [i64; 7]) -> CorrectRows {
 
 #[test]
 fn every_number_that_a_correction_moves_stays_in_range(rt: HostRuntime) {
-    let undoing = correct(&rt, 1, 101, 0, 11, -1);
+    let undoing = correct(&rt, 0, 11, -1);
     for place in 0..7usize {
         let mut numbers = [100; 7];
         numbers[place] = MOST;
@@ -49,7 +106,7 @@ fn every_number_that_a_correction_moves_stays_in_range(rt: HostRuntime) {
 
 #[test]
 fn a_correction_of_a_post_needs_a_number_of_each_kind(rt: HostRuntime) {
-    let undoing = correct(&rt, 1, 101, 0, 11, 100);
+    let undoing = correct(&rt, 0, 11, 100);
     for (turns, entries, lines, first) in [
         (999_999_998, 999_999_998, 999_999_998, None),
         (999_999_999, 0, 0, Some(Rule::Full)),
@@ -108,11 +165,7 @@ fn rows_of_transfer(rt: &impl Abort, turns: u64, other_turns: u64) -> CorrectRow
 /// It writes no line, and so needs no number of one.
 #[test]
 fn a_correction_of_a_transfer_needs_two_entry_numbers(rt: HostRuntime) {
-    let undoing = correct(&rt, 1, 101, 102, 11, -100);
-    let cash_book = Some(CashBook {
-        lines: u64::from(MAX_KEY),
-        ..CASH_BOOK
-    });
+    let undoing = correct(&rt, 102, 11, -100);
     for (turns, other, entries, first) in [
         (999_999_998, 999_999_998, 999_999_997, None),
         (999_999_999, 0, 0, Some(Rule::Full)),
@@ -121,7 +174,7 @@ fn a_correction_of_a_transfer_needs_two_entry_numbers(rt: HostRuntime) {
     ] {
         let rows = CorrectRows {
             ledger: Some(Ledger { entries, ..LEDGER }),
-            cash_book,
+            cash_book: Some(FULL_CASH_BOOK),
             ..rows_of_transfer(&rt, turns, other)
         };
         let given = rule_against_correct(&rows, &undoing, BY_TESS);
@@ -131,7 +184,7 @@ fn a_correction_of_a_transfer_needs_two_entry_numbers(rt: HostRuntime) {
 
 /// Asks for this first rule against the correction of a post of 1.00.
 fn first_is(rt: &impl Abort, rows: &CorrectRows, rule: Option<Rule>) {
-    let undoing = correct(rt, 1, 101, 0, 11, 100);
+    let undoing = correct(rt, 0, 11, 100);
     let first = rule_against_correct(rows, &undoing, BY_TESS);
     assert_eq!(rt; first, rule);
 }
@@ -147,10 +200,7 @@ fn rules_of_a_correction_stand_in_order(rt: HostRuntime) {
             history: -i128::from(MOST),
             ..LEDGER
         }),
-        cash_book: Some(CashBook {
-            lines: u64::from(MAX_KEY),
-            ..CASH_BOOK
-        }),
+        cash_book: Some(FULL_CASH_BOOK),
         entry: Some(first_post(&rt)),
         is_undone: true,
         ..mended
