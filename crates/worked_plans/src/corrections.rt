@@ -4,8 +4,8 @@
 use crate::plans::{apply, line, lines_end_with, plan_of};
 use crate::posts::rows_at;
 use crate::rows::{
-    BY_TESS, BY_TOM, CASH_BOOK, FULL_CASH_BOOK, LEDGER, MOST, account_with, delta, teller_of,
-    teller_with,
+    BY_TESS, BY_TOM, CASH_BOOK, FULL_CASH_BOOK, LEDGER, MOST, ONE_OF_EACH, TWO_ENTRIES,
+    account_with, delta, teller_of, teller_with,
 };
 use bank_books::{
     AccountRecord, Entry, EntryForm, LineForm, account_record, branch_record, teller_record,
@@ -107,12 +107,7 @@ fn every_number_that_a_correction_moves_stays_in_range(rt: HostRuntime) {
 #[test]
 fn a_correction_of_a_post_needs_a_number_of_each_kind(rt: HostRuntime) {
     let undoing = correct(&rt, 0, 11, 100);
-    for (turns, entries, lines, first) in [
-        (999_999_998, 999_999_998, 999_999_998, None),
-        (999_999_999, 0, 0, Some(Rule::Full)),
-        (0, 999_999_999, 0, Some(Rule::Full)),
-        (0, 0, 999_999_999, Some(Rule::Full)),
-    ] {
+    for (turns, entries, lines, first) in ONE_OF_EACH {
         let account = AccountRecord {
             turns,
             ..account_with(&rt, 101, 100)
@@ -166,12 +161,7 @@ fn rows_of_transfer(rt: &impl Abort, turns: u64, other_turns: u64) -> CorrectRow
 #[test]
 fn a_correction_of_a_transfer_needs_two_entry_numbers(rt: HostRuntime) {
     let undoing = correct(&rt, 102, 11, -100);
-    for (turns, other, entries, first) in [
-        (999_999_998, 999_999_998, 999_999_997, None),
-        (999_999_999, 0, 0, Some(Rule::Full)),
-        (0, 999_999_999, 0, Some(Rule::Full)),
-        (0, 0, 999_999_998, Some(Rule::Full)),
-    ] {
+    for (turns, other, entries, first) in TWO_ENTRIES {
         let rows = CorrectRows {
             ledger: Some(Ledger { entries, ..LEDGER }),
             cash_book: Some(FULL_CASH_BOOK),

@@ -2,7 +2,8 @@
 
 use crate::plans::{apply, line, lines_end_with, plan_of};
 use crate::rows::{
-    BY_TESS, CASH_BOOK, FULL_CASH_BOOK, LEDGER, MOST, account_with, delta, teller_of, teller_with,
+    BY_TESS, CASH_BOOK, FULL_CASH_BOOK, LEDGER, MOST, ONE_OF_EACH, account_with, delta, teller_of,
+    teller_with,
 };
 use bank_books::{
     AccountRecord, LineForm, TellerRecord, account_record, branch_record, teller_record,
@@ -88,12 +89,7 @@ fn every_number_that_a_post_moves_stays_in_range(rt: HostRuntime) {
 #[test]
 fn a_post_needs_a_number_of_each_kind(rt: HostRuntime) {
     let post = post_of(&rt, 1);
-    for (turns, entries, lines, first) in [
-        (999_999_998, 999_999_998, 999_999_998, None),
-        (999_999_999, 0, 0, Some(Rule::Full)),
-        (0, 999_999_999, 0, Some(Rule::Full)),
-        (0, 0, 999_999_999, Some(Rule::Full)),
-    ] {
+    for (turns, entries, lines, first) in ONE_OF_EACH {
         let account = AccountRecord {
             turns,
             ..account_with(&rt, 101, 100)

@@ -3,6 +3,7 @@
 ghost use Rattle.std.specs.Prelude.{◌≡◌};
 
 use bank_books::{Account, AccountRecord, Signature, Teller, TellerRecord};
+use bank_terms::Rule;
 use money::{Cents, Delta};
 use row_rules::{CashBook, Ledger};
 use std::process::Abort;
@@ -44,6 +45,23 @@ pub(crate) const FULL_CASH_BOOK: CashBook = CashBook {
     lines: 999_999_999,
     ..CASH_BOOK
 };
+
+/// How many turns, entries and lines there are, and the rule where one of them has no number left for one more.
+pub(crate) const ONE_OF_EACH: [(u64, u64, u64, Option<Rule>); 4] = [
+    (999_999_998, 999_999_998, 999_999_998, None),
+    (999_999_999, 0, 0, Some(Rule::Full)),
+    (0, 999_999_999, 0, Some(Rule::Full)),
+    (0, 0, 999_999_999, Some(Rule::Full)),
+];
+
+/// How many turns two accounts have and how many entries there are, and the rule where an account has no turn left or the
+/// history has not two numbers left.
+pub(crate) const TWO_ENTRIES: [(u64, u64, u64, Option<Rule>); 4] = [
+    (999_999_998, 999_999_998, 999_999_997, None),
+    (999_999_999, 0, 0, Some(Rule::Full)),
+    (0, 999_999_999, 0, Some(Rule::Full)),
+    (0, 0, 999_999_998, Some(Rule::Full)),
+];
 
 pub(crate) fn cents(rt: &impl Abort, value: i64) -> Cents
     ensures { result ≡ value }

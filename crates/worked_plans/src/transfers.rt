@@ -1,6 +1,6 @@
 //! Transfers whose rows are made up: what numbers are left, and the order of their rules.
 
-use crate::rows::{BY_TESS, LEDGER, MOST, account_with, teller_of, teller_with};
+use crate::rows::{BY_TESS, LEDGER, MOST, TWO_ENTRIES, account_with, teller_of, teller_with};
 use bank_books::AccountRecord;
 use bank_terms::Rule;
 use counter_ops::Transfer;
@@ -33,12 +33,7 @@ fn sound_rows(rt: &impl Abort, source: u64, target: u64) -> TransferRows {
 
 #[test]
 fn a_transfer_needs_two_entry_numbers(rt: HostRuntime) {
-    for (source, target, entries, first) in [
-        (999_999_998, 999_999_998, 999_999_997, None),
-        (999_999_999, 0, 0, Some(Rule::Full)),
-        (0, 999_999_999, 0, Some(Rule::Full)),
-        (0, 0, 999_999_998, Some(Rule::Full)),
-    ] {
+    for (source, target, entries, first) in TWO_ENTRIES {
         let rows = TransferRows {
             ledger: Some(Ledger { entries, ..LEDGER }),
             ..sound_rows(&rt, source, target)
