@@ -10,17 +10,22 @@ use std::alloc::Global;
 use std::process::Abort;
 use store_rows::{BookReads, ListStore, PolicyReads};
 
-/// A request of this user, in his session 1, at the moment 700.
-fn request(user: u32, op: Op) -> Request {
+/// A request of this user, in this session of his, at the moment 700.
+fn request(user: u32, session: u32, asked: Asked) -> Request {
     Request {
         who: Who {
             user: Some(user),
-            session: 1,
+            session,
             release: 0,
         },
         moment: 700,
-        asked: Asked::Operation(op),
+        asked,
     }
+}
+
+/// A request of this user for an operation, in his session 1.
+fn asks(user: u32, op: Op) -> Request {
+    request(user, 1, Asked::Operation(op))
 }
 
 /// The rows of the policy by which an operation of this user is judged.
@@ -79,7 +84,7 @@ fn posts_are_judged_by_their_rows(rt: HostRuntime) {
         let branch = store.branch(alloc, 1).expect(&rt, "no fault");
         let books = BookRows::Post(PostRows::of(account, teller, branch));
         let rows = Loaded::Operation(OperationRows { policy, books });
-        assert!(rt; first_rule(&rows, &request(user, op)) == first);
+        assert!(rt; first_rule(&rows, &asks(user, op)) == first);
     }
 }
 
@@ -98,13 +103,13 @@ fn accounts_and_balances_are_judged_by_their_rows(rt: HostRuntime) {
         let branch = store.branch(alloc, 1).expect(&rt, "no fault");
         let books = BookRows::NewAccount(OpeningRows::of(there, branch));
         let rows = Loaded::Operation(OperationRows { policy, books });
-        assert!(rt; first_rule(&rows, &request(9, op)) == first);
+        assert!(rt; first_rule(&rows, &asks(9, op)) == first);
     }
     let op = Op::Balance(Balance { account: 101 });
     let policy = policy_of(&rt, alloc, &mut store, 7, &op);
     let books = BookRows::Balance(store.account(alloc, 101).expect(&rt, "no fault"));
     let rows = Loaded::Operation(OperationRows { policy, books });
-    assert!(rt; first_rule(&rows, &request(7, op)).is_none());
+    assert!(rt; first_rule(&rows, &asks(7, op)).is_none());
 }
 
 #[test]
@@ -120,16 +125,7 @@ fn sessions_are_judged_by_the_row_of_the_user(rt: HostRuntime) {
         let row = store.user(alloc, user).expect(&rt, "no fault");
         let rows = Loaded::Session(row.map(|row| row.standing));
         for (asked, first) in [(Asked::Opening, opened), (Asked::Ending, ended)] {
-            let request = Request {
-                who: Who {
-                    user: Some(user),
-                    session,
-                    release: 0,
-                },
-                moment: 700,
-                asked,
-            };
-            assert!(rt; first_rule(&rows, &request) == first);
+            assert!(rt; first_rule(&rows, &request(user, session, asked)) == first);
         }
     }
 }

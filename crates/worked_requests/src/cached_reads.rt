@@ -1,6 +1,6 @@
 use crate::asking::{MOMENT, TESS, asked};
 use crate::counting_store::CountingStore;
-use crate::requests::balance_of_101;
+use crate::forms::balance;
 use bank_books::{Plan, RowWrite};
 use bank_policy::{PolicyWrite, Session, TripleKey};
 use bank_terms::Procedure;
@@ -36,7 +36,7 @@ fn the_second_of_two_equal_questions_reads_no_policy(rt: HostRuntime) {
         store: counting(&rt, alloc),
     };
     for _ in 0..2 {
-        let told = asked(&rt, &mut bank, alloc, TESS, MOMENT, balance_of_101());
+        let told = asked(&rt, &mut bank, alloc, TESS, MOMENT, balance(101));
         assert!(rt; told.is_ok_and(|body| body.as_slice() == b"{\"balance\":50000}".as_slice()));
         assert_eq!(rt; bank.store.below().reads, 2);
     }

@@ -1,5 +1,5 @@
 //! Worked requests over the library crates. It holds tests alone: what the contracts of the crates below
-//! say of requests and of streams of them, seen on values that were worked out by hand.
+//! say of requests, seen on values that were worked out by hand.
 #![tactic(auto)]
 
 #[cfg(test)]
@@ -15,17 +15,15 @@ mod closings;
 #[cfg(test)]
 mod commands;
 #[cfg(test)]
-mod correction_rows;
-#[cfg(test)]
 mod corrections;
 #[cfg(test)]
 mod counting_store;
 #[cfg(test)]
+mod forms;
+#[cfg(test)]
 mod moves;
 #[cfg(test)]
 mod opening;
-#[cfg(test)]
-mod plans;
 #[cfg(test)]
 mod posts;
 #[cfg(test)]
@@ -33,11 +31,7 @@ mod releases;
 #[cfg(test)]
 mod requests;
 #[cfg(test)]
-mod rows;
-#[cfg(test)]
 mod sessions;
-#[cfg(test)]
-mod streams;
 #[cfg(test)]
 mod transfers;
 #[cfg(test)]

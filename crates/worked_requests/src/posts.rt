@@ -1,46 +1,69 @@
-//! Posts where a number of the books stands at the end of its range, and the order of the rules against a post.
+//! Posts: what they move, and what stays in range.
 
-use crate::amounts::{MOST, delta};
-use crate::asking::{Desk, TESS};
-use crate::opening::{with_a_full_drawer, with_all_cash_of_entries};
-use crate::plans::{apply, line, lines_end_with, plan_of};
-use crate::requests::post;
-use crate::rows::{BY_TESS, CASH_BOOK, LEDGER, account_with, teller_of, teller_with};
-use bank_books::{
-    AccountRecord, LineForm, TellerRecord, account_record, branch_record, teller_record,
-};
-use bank_terms::MAX_KEY;
-use counter_ops::Post;
+use crate::asking::{Desk, SAMPLE_CASH_BOOK, SAMPLE_LEDGER, TESS, TOM};
+use crate::forms::post;
+use crate::opening::{opening_at, with_a_full_drawer, with_all_cash_of_entries};
 use decide::Rule;
-use postings::{PostRows, plan_post, rule_against_post};
 use row_rules::{CashBook, Ledger};
-use sample_bank::sample_world;
-use std::process::Abort;
 
-/// A post to account 101 at teller 11.
-fn post_of(rt: &impl Abort, added: i64) -> Post {
-    Post {
-        account: 101,
-        branch: 1,
-        delta: delta(rt, added),
-        teller: 11,
-    }
+#[test]
+fn posts_move_three_balances_and_a_drawer(rt: HostRuntime) {
+    let mut desk = Desk::of_sample(&rt, rt.alloc());
+    let body = r#"{"balance":52500,"branch":1,"entry":1}"#;
+    desk.done(&rt, TESS, post(&rt, 101, 11, 1, 2_500), body);
+    let body = r#"{"balance":0,"branch":1,"entry":2}"#;
+    desk.done(&rt, TESS, post(&rt, 201, 11, 1, -30_000), body);
+    let body = r#"{"balance":52500,"branch":1,"entry":3}"#;
+    desk.done(&rt, TESS, post(&rt, 101, 11, 1, 0), body);
+    desk.teller_is(&rt, 11, 32_500);
+    desk.drawer_is(&rt, 11, 12_500, Some(7));
+    let ledger = Ledger {
+        balance: 32_500,
+        entries: 3,
+        history: -27_500,
+        ..SAMPLE_LEDGER
+    };
+    desk.ledger_is(&rt, 1, ledger);
+    let book = CashBook {
+        lines: 7,
+        drawers: 17_500,
+        cash_entries: -27_500,
+        ..SAMPLE_CASH_BOOK
+    };
+    desk.cash_is(&rt, book, 55_000);
+    let other = Ledger {
+        balance: 20_000,
+        ..SAMPLE_LEDGER
+    };
+    desk.ledger_is(&rt, 2, other);
+    assert!(rt; desk.faults() == 0);
 }
 
 #[test]
-fn a_post_writes_its_cash(rt: HostRuntime) {
+fn a_rule_that_denies_changes_nothing(rt: HostRuntime) {
     let alloc = rt.alloc();
-    let mut world = sample_world(alloc).expect(&rt, "memory");
-    let rows = PostRows::of(
-        account_record(&world, 101),
-        teller_record(&world, 11),
-        branch_record(&world, 1),
-    );
-    let withdrawal = post_of(&rt, -2_500);
-    let plan = plan_of(&rt, plan_post(alloc, &rows, &withdrawal, BY_TESS));
-    apply(&rt, alloc, &mut world, plan);
-    let cash = line(&rt, 5, 11, -2_500, LineForm::CashEntry, BY_TESS);
-    lines_end_with(&rt, &world, 5, &[cash]);
+    let mut desk = Desk::over(alloc, opening_at(&rt, alloc, 999_999_999_999));
+    let too_much = post(&rt, 101, 11, 1, 1);
+    desk.denied(&rt, TESS, too_much, Rule::Range);
+    let not_held = post(&rt, 102, 12, 1, -1);
+    desk.denied(&rt, TESS, not_held, Rule::Drawer);
+    let below = post(&rt, 102, 11, 1, -1);
+    desk.denied(&rt, TESS, below, Rule::Floor);
+    let more_than_cash = post(&rt, 101, 11, 1, -40_001);
+    desk.denied(&rt, TESS, more_than_cash, Rule::Cash);
+    let elsewhere = post(&rt, 101, 21, 1, 100);
+    desk.denied(&rt, TOM, elsewhere, Rule::Branch);
+    let missing = post(&rt, 999, 11, 1, 100);
+    desk.denied(&rt, TOM, missing, Rule::Unknown);
+    desk.account_is(&rt, 101, 999_999_999_999, 0);
+    let ledger = Ledger {
+        balance: 999_999_999_999,
+        ..SAMPLE_LEDGER
+    };
+    desk.ledger_is(&rt, 1, ledger);
+    desk.cash_is(&rt, SAMPLE_CASH_BOOK, 55_000);
+    let body = r#"{"balance":999999999998,"branch":1,"entry":1}"#;
+    desk.done(&rt, TESS, post(&rt, 101, 11, 1, -1), body);
 }
 
 #[test]
@@ -48,7 +71,7 @@ fn the_drawer_of_a_post_stays_in_range(rt: HostRuntime) {
     let alloc = rt.alloc();
     let mut desk = Desk::over(alloc, with_a_full_drawer(&rt, alloc));
     desk.denied(&rt, TESS, post(&rt, 101, 11, 1, 10), Rule::Range);
-    let body = "{\"balance\":50009,\"branch\":1,\"entry\":1}";
+    let body = r#"{"balance":50009,"branch":1,"entry":1}"#;
     desk.done(&rt, TESS, post(&rt, 101, 11, 1, 9), body);
     desk.drawer_is(&rt, 11, 999_999_999_999, Some(7));
 }
@@ -58,119 +81,13 @@ fn the_cash_of_entries_stays_in_range(rt: HostRuntime) {
     let alloc = rt.alloc();
     let mut desk = Desk::over(alloc, with_all_cash_of_entries(&rt, alloc));
     desk.denied(&rt, TESS, post(&rt, 101, 11, 1, 1), Rule::Range);
-    let body = "{\"balance\":50000,\"branch\":1,\"entry\":1}";
+    let body = r#"{"balance":50000,"branch":1,"entry":1}"#;
     desk.done(&rt, TESS, post(&rt, 101, 11, 1, 0), body);
     let book = CashBook {
         lines: 6,
+        drawers: 0,
         cash_entries: 999_999_999_999,
-        ..CASH_BOOK
+        ..SAMPLE_CASH_BOOK
     };
     desk.cash_is(&rt, book, 999_999_999_999);
-}
-
-/// The rows of a post whose numbers stand so, in cents: the balance of account 101, the balance of teller 11 and the cash
-/// of his drawer, which Tess holds, the balance of branch 1 and the sum of its history, the sum of its drawers and that
-/// of its cash that came with entries.
-pub(crate) fn rows_at(rt: &impl Abort, numbers: [i64; 7]) -> PostRows {
-    let [
-        account,
-        teller,
-        drawer,
-        branch,
-        history,
-        drawers,
-        cash_entries,
-    ] = numbers;
-    PostRows {
-        account: Some(account_with(rt, 101, account)),
-        teller: Some(TellerRecord {
-            balance: i128::from(teller),
-            ..teller_with(rt, drawer)
-        }),
-        ledger: Some(Ledger {
-            balance: i128::from(branch),
-            history: i128::from(history),
-            ..LEDGER
-        }),
-        cash_book: Some(CashBook {
-            drawers: i128::from(drawers),
-            cash_entries: i128::from(cash_entries),
-            ..CASH_BOOK
-        }),
-    }
-}
-
-#[test]
-fn every_number_that_a_post_moves_stays_in_range(rt: HostRuntime) {
-    for place in 0..7usize {
-        let mut numbers = [100; 7];
-        numbers[place] = MOST;
-        let rows = rows_at(&rt, numbers);
-        let first = rule_against_post(&rows, &post_of(&rt, 1), BY_TESS);
-        assert_eq!(rt; first, Some(Rule::Range), "{place}");
-        let first = rule_against_post(&rows, &post_of(&rt, 0), BY_TESS);
-        assert_eq!(rt; first, None, "{place}");
-    }
-}
-
-#[test]
-fn a_post_needs_a_number_of_each_kind(rt: HostRuntime) {
-    let post = post_of(&rt, 1);
-    for (turns, entries, lines, first) in [
-        (999_999_998, 999_999_998, 999_999_998, None),
-        (999_999_999, 0, 0, Some(Rule::Full)),
-        (0, 999_999_999, 0, Some(Rule::Full)),
-        (0, 0, 999_999_999, Some(Rule::Full)),
-    ] {
-        let account = AccountRecord {
-            turns,
-            ..account_with(&rt, 101, 100)
-        };
-        let rows = PostRows {
-            account: Some(account),
-            ledger: Some(Ledger { entries, ..LEDGER }),
-            cash_book: Some(CashBook { lines, ..CASH_BOOK }),
-            ..rows_at(&rt, [100; 7])
-        };
-        let given = rule_against_post(&rows, &post, BY_TESS);
-        assert_eq!(rt; given, first, "{turns} {entries} {lines}");
-    }
-}
-
-/// Asks for this first rule against a withdrawal of 1.00.
-fn first_is(rt: &impl Abort, rows: &PostRows, rule: Option<Rule>) {
-    let first = rule_against_post(rows, &post_of(rt, -100), BY_TESS);
-    assert_eq!(rt; first, rule);
-}
-
-/// Rows against which every rule speaks, and which are mended one after another.
-#[test]
-fn rules_of_a_post_stand_in_order(rt: HostRuntime) {
-    let mut rows = PostRows {
-        account: None,
-        teller: Some(teller_of(&rt, 2, 99)),
-        ledger: Some(Ledger {
-            history: -i128::from(MOST),
-            ..LEDGER
-        }),
-        cash_book: Some(CashBook {
-            lines: u64::from(MAX_KEY),
-            ..CASH_BOOK
-        }),
-    };
-    first_is(&rt, &rows, Some(Rule::Unknown));
-    rows.account = Some(account_with(&rt, 101, 99));
-    first_is(&rt, &rows, Some(Rule::Branch));
-    rows.teller = Some(teller_of(&rt, 1, 99));
-    first_is(&rt, &rows, Some(Rule::Drawer));
-    rows.teller = Some(teller_with(&rt, 99));
-    first_is(&rt, &rows, Some(Rule::Floor));
-    rows.account = Some(account_with(&rt, 101, 100));
-    first_is(&rt, &rows, Some(Rule::Cash));
-    rows.teller = Some(teller_with(&rt, 100));
-    first_is(&rt, &rows, Some(Rule::Range));
-    rows.ledger = Some(LEDGER);
-    first_is(&rt, &rows, Some(Rule::Full));
-    rows.cash_book = Some(CASH_BOOK);
-    first_is(&rt, &rows, None);
 }

@@ -1,35 +1,10 @@
-ghost use Rattle.std.specs.Prelude.{◌≡◌, true};
-ghost use Rattle.counter_ops.specs.Op.{procedure_of};
-ghost use Rattle.counter_ops.specs.Ranges.{IsKey};
-ghost use Rattle.counter_ops.specs.Operations.{IsOp};
-ghost use Rattle.bank_run.specs.Operations.{is_served};
+//! Requests by who asks, and those that write no entry.
 
-use crate::asking::{Desk, SAMPLE_CASH_BOOK, SAMPLE_LEDGER, SUE, TESS, TOM};
-use crate::opening::opening_at;
+use crate::asking::{Desk, SUE, TESS, TOM};
+use crate::forms::{balance, opened, post};
 use bank_books::{account_balance, branch_balance, teller_balance};
-use counter_ops::{Balance, NewAccount, Post};
-use decide::{Op, Rule, Who, denial_text};
-use money::Delta;
-use row_rules::{CashBook, Ledger};
+use decide::{Rule, Who, denial_text};
 use sample_bank::sample_world;
-use std::process::Abort;
-
-/// A post of so many cents.
-pub(crate) fn post(rt: &impl Abort, account: u32, teller: u32, branch: u32, delta: i64) -> Op
-    requires account { IsKey account }
-    requires teller { IsKey teller }
-    requires branch { IsKey branch }
-    ensures served { is_served (procedure_of result) ≡ true }
-    ensures proper { IsOp result }
-{
-    let delta = Delta::new(delta).expect(rt, "a delta");
-    Op::Post(Post {
-        account,
-        branch,
-        delta,
-        teller,
-    })
-}
 
 #[test]
 fn the_sample_opens_with_its_balances(rt: HostRuntime) {
@@ -39,78 +14,13 @@ fn the_sample_opens_with_its_balances(rt: HostRuntime) {
 }
 
 #[test]
-fn posts_move_three_balances_and_a_drawer(rt: HostRuntime) {
-    let mut desk = Desk::of_sample(&rt, rt.alloc());
-    let first = post(&rt, 101, 11, 1, 2_500);
-    let body = "{\"balance\":52500,\"branch\":1,\"entry\":1}";
-    desk.done(&rt, TESS, first, body);
-    let remote = post(&rt, 201, 11, 1, -30_000);
-    let body = "{\"balance\":0,\"branch\":1,\"entry\":2}";
-    desk.done(&rt, TESS, remote, body);
-    let nothing = post(&rt, 101, 11, 1, 0);
-    let body = "{\"balance\":52500,\"branch\":1,\"entry\":3}";
-    desk.done(&rt, TESS, nothing, body);
-    desk.teller_is(&rt, 11, 32_500);
-    desk.drawer_is(&rt, 11, 12_500, Some(7));
-    let ledger = Ledger {
-        balance: 32_500,
-        entries: 3,
-        history: -27_500,
-        ..SAMPLE_LEDGER
-    };
-    desk.ledger_is(&rt, 1, ledger);
-    let book = CashBook {
-        lines: 7,
-        drawers: 17_500,
-        cash_entries: -27_500,
-        ..SAMPLE_CASH_BOOK
-    };
-    desk.cash_is(&rt, book, 55_000);
-    let other = Ledger {
-        balance: 20_000,
-        ..SAMPLE_LEDGER
-    };
-    desk.ledger_is(&rt, 2, other);
-    assert!(rt; desk.faults() == 0);
-}
-
-#[test]
-fn a_rule_that_denies_changes_nothing(rt: HostRuntime) {
-    let alloc = rt.alloc();
-    let mut desk = Desk::over(alloc, opening_at(&rt, alloc, 999_999_999_999));
-    let too_much = post(&rt, 101, 11, 1, 1);
-    desk.denied(&rt, TESS, too_much, Rule::Range);
-    let not_held = post(&rt, 102, 12, 1, -1);
-    desk.denied(&rt, TESS, not_held, Rule::Drawer);
-    let below = post(&rt, 102, 11, 1, -1);
-    desk.denied(&rt, TESS, below, Rule::Floor);
-    let more_than_cash = post(&rt, 101, 11, 1, -40_001);
-    desk.denied(&rt, TESS, more_than_cash, Rule::Cash);
-    let elsewhere = post(&rt, 101, 21, 1, 100);
-    desk.denied(&rt, TOM, elsewhere, Rule::Branch);
-    let missing = post(&rt, 999, 11, 1, 100);
-    desk.denied(&rt, TOM, missing, Rule::Unknown);
-    desk.account_is(&rt, 101, 999_999_999_999, 0);
-    let ledger = Ledger {
-        balance: 999_999_999_999,
-        ..SAMPLE_LEDGER
-    };
-    desk.ledger_is(&rt, 1, ledger);
-    desk.cash_is(&rt, SAMPLE_CASH_BOOK, 55_000);
-    let down = post(&rt, 101, 11, 1, -1);
-    let body = "{\"balance\":999999999998,\"branch\":1,\"entry\":1}";
-    desk.done(&rt, TESS, down, body);
-}
-
-#[test]
 fn balances_are_told(rt: HostRuntime) {
     let alloc = rt.alloc();
     let mut desk = Desk::of_sample(&rt, alloc);
-    desk.done(&rt, TESS, balance_of_101(), "{\"balance\":50000}");
-    let missing = Op::Balance(Balance { account: 999 });
-    desk.denied(&rt, TESS, missing, Rule::NoTriple);
+    desk.done(&rt, TESS, balance(101), r#"{"balance":50000}"#);
+    desk.denied(&rt, TESS, balance(999), Rule::NoTriple);
     let text = denial_text(alloc, Rule::NoTriple).expect(&rt, "memory");
-    assert!(rt; text.as_slice() == b"{\"name\":\"no triple\",\"rule\":3}".as_slice());
+    assert!(rt; text.as_slice() == br#"{"name":"no triple","rule":3}"#.as_slice());
 }
 
 #[test]
@@ -120,57 +30,34 @@ fn the_policy_is_asked_before_the_books(rt: HostRuntime) {
     desk.denied(&rt, TESS, uncertified, Rule::NotCertified);
     let too_high = post(&rt, 101, 12, 1, 60_000);
     desk.denied(&rt, TOM, too_high, Rule::Limit);
-    let within = post(&rt, 101, 12, 1, 20_000);
-    let body = "{\"balance\":70000,\"branch\":1,\"entry\":1}";
-    desk.done(&rt, TOM, within, body);
+    let body = r#"{"balance":70000,"branch":1,"entry":1}"#;
+    desk.done(&rt, TOM, post(&rt, 101, 12, 1, 20_000), body);
     let elsewhere = post(&rt, 201, 21, 2, 100);
     desk.denied(&rt, TESS, elsewhere, Rule::NoTriple);
-    desk.denied(&rt, TOM, balance_of_101(), Rule::NoTriple);
+    desk.denied(&rt, TOM, balance(101), Rule::NoTriple);
 }
 
 #[test]
 fn who_asks_has_to_be_known(rt: HostRuntime) {
     let mut desk = Desk::of_sample(&rt, rt.alloc());
     let nobody = Who { user: None, ..TESS };
-    desk.denied(&rt, nobody, balance_of_101(), Rule::Identity);
+    desk.denied(&rt, nobody, balance(101), Rule::Identity);
     let stranger = Who {
         user: Some(55),
         ..TESS
     };
-    desk.denied(&rt, stranger, balance_of_101(), Rule::Identity);
+    desk.denied(&rt, stranger, balance(101), Rule::Identity);
     let of_another_session = Who { session: 2, ..TESS };
-    desk.denied(&rt, of_another_session, balance_of_101(), Rule::Identity);
-}
-
-/// The question for the balance of account 101.
-pub(crate) fn balance_of_101() -> Op
-    ensures served { is_served (procedure_of result) ≡ true }
-    ensures proper { IsOp result }
-{
-    Op::Balance(Balance { account: 101 })
+    desk.denied(&rt, of_another_session, balance(101), Rule::Identity);
 }
 
 #[test]
 fn accounts_are_opened_once(rt: HostRuntime) {
     let mut desk = Desk::of_sample(&rt, rt.alloc());
-    let form = NewAccount {
-        account: 103,
-        branch: 1,
-        floor: 0,
-    };
-    let body = "{\"account\":103,\"branch\":1}";
-    desk.done(&rt, SUE, Op::NewAccount(form), body);
-    desk.denied(&rt, SUE, Op::NewAccount(form), Rule::Taken);
-    let with_credit = NewAccount {
-        account: 104,
-        floor: -1,
-        ..form
-    };
-    desk.denied(&rt, SUE, Op::NewAccount(with_credit), Rule::Limit);
-    let nowhere = NewAccount {
-        account: 104,
-        branch: 9,
-        ..form
-    };
-    desk.denied(&rt, SUE, Op::NewAccount(nowhere), Rule::Unknown);
+    desk.done(&rt, SUE, opened(103, 1, 0), r#"{"account":103,"branch":1}"#);
+    desk.denied(&rt, SUE, opened(103, 1, 0), Rule::Taken);
+    let with_credit = opened(104, 1, -1);
+    desk.denied(&rt, SUE, with_credit, Rule::Limit);
+    let nowhere = opened(104, 9, 0);
+    desk.denied(&rt, SUE, nowhere, Rule::Unknown);
 }

@@ -43,12 +43,12 @@ fn sessions_are_opened_and_ended(rt: HostRuntime) {
     let mut bank = Bank {
         store: ListStore::new(sample_world(alloc).expect(&rt, "memory")),
     };
-    opens(&rt, &mut bank, alloc, Some(7), "{\"session\":2}");
+    opens(&rt, &mut bank, alloc, Some(7), r#"{"session":2}"#);
     assert!(rt; end(&mut bank, alloc, tess(1)).expect(&rt, "no fault") == Err(Rule::Identity));
-    ends(&rt, &mut bank, alloc, tess(2), "{\"ended\":2}");
+    ends(&rt, &mut bank, alloc, tess(2), r#"{"ended":2}"#);
     assert!(rt; end(&mut bank, alloc, tess(2)).expect(&rt, "no fault") == Err(Rule::Identity));
-    opens(&rt, &mut bank, alloc, Some(7), "{\"session\":3}");
-    opens(&rt, &mut bank, alloc, Some(8), "{\"session\":2}");
+    opens(&rt, &mut bank, alloc, Some(7), r#"{"session":3}"#);
+    opens(&rt, &mut bank, alloc, Some(8), r#"{"session":2}"#);
 }
 
 #[test]
@@ -74,14 +74,14 @@ fn sessions_end_with_their_last_number(rt: HostRuntime) {
     let plan = vec![in alloc; RowWrite::Session(before_last)].expect(&rt, "memory");
     store.apply(alloc, plan).expect(&rt, "no fault");
     let mut bank = Bank { store };
-    opens(&rt, &mut bank, alloc, Some(7), "{\"session\":999999999}");
+    opens(&rt, &mut bank, alloc, Some(7), r#"{"session":999999999}"#);
     assert!(rt; begin(&mut bank, alloc, Some(7)).expect(&rt, "no fault") == Err(Rule::Full));
     ends(
         &rt,
         &mut bank,
         alloc,
         tess(999_999_999),
-        "{\"ended\":999999999}",
+        r#"{"ended":999999999}"#,
     );
     assert!(rt; begin(&mut bank, alloc, Some(7)).expect(&rt, "no fault") == Err(Rule::Full));
 }

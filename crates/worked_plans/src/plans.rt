@@ -1,0 +1,54 @@
+//! What the plan of an operation makes of a bank, whose lines and proofs no store tells.
+
+use crate::rows::cents;
+use bank_books::{CashLine, LineForm, Plan, Signature, World};
+use bank_terms::Rule;
+use money::Fault;
+use row_rules::Planned;
+use std::alloc::Global;
+use std::process::Abort;
+
+/// A line of branch 1 on its first day.
+pub(crate) fn line(
+    rt: &impl Abort,
+    number: u32,
+    place: u32,
+    amount: i64,
+    form: LineForm,
+    by: Signature,
+) -> CashLine {
+    CashLine {
+        branch: 1,
+        number,
+        place,
+        amount: cents(rt, amount),
+        form,
+        moment: by.moment,
+        day: 1,
+        user: by.user,
+    }
+}
+
+/// The plan of an operation that no rule of the books denies.
+pub(crate) fn plan_of<T: Drop>(
+    rt: &impl Abort,
+    answer: Result<Result<Planned<T>, Rule>, Fault>,
+) -> Plan {
+    match answer {
+        Ok(Ok(planned)) => planned.plan,
+        Ok(Err(rule)) => panic!(rt; "{}", rule.name()),
+        Err(fault) => panic!(rt; "{fault}"),
+    }
+}
+
+/// Has a bank apply a plan.
+pub(crate) fn apply(rt: &impl Abort, alloc: Global, world: &mut World, plan: Plan) {
+    assert!(rt; world.has_version_for(&plan));
+    world.apply(alloc, plan).expect(rt, "memory");
+}
+
+/// Asks for so many lines of a bank, of which these are the last.
+pub(crate) fn lines_end_with(rt: &impl Abort, world: &World, count: usize, last: &[CashLine]) {
+    assert_eq!(rt; world.lines().len(), count);
+    assert!(rt; world.lines().ends_with(last));
+}
