@@ -74,7 +74,7 @@ effect_is w form by there =
 
 -- the day of a branch of books that hold
 day_in_range : (w : WorldLists) → Books w → (key : ℕ) (branch : Branch) → branch_row key w.branches ≡ Some branch → IsDay branch.day
-day_in_range w books key branch there = (((books_parts w).0 books).0.rows.branches branch (found_row branch_key key w.branches branch there).0).day
+day_in_range w books key branch there = (((books_parts w).0 books).0.rows.branches.each branch (found_row branch_key key w.branches branch there).0).day
 
 -- it may come next
 pub is_next : (w : WorldLists) (form : Release) (by : Signature) → Books w → IsSigned w by → IsRelease form → first_against_release (release_rows w form) form by ≡ None

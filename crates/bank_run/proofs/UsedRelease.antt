@@ -36,7 +36,7 @@ used_step w after m (leave.Release number) user step = record {
   cash_entries = step.cash_entries;
   stay = step.stay;
   vaults = step.vaults;
-  added = step.added;
+  added = record { entries = step.added.entries; lines = step.added.lines; proofs = step.added.proofs };
 }
 
 -- ---- the release that is found afterwards
@@ -59,12 +59,12 @@ seen_used user number r is = go (release_key r == release_number user number) re
 
 found_used : (user number : ℕ) (rows : List Release) (row : Release) → find (is_release user number) (change_rows release_key (release_number user number) used_up rows) ≡ Some row → row.used ≡ true
 found_used user number [] row is = absurd cc
-found_used user number (r ∷ rows) row is = go (is_release user number (seen user number r)) refl is
+found_used user number (r ∷ rows) row is = go (is_release user number (seen user number r)) (found_used user number rows row) refl is
   where
-    go : (b : Bool) → is_release user number (seen user number r) ≡ b
+    go : (b : Bool) → (find (is_release user number) (change_rows release_key (release_number user number) used_up rows) ≡ Some row → row.used ≡ true) → is_release user number (seen user number r) ≡ b
         → cond b (Some (seen user number r)) (find (is_release user number) (change_rows release_key (release_number user number) used_up rows)) ≡ Some row → row.used ≡ true
-    go true at is = let same : seen user number r ≡ row = cc in subst (λ (x : Release). x.used ≡ true) same (seen_used user number r at)
-    go false at is = found_used user number rows row is
+    go true rest at is = let same : seen user number r ≡ row = cc in subst (λ (x : Release). x.used ≡ true) same (seen_used user number r at)
+    go false rest at is = rest is
 
 pub counts_no_more : (w : WorldLists) (user number : ℕ) (op : Op) → ¬ Released (used_by (leave.Release number) user w) user number op
 counts_no_more w user number op counts = false≢true (sym counts.unused ∙ found_used user number w.releases counts.row counts.there)
