@@ -2,6 +2,14 @@ pub mod AllowedRequest
 pub mod CommandSteps
 pub mod FirstRule
 pub mod JudgedPolicy
+pub mod LastWord
+pub mod LastWordAlone
+pub mod LastWordCommands
+pub mod LastWordKept
+pub mod LastWordRows
+pub mod LastWordSaid
+pub mod LastWordSteps
+pub mod LastWordUsers
 pub mod OpenedAccount
 pub mod OperationSteps
 pub mod PolicyLemmas
