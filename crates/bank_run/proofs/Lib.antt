@@ -4,6 +4,14 @@ pub mod CountingRelease
 pub mod FirstRule
 pub mod GivenRelease
 pub mod JudgedPolicy
+pub mod LastWord
+pub mod LastWordAlone
+pub mod LastWordCommands
+pub mod LastWordKept
+pub mod LastWordRows
+pub mod LastWordSaid
+pub mod LastWordSteps
+pub mod LastWordUsers
 pub mod OpenedAccount
 pub mod OperationSteps
 pub mod PolicyLemmas

@@ -6,6 +6,8 @@ pub mod Denial
 pub mod DrawerOff
 pub mod DrawerOn
 pub mod Executions
+pub mod InForce
+pub mod LastWord
 pub mod Laws
 pub mod Meaning
 pub mod MoveCash

@@ -1,5 +1,6 @@
 //! What holds of every decision, of releases, of a new account, of sessions, and along every list of requests. The functions do nothing; their contracts are the laws.
 
+ghost use Rattle.bank_run.specs.LastWord.{LastWord};
 ghost use Rattle.bank_run.specs.Laws.{AllowedExactlyWhenHeld, FirstByPlace, NewAccountKeepsBooks, PolicyIsJudged, ReleaseKeepsBooks, ReleasesAreUsedOnce, SessionsChangeNoMore};
 ghost use Rattle.bank_run.specs.Sums.{NoOneExecutesWhatHeCertifies, SumsAlwaysAgree};
 
@@ -54,4 +55,13 @@ pub fn no_one_executes_what_he_certifies()
 /// history has an entry more for each leg; and entries, cash lines and proofs were added alone.
 pub fn sums()
     ensures { SumsAlwaysAgree }
+{}
+
+/// Of every World that passes both checks, and after each request of every list of proper ones, with
+/// any marks: each row of the policy is what the last request says that speaks of it, and where none
+/// does what the opening had; no other policy is in force, so every rule says the same, read over that.
+/// A request has a word where it is accepted, and where it is a command that finds a version left. And
+/// what is asked for leaves the policy alone, where it is an operation, and else the books.
+pub fn last_word()
+    ensures { LastWord }
 {}
