@@ -4,8 +4,6 @@
 mod command_rows;
 mod commands;
 pub mod laws;
-#[cfg(test)]
-mod tests;
 
 pub use command_rows::CommandRows;
 pub use commands::{plan_policy, rule_against_command};

@@ -8,8 +8,6 @@ mod drawer_on;
 mod drawer_rows;
 pub mod laws;
 mod move_cash;
-#[cfg(test)]
-mod tests;
 
 pub use close_day::{Closed, ClosingRows, plan_close_day, rule_against_close_day};
 pub use drawer_off::{PutOff, plan_drawer_off, rule_against_drawer_off};

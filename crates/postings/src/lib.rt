@@ -5,8 +5,6 @@ mod branch_parts;
 mod correct;
 pub mod laws;
 mod post;
-#[cfg(test)]
-mod tests;
 mod transfer;
 mod undo;
 

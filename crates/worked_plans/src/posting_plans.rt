@@ -1,4 +1,4 @@
-use crate::{
+use postings::{
     CorrectRows, Corrected, PostRows, Posted, TransferRows, Transferred, plan_correct, plan_post,
     plan_transfer, rule_against_correct, rule_against_post, rule_against_transfer,
 };

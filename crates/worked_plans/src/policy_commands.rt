@@ -1,4 +1,4 @@
-use crate::{CommandRows, plan_policy, rule_against_command};
+use certify::{CommandRows, plan_policy, rule_against_command};
 use bank_policy::{CertifiedRow, Certifier, HeldRow, Relation, Standing, Triple};
 use bank_terms::{Procedure, Rule};
 use policy_ops::{PolicyOp, RelationKey, TripleKey, UserKey};

@@ -1,4 +1,4 @@
-use crate::{
+use drawers::{
     Closed, ClosingRows, DrawerRows, MoveRows, Moved, PutOff, PutOn, plan_close_day,
     plan_drawer_off, plan_drawer_on, plan_move, rule_against_close_day, rule_against_drawer_off,
     rule_against_drawer_on, rule_against_move_cash,
