@@ -13,10 +13,11 @@ use Rattle.policy_ops.specs.Ranges.{IsPolicyOp}
 use Rattle.policy_ops.specs.declared.policy_op.PolicyOp.{PolicyOp}
 use Rattle.store_rows.specs.Status.{after_mark}
 use Rattle.bank_run.specs.LastWord.{LeavesAlone, finds_room, is_command, is_heard}
+use Rattle.bank_run.specs.NamedRelease.{is_active}
 use Rattle.bank_run.specs.PolicyRules.{asker, is_identified}
 use Rattle.bank_run.specs.Requests.{effect, first}
 use Rattle.bank_run.specs.Run.{Marked, after_request, if_allowed}
-use Rattle.bank_run.specs.Sessions.{may_open, standing_of_asker}
+use Rattle.bank_run.specs.Sessions.{standing_of_asker}
 use Rattle.bank_run.specs.Sums.{IsAsked, IsProper, PassesChecks}
 use Rattle.bank_run.specs.declared.request.Asked.{Asked}
 use Rattle.bank_run.specs.declared.request.Asked.TheVariants as asked
@@ -56,7 +57,7 @@ by_asked w (asked.Operation op) who moment checks proper is =
     let kept = operation_kept w (record { who = who; moment = moment; op = op }) in
     record { said = subst (λ p. IsSaid who (asked.Operation op) w.policy p) (sym kept.policy) (operation_said who op w.policy); version = kept.version ∙ none_more w.version }
 by_asked w asked.Opening who moment checks proper is = record {
-  said = opened w.policy who (not-false (may_open (standing_of_asker who w)) (none_denies w (asks asked.Opening who moment) rule.Identity is));
+  said = opened w.policy who (not-false (is_active (standing_of_asker who w)) (none_denies w (asks asked.Opening who moment) rule.Identity is));
   version = none_more w.version;
 }
 by_asked w asked.Ending who moment checks proper is = record {

@@ -17,8 +17,9 @@ use Rattle.policy_ops.specs.declared.policy_op.PolicyOp.TheVariants as command
 use Rattle.policy_ops.specs.declared.policy_op.UserKey.{UserKey}
 use Rattle.certify.specs.Commands.{change_of}
 use Rattle.bank_run.specs.InForce.{enrolment_of, said_if, session_number}
+use Rattle.bank_run.specs.NamedRelease.{is_active}
 use Rattle.bank_run.specs.PolicyRules.{asker, is_identified}
-use Rattle.bank_run.specs.Sessions.{latest, may_open, session_of}
+use Rattle.bank_run.specs.Sessions.{latest, session_of}
 use Rattle.bank_run.specs.declared.request.Asked.TheVariants as asked
 use Rattle.bank_run.specs.declared.who.Who.{Who}
 use Rattle.bank_run.proofs.LastWordRows.{found_beside, found_changed}
@@ -175,9 +176,9 @@ latest_number : (user : Option ℕ) (p : PolicyLists) → is_none (option_and_th
 latest_number None p some = absurd cc
 latest_number (Some u) p some = number_of_row (user_row p u)
 
-may_open_there : (o : Option Standing) → may_open o ≡ true → is_none o ≡ false
-may_open_there None may = absurd cc
-may_open_there (Some row) may = refl
+active_there : (o : Option Standing) → is_active o ≡ true → is_none o ≡ false
+active_there None may = absurd cc
+active_there (Some row) may = refl
 
 identified_there : (o : Option Standing) (session : ℕ) → is_identified o session ≡ true → is_none o ≡ false
 identified_there None session is = absurd cc
@@ -191,11 +192,11 @@ asker_number : (p : PolicyLists) (who : Who) (more : ℕ) → is_none (option_an
     → latest (option_and_then (λ u. standing p u) who.user) + more ≡ session_number p user + more
 asker_number p who more some user is = ap (λ n. n + more) (latest_number who.user p some ∙ ap (session_number p) (eqb-true (asker who) user is))
 
-pub opened : (p : PolicyLists) (who : Who) → may_open (option_and_then (λ u. standing p u) who.user) ≡ true
+pub opened : (p : PolicyLists) (who : Who) → is_active (option_and_then (λ u. standing p u) who.user) ≡ true
     → IsSaid who asked.Opening p (record p { users = with_session (session_of who (latest (option_and_then (λ u. standing p u) who.user) + 1) true) p.users })
 opened p who may =
     let s : Session = session_of who (latest (option_and_then (λ u. standing p u) who.user) + 1) true in
-    let some = may_open_there (option_and_then (λ u. standing p u) who.user) may in
+    let some = active_there (option_and_then (λ u. standing p u) who.user) may in
     let found = session_found p s in
     record {
       sets = λ set. refl;
