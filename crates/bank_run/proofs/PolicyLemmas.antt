@@ -1,7 +1,7 @@
 -- What relations and triples tell of the rules of the policy, and that the rules of the policy come before those of the books.
 use Rattle.std.proofs.Common.{◌≡◌, ◌≢◌, ℕ, ◌<◌, ◌≤◌, ◌==◌, ◌&&◌, List, Bool, true, false, not, IsTrue, Option, None, Some, Result, Ok, Err, cond, refl, ap, sym, ◌∙◌}
-use Rattle.std.specs.Prelude.{if◌then◌else◌}
-use Rattle.std.proofs.lemmas.Bool.{eq-eqb, false≢true, ne_eqb}
+use Rattle.std.specs.Prelude.{if◌then◌else◌, nat_le}
+use Rattle.std.proofs.lemmas.Bool.{eq-eqb, false≢true, leb-false, leb-true, ne_eqb}
 use Rattle.bank_policy.specs.HeldRows.{CertifiedSet, HeldTriple}
 use Rattle.bank_policy.specs.Tests.{is_certified, is_held, is_held_for}
 use Rattle.bank_policy.specs.Triples.{IsBestLimit, IsCertified}
@@ -56,6 +56,14 @@ pub one_named : (held : List HeldTriple) (items : List Cdi) (limit amount releas
     → Ok (leave.Release release) ≡ leave_by_triples held items amount release
 one_named held items limit amount release best less some =
     sym (ap (λ (b : Bool). if b then Err rule.Limit else Ok (leave.Release release)) (ne_eqb release 0 some)) ∙ none_reaches held items limit amount release best less
+
+-- whether the best limit reaches an amount, some one triple does
+pub limit_reaches : (held : List HeldTriple) (items : List Cdi) (limit amount : ℕ) → IsBestLimit held items (Some limit) → nat_le amount limit ≡ is_held_for held items amount
+limit_reaches held items limit amount best = go (nat_le amount limit) refl
+  where
+    go : (b : Bool) → nat_le amount limit ≡ b → b ≡ is_held_for held items amount
+    go true is = sym (held_for held items limit amount best (leb-true amount limit is))
+    go false is = sym (not_held_for held items limit amount best (leb-false amount limit is))
 
 -- no triple that has the items is none that reaches an amount
 pub none_held_for : (held : List HeldTriple) (items : List Cdi) (amount : ℕ) → IsBestLimit held items None → is_held_for held items amount ≡ false
@@ -126,6 +134,19 @@ books_decide w q none = none_of_five _ _ _ _ _ _ none
 -- and a rule of the policy that denies comes first
 pub policy_decides : (w : WorldLists) (q : Execution) (r : Rule) → first_of_policy (grounds w q) ≡ Some r → first w (executes q) ≡ Some r
 policy_decides w q r some = one_of_five _ _ _ _ _ _ r some
+
+-- a release that is sought is the one that is named
+pub sought_is_named : (g : Grounds) (number : ℕ) → leave_sought g ≡ Ok (leave.Release number) → number ≡ g.release
+sought_is_named g number is =
+    go (is_identified g.standing g.session) (is_certified g.relations g.items) (is_held g.held g.items) (is_in_limit g) (g.release == 0) is
+  where
+    go : (known certified held enough none_named : Bool) → by_four known certified held enough none_named g.release ≡ Ok (leave.Release number) → number ≡ g.release
+    go false certified held enough none_named is = absurd cc
+    go true false held enough none_named is = absurd cc
+    go true true false enough none_named is = absurd cc
+    go true true true true none_named is = absurd cc
+    go true true true false true is = absurd cc
+    go true true true false false is = cc
 
 -- ---- the leave, and the first rule
 

@@ -111,7 +111,13 @@ fn first_of_policy(rows: &PolicyRows, execution: &Execution) -> Option<Rule>
         execution.who.release,
     ) {
         Err(rule) => Some(rule),
-        Ok(Leave::Release(_)) if !is_released(&rows.released, execution) => Some(Rule::Release),
-        Ok(_) => None,
+        Ok(Leave::Triple) => None,
+        Ok(Leave::Release(_)) => {
+            if is_released(&rows.released, execution) {
+                None
+            } else {
+                Some(Rule::Release)
+            }
+        }
     }
 }

@@ -1,5 +1,4 @@
 pub mod BalanceText
-pub mod BookChanges
 pub mod CloseDayText
 pub mod DrawerOffText
 pub mod DrawerOnText

@@ -1,0 +1,34 @@
+-- What is sought, and what was looked up for it, tells the leave.
+use Rattle.std.proofs.Common.{rules, ◌≡◌, Ok, sym, subst, ◌∙◌}
+use Rattle.bank_run.specs.PolicyRules.{grounds, leave_sought}
+use Rattle.decide.proofs.LeaveByRelease.{by_release, refused_by_release, refused_before}
+use Rattle.decide.proofs.policy_rules.policy_leave.Goals as goal
+
+pub returns-in-Err : goal.returns-in-Err
+returns-in-Err g c = record {
+  told = λ honest w holds. refused_before w c.args.execution.now c.in-Err.rule (sym c.in-Err.is ∙ c.in_ok-rule.ensures.told honest w holds);
+  kept = search rules;
+  refused = search rules;
+}
+
+pub returns-then-is_released : goal.returns-then-is_released
+returns-then-is_released g c = record {
+  told = λ honest w holds.
+      let before = c.load_named_release.ensures.kept.answers.honest honest in
+      by_release w c.args.execution.now c.in-Some.user c.in-Ok-Release.number c.in_ok-named-in-Ok-Release.named c.in-Some.is
+      (subst (λ l. Ok l ≡ leave_sought (grounds w c.args.execution.now)) c.in-Ok-Release.field-0-is (sym c.in-Ok-Release.is ∙ c.in_ok-rule.ensures.told before w holds))
+      (c.in_ok-named-in-Ok-Release.ensures.told honest w (c.in_ok-rule.ensures.kept.kept w holds)) c.if-is_released.ensures;
+  kept = search rules;
+  refused = search rules;
+}
+
+pub returns : goal.returns
+returns g c = record {
+  told = λ honest w holds.
+      let before = c.load_named_release.ensures.kept.answers.honest honest in
+      refused_by_release w c.args.execution.now c.in-Some.user c.in-Ok-Release.number c.in_ok-named-in-Ok-Release.named c.in-Some.is
+      (subst (λ l. Ok l ≡ leave_sought (grounds w c.args.execution.now)) c.in-Ok-Release.field-0-is (sym c.in-Ok-Release.is ∙ c.in_ok-rule.ensures.told before w holds))
+      (c.in_ok-named-in-Ok-Release.ensures.told honest w (c.in_ok-rule.ensures.kept.kept w holds)) c.if-is_released.ensures;
+  kept = search rules;
+  refused = search rules;
+}
