@@ -3,13 +3,13 @@ use Rattle.std.proofs.Common.{◌≡◌, Some, Result, Ok, Err, ◌∙◌}
 use Rattle.bank_terms.specs.declared.rule.Rule.{Rule}
 use Rattle.bank_books.specs.WorldLists.{WorldLists}
 use Rattle.bank_run.specs.Executions.{books_meaning}
-use Rattle.decide.specs.Judged.{IsJudged, IsPrepared}
+use Rattle.op_plans.specs.Judged.{IsJudged, IsPrepared}
 use Rattle.bank_run.specs.Meaning.{by_books}
 use Rattle.bank_run.specs.PolicyRules.{grounds, leave_by_policy}
 use Rattle.bank_run.specs.Requests.{executes, first, verdict}
 use Rattle.bank_run.specs.declared.execution.Execution.{Execution}
 use Rattle.bank_run.specs.declared.leave.Leave.{Leave}
-use Rattle.decide.specs.declared.prepared.Prepared.{Prepared}
+use Rattle.op_plans.specs.declared.prepared.Prepared.{Prepared}
 use Rattle.bank_run.proofs.PolicyLemmas.{books_decide, leave_given}
 
 -- where the policy gives leave, what the books say is all that is said

@@ -1,7 +1,7 @@
 use Rattle.std.proofs.Common.{rules, sym, subst, ◌∙◌}
 use Rattle.std.specs.Prelude.{IfOk}
 use Rattle.std.proofs.lemmas.Result.{IfOk-weaker}
-use Rattle.decide.specs.Judged.{IsJudged}
+use Rattle.op_plans.specs.Judged.{IsJudged}
 use Rattle.bank_run.specs.Meaning.{by_books}
 use Rattle.bank_run.specs.Operations.{meaning_of}
 use Rattle.decide.proofs.JoinedVerdict.{judged}

@@ -1,0 +1,10 @@
+pub mod BalanceText
+pub mod CloseDayText
+pub mod DrawerOffText
+pub mod DrawerOnText
+pub mod MoveCashText
+pub mod NewAccountText
+pub mod PostText
+pub mod ServedRows
+pub mod TransferText
+pub mod WholeNumbers

@@ -1,0 +1,81 @@
+ghost use Rattle.std.specs.Prelude.{◌≡◌, Some, true};
+ghost use Rattle.counter_ops.specs.Op.{procedure_of};
+ghost use Rattle.counter_ops.specs.Operations.{IsOp};
+ghost use Rattle.bank_books.specs.WorldLists.{WorldLists};
+ghost use Rattle.store_rows.specs.Status.{Reads};
+ghost use Rattle.bank_run.specs.Meaning.{by_books};
+ghost use Rattle.bank_run.specs.Operations.{is_served, meaning_of};
+ghost use Rattle.op_plans.specs.BookRows.{book_rows};
+ghost use Rattle.op_plans.specs.Judged.{IsJudged};
+
+use crate::balance::{prepare_balance, rule_against_balance};
+use crate::book_rows::BookRows;
+use crate::close_day::prepare_close_day;
+use crate::correct::prepare_correct;
+use crate::drawer_off::prepare_drawer_off;
+use crate::drawer_on::prepare_drawer_on;
+use crate::move_cash::prepare_move_cash;
+use crate::new_account::{prepare_new_account, rule_against_new_account};
+use crate::post::prepare_post;
+use crate::prepared::Prepared;
+use crate::transfer::prepare_transfer;
+use bank_books::Signature;
+use bank_terms::Rule;
+use counter_ops::Op;
+use drawers::{
+    rule_against_close_day, rule_against_drawer_off, rule_against_drawer_on, rule_against_move_cash,
+};
+use money::Fault;
+use postings::{rule_against_correct, rule_against_post, rule_against_transfer};
+use std::alloc::Global;
+use store_rows::BookReads;
+
+/// What carries out an operation with this signature, or the first rule of the books against it. Its procedure is one that is
+/// served.
+pub fn prepare_by_books<B: BookReads>(
+    alloc: Global,
+    store: &mut B,
+    op: &Op,
+    by: Signature,
+) -> Result<Result<Prepared, Rule>, Fault>
+    requires served { is_served (procedure_of op.now) ≡ true }
+    requires proper { IsOp op.now }
+    ensures { Reads (B.status store.old) (B.status store.new) result (IsJudged (λ w. by_books (meaning_of op.now by w))) }
+{
+    match op {
+        Op::Post(post) => prepare_post(alloc, store, post, by),
+        Op::Transfer(transfer) => prepare_transfer(alloc, store, transfer, by),
+        Op::Correct(correct) => prepare_correct(alloc, store, correct, by),
+        Op::DrawerOn(form) => prepare_drawer_on(alloc, store, form, by),
+        Op::DrawerOff(form) => prepare_drawer_off(alloc, store, form, by),
+        Op::MoveCash(move_cash) => prepare_move_cash(alloc, store, move_cash, by),
+        Op::NewAccount(form) => prepare_new_account(alloc, store, form),
+        Op::Balance(form) => prepare_balance(alloc, store, form),
+        Op::CloseDay(form) => prepare_close_day(alloc, store, form),
+        Op::Release(_) | Op::Statement(_) | Op::Accounts(_) | Op::Proof(_) => unreachable!(),
+    }
+}
+
+/// The first rule of the books against an operation with this signature, or none, where these are rows of its form.
+pub fn first_of_books(rows: &BookRows, op: &Op, by: Signature) -> Option<Rule>
+    ensures { (w : WorldLists) → book_rows w op.now ≡ Some rows.now → result ≡ (by_books (meaning_of op.now by w)).first }
+{
+    match (rows, op) {
+        (BookRows::Post(rows), Op::Post(post)) => rule_against_post(rows, post, by),
+        (BookRows::Transfer(rows), Op::Transfer(transfer)) => {
+            rule_against_transfer(rows, transfer, by)
+        }
+        (BookRows::Correct(rows), Op::Correct(correct)) => rule_against_correct(rows, correct, by),
+        (BookRows::DrawerOn(rows), Op::DrawerOn(form)) => rule_against_drawer_on(rows, form),
+        (BookRows::DrawerOff(rows), Op::DrawerOff(form)) => {
+            rule_against_drawer_off(rows, form, by)
+        }
+        (BookRows::MoveCash(rows), Op::MoveCash(move_cash)) => {
+            rule_against_move_cash(rows, move_cash, by)
+        }
+        (BookRows::NewAccount(rows), Op::NewAccount(_)) => rule_against_new_account(rows),
+        (BookRows::Balance(row), Op::Balance(_)) => rule_against_balance(*row),
+        (BookRows::CloseDay(rows), Op::CloseDay(_)) => rule_against_close_day(rows),
+        _ => None,
+    }
+}

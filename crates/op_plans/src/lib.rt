@@ -1,0 +1,25 @@
+//! Each operation by the books alone, one file a form with the same parts in the same order: the rows that it is judged on, what
+//! carries it out or the first rule against it, and its reply; and one table over all forms.
+#![tactic(auto)]
+
+mod balance;
+mod book_rows;
+mod by_form;
+mod close_day;
+mod correct;
+mod drawer_off;
+mod drawer_on;
+mod json_text;
+pub mod laws;
+mod move_cash;
+mod new_account;
+mod post;
+mod prepared;
+mod served;
+mod transfer;
+
+pub use book_rows::BookRows;
+pub use by_form::{first_of_books, prepare_by_books};
+pub use json_text::compact;
+pub use prepared::Prepared;
+pub use served::is_served;

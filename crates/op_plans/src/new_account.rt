@@ -1,0 +1,95 @@
+ghost use Rattle.std.specs.Prelude.{◌≡◌, IfOk};
+ghost use Rattle.serde_json.specs.View.{view};
+ghost use Rattle.store_rows.specs.Status.{Reads};
+ghost use Rattle.op_plans.specs.Judged.{IsJudged};
+ghost use Rattle.bank_run.specs.Meaning.{by_books};
+ghost use Rattle.bank_run.specs.NewAccount.{first_against_new_account, new_account_meaning, opened, opened_data, opened_text, opening_rows};
+
+use crate::json_text::compact;
+use crate::prepared::Prepared;
+use bank_books::{Account, RowWrite};
+use bank_run::OpeningRows;
+use bank_terms::{MAX_ACCOUNTS, Rule};
+use counter_ops::NewAccount;
+use money::{Cents, Fault};
+use serde_json::{Value, json};
+use std::alloc::{AllocError, Global};
+use store_rows::BookReads;
+
+fn load_opening_rows<B: BookReads>(
+    alloc: Global,
+    store: &mut B,
+    form: &NewAccount,
+) -> Result<OpeningRows, Fault>
+    ensures { Reads (B.status store.old) (B.status store.new) result (λ w rows. rows ≡ opening_rows w form.now) }
+{
+    let account = store.account(alloc, form.account)?;
+    let branch = store.branch(alloc, form.branch)?;
+    Ok(OpeningRows::of(account, branch))
+}
+
+/// The first rule of the books against opening an account, or none.
+pub(crate) fn rule_against_new_account(rows: &OpeningRows) -> Option<Rule>
+    ensures { result ≡ first_against_new_account rows.now }
+{
+    let Some(homed) = rows.homed else {
+        return Some(Rule::Unknown);
+    };
+    if rows.account.is_some() {
+        Some(Rule::Taken)
+    } else if MAX_ACCOUNTS <= homed {
+        Some(Rule::Full)
+    } else {
+        None
+    }
+}
+
+/// What opens an account, or the first rule of the books against it.
+pub(crate) fn prepare_new_account<B: BookReads>(
+    alloc: Global,
+    store: &mut B,
+    form: &NewAccount,
+) -> Result<Result<Prepared, Rule>, Fault>
+    ensures { Reads (B.status store.old) (B.status store.new) result (IsJudged (λ w. by_books (new_account_meaning form.now w))) }
+{
+    let rows = load_opening_rows(alloc, store, form)?;
+    if let Some(rule) = rule_against_new_account(&rows) {
+        return Ok(Err(rule));
+    }
+    let plan = vec![in alloc; RowWrite::Account(opened(form))]?;
+    let text = opened_text(alloc, form)?;
+    Ok(Ok(Prepared { plan, text }))
+}
+
+/// The account, with nothing in it.
+fn opened(form: &NewAccount) -> Account
+    ensures { result ≡ opened form.now }
+{
+    Account {
+        account: form.account,
+        home: form.branch,
+        opening: cents(0),
+        floor: cents(form.floor),
+    }
+}
+
+/// A small amount as money.
+fn cents(amount: i32) -> Cents
+    ensures { result ≡ amount }
+{
+    Cents::new(i64::from(amount)).unwrap()
+}
+
+/// The bytes of the reply.
+fn opened_text(alloc: Global, form: &NewAccount) -> Result<Vec<u8>, AllocError>
+    ensures { IfOk result (λ text. text.items ≡ opened_text form.now) }
+{
+    let value = opened_value(alloc, form)?;
+    compact(alloc, &value)
+}
+
+fn opened_value(alloc: Global, form: &NewAccount) -> Result<Value, AllocError>
+    ensures { IfOk result (λ value. view value ≡ opened_data form.now) }
+{
+    json!(in alloc; {"account": form.account, "branch": form.branch})
+}
