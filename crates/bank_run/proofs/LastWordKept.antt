@@ -1,5 +1,5 @@
 -- An operation leaves the policy and its version as they are, whatever rows it finds.
-use Rattle.std.proofs.Common.{◌≡◌, Bool, true, false, List, [], Option, Some, None, refl}
+use Rattle.std.proofs.Common.{◌≡◌, ℕ, Bool, true, false, List, [], Option, Some, None, refl}
 use Rattle.std.specs.Prelude.{if◌then◌else◌}
 use Rattle.std.specs.Option.{option_map_or}
 use Rattle.bank_books.specs.Effects.{applied}
@@ -14,6 +14,7 @@ use Rattle.counter_ops.specs.declared.move_cash.MoveCash.{MoveCash}
 use Rattle.counter_ops.specs.declared.op.Op.{Op}
 use Rattle.counter_ops.specs.declared.op.Op.TheVariants as op
 use Rattle.counter_ops.specs.declared.post.Post.{Post}
+use Rattle.counter_ops.specs.declared.release.Release.{Release}
 use Rattle.counter_ops.specs.declared.transfer.Transfer.{Transfer}
 use Rattle.drawers.specs.CloseDay.{close_day_changes, closing_rows}
 use Rattle.drawers.specs.DrawerOff.{drawer_off_changes}
@@ -29,10 +30,15 @@ use Rattle.postings.specs.Transfer.{transfer_changes, transfer_rows}
 use Rattle.postings.specs.declared.correct.CorrectRows.{CorrectRows}
 use Rattle.postings.specs.declared.post.PostRows.{PostRows}
 use Rattle.postings.specs.declared.transfer.TransferRows.{TransferRows}
-use Rattle.bank_run.specs.Executions.{signature_of}
+use Rattle.bank_run.specs.Executions.{books_meaning, signature_of}
 use Rattle.bank_run.specs.Operations.{meaning_of}
+use Rattle.bank_run.specs.PolicyRules.{asker, grounds, leave_of, used_by}
+use Rattle.bank_run.specs.Release.{release_changes, release_rows}
 use Rattle.bank_run.specs.Requests.{effect, executes}
 use Rattle.bank_run.specs.declared.execution.Execution.{Execution}
+use Rattle.bank_run.specs.declared.leave.Leave.{Leave}
+use Rattle.bank_run.specs.declared.leave.Leave.TheVariants as leave
+use Rattle.bank_run.specs.declared.release_rows.ReleaseRows.{ReleaseRows}
 
 -- of one World and the next
 pub record IsPolicyKept (before after : WorldLists) : Type 0 where
@@ -80,6 +86,9 @@ moves_cash w rows move by = by_row w _ rows.cash_book (λ book. record { kept = 
 closes : (w : WorldLists) (rows : ClosingRows) (form : CloseDay) → KeepsPolicy w (close_day_changes rows form)
 closes w rows form = by_row w _ rows.ledger (λ ledger. by_row w _ rows.vault (λ vault. record { kept = record { policy = refl; version = refl } }))
 
+gives : (w : WorldLists) (rows : ReleaseRows) (form : Release) (by : Signature) → KeepsPolicy w (release_changes rows form by)
+gives w rows form by = by_row w _ rows.given (λ given. by_row w _ rows.today (λ today. record { kept = record { policy = refl; version = refl } }))
+
 by_form : (w : WorldLists) (o : Op) (by : Signature) → IsPolicyKept w (meaning_of o by w).effect
 by_form w (op.Post post) by = (posts w (post_rows w post) post by).kept
 by_form w (op.Transfer transfer) by = (transfers w (transfer_rows w transfer) transfer by).kept
@@ -88,12 +97,17 @@ by_form w (op.DrawerOn form) by = (puts_on w (drawer_rows w form.teller form.bra
 by_form w (op.DrawerOff form) by = (puts_off w (drawer_rows w form.teller form.branch) form by).kept
 by_form w (op.MoveCash move) by = (moves_cash w (move_rows w move) move by).kept
 by_form w (op.NewAccount form) by = record { policy = refl; version = refl }
-by_form w (op.Release form) by = kept_itself w
+by_form w (op.Release form) by = (gives w (release_rows w form) form by).kept
 by_form w (op.Balance form) by = kept_itself w
 by_form w (op.Statement form) by = kept_itself w
 by_form w (op.Accounts form) by = kept_itself w
 by_form w (op.Proof form) by = kept_itself w
 by_form w (op.CloseDay form) by = (closes w (closing_rows w form) form).kept
 
+-- and a release that is used up with it is none of the policy
+with_leave : (l : Leave) (user : ℕ) (w after : WorldLists) → IsPolicyKept w after → IsPolicyKept w (used_by l user after)
+with_leave leave.Triple user w after kept = kept
+with_leave (leave.Release number) user w after kept = record { policy = kept.policy; version = kept.version }
+
 pub operation_kept : (w : WorldLists) (x : Execution) → IsPolicyKept w (effect w (executes x))
-operation_kept w x = by_form w x.op (signature_of x)
+operation_kept w x = with_leave (leave_of (grounds w x)) (asker x.who) w (books_meaning w x).effect (by_form w x.op (signature_of x))
