@@ -1,5 +1,5 @@
 -- A release that no rule denies may come next: so it keeps the books.
-use Rattle.std.proofs.Common.{◌≡◌, ℕ, ◌+◌, ◌||◌, [], ◌∷◌, Bool, true, false, Option, Some, None, refl, ap, sym, subst, ◌∙◌}
+use Rattle.std.proofs.Common.{◌≡◌, ℕ, ◌+◌, ◌||◌, [], ◌∷◌, Bool, true, false, Some, None, refl, ap, sym, subst, ◌∙◌}
 use Rattle.std.specs.Prelude.{is_none, nat_le, option_map}
 use Rattle.std.specs.Option.{option_map_or}
 use Rattle.bank_policy.specs.HeldRows.{user_row}

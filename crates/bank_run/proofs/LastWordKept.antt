@@ -30,7 +30,7 @@ use Rattle.postings.specs.Transfer.{transfer_changes, transfer_rows}
 use Rattle.postings.specs.declared.correct.CorrectRows.{CorrectRows}
 use Rattle.postings.specs.declared.post.PostRows.{PostRows}
 use Rattle.postings.specs.declared.transfer.TransferRows.{TransferRows}
-use Rattle.bank_run.specs.Executions.{signature_of}
+use Rattle.bank_run.specs.Executions.{books_meaning, signature_of}
 use Rattle.bank_run.specs.Operations.{meaning_of}
 use Rattle.bank_run.specs.PolicyRules.{asker, grounds, leave_of, used_by}
 use Rattle.bank_run.specs.Release.{release_changes, release_rows}
@@ -104,10 +104,10 @@ by_form w (op.Accounts form) by = kept_itself w
 by_form w (op.Proof form) by = kept_itself w
 by_form w (op.CloseDay form) by = (closes w (closing_rows w form) form).kept
 
--- a release that is used up with it is a row of the books
-used_kept : (w after : WorldLists) (l : Leave) (user : ℕ) → IsPolicyKept w after → IsPolicyKept w (used_by l user after)
-used_kept w after leave.Triple user kept = kept
-used_kept w after (leave.Release number) user kept = record { policy = kept.policy; version = kept.version }
+-- and a release that is used up with it is none of the policy
+with_leave : (l : Leave) (user : ℕ) (w after : WorldLists) → IsPolicyKept w after → IsPolicyKept w (used_by l user after)
+with_leave leave.Triple user w after kept = kept
+with_leave (leave.Release number) user w after kept = record { policy = kept.policy; version = kept.version }
 
 pub operation_kept : (w : WorldLists) (x : Execution) → IsPolicyKept w (effect w (executes x))
-operation_kept w x = used_kept w _ (leave_of (grounds w x)) (asker x.who) (by_form w x.op (signature_of x))
+operation_kept w x = with_leave (leave_of (grounds w x)) (asker x.who) w (books_meaning w x).effect (by_form w x.op (signature_of x))

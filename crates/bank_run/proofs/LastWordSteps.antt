@@ -1,7 +1,6 @@
 -- What one request leaves of the policy, whatever is asked for, made or not, allowed or not; and that it leaves the books or the policy alone.
 use Rattle.std.proofs.Common.{◌≡◌, ℕ, ◌+◌, ◌&&◌, Bool, true, false, cond, Option, Some, None, refl, sym, subst, ◌∙◌}
 use Rattle.std.specs.Prelude.{is_none, nat_lt, if◌then◌else◌}
-use Rattle.std.proofs.lemmas.Bool.{not-false}
 use Rattle.bank_terms.specs.Limits.{max_version}
 use Rattle.bank_terms.specs.declared.rule.Rule.{Rule}
 use Rattle.bank_terms.specs.declared.rule.Rule.TheVariants as rule
@@ -13,8 +12,7 @@ use Rattle.policy_ops.specs.Ranges.{IsPolicyOp}
 use Rattle.policy_ops.specs.declared.policy_op.PolicyOp.{PolicyOp}
 use Rattle.store_rows.specs.Status.{after_mark}
 use Rattle.bank_run.specs.LastWord.{LeavesAlone, finds_room, is_command, is_heard}
-use Rattle.bank_run.specs.NamedRelease.{is_active}
-use Rattle.bank_run.specs.PolicyRules.{asker, is_identified}
+use Rattle.bank_run.specs.PolicyRules.{asker}
 use Rattle.bank_run.specs.Requests.{effect, first}
 use Rattle.bank_run.specs.Run.{Marked, after_request, if_allowed}
 use Rattle.bank_run.specs.Sessions.{standing_of_asker}
@@ -27,7 +25,7 @@ use Rattle.bank_run.proofs.FirstRule.{none_denies}
 use Rattle.bank_run.proofs.LastWordCommands as said_by
 use Rattle.bank_run.proofs.LastWordKept.{IsPolicyKept, kept_itself, operation_kept}
 use Rattle.bank_run.proofs.LastWordSaid.{IsSaid, listing_said, none_more, operation_said}
-use Rattle.bank_run.proofs.LastWordUsers.{ended, opened}
+use Rattle.bank_run.proofs.LastWordUsers.{active_there, ended, identified_there, opened}
 
 abbrev pub asks : Asked → Who → ℕ → Request
 asks a who moment = record { who = who; moment = moment; asked = a }
@@ -57,11 +55,11 @@ by_asked w (asked.Operation op) who moment checks proper is =
     let kept = operation_kept w (record { who = who; moment = moment; op = op }) in
     record { said = subst (λ p. IsSaid who (asked.Operation op) w.policy p) (sym kept.policy) (operation_said who op w.policy); version = kept.version ∙ none_more w.version }
 by_asked w asked.Opening who moment checks proper is = record {
-  said = opened w.policy who (not-false (is_active (standing_of_asker who w)) (none_denies w (asks asked.Opening who moment) rule.Identity is));
+  said = opened w.policy who (active_there (standing_of_asker who w) (none_denies w (asks asked.Opening who moment) rule.Identity is));
   version = none_more w.version;
 }
 by_asked w asked.Ending who moment checks proper is = record {
-  said = ended w.policy who (not-false (is_identified (standing_of_asker who w) who.session) (none_denies w (asks asked.Ending who moment) rule.Identity is));
+  said = ended w.policy who (identified_there (standing_of_asker who w) who.session (none_denies w (asks asked.Ending who moment) rule.Identity is));
   version = none_more w.version;
 }
 by_asked w (asked.Command c) who moment checks proper is = command_next w c who moment checks.sound proper is (nat_lt w.version max_version)

@@ -1,5 +1,5 @@
 -- What each request that changes users' rows says of them: an enrolment, a suspension, a restoration, and the opening and the ending of a session.
-use Rattle.std.proofs.Common.{◌≡◌, ℕ, ◌+◌, ◌==◌, Bool, true, false, cond, Option, Some, None, unwrap_or, refl, ap, sym, ◌∙◌}
+use Rattle.std.proofs.Common.{◌≡◌, ℕ, ◌+◌, ◌==◌, Bool, true, false, cond, not, Option, Some, None, unwrap_or, refl, ap, sym, ◌∙◌}
 use Rattle.std.specs.Prelude.{is_none, is_some, option_and_then, option_map, if◌then◌else◌}
 use Rattle.std.specs.Option.{option_map_or}
 use Rattle.std.proofs.lemmas.Bool.{eqb-true}
@@ -17,7 +17,6 @@ use Rattle.policy_ops.specs.declared.policy_op.PolicyOp.TheVariants as command
 use Rattle.policy_ops.specs.declared.policy_op.UserKey.{UserKey}
 use Rattle.certify.specs.Commands.{change_of}
 use Rattle.bank_run.specs.InForce.{enrolment_of, said_if, session_number}
-use Rattle.bank_run.specs.NamedRelease.{is_active}
 use Rattle.bank_run.specs.PolicyRules.{asker, is_identified}
 use Rattle.bank_run.specs.Sessions.{latest, session_of}
 use Rattle.bank_run.specs.declared.request.Asked.TheVariants as asked
@@ -176,13 +175,14 @@ latest_number : (user : Option ℕ) (p : PolicyLists) → is_none (option_and_th
 latest_number None p some = absurd cc
 latest_number (Some u) p some = number_of_row (user_row p u)
 
-active_there : (o : Option Standing) → is_active o ≡ true → is_none o ≡ false
-active_there None may = absurd cc
-active_there (Some row) may = refl
+-- where he is not suspended, or is known by his session, it is
+pub active_there : (o : Option Standing) → not (option_map_or (λ s. not s.suspended) o false) ≡ false → is_none o ≡ false
+active_there None active = absurd cc
+active_there (Some row) active = refl
 
-identified_there : (o : Option Standing) (session : ℕ) → is_identified o session ≡ true → is_none o ≡ false
-identified_there None session is = absurd cc
-identified_there (Some row) session is = refl
+pub identified_there : (o : Option Standing) (session : ℕ) → not (is_identified o session) ≡ false → is_none o ≡ false
+identified_there None session identified = absurd cc
+identified_there (Some row) session identified = refl
 
 -- the asker's row, among those of all users
 asker_there : (p : PolicyLists) (who : Who) → is_none (option_and_then (λ u. standing p u) who.user) ≡ false → (user : ℕ) → (asker who == user) ≡ true → user_row p user ≡ None → ⊥
@@ -192,11 +192,10 @@ asker_number : (p : PolicyLists) (who : Who) (more : ℕ) → is_none (option_an
     → latest (option_and_then (λ u. standing p u) who.user) + more ≡ session_number p user + more
 asker_number p who more some user is = ap (λ n. n + more) (latest_number who.user p some ∙ ap (session_number p) (eqb-true (asker who) user is))
 
-pub opened : (p : PolicyLists) (who : Who) → is_active (option_and_then (λ u. standing p u) who.user) ≡ true
+pub opened : (p : PolicyLists) (who : Who) → is_none (option_and_then (λ u. standing p u) who.user) ≡ false
     → IsSaid who asked.Opening p (record p { users = with_session (session_of who (latest (option_and_then (λ u. standing p u) who.user) + 1) true) p.users })
-opened p who may =
+opened p who some =
     let s : Session = session_of who (latest (option_and_then (λ u. standing p u) who.user) + 1) true in
-    let some = active_there (option_and_then (λ u. standing p u) who.user) may in
     let found = session_found p s in
     record {
       sets = λ set. refl;
@@ -218,11 +217,10 @@ none_either : (b : Bool) (n : ℕ) → n + cond b 0 0 ≡ n + 0
 none_either true n = refl
 none_either false n = refl
 
-pub ended : (p : PolicyLists) (who : Who) → is_identified (option_and_then (λ u. standing p u) who.user) who.session ≡ true
+pub ended : (p : PolicyLists) (who : Who) → is_none (option_and_then (λ u. standing p u) who.user) ≡ false
     → IsSaid who asked.Ending p (record p { users = with_session (session_of who (latest (option_and_then (λ u. standing p u) who.user)) false) p.users })
-ended p who identified =
+ended p who some =
     let s : Session = session_of who (latest (option_and_then (λ u. standing p u) who.user)) false in
-    let some = identified_there (option_and_then (λ u. standing p u) who.user) who.session identified in
     let found = session_found p s in
     record {
       sets = λ set. refl;

@@ -1,21 +1,19 @@
 -- What is left where a release was used up: the books hold as they did, nothing is moved, and it counts no more.
-use Rattle.std.proofs.Common.{◌≡◌, ℕ, ◌==◌, ◌&&◌, ◌+◌, ◌*◌, ◌^◌, List, [], ◌∷◌, Bool, true, false, cond, Option, Some, None, refl, ap, sym, subst, ◌∙◌}
+use Rattle.std.proofs.Common.{◌≡◌, ℕ, ◌==◌, List, [], ◌∷◌, Bool, true, false, cond, Some, refl, ap, sym, subst, ◌∙◌}
 use Rattle.std.specs.Prelude.{if◌then◌else◌}
 use Rattle.std.specs.List.{find}
 use Rattle.std.proofs.lemmas.Bool.{and_parts, eq-eqb, eqb-true, false≢true}
 use Rattle.keyed_rows.specs.Changed.{change_rows}
-use Rattle.bank_books.specs.Effects.{used_up, written}
+use Rattle.bank_books.specs.Effects.{used_up}
 use Rattle.bank_books.specs.Keys.{release_key, release_number}
 use Rattle.bank_books.specs.WorldLists.{WorldLists}
-use Rattle.bank_books.specs.declared.row_write.RowWrite.TheVariants as write
 use Rattle.bank_books.specs.declared.rows.Release.{Release}
 use Rattle.book_growth.proofs.ReleaseUsed.{used_keeps_books}
 use Rattle.counter_ops.specs.declared.op.Op.{Op}
-use Rattle.row_reads.specs.BookReads.{is_release, release}
+use Rattle.row_reads.specs.BookReads.{is_release}
 use Rattle.bank_run.specs.Executions.{books_meaning}
-use Rattle.bank_run.specs.Laws.{IsUsedOnce, InLimit, Released, ReleasesAreUsedOnce}
-use Rattle.bank_run.specs.PolicyRules.{asker, grounds, leave_of, used_by}
-use Rattle.bank_run.specs.Requests.{effect, executes}
+use Rattle.bank_run.specs.Laws.{IsUsedOnce, Released, ReleasesAreUsedOnce}
+use Rattle.bank_run.specs.PolicyRules.{asker, used_by}
 use Rattle.bank_run.specs.Sums.{Moves}
 use Rattle.bank_run.specs.declared.execution.Execution.{Execution}
 use Rattle.bank_run.specs.declared.leave.Leave.{Leave}
