@@ -12,8 +12,8 @@ ghost use Rattle.decide.specs.Loaded.{IsLoadedForCommand};
 ghost use Rattle.decide.specs.OneRequest.{IsToldInJson, LeavesBoth, Moves, Replies, Settles};
 
 use crate::by_rows::CommandGrounds;
-use crate::command_reads::load_command_rows;
 use crate::carried_out::carry_out_prepared;
+use crate::command_reads::load_command_rows;
 use crate::policy_rules::{is_identified, standing_of};
 use bank_run::Who;
 use bank_terms::Rule;

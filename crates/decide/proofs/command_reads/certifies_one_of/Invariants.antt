@@ -1,7 +1,12 @@
+use Rattle.std.proofs.Common.{◌≡◌, None, false, take}
+use Rattle.std.specs.List.{list_any}
 use Rattle.row_reads.specs.PolicyReads.{is_certifier}
-use Rattle.decide.proofs.ReadsInTurn.{NoneSoFar}
+use Rattle.store_rows.specs.Status.{Keeps, Tells}
 use Rattle.decide.proofs.command_reads.certifies_one_of.Given as goal
 
--- none of those who were asked about is his
+-- nothing has changed, and none of the procedures that were asked about is his
 abbrev pub invariant-loop-procedure : goal.invariant-loop-procedure
-invariant-loop-procedure g l = NoneSoFar (λ w. is_certifier w l.user) (g.P.Stands.status l.fn.store) (g.P.Stands.status l.store) l.procedures l.procedure-index
+invariant-loop-procedure g l = record {
+  kept : Keeps (g.P.Stands.status l.fn.store) (g.P.Stands.status l.store) None;
+  none : Tells (g.P.Stands.status l.fn.store) (g.P.Stands.status l.store) (λ w. list_any (is_certifier w l.user) (take l.procedure-index l.procedures) ≡ false);
+}
