@@ -1,10 +1,13 @@
 -- What a crash may leave of a request that was decided and carried out.
-use Rattle.std.proofs.Common.{◌≡◌, inl, inr, None, ap, sym, ◌∙◌}
+use Rattle.std.proofs.Common.{◌≡◌, inl, inr, Option, None, Some, Err, refl, ap, subst, sym, ◌∙◌}
+use Rattle.bank_terms.specs.declared.rule.Rule.{Rule}
 use Rattle.bank_books.specs.WorldLists.{WorldLists}
+use Rattle.policy_ops.specs.declared.policy_op.PolicyOp.{PolicyOp}
 use Rattle.store_rows.specs.Status.{Keeps, Status, Tells}
 use Rattle.decide.specs.Permit.{CarriesOut, IsLeave, IsPermitOf, IsReplied}
-use Rattle.bank_run.specs.Requests.{effect, executes}
-use Rattle.bank_run.specs.Run.{if_allowed, step}
+use Rattle.bank_run.specs.Requests.{commands, effect, executes, first, reply_text}
+use Rattle.bank_run.specs.Run.{if_allowed, reply, step, told}
+use Rattle.bank_run.specs.declared.request.Asked.TheVariants as asked
 use Rattle.decide.specs.declared.permit.Permit.{Permit}
 use Rattle.decide.specs.declared.permit.Reply.{Reply}
 use Rattle.bank_run.specs.declared.request.Request.{Request}
@@ -25,3 +28,15 @@ module _ {S : Type 0} where
         | inl alone ↦ inl (λ left may. alone left may ∙ is)
         | inr same ↦ inr (sym is ∙ same.0, λ left may. kept.crash before left (same.1 left may))
       ]
+
+-- a request that a rule denies leaves the World
+pub denied_stays : (w : WorldLists) (r : Request) (rule : Rule) → reply w r ≡ Err rule → step w r ≡ w
+denied_stays w r rule = go (first w r)
+  where
+    go : (o : Option Rule) → told o (reply_text w r) ≡ Err rule → if_allowed o (effect w r) w ≡ w
+    go None is = absurd cc
+    go (Some denies) is = refl
+
+-- of a command no moment is looked at
+pub settled_as_asked : (old new : Status) (r : Request) (command : PolicyOp) → r.asked ≡ asked.Command command → Settles old new (commands command r.who) None → Settles old new r None
+settled_as_asked old new r command is settled = subst (λ a. Settles old new (record { who = r.who; moment = r.moment; asked = a }) None) (sym is) settled
