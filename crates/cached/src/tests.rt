@@ -1,8 +1,6 @@
 use crate::{Cached, MAX_ENTRIES};
 use bank_books::{Plan, RowWrite, World};
-use bank_policy::{
-    ItemSet, Member, Policy, PolicyWrite, Relation, RelationKey, Triple, TripleKey,
-};
+use bank_policy::{ItemSet, Member, Policy, PolicyWrite, Relation, RelationKey, Triple, TripleKey};
 use bank_terms::{Kind, Procedure};
 use std::alloc::{AllocError, Global};
 use std::test::Fail;

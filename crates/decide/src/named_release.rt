@@ -121,9 +121,7 @@ fn is_of_today(named: &NamedRelease) -> bool
 fn is_giver_for(named: &NamedRelease, user: u32, items: &[Cdi], amount: u32) -> bool
     ensures { result ≡ is_giver_for (grounds_of named.now) user items.now amount }
 {
-    named.row.giver != user
-        && is_active(named.giver)
-        && is_held_for(&named.held, items, amount)
+    named.row.giver != user && is_active(named.giver) && is_held_for(&named.held, items, amount)
 }
 
 /// Whether a user is there and is not suspended.

@@ -14,4 +14,3 @@ pub use fields::{Found, find_field};
 pub use framing::Framing;
 pub use head::{Head, MAX_BODY_LEN};
 pub use judging::{Judged, MAX_FIELDS, MAX_HEAD_LEN, judge};
-

@@ -6,8 +6,8 @@ ghost use Rattle.postings.specs.Correct.{correct_rows, other_account, partner_of
 ghost use Rattle.bank_run.specs.Correct.{correct_meaning, corrected_text};
 
 use crate::post::posted_text;
-use crate::transfer::transferred_text;
 use crate::prepared::Prepared;
+use crate::transfer::transferred_text;
 use bank_books::{AccountRecord, Entry, Signature};
 use bank_terms::Rule;
 use counter_ops::Correct;

@@ -48,11 +48,5 @@ fn run(rt: &HostRuntime) -> io::Result<Option<u8>> {
     let mut input = Tallied::new(rt.stdin());
     let mut output = Tallied::new(rt.stdout());
     let mut errors = Tallied::new(rt.stderr());
-    Ok(Some(answer(
-        alloc,
-        words,
-        &mut input,
-        &mut output,
-        &mut errors,
-    )))
+    Ok(Some(answer(alloc, words, &mut input, &mut output, &mut errors)))
 }

@@ -5,7 +5,10 @@ use sample_service::{MAX_MOMENT, Moment};
 fn words_name_a_store_and_a_moment(rt: HostRuntime) {
     for (name, store) in [("list", StoreName::List), ("cached", StoreName::Cached)] {
         let moment = Moment::new(MAX_MOMENT).expect(&rt, "a moment");
-        assert_eq!(rt; words_of(&[name, "99999999999"]), Some(Words { store, moment }));
+        assert_eq!(rt;
+            words_of(&[name, "99999999999"]),
+            Some(Words { store, moment })
+        );
     }
     for (store, moment) in [
         ("lists", "700"),

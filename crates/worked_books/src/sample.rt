@@ -1,6 +1,6 @@
-use sample_bank::{badge_user, sample_world};
 use bank_policy::user_row;
 use policy_check::check_policy;
+use sample_bank::{badge_user, sample_world};
 use std::alloc::AllocError;
 
 /// The opening agrees with itself: accounts, tellers and branches have one sum, and so have each branch and its tellers.

@@ -1,14 +1,14 @@
-use row_reads::{
-    DrawerRecord, PolicyKey, PolicyRow, UserRecord, drawer, entries_of, entry, entry_at,
-    is_certifier, is_set, next_policy, next_shown, next_teller, policy_rows, release, roster,
-    set_count, shown, triple_count, undone, user_record, vault,
-};
 use bank_books::{
     Account, Branch, CashLine, Entry, EntryForm, LineForm, Lists, Release, Teller, World,
 };
 use bank_policy::{Certifier, ItemSet, Member, Name, Policy, Relation, Standing, Triple, User};
 use bank_terms::{Kind, OperationRow, Procedure};
 use money::{Cents, Delta};
+use row_reads::{
+    DrawerRecord, PolicyKey, PolicyRow, UserRecord, drawer, entries_of, entry, entry_at,
+    is_certifier, is_set, next_policy, next_shown, next_teller, policy_rows, release, roster,
+    set_count, shown, triple_count, undone, user_record, vault,
+};
 use std::alloc::{AllocError, Global};
 use std::process::Abort;
 use std::test::Fail;

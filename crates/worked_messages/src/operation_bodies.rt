@@ -1,8 +1,8 @@
 use bank_terms::Procedure;
 use bodies::read_op;
 use counter_ops::{
-    Accounts, Balance, CloseDay, Correct, DrawerOff, DrawerOn, MoveCash, NewAccount, Op, Post, Proof,
-    Releasable, Release, Statement, Transfer,
+    Accounts, Balance, CloseDay, Correct, DrawerOff, DrawerOn, MoveCash, NewAccount, Op, Post,
+    Proof, Releasable, Release, Statement, Transfer,
 };
 use money::{Cents, Delta, Fault};
 use std::alloc::Global;

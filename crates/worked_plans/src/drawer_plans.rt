@@ -1,11 +1,11 @@
+use bank_books::{Branch, BranchRecord, Signature, Teller, TellerRecord};
+use bank_terms::Rule;
+use counter_ops::{CloseDay, DrawerOff, DrawerOn, MoveCash};
 use drawers::{
     Closed, ClosingRows, DrawerRows, MoveRows, Moved, PutOff, PutOn, plan_close_day,
     plan_drawer_off, plan_drawer_on, plan_move, rule_against_close_day, rule_against_drawer_off,
     rule_against_drawer_on, rule_against_move_cash,
 };
-use bank_books::{Branch, BranchRecord, Signature, Teller, TellerRecord};
-use bank_terms::Rule;
-use counter_ops::{CloseDay, DrawerOff, DrawerOn, MoveCash};
 use money::Cents;
 use std::process::Abort;
 use std::test::Fail;

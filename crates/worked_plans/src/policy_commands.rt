@@ -1,6 +1,6 @@
-use certify::{CommandRows, plan_policy, rule_against_command};
 use bank_policy::{CertifiedRow, Certifier, HeldRow, Relation, Standing, Triple};
 use bank_terms::{Procedure, Rule};
+use certify::{CommandRows, plan_policy, rule_against_command};
 use policy_ops::{PolicyOp, RelationKey, TripleKey, UserKey};
 use std::alloc::{AllocError, Global};
 use std::test::Fail;

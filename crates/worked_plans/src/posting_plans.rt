@@ -1,13 +1,13 @@
-use postings::{
-    CorrectRows, Corrected, PostRows, Posted, TransferRows, Transferred, plan_correct, plan_post,
-    plan_transfer, rule_against_correct, rule_against_post, rule_against_transfer,
-};
 use bank_books::{
     Account, AccountRecord, Branch, BranchRecord, Entry, EntryForm, Signature, Teller, TellerRecord,
 };
 use bank_terms::Rule;
 use counter_ops::{Correct, Post, Transfer};
 use money::{Cents, Delta};
+use postings::{
+    CorrectRows, Corrected, PostRows, Posted, TransferRows, Transferred, plan_correct, plan_post,
+    plan_transfer, rule_against_correct, rule_against_post, rule_against_transfer,
+};
 use std::process::Abort;
 use std::test::Fail;
 

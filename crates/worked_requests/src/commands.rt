@@ -119,7 +119,14 @@ fn commands_change_the_policy(rt: HostRuntime) {
 fn the_policy_of_the_greatest_version_stays(rt: HostRuntime) {
     let alloc = rt.alloc();
     let mut bank = changed_so_often(&rt, alloc, MAX_VERSION);
-    denied(&rt, &mut bank, alloc, user(2), suspend_tess(), Rule::Officer);
+    denied(
+        &rt,
+        &mut bank,
+        alloc,
+        user(2),
+        suspend_tess(),
+        Rule::Officer,
+    );
     assert!(rt; bank.store.faults() == 0);
     let full = decide_policy(&mut bank, alloc, user(1), suspend_tess());
     assert!(rt; full == Err(Fault::Size));

@@ -1,6 +1,6 @@
-use policy_ops::{Command, Enrolment, PolicyOp, RelationKey, TripleKey, UserKey};
 use bank_policy::{Certifier, ItemSet, Member, Name, Triple};
 use bank_terms::{Kind, Procedure};
+use policy_ops::{Command, Enrolment, PolicyOp, RelationKey, TripleKey, UserKey};
 use std::alloc::{AllocError, Global};
 use std::test::Fail;
 

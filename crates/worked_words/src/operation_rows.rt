@@ -1,8 +1,8 @@
+use bank_terms::{OperationRow, Procedure};
 use counter_ops::{
     Accounts, Balance, CloseDay, Correct, DrawerOff, DrawerOn, MoveCash, NewAccount, Op, Post,
     Proof, Releasable, Release, Statement, Transfer,
 };
-use bank_terms::{OperationRow, Procedure};
 use money::{Cents, Delta};
 use std::process::Abort;
 use std::test::Fail;

@@ -1,6 +1,6 @@
-use policy_check::{PolicyFault, check_policy};
 use bank_policy::{Certifier, ItemSet, Member, Name, Policy, Relation, Triple, User};
 use bank_terms::{Kind, Procedure};
+use policy_check::{PolicyFault, check_policy};
 use std::alloc::{AllocError, Global};
 use std::test::Fail;
 

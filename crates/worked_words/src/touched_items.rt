@@ -1,4 +1,3 @@
-use touched::{amount, touches};
 use bank_terms::{Cdi, Kind};
 use counter_ops::{
     Accounts, CloseDay, Correct, DrawerOn, MoveCash, NewAccount, Op, Post, Releasable, Release,
@@ -7,6 +6,7 @@ use counter_ops::{
 use money::Delta;
 use std::process::Abort;
 use std::test::Fail;
+use touched::{amount, touches};
 
 const TRANSFER: Transfer = Transfer {
     source: 101,
