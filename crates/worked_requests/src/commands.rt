@@ -110,7 +110,7 @@ fn commands_change_the_policy(rt: HostRuntime) {
         ..user(1)
     };
     denied(&rt, &mut bank, alloc, nobody, grant_sue(), Rule::Identity);
-    assert!(rt; bank.store.version(alloc).expect(&rt, "no fault") == before + 2);
+    assert!(rt; bank.store.version(alloc).expect(&rt, "no fault") == before.saturating_add(2));
     assert!(rt; bank.store.faults() == 0);
 }
 
