@@ -9,15 +9,9 @@ mod asking;
 #[cfg(test)]
 mod by_rows;
 #[cfg(test)]
-mod cached_reads;
-#[cfg(test)]
 mod closings;
 #[cfg(test)]
-mod commands;
-#[cfg(test)]
 mod corrections;
-#[cfg(test)]
-mod counting_store;
 #[cfg(test)]
 mod forms;
 #[cfg(test)]
@@ -26,8 +20,6 @@ mod moves;
 mod opening;
 #[cfg(test)]
 mod posts;
-#[cfg(test)]
-mod releases;
 #[cfg(test)]
 mod requests;
 #[cfg(test)]
