@@ -6,13 +6,13 @@ ghost use Rattle.counter_ops.specs.Op.{procedure_of};
 ghost use Rattle.counter_ops.specs.Operations.{IsOp};
 ghost use Rattle.bank_run.specs.Operations.{is_served};
 
-use bank_books::{BranchRecord, Entry, Plan, TellerRecord, World};
+use bank_books::{BranchRecord, Entry, TellerRecord, World};
 use decide::{Decision, Op, Reply, Rule, Who, carry_out, decide};
 use row_rules::{CashBook, Ledger};
 use sample_bank::sample_world;
 use std::alloc::Global;
 use std::process::Abort;
-use store_rows::{Bank, BookReads, ListStore, Stands, Store};
+use store_rows::{Bank, BookReads, ListStore, Stands};
 
 /// Tess, who holds drawer 11 of the sample, and posts, moves cash and asks for balances at branch 1.
 pub(crate) const TESS: Who = Who {
@@ -55,29 +55,6 @@ pub(crate) const SAMPLE_CASH_BOOK: CashBook = CashBook {
     differences: 0,
 };
 
-/// The body of the reply to an operation that is carried out, or the rule that denies it.
-pub(crate) fn asked<S: Store>(
-    rt: &impl Abort,
-    bank: &mut Bank<S>,
-    alloc: Global,
-    who: Who,
-    moment: u64,
-    op: Op,
-) -> Result<Vec<u8>, Rule>
-    requires moment { moment ≤ max_moment }
-    requires served { is_served (procedure_of op) ≡ true }
-    requires proper { IsOp op }
-{
-    match decide(bank, alloc, who, moment, &op) {
-        Ok(Decision::Allowed(permit)) => match carry_out(permit) {
-            Ok(Reply::Done(done)) => Ok(done.into_body()),
-            Err(fault) => panic!(rt; "{fault}"),
-        },
-        Ok(Decision::Denied(denial)) => Err(denial.rule()),
-        Err(fault) => panic!(rt; "{fault}"),
-    }
-}
-
 /// A bank in memory, as it is asked.
 #[derive(Drop)]
 pub(crate) struct Desk {
@@ -99,10 +76,20 @@ impl Desk {
         Desk::over(alloc, sample_world(alloc).expect(rt, "memory"))
     }
 
-    /// Has the bank carry a plan out.
-    pub(crate) fn change(&mut self, rt: &impl Abort, plan: Plan) {
-        let done = self.bank.store.apply(self.alloc, plan);
-        done.expect(rt, "no fault");
+    /// The body of the reply to a request that is carried out, or the rule that denies it.
+    fn ask(&mut self, rt: &impl Abort, who: Who, moment: u64, op: Op) -> Result<Vec<u8>, Rule>
+        requires moment { moment ≤ max_moment }
+        requires served { is_served (procedure_of op) ≡ true }
+        requires proper { IsOp op }
+    {
+        match decide(&mut self.bank, self.alloc, who, moment, &op) {
+            Ok(Decision::Allowed(permit)) => match carry_out(permit) {
+                Ok(Reply::Done(done)) => Ok(done.into_body()),
+                Err(fault) => panic!(rt; "{fault}"),
+            },
+            Ok(Decision::Denied(denial)) => Err(denial.rule()),
+            Err(fault) => panic!(rt; "{fault}"),
+        }
     }
 
     /// An operation at this moment that has to be carried out, with the body of its reply.
@@ -111,7 +98,7 @@ impl Desk {
         requires served { is_served (procedure_of op) ≡ true }
         requires proper { IsOp op }
     {
-        match asked(rt, &mut self.bank, self.alloc, who, moment, op) {
+        match self.ask(rt, who, moment, op) {
             Ok(given) => assert!(rt; given.as_slice() == body.as_bytes(), "{body}"),
             Err(rule) => panic!(rt; "{}", rule.name()),
         }
@@ -130,7 +117,7 @@ impl Desk {
         requires served { is_served (procedure_of op) ≡ true }
         requires proper { IsOp op }
     {
-        match asked(rt, &mut self.bank, self.alloc, who, MOMENT, op) {
+        match self.ask(rt, who, MOMENT, op) {
             Ok(_) => panic!(rt; "carried out"),
             Err(given) => assert!(rt; given == rule, "{}", given.name()),
         }
