@@ -20,7 +20,8 @@ use std::alloc::{AllocError, Global};
 use store_rows::{BookReads, PolicyReads};
 
 /// What carries an operation out, or the first rule that denies it. The rules of the policy come
-/// first, and nothing of the books is read where one of them denies.
+/// first. Where one of them denies, no row is read that only the books ask about; of a release that
+/// is named the day of its branch is.
 pub(crate) fn prepare<S: PolicyReads + BookReads>(
     alloc: Global,
     store: &mut S,

@@ -1,5 +1,8 @@
+//! Worked commands, and the limits that they meet.
+
+use crate::who::{standing, user};
 use bank_books::{Lists, World};
-use bank_policy::{ItemSet, RelationKey, Standing, Triple};
+use bank_policy::{ItemSet, RelationKey, Triple};
 use bank_terms::{MAX_RELATIONS, MAX_SETS, MAX_TRIPLES, MAX_VERSION, Procedure};
 use decide::{
     Asked, CommandGrounds, CommandRows, Loaded, PolicyOp, Request, Rule, Who, decide_policy,
@@ -11,25 +14,6 @@ use sample_bank::{sample_policy, sample_world};
 use std::alloc::Global;
 use std::process::Abort;
 use store_rows::{Bank, ListStore, PolicyReads, Stands, Store};
-
-/// A user of the sample, in session 1.
-fn user(number: u32) -> Who {
-    Who {
-        user: Some(number),
-        session: 1,
-        release: 0,
-    }
-}
-
-/// What the row of a user says who has session 1 open.
-fn standing(officer: bool) -> Standing {
-    Standing {
-        officer,
-        suspended: false,
-        session: 1,
-        on: true,
-    }
-}
 
 /// That Tess is suspended.
 fn suspend_tess() -> PolicyOp {

@@ -1,5 +1,14 @@
-//! Worked commands of the policy, and the limits that they meet. It holds tests alone.
+//! Worked commands of the policy, the limits that they meet, releases by rows that the sample never has, and what a cache
+//! reads. It holds tests alone.
 #![tactic(auto)]
 
 #[cfg(test)]
+mod cached_reads;
+#[cfg(test)]
 mod commands;
+#[cfg(test)]
+mod counting;
+#[cfg(test)]
+mod releases;
+#[cfg(test)]
+mod who;
