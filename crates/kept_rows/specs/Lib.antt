@@ -1,3 +1,4 @@
+pub mod After
 pub mod Changes
 pub mod Keepable
 pub mod Kept

@@ -39,9 +39,9 @@ kept_holder l _ holder = holder
 abbrev pub kept_teller_lined : CashLine → KeptTeller → KeptTeller
 kept_teller_lined l t = record t { cash = t.cash +ℤ l.amount; holder = kept_holder l l.form t.holder }
 
--- an entry that leaves its account with the balance that it had and the delta
-abbrev pub entry_kept : Entry → AccountRecord → EntryRecord
-entry_kept e a = record { row = e; balance_after = a.balance +ℤ e.delta }
+-- an entry that leaves its account with this balance
+abbrev pub entry_left : Entry → AccountRecord → EntryRecord
+entry_left e after = record { row = e; balance_after = after.balance }
 
 abbrev pub kept_user_of : WorldLists → User → KeptUser
 kept_user_of w row = record { row = row; releases = release_count row.user w.releases }

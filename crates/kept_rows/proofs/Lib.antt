@@ -1,0 +1,3 @@
+pub mod EntryKept
+pub mod NextNumber
+pub mod RowLemmas
