@@ -9,6 +9,7 @@ use Rattle.bank_books.specs.WorldLists.{WorldLists}
 use Rattle.bank_books.specs.declared.records.AccountRecord.{AccountRecord}
 use Rattle.bank_books.specs.declared.records.EntryRecord.{EntryRecord}
 use Rattle.bank_books.specs.declared.records.TellerRecord.{TellerRecord}
+use Rattle.bank_books.specs.declared.rows.Account.{Account}
 use Rattle.bank_books.specs.declared.rows.CashLine.{CashLine}
 use Rattle.bank_books.specs.declared.rows.Entry.{Entry}
 use Rattle.bank_books.specs.declared.rows.LineForm.{LineForm}
@@ -38,6 +39,10 @@ kept_holder l _ holder = holder
 -- after a line at its drawer
 abbrev pub kept_teller_lined : CashLine → KeptTeller → KeptTeller
 kept_teller_lined l t = record t { cash = t.cash +ℤ l.amount; holder = kept_holder l l.form t.holder }
+
+-- an account that no entry names
+abbrev pub account_begun : Account → AccountRecord
+account_begun row = record { row = row; balance = row.opening; turns = 0 }
 
 -- an entry that leaves its account with this balance
 abbrev pub entry_left : Entry → AccountRecord → EntryRecord

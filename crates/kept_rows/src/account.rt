@@ -1,5 +1,7 @@
-ghost use Rattle.std.specs.Prelude.{◌+◌, ◌<◌, ◌^◌, IfSome, IsSome};
+ghost use Rattle.std.specs.Prelude.{◌≡◌, ◌+◌, ◌<◌, ◌^◌, IfSome, IsSome};
+ghost use Rattle.book_growth.specs.Moves.{branch_homed};
 ghost use Rattle.kept_rows.specs.After.{AreAfterAccount};
+ghost use Rattle.kept_rows.specs.Records.{account_begun};
 
 use bank_books::{Account, AccountRecord, BranchRecord};
 
@@ -18,14 +20,26 @@ pub fn with_account(home: &BranchRecord, account: &Account) -> Option<AccountRow
     ensures kept { IfSome result (λ rows. AreAfterAccount account.now home.now rows) }
     ensures told { home.now.accounts + 1 < 2 ^ 64 → IsSome result }
 {
+    let home = home_moved(home)?;
+    let account = account_begun(account);
+    Some(AccountRows { home, account })
+}
+
+fn home_moved(home: &BranchRecord) -> Option<BranchRecord>
+    ensures moved { IfSome result (λ b. b ≡ branch_homed home.now) }
+    ensures told { home.now.accounts + 1 < 2 ^ 64 → IsSome result }
+{
     let mut moved = *home;
     moved.accounts = home.accounts.checked_add(1)?;
-    Some(AccountRows {
-        home: moved,
-        account: AccountRecord {
-            row: *account,
-            balance: account.opening.get() as i128,
-            turns: 0,
-        },
-    })
+    Some(moved)
+}
+
+fn account_begun(account: &Account) -> AccountRecord
+    ensures { result ≡ account_begun account.now }
+{
+    AccountRecord {
+        row: *account,
+        balance: account.opening.get() as i128,
+        turns: 0,
+    }
 }

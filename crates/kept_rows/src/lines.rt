@@ -82,10 +82,10 @@ fn branch_moved(branch: &BranchRecord, line: &CashLine) -> Option<BranchRecord>
     let number = line.number as u64;
     let at_vault = line.place == 0;
     let mut moved = *branch;
-    moved.vault = with_share(branch.vault, line, at_vault)?;
-    moved.drawers = with_share(branch.drawers, line, !at_vault)?;
-    moved.cash_entries = with_share(branch.cash_entries, line, line.form.is_cash_entry())?;
-    moved.differences = with_share(branch.differences, line, line.form.is_difference())?;
+    moved.vault = with_share(&branch.vault, line, at_vault)?;
+    moved.drawers = with_share(&branch.drawers, line, !at_vault)?;
+    moved.cash_entries = with_share(&branch.cash_entries, line, line.form.is_cash_entry())?;
+    moved.differences = with_share(&branch.differences, line, line.form.is_difference())?;
     moved.lines = branch.lines.checked_add(1)?;
     if moved.lines == number {
         Some(moved)
@@ -95,9 +95,9 @@ fn branch_moved(branch: &BranchRecord, line: &CashLine) -> Option<BranchRecord>
 }
 
 /// A sum with the amount of the line, if that counts for it.
-fn with_share(sum: i128, line: &CashLine, counts: bool) -> Option<i128>
-    ensures value { IfSome result (λ after. after ≡ sum +ℤ (if counts then line.now.amount else pos 0)) }
-    ensures told { IsCents sum → IsSome result }
+fn with_share(sum: &i128, line: &CashLine, counts: bool) -> Option<i128>
+    ensures value { IfSome result (λ after. after ≡ sum.now +ℤ (if counts then line.now.amount else pos 0)) }
+    ensures told { IsCents sum.now → IsSome result }
 {
     let amount = line.amount.get() as i128;
     sum.checked_add(if counts { amount } else { 0 })
