@@ -2,6 +2,9 @@ pub mod AccountKept
 pub mod EntryKept
 pub mod LastRow
 pub mod LineKept
+pub mod MemberRows
 pub mod NextNumber
+pub mod PlainKept
+pub mod PolicyKept
 pub mod ReleaseKept
 pub mod RowLemmas

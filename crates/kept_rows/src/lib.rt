@@ -3,6 +3,7 @@
 
 mod account;
 mod entry;
+pub mod laws;
 mod lines;
 mod records;
 mod release;
