@@ -8,3 +8,4 @@ pub mod PlainKept
 pub mod PolicyKept
 pub mod ReleaseKept
 pub mod RowLemmas
+pub mod SheetsTell

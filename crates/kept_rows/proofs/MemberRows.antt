@@ -72,7 +72,7 @@ pub record IsPlaced (set first : ℕ) (members : List Member) (m : MemberRow) : 
 abbrev pub placed_from : ℕ → ℕ → List Member → List MemberRow
 placed_from set first members = map (member_row set) (enumerate_from first members)
 
-each_placed : (set first : ℕ) (members : List Member) (m : MemberRow) → Contains (placed_from set first members) m → IsPlaced set first members m
+pub each_placed : (set first : ℕ) (members : List Member) (m : MemberRow) → Contains (placed_from set first members) m → IsPlaced set first members m
 each_placed set first [] m there = absurd (none_there there)
 each_placed set first (x ∷ members) m there = elim (Contains-cons_cases (member_row set (first, x)) (placed_from set (first + 1) members) m there) [
   | inl is ↦ subst (IsPlaced set first (x ∷ members)) is (record { of = refl; low = omega arith; high = omega arith })
@@ -113,7 +113,7 @@ below x y m n low small there here =
     set_below m.set m.place n.set n.place (length x.members) (subst (λ k. m.set < k) (sym second.of) (subst (λ k. k < y.set) (sym first.of) low)) first.high small
 
 -- a member stands in one of the sets
-member_source : (sets : List SetRow) (m : MemberRow) → Contains (flat_map member_rows sets) m → (s : SetRow) × (Contains sets s × Contains (member_rows s) m)
+pub member_source : (sets : List SetRow) (m : MemberRow) → Contains (flat_map member_rows sets) m → (s : SetRow) × (Contains sets s × Contains (member_rows s) m)
 member_source [] m there = absurd (none_there there)
 member_source (s ∷ sets) m there = elim (Contains-append_cases (member_rows s) (flat_map member_rows sets) m there) [
   | inl here ↦ (s, (Contains-head s sets, here))
