@@ -1,4 +1,5 @@
 pub mod AccountKept
+pub mod BooksKeepable
 pub mod EntryKept
 pub mod LastRow
 pub mod LineKept

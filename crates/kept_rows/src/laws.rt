@@ -1,7 +1,31 @@
-//! What holds of every World whose numbers can be kept. The functions do nothing; their contracts are the
-//! laws.
+//! What holds of every World whose numbers can be kept, and which those are. The functions do nothing; their
+//! contracts are the laws.
 
+ghost use Rattle.bank_books.specs.Books.{Books};
+ghost use Rattle.kept_rows.specs.Keepable.{HasDistinctRows, IsKeepable};
 ghost use Rattle.kept_rows.specs.Laws.{DayIsKept, PolicyIsKept, ProofIsKept, RowsAreTold, SessionIsKept, SheetsTellWorld, UsedIsKept, VersionIsKept};
+
+use bank_books::World;
+
+/// A World whose books hold, and no key of whose policy stands twice, can be kept. It only looks at the
+/// World's lists, which stand in order.
+pub fn books_are_keepable(world: &World)
+    ensures { Books world.now → HasDistinctRows world.now.policy → IsKeepable world.now }
+{
+    let _branches = world.branches();
+    let _tellers = world.tellers();
+    let _accounts = world.accounts();
+    let _entries = world.entries();
+    let _lines = world.lines();
+    let _proofs = world.proofs();
+    let _releases = world.releases();
+    let policy = world.policy();
+    let _users = policy.users();
+    let _sets = policy.sets();
+    let _relations = policy.relations();
+    let _triples = policy.triples();
+    let _certifiers = policy.certifiers();
+}
 
 /// The proof of a day moves no number, and stands among the proofs.
 pub fn proof_is_kept()
