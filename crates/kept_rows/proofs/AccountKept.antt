@@ -1,16 +1,15 @@
 -- A World with one more account is kept.
-use Rattle.std.proofs.Common.{◌≡◌, ◌≢◌, ℕ, ◌+◌, ℤ, pos, ◌+ℤ◌, List, map, Bool, true, false, refl, ap, arith, sym, ◌∙◌, subst, ◌==◌, Contains}
+use Rattle.std.proofs.Common.{◌≡◌, ℤ, pos, ◌+ℤ◌, map, Bool, true, false, refl, ap, arith, sym, ◌∙◌, subst, ◌==◌, Contains}
 use Rattle.std.specs.Prelude.{if◌then◌else◌}
 use Rattle.std.specs.Option.{option_map_or}
 use Rattle.std.proofs.lemmas.Bool.{ne_eqb}
 use Rattle.std.proofs.lemmas.Int.{ints}
 use Rattle.keyed_rows.specs.Ordered.{AreDistinct, add_row}
-use Rattle.bank_books.specs.Balances.{account_count, account_deltas, account_opening, deltas_up_to, turn_count}
+use Rattle.bank_books.specs.Balances.{account_deltas, deltas_up_to, turn_count}
 use Rattle.bank_books.specs.Effects.{written}
-use Rattle.bank_books.specs.Keys.{account_key, branch_key}
+use Rattle.bank_books.specs.Keys.{account_key}
 use Rattle.bank_books.specs.Records.{account_record_of, branch_record_of, entry_record_of}
 use Rattle.bank_books.specs.WorldLists.{WorldLists}
-use Rattle.bank_books.specs.declared.records.AccountRecord.{AccountRecord}
 use Rattle.bank_books.specs.declared.records.BranchRecord.{BranchRecord}
 use Rattle.bank_books.specs.declared.row_write.RowWrite.TheVariants as write
 use Rattle.bank_books.specs.declared.rows.Account.{Account}

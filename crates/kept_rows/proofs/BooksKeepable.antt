@@ -1,11 +1,10 @@
 -- A World whose books hold, whose lists stand in order and no key of whose policy stands twice can be kept.
-use Rattle.std.proofs.Common.{◌≡◌, ◌≢◌, ℕ, ◌<◌, ◌≤◌, ◌^◌, refl, arith, subst, Contains, Option, Some}
+use Rattle.std.proofs.Common.{◌≢◌, ℕ, ◌<◌, ◌≤◌, ◌^◌, refl, arith, subst, Contains}
 use Rattle.std.specs.Prelude.{IfSome}
 use Rattle.std.specs.List.Sorted.{IsNonDecreasingBy}
 use Rattle.bank_terms.specs.Limits.{max_key, max_releases}
 use Rattle.bank_policy.specs.PolicyKeys.{ArePolicyRowsInOrder}
 use Rattle.bank_books.specs.Books.{Books}
-use Rattle.bank_books.specs.Cash.{holder_of}
 use Rattle.bank_books.specs.Conditions.{home_of}
 use Rattle.bank_books.specs.Keys.{account_key, branch_key, entry_key, line_key, proof_key, release_key, teller_key}
 use Rattle.bank_books.specs.Range.{IsUserNumber}

@@ -1,5 +1,5 @@
 -- A World with one more entry is kept.
-use Rattle.std.proofs.Common.{◌≡◌, ℕ, ◌+◌, ◌<◌, ◌≤◌, ◌^◌, ℤ, pos, ◌+ℤ◌, List, map, Bool, true, false, cond, refl, ap, arith, sym, ◌∙◌, subst, ◌==◌, ◌&&◌, Some, Contains}
+use Rattle.std.proofs.Common.{◌≡◌, ℕ, ◌+◌, ◌<◌, ◌≤◌, ◌^◌, pos, ◌+ℤ◌, map, Bool, true, false, cond, refl, ap, arith, sym, ◌∙◌, subst, ◌==◌, ◌&&◌, Some, Contains}
 use Rattle.std.specs.Prelude.{nat_le, if◌then◌else◌}
 use Rattle.std.specs.Option.{option_map_or}
 use Rattle.std.specs.List.{find}
@@ -13,7 +13,6 @@ use Rattle.bank_books.specs.Records.{account_record_of, branch_record_of, entry_
 use Rattle.bank_books.specs.WorldLists.{WorldLists}
 use Rattle.bank_books.specs.declared.records.AccountRecord.{AccountRecord}
 use Rattle.bank_books.specs.declared.records.BranchRecord.{BranchRecord}
-use Rattle.bank_books.specs.declared.records.EntryRecord.{EntryRecord}
 use Rattle.bank_books.specs.declared.records.TellerRecord.{TellerRecord}
 use Rattle.bank_books.specs.declared.row_write.RowWrite.TheVariants as write
 use Rattle.bank_books.specs.declared.rows.Account.{Account}
@@ -43,8 +42,8 @@ entry_stays : (w : WorldLists) (e x : Entry) → AreEntriesKeepable w.accounts w
 entry_stays w e x can next there =
     let apart : (e.account == x.account && nat_le e.turn x.turn) ≡ false =
     false_from_ne_true (e.account == x.account && nat_le e.turn x.turn) (λ is.
-        let parts = and_parts (e.account == x.account) (nat_le e.turn x.turn) is in
-        later e.turn x.turn (turn_count e.account w.entries) next (subst (λ k. x.turn ≤ turn_count k w.entries) (sym (eqb-true e.account x.account parts.0)) (can.turns x there)) parts.1)
+    let parts = and_parts (e.account == x.account) (nat_le e.turn x.turn) is in
+    later e.turn x.turn (turn_count e.account w.entries) next (subst (λ k. x.turn ≤ turn_count k w.entries) (sym (eqb-true e.account x.account parts.0)) (can.turns x there)) parts.1)
     in
     ap (λ z. record (entry_record_of w x) { balance_after = account_opening x.account w.accounts +ℤ z })
     (total_other entry_key (λ y. y.account == x.account && nat_le y.turn x.turn) (λ y. y.delta) e w.entries apart)

@@ -1,14 +1,14 @@
 -- The last row that passes, with one more row put at its place.
-use Rattle.std.proofs.Common.{◌≡◌, ◌≢◌, ℕ, ◌<◌, ◌≤◌, zero, suc, List, [], ◌∷◌, ◌++◌, reverse, Bool, true, false, cond, refl, ap, arith, sym, ◌∙◌, subst, Option, Some, None, Contains, inl, inr}
+use Rattle.std.proofs.Common.{◌≡◌, ℕ, ◌≤◌, suc, List, [], ◌∷◌, ◌++◌, reverse, Bool, true, false, cond, refl, ap, arith, sym, ◌∙◌, subst, Option, Some, None, Contains}
 use Rattle.std.specs.Prelude.{nat_le}
 use Rattle.std.specs.List.{find}
 use Rattle.std.specs.List.Sorted.{IsNonDecreasingBy}
-use Rattle.std.proofs.lemmas.Bool.{cases_Bool, false_from_ne_true}
+use Rattle.std.proofs.lemmas.Bool.{false_from_ne_true}
 use Rattle.std.proofs.lemmas.Bool.Decides.{nat_tests}
 use Rattle.std.proofs.lemmas.List.{reverse-append}
 use Rattle.keyed_rows.specs.Ordered.{add_row}
 use Rattle.book_growth.proofs.LastRow.{or_else}
-use Rattle.book_growth.proofs.Rows.{Contains-cons_cases, Contains-head, Contains-tail}
+use Rattle.book_growth.proofs.Rows.{Contains-head, Contains-tail}
 
 find-append : {X : Type 0} (p : X → Bool) (xs ys : List X) → find p (xs ++ ys) ≡ or_else (find p xs) (find p ys)
 find-append p [] ys = refl

@@ -1,5 +1,5 @@
 -- A World with one more cash line is kept.
-use Rattle.std.proofs.Common.{◌≡◌, ◌≢◌, ℕ, ◌+◌, ◌*◌, ◌^◌, ◌<◌, ◌≤◌, ℤ, pos, ◌+ℤ◌, List, map, reverse, Bool, true, false, cond, refl, ap, arith, sym, ◌∙◌, subst, ◌==◌, ◌&&◌, Option, Some, None, Contains, ◌⊎◌, inl, inr}
+use Rattle.std.proofs.Common.{◌≡◌, ◌≢◌, ℕ, ◌+◌, ◌*◌, ◌^◌, ◌<◌, ◌≤◌, ℤ, pos, ◌+ℤ◌, map, Bool, true, false, refl, ap, arith, sym, ◌∙◌, subst, ◌==◌, ◌&&◌, Some, Contains, ◌⊎◌, inl, inr}
 use Rattle.std.specs.Prelude.{if◌then◌else◌, option_and_then, unwrap_or}
 use Rattle.std.specs.List.{find}
 use Rattle.std.proofs.lemmas.Bool.{and_left, and_parts, and_right, cases_Bool, eq-eqb, eqb-true, false≢true, ne_eqb}

@@ -1,17 +1,16 @@
 -- The members of sets, in order of set and place: with one more set, and that they tell the sets.
-use Rattle.std.proofs.Common.{◌≡◌, ◌≢◌, ℕ, ◌+◌, ◌*◌, ◌^◌, ◌<◌, ◌≤◌, List, [], ◌∷◌, ◌++◌, length, map, Bool, true, false, cond, refl, ap, ap₂, arith, sym, ◌∙◌, subst, ◌==◌, Contains, inl, inr, append-nil, suc}
+use Rattle.std.proofs.Common.{◌≡◌, ◌≢◌, ℕ, ◌+◌, ◌*◌, ◌^◌, ◌<◌, ◌≤◌, List, [], ◌∷◌, ◌++◌, length, map, Bool, true, false, cond, refl, ap, arith, sym, ◌∙◌, subst, Contains, inl, inr, append-nil, suc}
 use Rattle.std.specs.Prelude.{nat_le}
-use Rattle.std.specs.List.{enumerate_from, filter, flat_map}
+use Rattle.std.specs.List.{enumerate_from, flat_map}
 use Rattle.std.specs.List.Sorted.{IsNonDecreasingBy}
-use Rattle.std.proofs.lemmas.Bool.{eq-eqb, le-leb, ne_eqb}
+use Rattle.std.proofs.lemmas.Bool.{le-leb}
 use Rattle.std.proofs.lemmas.Bool.Decides.{nat_tests}
-use Rattle.std.proofs.lemmas.List.Elements.{Contains-append_cases, filter-append}
-use Rattle.keyed_rows.specs.Ordered.{AreDistinct, add_row}
+use Rattle.std.proofs.lemmas.List.Elements.{Contains-append_cases}
+use Rattle.keyed_rows.specs.Ordered.{add_row}
 use Rattle.bank_policy.specs.PolicyKeys.{set_key}
 use Rattle.bank_policy.specs.SetRow.{SetRow}
 use Rattle.bank_policy.specs.declared.rows.Member.{Member}
-use Rattle.book_growth.proofs.Rows.{Contains-cons_cases, Contains-head, Contains-tail, map-map}
-use Rattle.kept_rows.proofs.RowLemmas.{first_apart, map_same}
+use Rattle.book_growth.proofs.Rows.{Contains-cons_cases, Contains-head, Contains-tail}
 use Rattle.kept_rows.specs.Changes.{add_rows}
 use Rattle.kept_rows.specs.Named.{IsFree}
 use Rattle.kept_rows.specs.Records.{member_row, member_rows}
@@ -151,5 +150,5 @@ members_added row (x ∷ sets) order small free few =
         (λ m there n here. weaker (member_no m) (member_no n) (below x row m n (lower x.set row.set is (free x (Contains-head x sets))) (small x (Contains-head x sets)) there here)))
     go false is rest =
         sym (add_rows-front member_no (member_rows row) (flat_map member_rows (x ∷ sets)) (placed_rise row.set 1 row.members) (λ n here m there.
-            let (z, (among, of)) = member_source (x ∷ sets) m there in
-            below row z n m (higher x.set row.set z.set is (first_lowest set_key x sets z order among)) few here of))
+        let (z, (among, of)) = member_source (x ∷ sets) m there in
+        below row z n m (higher x.set row.set z.set is (first_lowest set_key x sets z order among)) few here of))

@@ -1,5 +1,5 @@
 -- Rows of which none is beyond the count of its group, and one that bears the next number of its group.
-use Rattle.std.proofs.Common.{◌≡◌, ℕ, ◌+◌, ◌*◌, ◌^◌, ◌<◌, ◌≤◌, List, refl, ap, arith, sym, ◌∙◌, subst, ◌==◌, Contains, inl, inr}
+use Rattle.std.proofs.Common.{◌≡◌, ℕ, ◌+◌, ◌*◌, ◌^◌, ◌<◌, ◌≤◌, List, refl, arith, sym, ◌∙◌, subst, ◌==◌, Contains, inl, inr}
 use Rattle.std.specs.List.{count_by}
 use Rattle.std.proofs.lemmas.Bool.{eq-eqb}
 use Rattle.keyed_rows.specs.Ordered.{add_row}

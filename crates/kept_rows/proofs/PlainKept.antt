@@ -1,6 +1,6 @@
 -- A World stays kept over changes that move no number.
-use Rattle.std.proofs.Common.{◌≡◌, ◌≢◌, ℕ, List, map, Bool, true, false, refl, ap, sym, ◌∙◌, subst, ◌==◌, ◌≤◌, ◌<◌, ◌^◌, Option, Some, None, Contains}
-use Rattle.std.specs.Prelude.{if◌then◌else◌, option_map}
+use Rattle.std.proofs.Common.{◌≡◌, ◌≢◌, ℕ, List, map, true, false, refl, ap, sym, ◌∙◌, subst, ◌==◌, ◌≤◌, ◌<◌, ◌^◌, Option, Some, None, Contains}
+use Rattle.std.specs.Prelude.{option_map}
 use Rattle.std.specs.List.{find}
 use Rattle.keyed_rows.specs.Changed.{change_rows}
 use Rattle.keyed_rows.specs.Ordered.{HasRow}
@@ -17,7 +17,7 @@ use Rattle.bank_books.specs.declared.rows.Teller.{Teller}
 use Rattle.book_growth.proofs.ChangedRows.{HasRow-changed, count-changed, each_changed}
 use Rattle.book_growth.proofs.Rows.{found_row}
 use Rattle.kept_rows.proofs.RowLemmas.{IsOrdered-add_row, IsOrdered-changed, find-map, map-change_rows, map_same, source}
-use Rattle.kept_rows.specs.Keepable.{AreReleasesKeepable, IsKeepable}
+use Rattle.kept_rows.specs.Keepable.{AreReleasesKeepable}
 use Rattle.kept_rows.specs.Laws.{DayIsKept, ProofIsKept, RowsAreTold, SessionIsKept, UsedIsKept, VersionIsKept}
 use Rattle.kept_rows.specs.Records.{kept_teller, kept_teller_of, kept_user_of}
 use Rattle.kept_rows.specs.Sheets.{account_no, branch_no, sheets_of, teller_no, user_no}

@@ -1,5 +1,5 @@
 -- A World stays kept over a change of the policy.
-use Rattle.std.proofs.Common.{◌≡◌, ◌≢◌, ℕ, ◌<◌, ◌^◌, List, map, not, refl, ap, subst, sym, ◌∙◌, ◌==◌, length, Contains}
+use Rattle.std.proofs.Common.{◌≡◌, ◌<◌, ◌^◌, map, not, refl, ap, subst, sym, ◌∙◌, ◌==◌, length, Contains}
 use Rattle.std.specs.List.{flat_map}
 use Rattle.std.proofs.lemmas.Bool.{ne_eqb}
 use Rattle.keyed_rows.specs.Ordered.{add_row}

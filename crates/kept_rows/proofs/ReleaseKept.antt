@@ -1,9 +1,9 @@
 -- A World with one more release is kept.
-use Rattle.std.proofs.Common.{◌≡◌, ◌≢◌, ℕ, ◌+◌, ◌<◌, ◌^◌, List, map, Bool, true, false, refl, ap, sym, ◌∙◌, subst, ◌==◌, Contains}
+use Rattle.std.proofs.Common.{◌≡◌, ℕ, ◌+◌, ◌<◌, ◌^◌, map, Bool, true, false, refl, ap, sym, ◌∙◌, ◌==◌}
 use Rattle.std.specs.Prelude.{if◌then◌else◌}
 use Rattle.std.proofs.lemmas.Bool.{eq-eqb, eqb-true, false≢true, ne_eqb}
 use Rattle.keyed_rows.specs.Changed.{change_rows}
-use Rattle.keyed_rows.specs.Ordered.{AreDistinct, HasRow, add_row}
+use Rattle.keyed_rows.specs.Ordered.{HasRow, add_row}
 use Rattle.bank_policy.specs.PolicyKeys.{user_key}
 use Rattle.bank_policy.specs.declared.rows.User.{User}
 use Rattle.bank_books.specs.Effects.{written}

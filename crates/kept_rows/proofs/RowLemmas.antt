@@ -1,5 +1,5 @@
 -- Rows in order of their keys, and what is made of each: with one more, with one in place of another, with some made anew or taken away.
-use Rattle.std.proofs.Common.{◌≡◌, ◌≢◌, ℕ, zero, suc, List, [], ◌∷◌, map, Bool, true, false, cond, refl, ap, ap₂, arith, sym, ◌∙◌, subst, ◌==◌, Some, None, Option, Contains, inl, inr}
+use Rattle.std.proofs.Common.{◌≡◌, ◌≢◌, ℕ, suc, List, [], ◌∷◌, map, Bool, true, false, cond, refl, ap, ap₂, arith, sym, ◌∙◌, subst, ◌==◌, Some, None, Option, Contains}
 use Rattle.std.specs.Prelude.{nat_le, if◌then◌else◌, option_map}
 use Rattle.std.specs.List.{filter, find}
 use Rattle.std.proofs.lemmas.Bool.{eq-eqb, eqb-true, false≢true, ne_eqb}
@@ -11,7 +11,7 @@ use Rattle.keyed_rows.specs.Changed.{change_rows}
 use Rattle.keyed_rows.specs.Ordered.{AreDistinct, add_row}
 use Rattle.bank_policy.proofs.RowsTell.{from_filter}
 use Rattle.book_growth.proofs.ChangedRows.{map-changed}
-use Rattle.book_growth.proofs.Rows.{AreDistinct-add_row, Contains-head, Contains-map, Contains-map_source, Contains-tail, found_by_key, found_row, map-map, none_of_key}
+use Rattle.book_growth.proofs.Rows.{AreDistinct-add_row, Contains-head, Contains-map, Contains-tail, found_by_key, found_row, map-map, none_of_key}
 use Rattle.kept_rows.specs.Keepable.{IsOrdered}
 use Rattle.kept_rows.specs.Named.{IsFree}
 use Rattle.kept_rows.specs.Sheets.{set_row}

@@ -1,5 +1,5 @@
 -- The rows and the numbers beside them tell the World.
-use Rattle.std.proofs.Common.{◌≡◌, ◌≢◌, ℕ, ◌+◌, List, [], ◌∷◌, ◌++◌, map, Bool, true, false, cond, refl, ap, ap₂, sym, ◌∙◌, subst, ◌==◌, Contains, ◌⊎◌, inl, inr, append-nil, arith}
+use Rattle.std.proofs.Common.{◌≡◌, ◌≢◌, ℕ, ◌+◌, List, [], ◌∷◌, ◌++◌, map, Bool, true, false, cond, refl, ap, ap₂, sym, ◌∙◌, ◌==◌, Contains, ◌⊎◌, inl, inr, append-nil, arith}
 use Rattle.std.specs.List.{enumerate_from, filter, flat_map}
 use Rattle.std.proofs.lemmas.Bool.{eq-eqb, ne_eqb}
 use Rattle.std.proofs.lemmas.List.Elements.{filter-append}
@@ -10,7 +10,7 @@ use Rattle.bank_policy.specs.declared.rows.Member.{Member}
 use Rattle.bank_books.specs.WorldLists.{WorldLists}
 use Rattle.bank_books.specs.Records.{account_record_of, branch_record_of, entry_record_of}
 use Rattle.book_growth.proofs.Rows.{Contains-cons_cases, Contains-head, Contains-tail, map-made, map-map}
-use Rattle.kept_rows.proofs.MemberRows.{each_placed, member_source}
+use Rattle.kept_rows.proofs.MemberRows.{each_placed}
 use Rattle.kept_rows.proofs.RowLemmas.{first_apart, map_same}
 use Rattle.kept_rows.specs.Laws.{SheetsTellWorld}
 use Rattle.kept_rows.specs.Records.{kept_teller_of, kept_user_of, member_row, member_rows}
