@@ -9,6 +9,7 @@ use Rattle.std.proofs.lemmas.List.{reverse-append}
 use Rattle.keyed_rows.specs.Ordered.{add_row}
 use Rattle.book_growth.proofs.LastRow.{or_else}
 use Rattle.book_growth.proofs.Rows.{Contains-head, Contains-tail}
+use Rattle.kept_rows.proofs.Rising.{first_lowest, rest_in_order}
 
 find-append : {X : Type 0} (p : X → Bool) (xs ys : List X) → find p (xs ++ ys) ≡ or_else (find p xs) (find p ys)
 find-append p [] ys = refl
@@ -41,13 +42,6 @@ last_stays {X = X} key p e (x ∷ xs) fails = go (nat_le (key x) (key e)) (last_
     go : (b : Bool) → find p (reverse (add_row key e xs)) ≡ find p (reverse xs) → find p (reverse (cond b (x ∷ add_row key e xs) (e ∷ x ∷ xs))) ≡ find p (reverse (x ∷ xs))
     go true rest = last-cons p x (add_row key e xs) ∙ ap (λ o. or_else o (cond (p x) (Some x) None)) rest ∙ sym (last-cons p x xs)
     go false rest = last-cons p e (x ∷ xs) ∙ ap (λ b. or_else (find p (reverse (x ∷ xs))) (cond b (Some e) None)) fails ∙ or_none (find p (reverse (x ∷ xs)))
-
-rest_in_order : {X : Type 0} (key : X → ℕ) (x : X) (xs : List X) → IsNonDecreasingBy key (x ∷ xs) → IsNonDecreasingBy key xs
-rest_in_order key x xs order = λ i j d low within. order (suc i) (suc j) d (omega (arith, low)) (omega (arith, within))
-
--- no row has a lower key than the first
-first_lowest : {X : Type 0} (key : X → ℕ) (x : X) (xs : List X) (y : X) → IsNonDecreasingBy key (x ∷ xs) → Contains (x ∷ xs) y → key x ≤ key y
-first_lowest key x xs y order (k, within, is) = subst (λ z. key x ≤ key z) is (order 0 k y (omega arith) within)
 
 beyond : (a b c : ℕ) → nat_le a b ≡ false → a ≤ c → c ≤ b → ⊥
 beyond a b c above low high = absurd (grind (arith, nat_tests))

@@ -7,6 +7,8 @@ pub mod MemberRows
 pub mod NextNumber
 pub mod PlainKept
 pub mod PolicyKept
+pub mod PostingKept
 pub mod ReleaseKept
+pub mod Rising
 pub mod RowLemmas
 pub mod SheetsTell

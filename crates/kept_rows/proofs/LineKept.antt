@@ -30,7 +30,7 @@ use Rattle.kept_rows.specs.Kept.{IsKept}
 use Rattle.kept_rows.specs.Named.{AreOfLine, IsBranchRow}
 use Rattle.kept_rows.specs.Records.{kept_holder, kept_teller_lined, kept_teller_of}
 use Rattle.kept_rows.specs.Sheets.{branch_no, set_row, sheets_of, teller_no}
-use Rattle.kept_rows.specs.declared.lines.DrawerRows.{DrawerRows}
+use Rattle.kept_rows.specs.declared.lines.LineRows.{LineRows}
 use Rattle.kept_rows.specs.declared.records.KeptTeller.{KeptTeller}
 
 -- it puts the drawer of the teller on or off
@@ -173,7 +173,7 @@ vault_keeps w l b after can of small vault is number =
       sheets = λ i. record (sheets_of w) { branches = branches i; tellers = tellers i; lines = add_row line_key l w.lines };
     }
 
-pub drawer_keeps : (w : WorldLists) (l : CashLine) (t : KeptTeller) (b : BranchRecord) (rows : DrawerRows) → IsKeepable w → AreOfLine (sheets_of w) l t b → l.number < 2 ^ 32 → t.row.branch ≡ l.branch
+pub drawer_keeps : (w : WorldLists) (l : CashLine) (t : KeptTeller) (b : BranchRecord) (rows : LineRows) → IsKeepable w → AreOfLine (sheets_of w) l t b → l.number < 2 ^ 32 → t.row.branch ≡ l.branch
     → holder_after l l.form ≢ Some 0 → rows.teller ≡ kept_teller_lined l t → rows.branch ≡ branch_lined l b → l.number ≡ rows.branch.lines → IsKept w (write.Line l) (drawer_sheets l rows)
 drawer_keeps w l t b rows can of small branch holder teller_is branch_is number =
     let tx = source (kept_teller_of w) _ t (sym (find-map (λ r. teller_no r == l.place) (kept_teller_of w) w.tellers) ∙ of.teller) in

@@ -11,6 +11,7 @@ use Rattle.bank_policy.specs.PolicyKeys.{set_key}
 use Rattle.bank_policy.specs.SetRow.{SetRow}
 use Rattle.bank_policy.specs.declared.rows.Member.{Member}
 use Rattle.book_growth.proofs.Rows.{Contains-cons_cases, Contains-head, Contains-tail}
+use Rattle.kept_rows.proofs.Rising.{Rises, Rises-append, first_lowest, none_there, rest_in_order}
 use Rattle.kept_rows.specs.Changes.{add_rows}
 use Rattle.kept_rows.specs.Named.{IsFree}
 use Rattle.kept_rows.specs.Records.{member_row, member_rows}
@@ -18,9 +19,6 @@ use Rattle.kept_rows.specs.Sheets.{member_no}
 use Rattle.kept_rows.specs.declared.records.MemberRow.{MemberRow}
 
 -- ---- several rows, each put at its place
-
-none_there : {X : Type 0} {x : X} → Contains [] x → ⊥
-none_there (k, within, is) = omega arith
 
 over : {X : Type 0} (key : X → ℕ) (e x : X) (xs : List X) → key x ≤ key e → add_row key e (x ∷ xs) ≡ x ∷ add_row key e xs
 over key e x xs low = ap (λ b. cond b (x ∷ add_row key e xs) (e ∷ x ∷ xs)) (le-leb (key x) (key e) low)
@@ -43,11 +41,6 @@ above_test a b low = grind (arith, nat_tests)
 in_front : {X : Type 0} (key : X → ℕ) (e : X) (xs : List X) → ((x : X) → Contains xs x → key e < key x) → add_row key e xs ≡ e ∷ xs
 in_front key e [] high = refl
 in_front key e (x ∷ xs) high = ap (λ b. cond b (x ∷ add_row key e xs) (e ∷ x ∷ xs)) (above_test (key x) (key e) (high x (Contains-head x xs)))
-
--- each lies below those behind it
-abbrev pub Rises : {X : Type 0} → (X → ℕ) → List X → Type 0
-Rises key [] = Unit {0}
-Rises {X} key (x ∷ xs) = ((y : X) → Contains xs y → key x < key y) × Rises key xs
 
 weaker : (a b : ℕ) → a < b → a ≤ b
 weaker a b low = omega arith
@@ -122,12 +115,6 @@ member_source (s ∷ sets) m there = elim (Contains-append_cases (member_rows s)
     later : (z : SetRow) × (Contains sets z × Contains (member_rows z) m) → (z : SetRow) × (Contains (s ∷ sets) z × Contains (member_rows z) m)
     later (z, (among, here)) = (z, (Contains-tail s sets z among, here))
 
-rest_in_order : {X : Type 0} (key : X → ℕ) (x : X) (xs : List X) → IsNonDecreasingBy key (x ∷ xs) → IsNonDecreasingBy key xs
-rest_in_order key x xs order = λ i j d low within. order (suc i) (suc j) d (omega (arith, low)) (omega (arith, within))
-
-first_lowest : {X : Type 0} (key : X → ℕ) (x : X) (xs : List X) (y : X) → IsNonDecreasingBy key (x ∷ xs) → Contains (x ∷ xs) y → key x ≤ key y
-first_lowest key x xs y order (k, within, is) = subst (λ z. key x ≤ key z) is (order 0 k y (omega arith) within)
-
 lower : (a b : ℕ) → nat_le a b ≡ true → a ≢ b → a < b
 lower a b low apart = grind (arith, nat_tests)
 
@@ -152,3 +139,12 @@ members_added row (x ∷ sets) order small free few =
         sym (add_rows-front member_no (member_rows row) (flat_map member_rows (x ∷ sets)) (placed_rise row.set 1 row.members) (λ n here m there.
         let (z, (among, of)) = member_source (x ∷ sets) m there in
         below row z n m (higher x.set row.set z.set is (first_lowest set_key x sets z order among)) few here of))
+
+-- The members of all sets stand in order.
+pub members_rise : (sets : List SetRow) → Rises set_key sets → ((s : SetRow) → Contains sets s → length s.members < 2 ^ 32) → Rises member_no (flat_map member_rows sets)
+members_rise [] rises small = tt
+members_rise (x ∷ sets) rises small =
+    Rises-append member_no (member_rows x) (flat_map member_rows sets) (placed_rise x.set 1 x.members) (members_rise sets rises.1 (λ s there. small s (Contains-tail x sets s there)))
+    (λ m there n here.
+    let (z, (among, of)) = member_source sets n here in
+    below x z m n (rises.0 z among) (small x (Contains-head x sets)) there of)

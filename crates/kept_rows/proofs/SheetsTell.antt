@@ -4,17 +4,19 @@ use Rattle.std.specs.List.{enumerate_from, filter, flat_map}
 use Rattle.std.proofs.lemmas.Bool.{eq-eqb, ne_eqb}
 use Rattle.std.proofs.lemmas.List.Elements.{filter-append}
 use Rattle.keyed_rows.specs.Ordered.{AreDistinct}
-use Rattle.bank_policy.specs.PolicyKeys.{set_key}
+use Rattle.bank_policy.specs.PolicyKeys.{set_key, user_key}
 use Rattle.bank_policy.specs.SetRow.{SetRow}
 use Rattle.bank_policy.specs.declared.rows.Member.{Member}
+use Rattle.bank_books.specs.Keys.{account_key, branch_key, entry_key, teller_key}
 use Rattle.bank_books.specs.WorldLists.{WorldLists}
 use Rattle.bank_books.specs.Records.{account_record_of, branch_record_of, entry_record_of}
 use Rattle.book_growth.proofs.Rows.{Contains-cons_cases, Contains-head, Contains-tail, map-made, map-map}
-use Rattle.kept_rows.proofs.MemberRows.{each_placed}
+use Rattle.kept_rows.proofs.MemberRows.{each_placed, members_rise}
+use Rattle.kept_rows.proofs.Rising.{IsOrdered-from_rising, IsOrdered-map, Rises-from_order, none_there}
 use Rattle.kept_rows.proofs.RowLemmas.{first_apart, map_same}
-use Rattle.kept_rows.specs.Laws.{SheetsTellWorld}
+use Rattle.kept_rows.specs.Laws.{SheetsAreOrdered, SheetsTellWorld}
 use Rattle.kept_rows.specs.Records.{kept_teller_of, kept_user_of, member_row, member_rows}
-use Rattle.kept_rows.specs.Sheets.{Sheets, sheets_of}
+use Rattle.kept_rows.specs.Sheets.{Sheets, account_no, branch_no, entry_no, member_no, sheets_of, teller_no, user_no}
 use Rattle.kept_rows.specs.declared.records.MemberRow.{MemberRow}
 
 -- ---- sets, by their numbers and their members
@@ -46,9 +48,6 @@ of_none (s ∷ sets) set apart =
 -- among distinct sets those of one are its own
 of_one : (sets : List SetRow) (s : SetRow) → AreDistinct (map set_key sets) → Contains sets s → of_set s.set (flat_map member_rows sets) ≡ member_rows s
 of_one [] s distinct there = absurd (none_there there)
-  where
-    none_there : Contains [] s → ⊥
-    none_there (k, within, is) = omega arith
 of_one (z ∷ sets) s distinct there =
     filter-append (λ m. m.set == s.set) (member_rows z) (flat_map member_rows sets) ∙ by (Contains-cons_cases z sets s there) (of_one sets s distinct.1)
   where
@@ -117,3 +116,24 @@ told w distinct =
 
 pub sheets_tell_world : SheetsTellWorld
 sheets_tell_world v w can can_too same = sym (told v can.policy.sets.distinct) ∙ ap world_told same ∙ told w can_too.policy.sets.distinct
+
+-- ---- the order of the rows
+
+pub sheets_are_ordered : SheetsAreOrdered
+sheets_are_ordered w can = record {
+  branches = IsOrdered-map branch_key branch_no (branch_record_of w) (λ x. refl) w.branches can.branches;
+  tellers = IsOrdered-map teller_key teller_no (kept_teller_of w) (λ x. refl) w.tellers can.tellers.ordered;
+  accounts = IsOrdered-map account_key account_no (account_record_of w) (λ x. refl) w.accounts can.accounts;
+  entries = IsOrdered-map entry_key entry_no (entry_record_of w) (λ x. refl) w.entries can.entries.ordered;
+  lines = can.lines.ordered;
+  proofs = can.proofs;
+  releases = can.releases.ordered;
+  users = IsOrdered-map user_key user_no (kept_user_of w) (λ x. refl) w.policy.users can.policy.users;
+  sets = IsOrdered-map set_key (λ n. n) (λ s. s.set) (λ x. refl) w.policy.sets can.policy.sets;
+  members =
+      IsOrdered-from_rising member_no (flat_map member_rows w.policy.sets)
+      (members_rise w.policy.sets (Rises-from_order set_key w.policy.sets can.policy.sets.in_order can.policy.sets.distinct) can.policy.places);
+  relations = can.policy.relations;
+  triples = can.policy.triples;
+  certifiers = can.policy.certifiers;
+}

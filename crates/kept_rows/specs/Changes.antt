@@ -21,7 +21,7 @@ use Rattle.kept_rows.specs.Records.{member_rows}
 use Rattle.kept_rows.specs.Sheets.{Sheets, account_no, branch_no, entry_no, member_no, set_row, teller_no, user_no}
 use Rattle.kept_rows.specs.declared.account.AccountRows.{AccountRows}
 use Rattle.kept_rows.specs.declared.entry.EntryRows.{EntryRows}
-use Rattle.kept_rows.specs.declared.lines.DrawerRows.{DrawerRows}
+use Rattle.kept_rows.specs.declared.lines.LineRows.{LineRows}
 
 -- ---- the books
 
@@ -35,12 +35,16 @@ entry_sheets rows s = record s {
 }
 
 -- after a line at a drawer: its teller and its branch bear new numbers
-abbrev pub drawer_sheets : CashLine → DrawerRows → Sheets → Sheets
+abbrev pub drawer_sheets : CashLine → LineRows → Sheets → Sheets
 drawer_sheets l rows s = record s {
   branches = set_row branch_no rows.branch s.branches;
   tellers = set_row teller_no rows.teller s.tellers;
   lines = add_row line_key l s.lines;
 }
+
+-- after an entry and its cash line: both have moved the teller and the branch, each of which stands there once
+abbrev pub posting_sheets : CashLine → EntryRows → Sheets → Sheets
+posting_sheets l rows s = record (entry_sheets rows s) { lines = add_row line_key l s.lines }
 
 -- after a line at the vault: its branch alone does
 abbrev pub vault_sheets : CashLine → BranchRecord → Sheets → Sheets

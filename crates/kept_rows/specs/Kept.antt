@@ -1,6 +1,6 @@
--- That a World stays kept over one change.
-use Rattle.std.specs.Prelude.{◌≡◌}
-use Rattle.bank_books.specs.Effects.{written}
+-- That a World stays kept over a change, or over several.
+use Rattle.std.specs.Prelude.{◌≡◌, List}
+use Rattle.bank_books.specs.Effects.{all_written, written}
 use Rattle.bank_books.specs.WorldLists.{WorldLists}
 use Rattle.bank_books.specs.declared.row_write.RowWrite.{RowWrite}
 use Rattle.kept_rows.specs.Keepable.{IsKeepable}
@@ -11,3 +11,8 @@ use Rattle.kept_rows.specs.Sheets.{Sheets, sheets_of}
 pub record IsKept (w : WorldLists) (change : RowWrite) (after : Sheets → Sheets) : Type 0 where
   pub keepable : IsKeepable (written change w)
   pub sheets : sheets_of (written change w) ≡ after (sheets_of w)
+
+-- the same of several changes, one after another
+pub record AreKept (w : WorldLists) (changes : List RowWrite) (after : Sheets → Sheets) : Type 0 where
+  pub keepable : IsKeepable (all_written changes w)
+  pub sheets : sheets_of (all_written changes w) ≡ after (sheets_of w)

@@ -4,7 +4,8 @@ use Rattle.std.specs.List.{find}
 use Rattle.bank_policy.specs.HeldRows.{user_row}
 use Rattle.bank_policy.specs.declared.policy_write.PolicyWrite.{PolicyWrite}
 use Rattle.bank_policy.specs.declared.policy_write.Session.{Session}
-use Rattle.bank_books.specs.Keys.{proof_key}
+use Rattle.bank_policy.specs.PolicyKeys.{certifier_key, relation_key, triple_key}
+use Rattle.bank_books.specs.Keys.{line_key, proof_key, release_key}
 use Rattle.bank_books.specs.Records.{account_record, branch_record, teller_record}
 use Rattle.bank_books.specs.Version.{with_version}
 use Rattle.bank_books.specs.WorldLists.{WorldLists}
@@ -14,11 +15,11 @@ use Rattle.bank_books.specs.declared.row_write.ReleaseKey.{ReleaseKey}
 use Rattle.bank_books.specs.declared.row_write.RowWrite.TheVariants as write
 use Rattle.bank_books.specs.declared.rows.Proof.{Proof}
 use Rattle.kept_rows.specs.Changes.{IsNew, day_sheets, policy_sheets, proof_sheets, session_sheets, used_sheets, version_sheets}
-use Rattle.kept_rows.specs.Keepable.{IsKeepable}
+use Rattle.kept_rows.specs.Keepable.{IsKeepable, IsOrdered}
 use Rattle.kept_rows.specs.Kept.{IsKept}
 use Rattle.kept_rows.specs.Named.{IsFree}
 use Rattle.kept_rows.specs.Records.{kept_teller, kept_user_of}
-use Rattle.kept_rows.specs.Sheets.{account_no, branch_no, sheets_of, teller_no, user_no}
+use Rattle.kept_rows.specs.Sheets.{Sheets, account_no, branch_no, entry_no, member_no, sheets_of, teller_no, user_no}
 
 -- ---- changes that move no number beside another row
 
@@ -48,6 +49,25 @@ abbrev pub VersionIsKept : Type 0
 VersionIsKept = (w : WorldLists) (raised : Bool) → IsKeepable w → IsVersionKept w raised
 
 -- ---- what kept rows tell
+
+-- in each table the rows stand in order of their keys, and no key stands twice
+pub record AreSheetsOrdered (s : Sheets) : Type 0 where
+  pub branches : IsOrdered branch_no s.branches
+  pub tellers : IsOrdered teller_no s.tellers
+  pub accounts : IsOrdered account_no s.accounts
+  pub entries : IsOrdered entry_no s.entries
+  pub lines : IsOrdered line_key s.lines
+  pub proofs : IsOrdered proof_key s.proofs
+  pub releases : IsOrdered release_key s.releases
+  pub users : IsOrdered user_no s.users
+  pub sets : IsOrdered (λ n. n) s.sets
+  pub members : IsOrdered member_no s.members
+  pub relations : IsOrdered relation_key s.relations
+  pub triples : IsOrdered triple_key s.triples
+  pub certifiers : IsOrdered certifier_key s.certifiers
+
+abbrev pub SheetsAreOrdered : Type 0
+SheetsAreOrdered = (w : WorldLists) → IsKeepable w → AreSheetsOrdered (sheets_of w)
 
 -- Two Worlds of the same rows and numbers are one.
 abbrev pub SheetsTellWorld : Type 0

@@ -41,3 +41,10 @@ pub record IsNextAtDrawer (l : CashLine) (t : KeptTeller) (b : BranchRecord) : T
   pub number : l.number ≡ b.lines + 1
   pub drawer : IsCents t.cash
   pub cash : IsCashTold b
+
+-- an entry with its cash line
+pub record IsNextPosting (e : Entry) (l : CashLine) (a : AccountRecord) (t : KeptTeller) (b : BranchRecord) : Type 0 where
+  pub place : l.place ≡ e.teller
+  pub branch : l.branch ≡ e.branch
+  pub entry : IsNextOf e a t b
+  pub line : IsNextAtDrawer l t b

@@ -1,7 +1,7 @@
 ghost use Rattle.std.specs.Prelude.{◌≡◌, ◌+◌, ◌<◌, ◌^◌, IfSome, IsSome};
 ghost use Rattle.money.specs.Range.{IsCents};
 ghost use Rattle.book_growth.specs.Moves.{account_entered, branch_entered};
-ghost use Rattle.kept_rows.specs.After.{AreAfterEntry};
+ghost use Rattle.kept_rows.specs.After.{AreAfterEntry, AreEntered};
 ghost use Rattle.kept_rows.specs.Next.{IsHistoryTold, IsNextOf};
 ghost use Rattle.kept_rows.specs.Records.{entry_left, kept_teller_entered};
 
@@ -30,6 +30,7 @@ pub fn with_entry(
     entry: &Entry,
 ) -> Option<EntryRows>
     ensures kept { IfSome result (λ rows. AreAfterEntry entry.now account.now teller.now branch.now rows) }
+    ensures moved { IfSome result (λ rows. AreEntered entry.now account.now teller.now branch.now rows) }
     ensures told { IsNextOf entry.now account.now teller.now branch.now → IsSome result }
 {
     let account = account_moved(account, entry)?;

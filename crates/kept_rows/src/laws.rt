@@ -3,7 +3,7 @@
 
 ghost use Rattle.bank_books.specs.Books.{Books};
 ghost use Rattle.kept_rows.specs.Keepable.{HasDistinctRows, IsKeepable};
-ghost use Rattle.kept_rows.specs.Laws.{DayIsKept, PolicyIsKept, ProofIsKept, RowsAreTold, SessionIsKept, SheetsTellWorld, UsedIsKept, VersionIsKept};
+ghost use Rattle.kept_rows.specs.Laws.{DayIsKept, PolicyIsKept, ProofIsKept, RowsAreTold, SessionIsKept, SheetsAreOrdered, SheetsTellWorld, UsedIsKept, VersionIsKept};
 
 use bank_books::World;
 
@@ -55,6 +55,11 @@ pub fn policy_is_kept()
 /// The next version of the policy moves no number but its own.
 pub fn version_is_kept()
     ensures { VersionIsKept }
+{}
+
+/// The rows of each table stand in order of their keys, each once.
+pub fn sheets_are_ordered()
+    ensures { SheetsAreOrdered }
 {}
 
 /// The rows and the numbers beside them tell the World.

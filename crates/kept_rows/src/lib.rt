@@ -5,11 +5,15 @@ mod account;
 mod entry;
 pub mod laws;
 mod lines;
+mod posting;
 mod records;
 mod release;
+#[cfg(test)]
+mod tests;
 
 pub use account::{AccountRows, with_account};
 pub use entry::{EntryRows, with_entry};
-pub use lines::{DrawerRows, with_drawer_line, with_vault_line};
+pub use lines::{LineRows, with_drawer_line, with_vault_line};
+pub use posting::with_posting;
 pub use records::{KeptTeller, KeptUser, MemberRow};
 pub use release::with_release;

@@ -2,7 +2,7 @@ ghost use Rattle.std.specs.Prelude.{◌≡◌, ◌↔◌, ◌+◌, ◌+ℤ◌, �
 ghost use Rattle.money.specs.Range.{IsCents};
 ghost use Rattle.bank_books.specs.Cash.{holder_after};
 ghost use Rattle.book_growth.specs.Moves.{branch_lined};
-ghost use Rattle.kept_rows.specs.After.{AreAfterLine, IsAfterVaultLine};
+ghost use Rattle.kept_rows.specs.After.{AreAfterLine, AreLined, IsAfterVaultLine};
 ghost use Rattle.kept_rows.specs.Next.{IsCashTold, IsNextAtDrawer, IsNextAtVault};
 ghost use Rattle.kept_rows.specs.Records.{kept_teller_lined};
 
@@ -11,7 +11,7 @@ use bank_books::{BranchRecord, CashLine, LineForm};
 
 /// The rows that a line at a drawer moves, with the numbers that they have after it.
 #[derive(Clone, Copy, Debug, PartialEq, Eq)]
-pub struct DrawerRows {
+pub struct LineRows {
     /// The teller whose drawer it is.
     pub teller: KeptTeller,
     /// The branch in whose cash book it stands.
@@ -25,8 +25,9 @@ pub fn with_drawer_line(
     teller: &KeptTeller,
     branch: &BranchRecord,
     line: &CashLine,
-) -> Option<DrawerRows>
+) -> Option<LineRows>
     ensures kept { IfSome result (λ rows. AreAfterLine line.now teller.now branch.now rows) }
+    ensures moved { IfSome result (λ rows. AreLined line.now teller.now branch.now rows) }
     ensures told { IsNextAtDrawer line.now teller.now branch.now → IsSome result }
 {
     let branch = branch_moved(branch, line)?;
@@ -34,13 +35,14 @@ pub fn with_drawer_line(
         return None;
     }
     let teller = teller_moved(teller, line)?;
-    Some(DrawerRows { teller, branch })
+    Some(LineRows { teller, branch })
 }
 
 /// What a line at the vault makes of the branch, or none where it is at a drawer or doesn't bear the next
 /// number of that branch, or a sum is out of the range of an `i128`.
 pub fn with_vault_line(branch: &BranchRecord, line: &CashLine) -> Option<BranchRecord>
     ensures kept { IfSome result (λ after. IsAfterVaultLine line.now branch.now after) }
+    ensures moved { IfSome result (λ after. after ≡ branch_lined line.now branch.now) }
     ensures told { IsNextAtVault line.now branch.now → IsSome result }
 {
     if line.place == 0 {
