@@ -1,6 +1,5 @@
-use crate::laws;
 use crate::{
-    KeptTeller, with_account, with_drawer_line, with_entry, with_posting, with_release,
+    KeptTeller, laws, with_account, with_drawer_line, with_entry, with_posting, with_release,
     with_vault_line,
 };
 use bank_books::{
@@ -110,14 +109,23 @@ fn entry_moves_its_rows(rt: HostRuntime) -> Result<(), Fail> {
     assert_eq!(rt; rows.entry.balance_after, 3_250);
     let mut late = entry(&rt);
     late.number = 6;
-    assert_eq!(rt; with_entry(&account(&rt), &teller(&rt), &branch(&rt), &late), None);
+    assert_eq!(rt;
+        with_entry(&account(&rt), &teller(&rt), &branch(&rt), &late),
+        None
+    );
     Ok(())
 }
 
 #[test]
 fn posting_moves_its_rows_once(rt: HostRuntime) -> Result<(), Fail> {
     let cash = line(11, cents(&rt, 250), LineForm::CashEntry);
-    let rows = with_posting(&account(&rt), &teller(&rt), &branch(&rt), &entry(&rt), &cash);
+    let rows = with_posting(
+        &account(&rt),
+        &teller(&rt),
+        &branch(&rt),
+        &entry(&rt),
+        &cash,
+    );
     let rows = rows.ok_or("the next entry and its line")?;
     assert_eq!(rt; rows.account.balance, 3_250);
     assert_eq!(rt; rows.teller.balance, 250);
@@ -126,7 +134,13 @@ fn posting_moves_its_rows_once(rt: HostRuntime) -> Result<(), Fail> {
     assert_eq!(rt; rows.branch.lines, 6);
     assert_eq!(rt; rows.branch.cash_entries, -50);
     let elsewhere = line(12, cents(&rt, 250), LineForm::CashEntry);
-    let rows = with_posting(&account(&rt), &teller(&rt), &branch(&rt), &entry(&rt), &elsewhere);
+    let rows = with_posting(
+        &account(&rt),
+        &teller(&rt),
+        &branch(&rt),
+        &entry(&rt),
+        &elsewhere,
+    );
     assert_eq!(rt; rows, None);
     Ok(())
 }
