@@ -1,5 +1,5 @@
 -- The last row that passes, with one more row put at its place.
-use Rattle.std.proofs.Common.{◌≡◌, ℕ, ◌≤◌, suc, List, [], ◌∷◌, ◌++◌, reverse, Bool, true, false, cond, refl, ap, arith, sym, ◌∙◌, subst, Option, Some, None, Contains}
+use Rattle.std.proofs.Common.{◌≡◌, ℕ, ◌≤◌, List, [], ◌∷◌, ◌++◌, reverse, Bool, true, false, cond, refl, ap, arith, sym, ◌∙◌, Option, Some, None, Contains}
 use Rattle.std.specs.Prelude.{nat_le}
 use Rattle.std.specs.List.{find}
 use Rattle.std.specs.List.Sorted.{IsNonDecreasingBy}

@@ -1,5 +1,5 @@
 -- A World with an entry and its cash line is kept.
-use Rattle.std.proofs.Common.{◌≡◌, ◌≢◌, ℕ, List, [], ◌∷◌, map, Bool, true, false, cond, refl, ap, ap₂, sym, ◌∙◌, subst, ◌==◌, Some, Contains}
+use Rattle.std.proofs.Common.{◌≡◌, ℕ, List, [], ◌∷◌, Bool, true, false, cond, refl, ap, sym, ◌∙◌, subst, ◌==◌, Some}
 use Rattle.std.specs.Prelude.{if◌then◌else◌}
 use Rattle.std.specs.List.{find}
 use Rattle.std.proofs.lemmas.Bool.{eq-eqb, eqb-true}
@@ -19,7 +19,7 @@ use Rattle.kept_rows.specs.Kept.{AreKept}
 use Rattle.kept_rows.specs.Named.{AreOfEntry, AreOfLine, IsBranchRow, IsTellerRow}
 use Rattle.kept_rows.specs.Next.{IsNextAtDrawer, IsNextPosting}
 use Rattle.kept_rows.specs.Records.{kept_teller_entered}
-use Rattle.kept_rows.specs.Sheets.{Sheets, branch_no, set_row, sheets_of, teller_no}
+use Rattle.kept_rows.specs.Sheets.{branch_no, set_row, sheets_of, teller_no}
 use Rattle.kept_rows.specs.declared.entry.EntryRows.{EntryRows}
 use Rattle.kept_rows.specs.declared.lines.LineRows.{LineRows}
 use Rattle.kept_rows.specs.declared.records.KeptTeller.{KeptTeller}

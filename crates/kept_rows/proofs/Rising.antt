@@ -1,5 +1,5 @@
 -- Rows each of which lies below those behind it: the same as rows in order of distinct keys.
-use Rattle.std.proofs.Common.{◌≡◌, ◌≢◌, ℕ, ◌<◌, ◌≤◌, zero, suc, List, [], ◌∷◌, ◌++◌, map, length, get_or, refl, ap, arith, sym, ◌∙◌, subst, Contains, inl, inr}
+use Rattle.std.proofs.Common.{◌≡◌, ◌≢◌, ℕ, ◌<◌, ◌≤◌, zero, suc, List, [], ◌∷◌, ◌++◌, map, get_or, ap, arith, sym, ◌∙◌, subst, Contains, inl, inr}
 use Rattle.std.specs.List.Sorted.{IsNonDecreasingBy}
 use Rattle.std.proofs.lemmas.List.Elements.{Contains-append_cases, Contains-get_or}
 use Rattle.keyed_rows.specs.Ordered.{AreDistinct}
