@@ -1,7 +1,9 @@
 pub mod CertifierLemmas
+pub mod DecodeLemmas
 pub mod KeyTests
 pub mod MemberLemmas
 pub mod ProcedureNumbers
 pub mod RelationLemmas
+pub mod ResultLemmas
 pub mod SetLemmas
 pub mod TripleLemmas

@@ -49,6 +49,7 @@ use Rattle.bank_schema.proofs.ScanLemmas.{passes, scan}
 use Rattle.bank_schema.proofs.WriteLemmas.{cast_int, cast_null, inserts}
 use Rattle.policy_tables.proofs.KeyTests.{at_most_one, few_mapped, length-mapped, three_parts, three_parts_of, two_parts}
 use Rattle.policy_tables.proofs.ProcedureNumbers.{small_number}
+use Rattle.policy_tables.specs.Shown.{shown_set}
 use Rattle.policy_tables.specs.Tests.{is_member_of, is_relation_numbered, is_relation_on, is_triple_at, is_triple_by, is_triple_numbered}
 use Rattle.policy_tables.specs.Texts.{add_set_text, set_text, sets_text}
 
@@ -63,10 +64,6 @@ pub sets_is : (command_of (understood bank_schema sets_text) ≡ Select (record 
     × (reads_listing bank_schema sets_text ≡ false) × IsPlain (understood bank_schema sets_text)
 unfolding understood everything
 sets_is = (refl, refl, (refl, refl))
-
--- a set as a query shows it
-abbrev pub shown_set : ℕ → Row
-shown_set set = Int (pos set) ∷ []
 
 pub selects_set : (old new : State) (s : Sheets) (set : ℕ) (rows : List Row) → HoldsTables old.now s → Shown set_text (Int (pos set) ∷ []) old new rows → rows ≡ map shown_set (filter (λ n. n == set) s.sets)
 selects_set old new s set rows holds h =

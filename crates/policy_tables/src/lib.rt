@@ -2,5 +2,13 @@
 #![tactic(auto)]
 
 mod certifiers;
+mod members;
+mod relations;
+mod sets;
+mod triples;
 
 pub use certifiers::{add_certifier, is_certifier, remove_certifier};
+pub use members::{add_member, members_of};
+pub use relations::{add_relation, relation_of, relations_in};
+pub use sets::{add_set, is_set, set_count};
+pub use triples::{add_triple, remove_triple, triple_count, triple_of, triples_in};
