@@ -96,3 +96,11 @@ with_releases old new s rows holds kept now t = subst (HoldsSheet t s) (sym (oth
 pub with_version : (old new : Trees) (s : Sheets) (version : ℕ) → HoldsSheets old s → KeepsOthers 0 old new → HoldsSheet bank (record s { version = version }) (new 0) → HoldsSheets new (record s { version = version })
 with_version old new s version holds kept now bank = now
 with_version old new s version holds kept now t = subst (HoldsSheet t s) (sym (others 0 old new kept t (λ e. omega (arith, e)))) (holds t)
+
+-- a relation that goes with its triples
+pub without_relation : (old new : Trees) (s : Sheets) (of_relations : List Relation) (of_triples : List Triple) → HoldsSheets old s → ((t : Sheet) → tree_of t ≢ 5 → tree_of t ≢ 7 → new (tree_of t) ≡ old (tree_of t))
+    → HoldsSheet relations (record s { relations = of_relations }) (new 5) → HoldsSheet triples (record s { triples = of_triples }) (new 7)
+    → HoldsSheets new (record s { relations = of_relations; triples = of_triples })
+without_relation old new s of_relations of_triples holds kept first second relations = first
+without_relation old new s of_relations of_triples holds kept first second triples = second
+without_relation old new s of_relations of_triples holds kept first second t = subst (HoldsSheet t s) (sym (kept t (λ e. omega (arith, e)) (λ e. omega (arith, e)))) (holds t)

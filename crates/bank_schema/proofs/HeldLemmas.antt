@@ -48,13 +48,13 @@ same_pos m n = grind (arith, nat_tests)
 
 -- ---- rowids
 
-equal_from : (o : Ordering) → is_eq o ≡ true → o ≡ Equal
+pub equal_from : (o : Ordering) → is_eq o ≡ true → o ≡ Equal
 equal_from Less h = absurd cc
 equal_from Equal h = refl
 equal_from Greater h = absurd cc
 
 -- of the rows of a table no two have one rowid
-same_row : (rows : List Row) → IsTable rows → (a b : Row) → Has rows a → Has rows b → value_cmp (rowid a) (rowid b) ≡ Equal → a ≡ b
+pub same_row : (rows : List Row) → IsTable rows → (a b : Row) → Has rows a → Has rows b → value_cmp (rowid a) (rowid b) ≡ Equal → a ≡ b
 same_row [] up a b here there e = absurd here
 same_row (r ∷ rows) up a b (inl p) (inl q) e = p ∙ sym q
 same_row (r ∷ rows) up a b (inl p) (inr q) e =

@@ -14,6 +14,7 @@ use Rattle.sqlite.specs.Tree.{Trees}
 use Rattle.sqlite.specs.Listing.{understood}
 use Rattle.sqlite.specs.State.{State, Executes}
 use Rattle.sqlite.proofs.Callers.{IsPlain, command_of, one_step}
+use Rattle.sqlite.specs.Effect.{IsDatabase}
 use Rattle.sqlite.specs.Edit.{Edit, edit_of, edited}
 use Rattle.sqlite.specs.Rowids.TheVariants.{Given}
 use Rattle.sqlite_rules.specs.Calls.{ids_of}
@@ -46,6 +47,7 @@ pick tree terms project = scan tree terms project [] no_limit no_offset
 -- a statement on one table is done: the table holds these rows, and every other table is as it was
 pub record Leaves {X : Type 0} (shows : Row → Row) (cells : X → Row) (key : X → ℕ) (Fits : X → Type 0) (tree : ℕ) (xs : List X) (old new : State) : Type 0 where
   pub schema : new.now.schema ≡ bank_schema
+  pub sound : IsDatabase new.now
   pub rows : HoldsRows shows cells key Fits xs (new.now.trees tree)
   pub others : KeepsOthers tree old.now.trees new.now.trees
 
@@ -100,6 +102,7 @@ module _ {X : Type 0} (shows back : Row → Row) (cells : X → Row) (key : X �
       one_step bank_schema Enforced old.now.trees new.now.trees edit (nothing (taken_by old.now.trees edit)) (subst (λ s. Writes s Enforced old.now.trees edit (Ok new.now.trees)) has it.writes) in
       record {
         schema = it.schema_is;
+        sound = it.sound;
         rows = left_over old.now.trees new.now.trees it.rows xs holds it.answer.answer step.rows;
         others = step.tables;
       }
@@ -193,6 +196,7 @@ module _ {X : Type 0} (shows back : Row → Row) (cells : X → Row) (key : X �
       one_step bank_schema Enforced old.now.trees new.now.trees edit (nothing (taken_by old.now.trees edit) edit.news) (subst (λ s. Writes s Enforced old.now.trees edit (Ok new.now.trees)) has it.writes) in
       record {
         schema = it.schema_is;
+        sound = it.sound;
         rows = set_over old.now.trees new.now.trees it.rows xs holds fit it.answer.answer step;
         others = step.tables;
       }

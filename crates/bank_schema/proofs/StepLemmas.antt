@@ -142,8 +142,8 @@ pub query_moves : (sql : List ℕ) (params : Row) (old new : State) (result : Re
     → IfOk result (λ rows. Shown sql params old new rows.items) → IfErr result (λ e. FailsToQuery sql params old new e ⊎ IsTooLate sql params old new e)
     → IsTrue old.in_transaction → (w : WorldLists) → HoldsWorld old.now w → OnOk result (IsTrue new.in_transaction × HoldsWorld new.now w) × KeepsCommit old new
 query_moves sql params old new result plain ok err inside w holds =
-    let it = query_steps sql params old new result plain ok err inside (sheets_of w) (record { schema = holds.schema; rows = holds.world.rows }) in
-    (ok_weaker result _ _ (λ h. (h.0, record { schema = h.1.schema; world = record { rows = h.1.rows; keepable = holds.world.keepable } })) it.0, it.1)
+    let it = query_steps sql params old new result plain ok err inside (sheets_of w) (record { schema = holds.schema; sound = holds.sound; rows = holds.world.rows }) in
+    (ok_weaker result _ _ (λ h. (h.0, record { schema = h.1.schema; sound = h.1.sound; world = record { rows = h.1.rows; keepable = holds.world.keepable } })) it.0, it.1)
 
 -- what a crash may leave after a call that commits nothing, it could before
 pub survived : (a b : State) → Survives a b (λ _. ⊥) → HasCleanDisk b → (db : Trees) → b.may_leave db → a.may_leave db

@@ -24,7 +24,7 @@ use Rattle.sqlite.specs.Rowids.TheVariants.{Chosen, Above, Given}
 use Rattle.sqlite.specs.Does.{Tally, OnRows, AtPlace}
 use Rattle.sqlite.specs.Rows.{Task, Written, rowids_for, count_of}
 use Rattle.sqlite.specs.Listing.{understood}
-use Rattle.sqlite.specs.Effect.{Database, Answers, value_rows}
+use Rattle.sqlite.specs.Effect.{Database, IsDatabase, Answers, value_rows}
 use Rattle.sqlite.specs.State.{State, mode_of, Executes, Shows}
 use Rattle.sqlite.proofs.Callers.{IsPlain, command_of, runs_as, one_step}
 
@@ -54,6 +54,7 @@ settle true c A B e h = absurd (true≢false e)
 -- what an INSERT of values leaves
 pub record Inserted (schema : Schema) (table : Table) (rows : List Row) (old new : State) : Type 0 where
   pub schema_is : new.now.schema ≡ schema
+  pub sound : IsDatabase new.now
   pub applies : Applies schema Enforced old.now.trees (edit_of old.now.trees table [] Chosen 0 rows) new.now.trees
   pub shown : Shows old new new.now (cond old.in_transaction old.committed new.now) old.in_transaction
 
@@ -89,6 +90,7 @@ module _ (schema : Schema) (sql : List ℕ) (params : Row) (at : ℕ) (table : T
       let after : new.now.trees ≡ written.0 = ap (λ (d : Database). d.trees) now ∙ trees in
       record {
         schema_is = ap (λ (d : Database). d.schema) now ∙ has;
+        sound = w.sound;
         applies = subst₂ (λ s t. Applies s Enforced db (edit Chosen values) t) has (sym after) second;
         shown = w.shown;
       }
@@ -98,6 +100,7 @@ pub record Picked (schema : Schema) (table : Table) (q : Program) (params : Row)
   pub rows : List Row
   pub answer : Answers (record { schema = old.now.schema; trees = old.now.trees }) q params rows
   pub schema_is : new.now.schema ≡ schema
+  pub sound : IsDatabase new.now
   pub writes : WritesTo old.now.schema Enforced old.now.trees (edit_of old.now.trees table (ids_of rows) Given from (sources rows)) (Ok new.now.trees)
   pub shown : Shows old new new.now (cond old.in_transaction old.committed new.now) old.in_transaction
 
@@ -121,6 +124,7 @@ module _ (schema : Schema) (sql : List ℕ) (params : Row) (at : ℕ) (table : T
         rows = given.0;
         answer = given.1;
         schema_is = ap (λ (d : Database). d.schema) now ∙ has;
+        sound = w.sound;
         writes = subst (λ t. WritesTo old.now.schema Enforced db (edit_of db table (ids_of given.0) Given 1 given.0) (Ok t)) (sym after) written.1;
         shown = w.shown;
       }
@@ -144,6 +148,7 @@ module _ (schema : Schema) (sql : List ℕ) (params : Row) (at : ℕ) (table : T
         rows = given.0;
         answer = given.1;
         schema_is = ap (λ (d : Database). d.schema) now ∙ has;
+        sound = w.sound;
         writes = subst (λ t. WritesTo old.now.schema Enforced db (edit_of db table (ids_of given.0) Given 0 []) (Ok t)) (sym after) written.1;
         shown = w.shown;
       }

@@ -1,6 +1,6 @@
 -- What it is that a database holds the rows of a World and the numbers that are kept beside them.
 use Rattle.std.specs.Prelude.{ℕ, ◌≡◌, List, [], ◌∷◌}
-use Rattle.sqlite.specs.Effect.{Database}
+use Rattle.sqlite.specs.Effect.{Database, IsDatabase}
 use Rattle.sqlite.specs.Order.{Row}
 use Rattle.sqlite.specs.State.{State}
 use Rattle.sqlite.specs.Tree.{Trees}
@@ -70,9 +70,10 @@ HoldsSheet releases s tree = HoldsRows all_but_rowid release_cells release_key R
 abbrev pub HoldsSheets : Trees → Sheets → Type 0
 HoldsSheets trees s = (t : Sheet) → HoldsSheet t s (trees (tree_of t))
 
--- the tables hold these rows
+-- The tables hold these rows, and keep the rules of the schema: a triple is of a relation that is there.
 pub record HoldsTables (db : Database) (s : Sheets) : Type 0 where
   pub schema : db.schema ≡ bank_schema
+  pub sound : IsDatabase db
   pub rows : HoldsSheets db.trees s
 
 -- the World whose rows and numbers these trees hold
@@ -82,6 +83,7 @@ pub record AreOfWorld (w : WorldLists) (trees : Trees) : Type 0 where
 
 pub record HoldsWorld (db : Database) (w : WorldLists) : Type 0 where
   pub schema : db.schema ≡ bank_schema
+  pub sound : IsDatabase db
   pub world : AreOfWorld w db.trees
 
 -- between calls: the last commit has it too

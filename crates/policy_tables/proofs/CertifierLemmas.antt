@@ -129,6 +129,7 @@ adds_certifier old new s c count holds h =
         old.now.trees new.now.trees row c s.certifiers put refl tt (holds.rows in_certifiers) in
     (record {
       schema = it.schema_is;
+      sound = it.sound;
       rows = with_certifiers old.now.trees new.now.trees s (add_row certifier_key c s.certifiers) holds.rows it.applies.tables
           (adds_by_columns certifier_cells certifier_key AnyRow certifiers_table old.now.trees new.now.trees row c s.certifiers put refl tt free (holds.rows in_certifiers));
     }, free)
@@ -146,6 +147,7 @@ removes_certifier old new s c count holds h =
     (λ i. filter (λ x. not (by_number c.user (number_of c.procedure) (small_number c.procedure) x i)) s.certifiers) in
     record {
       schema = it.schema;
+      sound = it.sound;
       rows = with_certifiers old.now.trees new.now.trees s (delete_rows certifier_key (certifier_key c) s.certifiers) holds.rows it.others
           (subst (λ l. HoldsRows all_but_rowid certifier_cells certifier_key AnyRow l (new.now.trees 9)) left it.rows);
     }

@@ -7,7 +7,7 @@ use Rattle.sqlite_keyed.proofs.ListLemmas.{none_counted}
 use Rattle.bank_schema.proofs.InsertLemmas.{parts_of}
 
 -- tests that imply each other give the same
-same_test : (b c : Bool) → (b ≡ true → c ≡ true) → (c ≡ true → b ≡ true) → b ≡ c
+pub same_test : (b c : Bool) → (b ≡ true → c ≡ true) → (c ≡ true → b ≡ true) → b ≡ c
 same_test true c p q = sym (p refl)
 same_test false true p q = q refl
 same_test false false p q = refl

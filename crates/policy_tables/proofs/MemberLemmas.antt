@@ -115,6 +115,7 @@ adds_member old new s m count fit holds h =
         old.now.trees new.now.trees row m s.members put refl fit (holds.rows in_members) in
     (record {
       schema = it.schema_is;
+      sound = it.sound;
       rows = with_members old.now.trees new.now.trees s (add_row member_no m s.members) holds.rows it.applies.tables
           (adds_by_columns member_cells member_no MemberFits members_table old.now.trees new.now.trees row m s.members put refl fit free (holds.rows in_members));
     }, free)

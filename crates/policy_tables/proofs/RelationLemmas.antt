@@ -146,6 +146,7 @@ adds_relation old new s r count fit holds h =
         old.now.trees new.now.trees row r s.relations put refl fit (holds.rows in_relations) in
     (record {
       schema = it.schema_is;
+      sound = it.sound;
       rows = with_relations old.now.trees new.now.trees s (add_row relation_key r s.relations) holds.rows it.applies.tables
           (adds_by_columns relation_cells relation_key RelationFits relations_table old.now.trees new.now.trees row r s.relations put refl fit free (holds.rows in_relations));
     }, free)

@@ -101,6 +101,7 @@ adds_set old new s n count holds h =
     let put = puts sets_table (set_cells n) (value_rows (shown_set n) 2 (2 / 2) add_set_terms) old.now.trees new.now.trees it.applies (news_are old.now.trees n) in
     (record {
       schema = it.schema_is;
+      sound = it.sound;
       rows = with_sets old.now.trees new.now.trees s (add_row set_no n s.sets) holds.rows it.applies.tables
           (adds_by_rowid set_cells set_no AnyRow sets_table (λ x. refl) old.now.trees new.now.trees n s.sets put tt (holds.rows in_sets));
     }, apart_by_rowid set_cells set_no AnyRow (λ x. refl) n s.sets (old.now.trees 2) (holds.rows in_sets) put.free)

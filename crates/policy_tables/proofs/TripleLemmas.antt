@@ -171,6 +171,7 @@ adds_triple old new s t count fit holds h =
         old.now.trees new.now.trees row t s.triples put refl fit (holds.rows in_triples) in
     (record {
       schema = it.schema_is;
+      sound = it.sound;
       rows = with_triples old.now.trees new.now.trees s (add_row triple_key t s.triples) holds.rows it.applies.tables
           (adds_by_columns triple_cells triple_key TripleFits triples_table old.now.trees new.now.trees row t s.triples put refl fit free (holds.rows in_triples));
     }, free)
@@ -195,6 +196,7 @@ removes_triple old new s user procedure set count small small' holds h =
         (λ x fit. ap not (by_number user procedure set small small' x fit)) in
     record {
       schema = it.schema;
+      sound = it.sound;
       rows = with_triples old.now.trees new.now.trees s (delete_rows triple_key k s.triples) holds.rows it.others
           (subst (λ l. HoldsRows all_but_rowid triple_cells triple_key TripleFits l (new.now.trees 7)) left it.rows);
     }

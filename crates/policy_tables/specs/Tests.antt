@@ -33,3 +33,7 @@ is_triple_at user procedure set row = row.user == user && (number_of row.procedu
 -- that the user may certify the procedure of this number
 abbrev pub is_certifier_of : ℕ → ℕ → Certifier → Bool
 is_certifier_of user procedure row = row.user == user && number_of row.procedure == procedure
+
+-- a triple of the procedure of this number and the set, whosever it is
+abbrev pub is_triple_under : ℕ → ℕ → Triple → Bool
+is_triple_under procedure set row = number_of row.procedure == procedure && row.set == set
