@@ -9,3 +9,4 @@ pub mod RemovalLemmas
 pub mod ResultLemmas
 pub mod SetLemmas
 pub mod TripleLemmas
+pub mod UserLemmas

@@ -1,4 +1,4 @@
-ghost use Rattle.std.specs.Prelude.{◌≡◌, ◌==◌, ◌+◌, ◌*◌, ◌^◌, ◌<◌, ◌∷◌, [], ℕ, List, length, pos, map, IfOk, IsTrue};
+ghost use Rattle.std.specs.Prelude.{◌≡◌, ◌==◌, ◌+◌, ◌*◌, ◌^◌, ◌<◌, ◌∷◌, [], ℕ, List, length, pos, map, not, IfOk, IsTrue};
 ghost use Rattle.std.specs.List.{cons_option, filter, find, list_any};
 ghost use Rattle.sqlite.specs.Held.{state};
 ghost use Rattle.sqlite.specs.State.{ExecutesInside, HasCleanDisk, Survives};
@@ -12,12 +12,13 @@ ghost use Rattle.bank_schema.specs.Held.{HoldsTables};
 ghost use Rattle.bank_schema.specs.Steps.{StaysOpen, Steps, Tells};
 ghost use Rattle.bank_policy.specs.HeldRows.{is_relation_of};
 ghost use Rattle.bank_policy.specs.PolicyKeys.{relation_key, relation_number};
+ghost use Rattle.bank_policy.specs.PolicyWrites.{is_triple_on};
 ghost use Rattle.bank_policy.specs.declared.rows.Relation.{Relation as TheRelation};
 ghost use Rattle.bank_schema.specs.Cells.{relation_cells};
 ghost use Rattle.policy_tables.specs.Tests.{is_relation_numbered};
-ghost use Rattle.policy_tables.specs.Texts.{add_relation_text};
+ghost use Rattle.policy_tables.specs.Texts.{add_relation_text, remove_relation_text};
 
-use bank_policy::Relation;
+use bank_policy::{Relation, RelationKey};
 use bank_schema::{fault_of, number_at, procedure_at};
 use bank_terms::Procedure;
 use money::Fault;
@@ -126,6 +127,31 @@ pub fn add_relation<S: Alter>(tx: &mut Transaction<'_, S>, relation: &Relation) 
 {
     let procedure = relation.procedure.number() as u32;
     match insert_relation(tx, relation, procedure) {
+        Ok(_) => Ok(()),
+        Err(error) => Err(fault_of(error)),
+    }
+}
+
+fn delete_relation<S: Alter>(tx: &mut Transaction<'_, S>, key: &RelationKey, procedure: u32) -> Result<usize, Error>
+    ensures same_reference { tx.new.conn.ghost_name ≡ tx.old.conn.ghost_name }
+    ensures runs { HasCleanDisk (state S.Store tx.new.conn.now) → IsTrue (state S.Store tx.old.conn.now).in_transaction → ExecutesInside 0 remove_relation_text (Int (pos procedure) ∷ Int (pos key.now.set) ∷ []) (state S.Store tx.old.conn.now) (state S.Store tx.new.conn.now) result }
+    ensures small { key.now.set < 2 ^ 32 }
+    ensures survives { Survives (state S.Store tx.old.conn.now) (state S.Store tx.new.conn.now) (λ _. ⊥) }
+{
+    tx.execute(
+        "DELETE FROM relations WHERE procedure = ?1 AND set_no = ?2",
+        params![procedure, key.set],
+    )
+}
+
+/// Takes a relation away, and with it its triples, whosever they are. One that isn't there is passed over.
+pub fn remove_relation<S: Alter>(tx: &mut Transaction<'_, S>, key: &RelationKey) -> Result<(), Fault>
+    ensures same_reference { tx.new.conn.ghost_name ≡ tx.old.conn.ghost_name }
+    ensures steps { Steps (state S.Store tx.old.conn.now) (state S.Store tx.new.conn.now) (λ s. record s { relations = delete_rows relation_key (relation_number key.now.procedure key.now.set) s.relations; triples = filter (λ row. not (is_triple_on key.now row)) s.triples }) result }
+    ensures survives { Survives (state S.Store tx.old.conn.now) (state S.Store tx.new.conn.now) (λ _. ⊥) }
+{
+    let procedure = key.procedure.number() as u32;
+    match delete_relation(tx, key, procedure) {
         Ok(_) => Ok(()),
         Err(error) => Err(fault_of(error)),
     }
