@@ -8,5 +8,6 @@ pub mod RelationLemmas
 pub mod RemovalLemmas
 pub mod ResultLemmas
 pub mod SetLemmas
+pub mod SoFarLemmas
 pub mod TripleLemmas
 pub mod UserLemmas

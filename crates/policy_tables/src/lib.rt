@@ -2,6 +2,7 @@
 #![tactic(auto)]
 
 mod certifiers;
+mod held;
 mod members;
 mod relations;
 mod sets;
@@ -9,6 +10,7 @@ mod triples;
 mod users;
 
 pub use certifiers::{add_certifier, is_certifier, remove_certifier};
+pub use held::{relations_of, triples_of};
 pub use members::{add_member, members_of};
 pub use relations::{add_relation, relation_of, relations_in, remove_relation};
 pub use sets::{add_set, is_set, set_count};
