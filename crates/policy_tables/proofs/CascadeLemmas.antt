@@ -1,35 +1,22 @@
 -- DELETE of a relation: its triples go with it.
-use Rattle.std.specs.Prelude.{MatchBool, unwrap_or}
-use Rattle.std.proofs.Common.{◌≡◌, ◌≢◌, ◌⊎◌, inl, inr, ◌<◌, ◌≤◌, ◌+◌, ◌*◌, ◌^◌, ℕ, zero, suc, ℤ, pos, List, [], ◌∷◌, ◌++◌, map, filter, drop, length, length-append, not, codes, Bool, true, false, cond, Option, Some, None, Ok, Err, refl, ap, arith, sym, ◌∙◌, subst, ◌==◌, ◌&&◌, ◌||◌, is_eq, Equal}
-use Rattle.std.specs.List.{find, cons_option, list_any}
-use Rattle.std.proofs.lemmas.Bool.{and_from, and_parts, eq-eqb, eqb-true, false≢true, true≢false}
+use Rattle.std.proofs.Common.{◌≡◌, ◌≢◌, inl, inr, ℕ, zero, suc, ℤ, pos, List, [], ◌∷◌, ◌++◌, drop, length, length-append, not, Bool, true, false, cond, Some, Ok, refl, ap, arith, sym, ◌∙◌, subst, ◌==◌, ◌&&◌, ◌||◌, is_eq}
+use Rattle.std.specs.List.{list_any}
+use Rattle.std.proofs.lemmas.Bool.{and_parts, eq-eqb, false≢true, true≢false}
 use Rattle.sqlite.specs.declared.types.Value.TheVariants.{Null, Int}
-use Rattle.sqlite.specs.Command.TheVariants.{Delete}
-use Rattle.sqlite.specs.Edit.{Edit, edit_of}
-use Rattle.sqlite.specs.Effect.{Database}
-use Rattle.sqlite.specs.Listing.{understood}
+use Rattle.sqlite.specs.Edit.{edit_of}
 use Rattle.sqlite.specs.Order.{Row}
 use Rattle.sqlite.specs.Rowids.TheVariants.{Given}
-use Rattle.sqlite.specs.State.{Executes, State}
-use Rattle.sqlite.specs.Term.{col}
 use Rattle.sqlite.specs.Tree.{Trees}
-use Rattle.sqlite.specs.declared.types.Value.{Value}
-use Rattle.sqlite.proofs.Callers.{IsPlain, command_of}
 use Rattle.sqlite.specs.Table.{Table}
-use Rattle.sqlite_rules.specs.Action.{Acts, AreChildren, ActsOn, End, Goes, Leads, Settles, Writes, Work, action_edit, is_child_of, loses, pairs, works}
-use Rattle.sqlite_rules.specs.Calls.{ids_of}
-use Rattle.sqlite_rules.specs.Edit.{Applies, id_in, row_at, taken_by, without_all}
-use Rattle.sqlite_rules.specs.Lists.{Has}
-use Rattle.sqlite_rules.proofs.ListLemmas.{all_from, all_has, has_filtered, has_kept, some_from, some_has, test_has}
-use Rattle.sqlite_rules.proofs.RuleLemmas.{keeps_at}
-use Rattle.sqlite_schema.specs.Rules.{Obeys, agree, equal, has_null, has_parent, passes as passes_rules}
+use Rattle.sqlite_rules.specs.Action.{Acts, AreChildren, ActsOn, Goes, Leads, Writes, Work, action_edit, is_child_of, loses, pairs}
+use Rattle.sqlite_rules.specs.Edit.{Applies, taken_by, without_all}
+use Rattle.sqlite_rules.proofs.ListLemmas.{some_from, some_has}
+use Rattle.sqlite_schema.specs.Rules.{agree, equal, has_null, passes as passes_rules}
 use Rattle.sqlite_sql.specs.Ops.{binary, from_truth, is_true}
 use Rattle.sqlite_keyed.proofs.ListLemmas.{all_of}
 use Rattle.sqlite_schema.specs.declared.schema.Constraint.TheVariants.{ForeignKey}
 use Rattle.sqlite_schema.specs.declared.schema.Keys.TheVariants.{Enforced}
-use Rattle.sqlite_sql.specs.Program.{IsProgramAnswer}
 use Rattle.sqlite_tied.specs.Compute.{everything}
-use Rattle.sqlite_trees.specs.Tree.{has_rowid, rowid}
 use Rattle.sqlite_value.specs.Keys.{first_key, later, plain}
 use Rattle.sqlite_value.specs.declared.keys.Collation.{Collation}
 use Rattle.sqlite_value.specs.declared.keys.Collation.TheVariants.{Binary, NoCase, RTrim}
@@ -38,15 +25,11 @@ use Rattle.sqlite_value.proofs.OrderLemmas.{value_cmp-Int}
 use Rattle.bank_terms.specs.Procedure.{number_of}
 use Rattle.bank_policy.specs.declared.rows.Relation.{Relation}
 use Rattle.bank_policy.specs.declared.rows.Triple.{Triple}
-use Rattle.sqlite_value.specs.Order.{column}
-use Rattle.sqlite_value.proofs.KeyLemmas.{first_key-plain}
-use Rattle.bank_schema.specs.Cells.{RelationFits, TripleFits, relation_cells, triple_cells}
-use Rattle.bank_schema.specs.HeldRows.{HoldsRows, all_but_rowid}
-use Rattle.bank_schema.specs.Schema.{bank_schema, relations_table, to_relation, triples_table}
+use Rattle.bank_schema.specs.Cells.{relation_cells, triple_cells}
+use Rattle.bank_schema.specs.Schema.{bank_schema, relations_table, triples_table}
 use Rattle.bank_schema.proofs.ActionLemmas.{nothing_set_off, relations_set_off, triples_work}
 use Rattle.bank_schema.proofs.FrameLemmas.{KeepsOthers}
-use Rattle.bank_schema.proofs.HeldLemmas.{Names, held_without, same_pos, taken_out}
-use Rattle.policy_tables.specs.Texts.{remove_relation_text}
+use Rattle.bank_schema.proofs.HeldLemmas.{Names, same_pos}
 
 -- ---- what is to be done is done
 

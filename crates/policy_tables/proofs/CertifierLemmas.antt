@@ -1,6 +1,6 @@
 -- What the statements on the certifiers do.
-use Rattle.std.proofs.Common.{◌≡◌, ◌≢◌, ◌/◌, ◌<◌, ◌+◌, ◌*◌, ◌^◌, ◌≤◌, ℕ, pos, List, [], ◌∷◌, map, filter, drop, length, not, codes, Bool, true, false, Ok, inl, inr, refl, ap, arith, sym, ◌∙◌, subst, ◌==◌, ◌&&◌}
-use Rattle.std.specs.List.{find, cons_option}
+use Rattle.std.proofs.Common.{◌≡◌, ◌/◌, ◌<◌, ◌+◌, ◌*◌, ◌^◌, ◌≤◌, ℕ, pos, List, [], ◌∷◌, map, filter, drop, length, not, codes, true, false, Ok, inl, inr, refl, sym, ◌∙◌, subst, ◌==◌}
+use Rattle.std.specs.List.{find}
 use Rattle.sqlite.specs.declared.types.Value.TheVariants.{Null, Int}
 use Rattle.sqlite.specs.Command.TheVariants.{Delete, Insert, Select}
 use Rattle.sqlite.specs.Edit.{edit_of}
@@ -22,8 +22,7 @@ use Rattle.sqlite_value.specs.Keys.{plain}
 use Rattle.keyed_rows.specs.Changed.{delete_rows}
 use Rattle.keyed_rows.specs.Ordered.{add_row}
 use Rattle.bank_terms.specs.Procedure.{number_of}
-use Rattle.bank_terms.specs.declared.procedure.Procedure.{Procedure}
-use Rattle.bank_policy.specs.PolicyKeys.{certifier_key, certifier_number}
+use Rattle.bank_policy.specs.PolicyKeys.{certifier_key}
 use Rattle.bank_policy.specs.declared.rows.Certifier.{Certifier}
 use Rattle.kept_rows.specs.Named.{IsFree}
 use Rattle.kept_rows.specs.Sheets.{Sheets}
@@ -126,13 +125,15 @@ adds_certifier old new s c count holds h =
     let row = new_certifier (old.now.trees 9) c in
     let put = puts certifiers_table row (value_rows (certifier_cells c) 3 (3 / 3) add_certifier_terms) old.now.trees new.now.trees it.applies (news_are old.now.trees c) in
     let free = apart_by_index certifier_cells certifier_key AnyRow certifiers_table certifier_index (inr (inr (inr (inr (inr (inr (inl refl))))))) (inr (inr (inr (inl refl)))) refl blind alike
-        old.now.trees new.now.trees row c s.certifiers put refl tt (holds.rows in_certifiers) in
-    (record {
-      schema = it.schema_is;
-      sound = it.sound;
-      rows = with_certifiers old.now.trees new.now.trees s (add_row certifier_key c s.certifiers) holds.rows it.applies.tables
-          (adds_by_columns certifier_cells certifier_key AnyRow certifiers_table old.now.trees new.now.trees row c s.certifiers put refl tt free (holds.rows in_certifiers));
-    }, free)
+    old.now.trees new.now.trees row c s.certifiers put refl tt (holds.rows in_certifiers) in (
+      record {
+        schema = it.schema_is;
+        sound = it.sound;
+        rows = with_certifiers old.now.trees new.now.trees s (add_row certifier_key c s.certifiers) holds.rows it.applies.tables
+            (adds_by_columns certifier_cells certifier_key AnyRow certifiers_table old.now.trees new.now.trees row c s.certifiers put refl tt free (holds.rows in_certifiers));
+      },
+      free,
+    )
 
 -- ---- DELETE
 
@@ -141,8 +142,8 @@ pub removes_certifier : (old new : State) (s : Sheets) (c : Certifier) (count : 
 removes_certifier old new s c count holds h =
     let params = certifier_cells c in
     let it = deletes_rows all_but_rowid (λ r. Null ∷ r) certifier_cells certifier_key AnyRow 6 certifiers_table (λ db. refl) by_two remove_certifier_text params (is_certifier_of c.user (number_of c.procedure))
-        remove_certifier_is.0 remove_certifier_is.1 refl (λ r. (certifier_reads params r).0) (λ x. two_equal x.user (number_of x.procedure) c.user (number_of c.procedure))
-        (λ olds. nothing_set_off 0 9 refl olds []) old new s.certifiers count holds.schema (holds.rows in_certifiers) h in
+    remove_certifier_is.0 remove_certifier_is.1 refl (λ r. (certifier_reads params r).0) (λ x. two_equal x.user (number_of x.procedure) c.user (number_of c.procedure))
+    (λ olds. nothing_set_off 0 9 refl olds []) old new s.certifiers count holds.schema (holds.rows in_certifiers) h in
     let left : filter (λ x. not (is_certifier_of c.user (number_of c.procedure) x)) s.certifiers ≡ delete_rows certifier_key (certifier_key c) s.certifiers =
     (λ i. filter (λ x. not (by_number c.user (number_of c.procedure) (small_number c.procedure) x i)) s.certifiers) in
     record {

@@ -1,7 +1,7 @@
 -- Tests by the columns of a key, and by the key as one number.
-use Rattle.std.proofs.Common.{◌≡◌, ◌<◌, ◌≤◌, ◌+◌, ◌*◌, ◌^◌, ℕ, List, [], ◌∷◌, map, filter, length, not, Bool, true, false, Option, Some, None, refl, sym, ap, arith, ◌∙◌, subst, ◌==◌, ◌&&◌}
+use Rattle.std.proofs.Common.{◌≡◌, ◌<◌, ◌≤◌, ◌+◌, ◌*◌, ◌^◌, ℕ, List, [], ◌∷◌, map, filter, length, not, Bool, true, false, Option, Some, None, refl, sym, ap, arith, ◌∙◌, ◌==◌, ◌&&◌}
 use Rattle.std.specs.List.{cons_option, list_any}
-use Rattle.std.proofs.lemmas.Bool.{and_from, and_parts, eq-eqb, eqb-true, both_ways}
+use Rattle.std.proofs.lemmas.Bool.{and_from, and_parts, eq-eqb, eqb-true}
 use Rattle.sqlite.specs.Order.{Row}
 use Rattle.sqlite_keyed.proofs.ListLemmas.{none_counted}
 use Rattle.bank_schema.proofs.InsertLemmas.{parts_of}

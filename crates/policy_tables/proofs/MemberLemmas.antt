@@ -1,9 +1,8 @@
 -- What the statements on the members of sets do.
-use Rattle.std.proofs.Common.{◌≡◌, ◌≢◌, ◌/◌, ◌<◌, ◌+◌, ◌*◌, ◌^◌, ◌≤◌, ℕ, pos, List, [], ◌∷◌, map, filter, drop, length, not, codes, Bool, true, false, Ok, Less, inl, inr, refl, ap, arith, sym, ◌∙◌, subst, ◌==◌, ◌&&◌}
-use Rattle.std.specs.List.{find, cons_option}
-use Rattle.std.proofs.lemmas.Bool.{and_parts, eqb-true}
-use Rattle.sqlite.specs.declared.types.Value.TheVariants.{Null, Int, Text}
-use Rattle.sqlite.specs.Command.TheVariants.{Delete, Insert, Select, Update}
+use Rattle.std.proofs.Common.{◌≡◌, ◌/◌, ◌<◌, ◌+◌, ◌*◌, ◌^◌, ℕ, pos, List, [], ◌∷◌, map, filter, drop, codes, true, false, Ok, inl, inr, refl, arith, sym, ◌∙◌}
+use Rattle.std.proofs.lemmas.Bool.{eqb-true}
+use Rattle.sqlite.specs.declared.types.Value.TheVariants.{Null, Int}
+use Rattle.sqlite.specs.Command.TheVariants.{Insert, Select}
 use Rattle.sqlite.specs.Edit.{edit_of}
 use Rattle.sqlite.specs.Effect.{value_rows}
 use Rattle.sqlite.specs.Listing.{understood, reads_listing}
@@ -20,34 +19,22 @@ use Rattle.sqlite_schema.specs.Rules.{agree}
 use Rattle.sqlite_schema.specs.declared.schema.Index.{Index}
 use Rattle.sqlite_tied.specs.Compute.{everything}
 use Rattle.sqlite_value.specs.Keys.{plain}
-use Rattle.keyed_rows.specs.Changed.{delete_rows}
 use Rattle.keyed_rows.specs.Ordered.{add_row}
-use Rattle.bank_terms.specs.Procedure.{number_of}
-use Rattle.bank_terms.specs.declared.procedure.Procedure.{Procedure}
-use Rattle.bank_policy.specs.PolicyKeys.{relation_key, relation_number, triple_key, triple_number}
-use Rattle.bank_policy.specs.declared.rows.Relation.{Relation}
-use Rattle.bank_policy.specs.declared.rows.Triple.{Triple}
 use Rattle.kept_rows.specs.Named.{IsFree}
 use Rattle.kept_rows.specs.Sheets.{Sheets, member_no}
 use Rattle.kept_rows.specs.declared.records.MemberRow.{MemberRow}
-use Rattle.bank_schema.specs.Cells.{AnyRow, MemberFits, RelationFits, TripleFits, member_cells, relation_cells, set_cells, triple_cells}
-use Rattle.bank_schema.specs.Held.{HoldsTables, set_no}
-use Rattle.bank_schema.specs.Held.Sheet.{members as in_members, relations as in_relations, sets as in_sets, triples as in_triples}
-use Rattle.bank_schema.specs.HeldRows.{HoldsRows, all_but_rowid, all_of_it}
+use Rattle.bank_schema.specs.Cells.{MemberFits, member_cells}
+use Rattle.bank_schema.specs.Held.{HoldsTables}
+use Rattle.bank_schema.specs.Held.Sheet.{members as in_members}
+use Rattle.bank_schema.specs.HeldRows.{all_but_rowid}
 use Rattle.bank_schema.specs.Numbers.{kind_number}
-use Rattle.bank_schema.specs.Schema.{bank_schema, key_index, members_table, relations_table, sets_table, triples_table}
-use Rattle.bank_schema.proofs.ActionLemmas.{nothing_set_off}
-use Rattle.bank_schema.proofs.FrameLemmas.{with_members, with_relations, with_sets, with_triples}
-use Rattle.bank_schema.proofs.HeldLemmas.{picked_alike}
-use Rattle.bank_schema.proofs.InsertLemmas.{adds_by_columns, adds_by_rowid, apart_by_index, apart_by_rowid, parts_of, puts, three_agree, two_agree}
-use Rattle.bank_schema.proofs.KeyLemmas.{one_of_key}
-use Rattle.bank_schema.proofs.PickLemmas.{deletes_rows, pick}
-use Rattle.bank_schema.proofs.ReadLemmas.{alone, answered, answers, by_key, by_one, by_three, by_two, in_order, no_limit, no_offset, one_equals, rises_by_one, rising_key, three_equal, two_equal}
+use Rattle.bank_schema.specs.Schema.{bank_schema, key_index, members_table}
+use Rattle.bank_schema.proofs.FrameLemmas.{with_members}
+use Rattle.bank_schema.proofs.InsertLemmas.{adds_by_columns, apart_by_index, parts_of, puts, two_agree}
+use Rattle.bank_schema.proofs.ReadLemmas.{answered, by_one, in_order, no_limit, no_offset, one_equals, rises_by_one, rising_key}
 use Rattle.bank_schema.proofs.ScanLemmas.{passes, scan}
 use Rattle.bank_schema.proofs.WriteLemmas.{cast_int, cast_null, inserts}
-use Rattle.policy_tables.proofs.KeyTests.{at_most_one, few_mapped, three_parts, three_parts_of, two_parts}
-use Rattle.policy_tables.proofs.ProcedureNumbers.{small_number}
-use Rattle.policy_tables.specs.Tests.{is_member_of, is_relation_numbered, is_relation_on, is_triple_at, is_triple_by, is_triple_numbered}
+use Rattle.policy_tables.specs.Tests.{is_member_of}
 use Rattle.policy_tables.specs.Texts.{add_member_text, members_text}
 
 -- ---- SELECT
@@ -112,10 +99,12 @@ adds_member old new s m count fit holds h =
     let row = new_member (old.now.trees 3) m in
     let put = puts members_table row (value_rows (member_cells m) 6 (6 / 6) add_member_terms) old.now.trees new.now.trees it.applies (news_are old.now.trees m) in
     let free = apart_by_index member_cells member_no MemberFits members_table member_index (inr (inr (inr (inl refl)))) (inl refl) refl blind alike
-        old.now.trees new.now.trees row m s.members put refl fit (holds.rows in_members) in
-    (record {
-      schema = it.schema_is;
-      sound = it.sound;
-      rows = with_members old.now.trees new.now.trees s (add_row member_no m s.members) holds.rows it.applies.tables
-          (adds_by_columns member_cells member_no MemberFits members_table old.now.trees new.now.trees row m s.members put refl fit free (holds.rows in_members));
-    }, free)
+    old.now.trees new.now.trees row m s.members put refl fit (holds.rows in_members) in (
+      record {
+        schema = it.schema_is;
+        sound = it.sound;
+        rows = with_members old.now.trees new.now.trees s (add_row member_no m s.members) holds.rows it.applies.tables
+            (adds_by_columns member_cells member_no MemberFits members_table old.now.trees new.now.trees row m s.members put refl fit free (holds.rows in_members));
+      },
+      free,
+    )

@@ -1,5 +1,5 @@
 -- The numbers of procedures are small, and tell them apart.
-use Rattle.std.proofs.Common.{◌≡◌, ◌<◌, ◌^◌, ℕ, Option, Some, refl, sym, ap, ◌∙◌, arith}
+use Rattle.std.proofs.Common.{◌≡◌, ◌<◌, ◌^◌, Option, Some, refl, sym, ap, ◌∙◌, arith}
 use Rattle.bank_terms.specs.Procedure.{number_of}
 use Rattle.bank_terms.specs.declared.procedure.Procedure.{Procedure}
 use Rattle.bank_terms.specs.declared.procedure.Procedure.TheVariants.{Accounts, Balance, CloseDay, Correct, DrawerOff, DrawerOn, MoveCash, NewAccount, Post, Proof, Release, Statement, Transfer}

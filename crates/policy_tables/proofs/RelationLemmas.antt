@@ -1,9 +1,9 @@
 -- What the statements on the relations do, but for the removal of one.
-use Rattle.std.proofs.Common.{◌≡◌, ◌≢◌, ◌/◌, ◌<◌, ◌+◌, ◌*◌, ◌^◌, ◌≤◌, ℕ, pos, List, [], ◌∷◌, map, filter, drop, length, not, codes, Bool, true, false, Ok, Less, inl, inr, refl, ap, arith, sym, ◌∙◌, subst, ◌==◌, ◌&&◌}
+use Rattle.std.proofs.Common.{◌≡◌, ◌/◌, ◌<◌, ◌+◌, ◌*◌, ◌^◌, ◌≤◌, ℕ, pos, List, [], ◌∷◌, map, filter, drop, length, codes, true, false, Ok, inl, inr, refl, ap, arith, sym, ◌∙◌, subst, ◌==◌}
 use Rattle.std.specs.List.{find, cons_option}
-use Rattle.std.proofs.lemmas.Bool.{and_parts, eqb-true}
-use Rattle.sqlite.specs.declared.types.Value.TheVariants.{Null, Int, Text}
-use Rattle.sqlite.specs.Command.TheVariants.{Delete, Insert, Select, Update}
+use Rattle.std.proofs.lemmas.Bool.{eqb-true}
+use Rattle.sqlite.specs.declared.types.Value.TheVariants.{Null, Int}
+use Rattle.sqlite.specs.Command.TheVariants.{Insert, Select}
 use Rattle.sqlite.specs.Edit.{edit_of}
 use Rattle.sqlite.specs.Effect.{value_rows}
 use Rattle.sqlite.specs.Listing.{understood, reads_listing}
@@ -20,34 +20,26 @@ use Rattle.sqlite_schema.specs.Rules.{agree}
 use Rattle.sqlite_schema.specs.declared.schema.Index.{Index}
 use Rattle.sqlite_tied.specs.Compute.{everything}
 use Rattle.sqlite_value.specs.Keys.{plain}
-use Rattle.keyed_rows.specs.Changed.{delete_rows}
 use Rattle.keyed_rows.specs.Ordered.{add_row}
 use Rattle.bank_terms.specs.Procedure.{number_of}
-use Rattle.bank_terms.specs.declared.procedure.Procedure.{Procedure}
-use Rattle.bank_policy.specs.PolicyKeys.{relation_key, relation_number, triple_key, triple_number}
+use Rattle.bank_policy.specs.PolicyKeys.{relation_key}
 use Rattle.bank_policy.specs.declared.rows.Relation.{Relation}
-use Rattle.bank_policy.specs.declared.rows.Triple.{Triple}
 use Rattle.kept_rows.specs.Named.{IsFree}
-use Rattle.kept_rows.specs.Sheets.{Sheets, member_no}
-use Rattle.kept_rows.specs.declared.records.MemberRow.{MemberRow}
-use Rattle.bank_schema.specs.Cells.{AnyRow, MemberFits, RelationFits, TripleFits, member_cells, relation_cells, set_cells, triple_cells}
-use Rattle.bank_schema.specs.Held.{HoldsTables, set_no}
-use Rattle.bank_schema.specs.Held.Sheet.{members as in_members, relations as in_relations, sets as in_sets, triples as in_triples}
-use Rattle.bank_schema.specs.HeldRows.{HoldsRows, all_but_rowid, all_of_it}
-use Rattle.bank_schema.specs.Numbers.{kind_number}
-use Rattle.bank_schema.specs.Schema.{bank_schema, key_index, members_table, relations_table, sets_table, triples_table}
-use Rattle.bank_schema.proofs.ActionLemmas.{nothing_set_off}
-use Rattle.bank_schema.proofs.FrameLemmas.{with_members, with_relations, with_sets, with_triples}
+use Rattle.kept_rows.specs.Sheets.{Sheets}
+use Rattle.bank_schema.specs.Cells.{RelationFits, relation_cells}
+use Rattle.bank_schema.specs.Held.{HoldsTables}
+use Rattle.bank_schema.specs.Held.Sheet.{relations as in_relations}
+use Rattle.bank_schema.specs.HeldRows.{HoldsRows, all_but_rowid}
+use Rattle.bank_schema.specs.Schema.{bank_schema, key_index, relations_table}
+use Rattle.bank_schema.proofs.FrameLemmas.{with_relations}
 use Rattle.bank_schema.proofs.HeldLemmas.{picked_alike}
-use Rattle.bank_schema.proofs.InsertLemmas.{adds_by_columns, adds_by_rowid, apart_by_index, apart_by_rowid, parts_of, puts, three_agree, two_agree}
+use Rattle.bank_schema.proofs.InsertLemmas.{adds_by_columns, apart_by_index, parts_of, puts, two_agree}
 use Rattle.bank_schema.proofs.KeyLemmas.{one_of_key}
-use Rattle.bank_schema.proofs.PickLemmas.{deletes_rows, pick}
-use Rattle.bank_schema.proofs.ReadLemmas.{alone, answered, answers, by_key, by_one, by_three, by_two, in_order, no_limit, no_offset, one_equals, rises_by_one, rising_key, three_equal, two_equal}
+use Rattle.bank_schema.proofs.ReadLemmas.{alone, answered, by_one, by_two, in_order, no_limit, no_offset, one_equals, rises_by_one, rising_key, two_equal}
 use Rattle.bank_schema.proofs.ScanLemmas.{passes, scan}
 use Rattle.bank_schema.proofs.WriteLemmas.{cast_int, cast_null, inserts}
-use Rattle.policy_tables.proofs.KeyTests.{at_most_one, few_mapped, three_parts, three_parts_of, two_parts}
-use Rattle.policy_tables.proofs.ProcedureNumbers.{small_number}
-use Rattle.policy_tables.specs.Tests.{is_member_of, is_relation_numbered, is_relation_on, is_triple_at, is_triple_by, is_triple_numbered}
+use Rattle.policy_tables.proofs.KeyTests.{at_most_one, few_mapped, two_parts}
+use Rattle.policy_tables.specs.Tests.{is_relation_numbered, is_relation_on}
 use Rattle.policy_tables.specs.Texts.{add_relation_text, relation_text, relations_text}
 
 -- ---- SELECT
@@ -143,10 +135,12 @@ adds_relation old new s r count fit holds h =
     let row = new_relation (old.now.trees 5) r in
     let put = puts relations_table row (value_rows (relation_cells r) 4 (4 / 4) add_relation_terms) old.now.trees new.now.trees it.applies (news_are old.now.trees r) in
     let free = apart_by_index relation_cells relation_key RelationFits relations_table relation_index (inr (inr (inr (inr (inl refl))))) (inr (inl refl)) refl blind alike
-        old.now.trees new.now.trees row r s.relations put refl fit (holds.rows in_relations) in
-    (record {
-      schema = it.schema_is;
-      sound = it.sound;
-      rows = with_relations old.now.trees new.now.trees s (add_row relation_key r s.relations) holds.rows it.applies.tables
-          (adds_by_columns relation_cells relation_key RelationFits relations_table old.now.trees new.now.trees row r s.relations put refl fit free (holds.rows in_relations));
-    }, free)
+    old.now.trees new.now.trees row r s.relations put refl fit (holds.rows in_relations) in (
+      record {
+        schema = it.schema_is;
+        sound = it.sound;
+        rows = with_relations old.now.trees new.now.trees s (add_row relation_key r s.relations) holds.rows it.applies.tables
+            (adds_by_columns relation_cells relation_key RelationFits relations_table old.now.trees new.now.trees row r s.relations put refl fit free (holds.rows in_relations));
+      },
+      free,
+    )

@@ -1,6 +1,6 @@
 -- What the DELETE of a relation leaves.
 use Rattle.std.specs.Prelude.{unwrap_or}
-use Rattle.std.proofs.Common.{◌≡◌, ◌≢◌, inl, inr, ◌<◌, ◌+◌, ◌*◌, ◌^◌, ℕ, ℤ, pos, List, [], ◌∷◌, map, filter, drop, find, not, Bool, true, false, cond, Option, Some, None, Ok, refl, ap, arith, sym, ◌∙◌, subst, ◌==◌, ◌&&◌, is_eq}
+use Rattle.std.proofs.Common.{◌≡◌, inl, inr, ◌<◌, ◌+◌, ◌*◌, ◌^◌, ℕ, ℤ, pos, List, [], ◌∷◌, map, filter, drop, find, not, Bool, true, false, cond, Some, Ok, refl, ap, arith, sym, ◌∙◌, subst, ◌==◌, ◌&&◌, is_eq}
 use Rattle.std.specs.List.{list_any}
 use Rattle.std.proofs.lemmas.Bool.{and_from, and_parts, eq-eqb, eqb-true, false≢true}
 use Rattle.std.proofs.lemmas.Cmp.{tied_itself}
@@ -8,7 +8,6 @@ use Rattle.std.proofs.lemmas.List.Sorted.{IsPermutation-sym}
 use Rattle.sqlite.specs.declared.types.Value.TheVariants.{Null, Int}
 use Rattle.sqlite.specs.Command.TheVariants.{Delete}
 use Rattle.sqlite.specs.Edit.{edit_of}
-use Rattle.sqlite.specs.Effect.{IsDatabase}
 use Rattle.sqlite.specs.Listing.{understood}
 use Rattle.sqlite.specs.Order.{Row}
 use Rattle.sqlite.specs.Rowids.TheVariants.{Given}
@@ -26,7 +25,6 @@ use Rattle.sqlite_rules.proofs.RuleLemmas.{keeps_at}
 use Rattle.sqlite_schema.specs.Rules.{Obeys, agree, has_null}
 use Rattle.sqlite_schema.specs.declared.schema.Constraint.TheVariants.{ForeignKey}
 use Rattle.sqlite_schema.specs.declared.schema.Keys.TheVariants.{Enforced}
-use Rattle.sqlite_sql.specs.Program.{IsProgramAnswer}
 use Rattle.sqlite_tied.specs.Compute.{everything}
 use Rattle.sqlite_trees.specs.Tree.{IsTable, has_rowid, rowid}
 use Rattle.sqlite_trees.proofs.ListLemmas.{filter_same as filter_alike}
@@ -40,7 +38,7 @@ use Rattle.bank_policy.specs.declared.rows.Relation.{Relation}
 use Rattle.bank_policy.specs.declared.rows.Triple.{Triple}
 use Rattle.kept_rows.specs.Sheets.{Sheets}
 use Rattle.bank_schema.specs.Cells.{RelationFits, TripleFits, relation_cells, triple_cells}
-use Rattle.bank_schema.specs.Held.{HoldsTables, Sheet, tree_of}
+use Rattle.bank_schema.specs.Held.{HoldsTables}
 use Rattle.bank_schema.specs.Held.Sheet.{relations as in_relations, triples as in_triples}
 use Rattle.bank_schema.specs.HeldRows.{HoldsRows, all_but_rowid}
 use Rattle.bank_schema.specs.Schema.{bank_schema, relations_table, triples_table}
@@ -195,14 +193,14 @@ removes_relation old new s procedure set count small holds h =
     let step = removed db new.now.trees (ids_of it.rows) (subst (λ z. Writes z Enforced db (edit_of db relations_table (ids_of it.rows) Given 0 []) (Ok new.now.trees)) holds.schema it.writes) in
     let names = picks_ids 5 (λ d. refl) by_two (col 1 0 ∷ []) params (λ r. refl) db it.rows (holds.rows in_relations).shaped it.answer.answer in
     let kept = left_over all_but_rowid (λ r. Null ∷ r) relation_cells relation_key RelationFits 4 relations_table (λ d. refl) by_two remove_relation_text params (is_relation_on procedure set)
-        remove_relation_is.0 remove_relation_is.1 refl (relation_blind params) (λ x. two_equal (number_of x.procedure) x.set procedure set) db step.mid it.rows s.relations (holds.rows in_relations) it.answer.answer step.applies.rows in
+    remove_relation_is.0 remove_relation_is.1 refl (relation_blind params) (λ x. two_equal (number_of x.procedure) x.set procedure set) db step.mid it.rows s.relations (holds.rows in_relations) it.answer.answer step.applies.rows in
     let left : filter (λ x. not (is_relation_on procedure set x)) s.relations ≡ delete_rows relation_key k s.relations =
     picked_alike all_but_rowid relation_cells relation_key RelationFits (λ x. not (is_relation_on procedure set x)) (λ x. not (relation_key x == k)) s.relations (db 5) (holds.rows in_relations)
-        (λ x fit. ap not (by_number procedure set small x fit)) in
+    (λ x fit. ap not (by_number procedure set small x fit)) in
     let still : new.now.trees 5 ≡ step.mid 5 = others 7 step.mid new.now.trees step.cascade.others in_relations (λ e. omega (arith, e)) in
     let relations : HoldsRows all_but_rowid relation_cells relation_key RelationFits (delete_rows relation_key k s.relations) (new.now.trees 5) =
     subst (HoldsRows all_but_rowid relation_cells relation_key RelationFits (delete_rows relation_key k s.relations)) (sym still)
-        (subst (λ l. HoldsRows all_but_rowid relation_cells relation_key RelationFits l (step.mid 5)) left kept) in
+    (subst (λ l. HoldsRows all_but_rowid relation_cells relation_key RelationFits l (step.mid 5)) left kept) in
     let triples = triples_left db procedure set s.relations s.triples (holds.rows in_relations) (holds.rows in_triples) (subst (λ z. Obeys z db) holds.schema holds.sound.obeys) (ids_of it.rows) names new.now.trees step in
     record {
       schema = it.schema_is;

@@ -1,5 +1,5 @@
 -- Rows that are read one after another, each by a statement of its own.
-use Rattle.std.proofs.Common.{◌≡◌, ◌<◌, ◌≤◌, ◌+◌, ℕ, List, [], ◌∷◌, ◌++◌, map, take, length, get_or, IsTrue, refl, sym, ap, arith, ◌∙◌}
+use Rattle.std.proofs.Common.{◌≡◌, ◌<◌, ◌≤◌, ◌+◌, ℕ, List, [], ◌∷◌, ◌++◌, map, take, length, get_or, IsTrue, sym, ap, ◌∙◌}
 use Rattle.std.proofs.lemmas.List.{map-append, take_all, take_more}
 use Rattle.sqlite.specs.State.{HasCleanDisk, KeepsCommit, State, Survives}
 use Rattle.kept_rows.specs.Sheets.{Sheets}
@@ -23,7 +23,7 @@ module _ {X Y : Type 0} (first mid last : State) (made : Sheets → X → Y) (xs
           step.0.0,
           step.0.1,
           is ∙ ap (λ l. l ++ y ∷ []) before.0.2 ∙ ap (λ z. map (made s) (take i xs) ++ z ∷ []) (found clean s before.0.1 ∙ ap (made s) at)
-          ∙ sym (map-append (made s) (take i xs) (get_or xs i x ∷ [])) ∙ ap (map (made s)) (sym (take_more xs i x below)),
+              ∙ sym (map-append (made s) (take i xs) (get_or xs i x ∷ [])) ∙ ap (map (made s)) (sym (take_more xs i x below)),
         ),
         kept_then first mid last before.1 step.1,
       )

@@ -1,10 +1,10 @@
 -- What the statements on the triples do.
-use Rattle.std.proofs.Common.{◌≡◌, ◌≢◌, ◌/◌, ◌<◌, ◌+◌, ◌*◌, ◌^◌, ◌≤◌, ℕ, pos, List, [], ◌∷◌, map, filter, drop, length, not, codes, Bool, true, false, Ok, Less, inl, inr, refl, ap, arith, sym, ◌∙◌, subst, ◌==◌, ◌&&◌}
+use Rattle.std.proofs.Common.{◌≡◌, ◌/◌, ◌<◌, ◌+◌, ◌*◌, ◌^◌, ◌≤◌, ℕ, pos, List, [], ◌∷◌, map, filter, drop, length, not, codes, true, false, Ok, inl, inr, refl, ap, arith, sym, ◌∙◌, subst, ◌==◌}
 use Rattle.std.specs.List.{find, cons_option}
 use Rattle.std.proofs.lemmas.Bool.{and_parts, eqb-true}
 use Rattle.std.proofs.lemmas.List.Sorted.{length_permutation}
-use Rattle.sqlite.specs.declared.types.Value.TheVariants.{Null, Int, Text}
-use Rattle.sqlite.specs.Command.TheVariants.{Delete, Insert, Select, Update}
+use Rattle.sqlite.specs.declared.types.Value.TheVariants.{Null, Int}
+use Rattle.sqlite.specs.Command.TheVariants.{Delete, Insert, Select}
 use Rattle.sqlite.specs.Edit.{edit_of}
 use Rattle.sqlite.specs.Effect.{value_rows}
 use Rattle.sqlite.specs.Listing.{understood, reads_listing}
@@ -24,31 +24,27 @@ use Rattle.sqlite_value.specs.Keys.{plain}
 use Rattle.keyed_rows.specs.Changed.{delete_rows}
 use Rattle.keyed_rows.specs.Ordered.{add_row}
 use Rattle.bank_terms.specs.Procedure.{number_of}
-use Rattle.bank_terms.specs.declared.procedure.Procedure.{Procedure}
-use Rattle.bank_policy.specs.PolicyKeys.{relation_key, relation_number, triple_key, triple_number}
-use Rattle.bank_policy.specs.declared.rows.Relation.{Relation}
+use Rattle.bank_policy.specs.PolicyKeys.{triple_key}
 use Rattle.bank_policy.specs.declared.rows.Triple.{Triple}
 use Rattle.kept_rows.specs.Named.{IsFree}
-use Rattle.kept_rows.specs.Sheets.{Sheets, member_no}
-use Rattle.kept_rows.specs.declared.records.MemberRow.{MemberRow}
-use Rattle.bank_schema.specs.Cells.{AnyRow, MemberFits, RelationFits, TripleFits, member_cells, relation_cells, set_cells, triple_cells}
-use Rattle.bank_schema.specs.Held.{HoldsTables, set_no}
-use Rattle.bank_schema.specs.Held.Sheet.{members as in_members, relations as in_relations, sets as in_sets, triples as in_triples}
-use Rattle.bank_schema.specs.HeldRows.{HoldsRows, all_but_rowid, all_of_it}
-use Rattle.bank_schema.specs.Numbers.{kind_number}
-use Rattle.bank_schema.specs.Schema.{bank_schema, key_index, members_table, relations_table, sets_table, triples_table}
+use Rattle.kept_rows.specs.Sheets.{Sheets}
+use Rattle.bank_schema.specs.Cells.{TripleFits, triple_cells}
+use Rattle.bank_schema.specs.Held.{HoldsTables}
+use Rattle.bank_schema.specs.Held.Sheet.{triples as in_triples}
+use Rattle.bank_schema.specs.HeldRows.{HoldsRows, all_but_rowid}
+use Rattle.bank_schema.specs.Schema.{bank_schema, key_index, triples_table}
 use Rattle.bank_schema.proofs.ActionLemmas.{nothing_set_off}
-use Rattle.bank_schema.proofs.FrameLemmas.{with_members, with_relations, with_sets, with_triples}
+use Rattle.bank_schema.proofs.FrameLemmas.{with_triples}
 use Rattle.bank_schema.proofs.HeldLemmas.{picked_alike}
-use Rattle.bank_schema.proofs.InsertLemmas.{adds_by_columns, adds_by_rowid, apart_by_index, apart_by_rowid, parts_of, puts, three_agree, two_agree}
+use Rattle.bank_schema.proofs.InsertLemmas.{adds_by_columns, apart_by_index, puts, three_agree}
 use Rattle.bank_schema.proofs.KeyLemmas.{one_of_key}
 use Rattle.bank_schema.proofs.PickLemmas.{deletes_rows, pick}
-use Rattle.bank_schema.proofs.ReadLemmas.{alone, answered, answers, by_key, by_one, by_three, by_two, in_order, no_limit, no_offset, one_equals, rises_by_one, rising_key, three_equal, two_equal}
+use Rattle.bank_schema.proofs.ReadLemmas.{alone, answered, answers, by_one, by_three, by_two, in_order, no_limit, no_offset, one_equals, rises_by_one, rising_key, three_equal, two_equal}
 use Rattle.bank_schema.proofs.ScanLemmas.{passes, scan}
 use Rattle.bank_schema.proofs.WriteLemmas.{cast_int, cast_null, inserts}
-use Rattle.policy_tables.proofs.KeyTests.{at_most_one, few_mapped, length-mapped, three_parts, three_parts_of, two_parts}
+use Rattle.policy_tables.proofs.KeyTests.{at_most_one, few_mapped, length-mapped, three_parts, three_parts_of}
 use Rattle.policy_tables.proofs.ProcedureNumbers.{small_number}
-use Rattle.policy_tables.specs.Tests.{is_member_of, is_relation_numbered, is_relation_on, is_triple_at, is_triple_by, is_triple_numbered}
+use Rattle.policy_tables.specs.Tests.{is_triple_at, is_triple_by, is_triple_numbered}
 use Rattle.policy_tables.specs.Texts.{add_triple_text, remove_triple_text, triple_text, triples_text, user_triples_text}
 
 -- ---- SELECT
@@ -104,8 +100,8 @@ pub counts_triples : (old new : State) (s : Sheets) (user : ℕ) (rows : List Ro
 counts_triples old new s user rows holds h =
     let params = Int (pos user) ∷ [] in
     let it = answers all_but_rowid (λ c. Null ∷ c) triple_cells triple_key TripleFits 7 (λ db. refl) by_one triple_columns ((col 1 2, rising_key) ∷ (col 1 3, rising_key) ∷ []) no_limit no_offset params (is_triple_by user)
-        (user_triples_reads params) (λ x. one_equals x.user user) old.now.trees s.triples rows (holds.rows in_triples)
-        (answered user_triples_text _ (scan 7 by_one triple_columns ((col 1 2, rising_key) ∷ (col 1 3, rising_key) ∷ []) no_limit no_offset) params user_triples_is.0 user_triples_is.1 user_triples_is.2 old new rows holds.schema h) in
+    (user_triples_reads params) (λ x. one_equals x.user user) old.now.trees s.triples rows (holds.rows in_triples)
+    (answered user_triples_text _ (scan 7 by_one triple_columns ((col 1 2, rising_key) ∷ (col 1 3, rising_key) ∷ []) no_limit no_offset) params user_triples_is.0 user_triples_is.1 user_triples_is.2 old new rows holds.schema h) in
     ap length it.3 ∙ length-mapped _ it.0 ∙ length_permutation _ it.0 it.1 ∙ length-mapped _ (filter (is_triple_by user) s.triples)
 
 -- ---- keys
@@ -168,13 +164,15 @@ adds_triple old new s t count fit holds h =
     let row = new_triple (old.now.trees 7) t in
     let put = puts triples_table row (value_rows (triple_cells t) 5 (5 / 5) add_triple_terms) old.now.trees new.now.trees it.applies (news_are old.now.trees t) in
     let free = apart_by_index triple_cells triple_key TripleFits triples_table triple_index (inr (inr (inr (inr (inr (inl refl)))))) (inr (inr (inl refl))) refl blind alike
-        old.now.trees new.now.trees row t s.triples put refl fit (holds.rows in_triples) in
-    (record {
-      schema = it.schema_is;
-      sound = it.sound;
-      rows = with_triples old.now.trees new.now.trees s (add_row triple_key t s.triples) holds.rows it.applies.tables
-          (adds_by_columns triple_cells triple_key TripleFits triples_table old.now.trees new.now.trees row t s.triples put refl fit free (holds.rows in_triples));
-    }, free)
+    old.now.trees new.now.trees row t s.triples put refl fit (holds.rows in_triples) in (
+      record {
+        schema = it.schema_is;
+        sound = it.sound;
+        rows = with_triples old.now.trees new.now.trees s (add_row triple_key t s.triples) holds.rows it.applies.tables
+            (adds_by_columns triple_cells triple_key TripleFits triples_table old.now.trees new.now.trees row t s.triples put refl fit free (holds.rows in_triples));
+      },
+      free,
+    )
 
 -- ---- DELETE
 
@@ -189,11 +187,11 @@ removes_triple old new s user procedure set count small small' holds h =
     let params = Int (pos user) ∷ Int (pos procedure) ∷ Int (pos set) ∷ [] in
     let k = 2 ^ 64 * user + 2 ^ 32 * procedure + set in
     let it = deletes_rows all_but_rowid (λ r. Null ∷ r) triple_cells triple_key TripleFits 5 triples_table (λ db. refl) by_three remove_triple_text params (is_triple_at user procedure set)
-        remove_triple_is.0 remove_triple_is.1 refl (λ r. (triple_reads params r).0) (λ x. three_equal x.user (number_of x.procedure) x.set user procedure set)
-        (λ olds. nothing_set_off 0 7 refl olds []) old new s.triples count holds.schema (holds.rows in_triples) h in
+    remove_triple_is.0 remove_triple_is.1 refl (λ r. (triple_reads params r).0) (λ x. three_equal x.user (number_of x.procedure) x.set user procedure set)
+    (λ olds. nothing_set_off 0 7 refl olds []) old new s.triples count holds.schema (holds.rows in_triples) h in
     let left : filter (λ x. not (is_triple_at user procedure set x)) s.triples ≡ delete_rows triple_key k s.triples =
     picked_alike all_but_rowid triple_cells triple_key TripleFits (λ x. not (is_triple_at user procedure set x)) (λ x. not (triple_key x == k)) s.triples (old.now.trees 7) (holds.rows in_triples)
-        (λ x fit. ap not (by_number user procedure set small small' x fit)) in
+    (λ x fit. ap not (by_number user procedure set small small' x fit)) in
     record {
       schema = it.schema;
       sound = it.sound;

@@ -1,11 +1,8 @@
 -- What the statements on the users do.
-use Rattle.std.proofs.Common.{◌≡◌, ◌≢◌, ◌/◌, ◌<◌, ◌+◌, ◌*◌, ◌^◌, ◌≤◌, ℕ, pos, List, [], ◌∷◌, map, filter, drop, length, not, codes, Bool, true, false, Ok, Less, inl, inr, refl, ap, arith, sym, ◌∙◌, subst, ◌==◌, ◌&&◌}
+use Rattle.std.proofs.Common.{◌≡◌, ◌/◌, ◌≤◌, ℕ, pos, List, [], ◌∷◌, map, filter, drop, length, codes, Bool, true, false, Ok, refl, ap, arith, sym, ◌∙◌, subst, ◌==◌}
 use Rattle.std.specs.List.{find, cons_option}
-use Rattle.std.proofs.lemmas.Bool.{and_parts, eqb-true}
-use Rattle.std.proofs.lemmas.List.Sorted.{length_permutation}
-use Rattle.sqlite_keyed.proofs.ListLemmas.{all_of, filter_all}
 use Rattle.sqlite.specs.declared.types.Value.TheVariants.{Null, Int, Text}
-use Rattle.sqlite.specs.Command.TheVariants.{Delete, Insert, Select, Update}
+use Rattle.sqlite.specs.Command.TheVariants.{Insert, Select, Update}
 use Rattle.sqlite.specs.Edit.{edit_of}
 use Rattle.sqlite.specs.Effect.{value_rows}
 use Rattle.sqlite.specs.Listing.{understood, reads_listing}
@@ -17,44 +14,31 @@ use Rattle.sqlite.specs.Term.{Term, col, lit}
 use Rattle.sqlite.specs.Tree.{Trees}
 use Rattle.sqlite.specs.Query.{output}
 use Rattle.sqlite.proofs.Callers.{IsPlain, command_of}
-use Rattle.sqlite_rules.specs.Edit.{next_rowid}
-use Rattle.sqlite_schema.specs.Rules.{agree}
-use Rattle.sqlite_schema.specs.declared.schema.Index.{Index}
 use Rattle.sqlite.specs.Cast.{cast}
 use Rattle.sqlite.specs.Kind.TheVariants.{Integer}
 use Rattle.sqlite_rules.specs.Cast.{cast_row}
 use Rattle.sqlite_value.specs.Order.{column}
 use Rattle.sqlite_tied.specs.Compute.{everything}
-use Rattle.sqlite_value.specs.Keys.{plain}
-use Rattle.keyed_rows.specs.Changed.{delete_rows}
 use Rattle.keyed_rows.specs.Ordered.{add_row}
-use Rattle.bank_terms.specs.Procedure.{number_of}
-use Rattle.bank_terms.specs.declared.procedure.Procedure.{Procedure}
-use Rattle.bank_policy.specs.PolicyKeys.{relation_key, relation_number, triple_key, triple_number}
-use Rattle.bank_policy.specs.declared.rows.Relation.{Relation}
-use Rattle.bank_policy.specs.declared.rows.Triple.{Triple}
 use Rattle.kept_rows.specs.Named.{IsFree}
 use Rattle.kept_rows.specs.Sheets.{Sheets, set_row, user_no}
 use Rattle.kept_rows.specs.declared.records.KeptUser.{KeptUser}
 use Rattle.bank_schema.specs.Cells.{AnyRow, user_cells}
-use Rattle.bank_schema.specs.Held.{HoldsTables, set_no}
-use Rattle.bank_schema.specs.Held.Sheet.{members as in_members, relations as in_relations, sets as in_sets, triples as in_triples, users as in_users}
-use Rattle.bank_schema.specs.HeldRows.{HoldsRows, all_but_rowid, all_of_it}
+use Rattle.bank_schema.specs.Held.{HoldsTables}
+use Rattle.bank_schema.specs.Held.Sheet.{users as in_users}
+use Rattle.bank_schema.specs.HeldRows.{all_of_it}
 use Rattle.bank_schema.specs.Numbers.{truth_cell}
 use Rattle.bank_schema.specs.Schema.{bank_schema, users_table}
 use Rattle.bank_schema.proofs.ActionLemmas.{nothing_set_off}
 use Rattle.bank_schema.proofs.FrameLemmas.{with_users}
-use Rattle.bank_schema.proofs.HeldLemmas.{picked_alike}
-use Rattle.bank_schema.proofs.InsertLemmas.{adds_by_columns, adds_by_rowid, apart_by_index, apart_by_rowid, parts_of, puts, three_agree, two_agree}
+use Rattle.bank_schema.proofs.InsertLemmas.{adds_by_rowid, apart_by_rowid, puts}
 use Rattle.bank_schema.proofs.KeyLemmas.{one_of_key}
 use Rattle.bank_schema.proofs.PickLemmas.{pick, sets_row}
-use Rattle.bank_schema.proofs.ReadLemmas.{alone, answered, answers, by_key, by_one, by_three, by_two, in_order, no_limit, no_offset, one_equals, rises_by_one, rising_key, three_equal, two_equal}
-use Rattle.bank_schema.proofs.ScanLemmas.{passes, scan}
+use Rattle.bank_schema.proofs.ReadLemmas.{alone, answered, by_key, no_limit, no_offset, one_equals}
+use Rattle.bank_schema.proofs.ScanLemmas.{scan}
 use Rattle.bank_schema.proofs.WriteLemmas.{cast_int, cast_null, inserts}
-use Rattle.policy_tables.proofs.KeyTests.{at_most_one, few_mapped, length-mapped, three_parts, three_parts_of, two_parts}
-use Rattle.policy_tables.proofs.ProcedureNumbers.{small_number}
+use Rattle.policy_tables.proofs.KeyTests.{at_most_one, few_mapped}
 use Rattle.policy_tables.specs.Shown.{shown_user}
-use Rattle.policy_tables.specs.Tests.{is_member_of, is_relation_numbered, is_relation_on, is_triple_at, is_triple_by, is_triple_numbered}
 use Rattle.policy_tables.specs.Texts.{add_user_text, set_user_text, user_text}
 
 -- ---- casts
@@ -103,13 +87,15 @@ pub adds_user : (old new : State) (s : Sheets) (u : KeptUser) (count : ℕ) → 
     → HoldsTables new.now (record s { users = add_row user_no u s.users }) × IsFree user_no s.users (user_no u)
 adds_user old new s u count holds h =
     let it = inserts bank_schema add_user_text (shown_user u) 1 users_table add_user_terms 8 add_user_is.0 add_user_is.1 refl refl refl old new count holds.schema h in
-    let put = puts users_table (user_cells u) (value_rows (shown_user u) 8 (8 / 8) add_user_terms) old.now.trees new.now.trees it.applies (news_are old.now.trees u) in
-    (record {
-      schema = it.schema_is;
-      sound = it.sound;
-      rows = with_users old.now.trees new.now.trees s (add_row user_no u s.users) holds.rows it.applies.tables
-          (adds_by_rowid user_cells user_no AnyRow users_table (λ x. refl) old.now.trees new.now.trees u s.users put tt (holds.rows in_users));
-    }, apart_by_rowid user_cells user_no AnyRow (λ x. refl) u s.users (old.now.trees 1) (holds.rows in_users) put.free)
+    let put = puts users_table (user_cells u) (value_rows (shown_user u) 8 (8 / 8) add_user_terms) old.now.trees new.now.trees it.applies (news_are old.now.trees u) in (
+      record {
+        schema = it.schema_is;
+        sound = it.sound;
+        rows = with_users old.now.trees new.now.trees s (add_row user_no u s.users) holds.rows it.applies.tables
+            (adds_by_rowid user_cells user_no AnyRow users_table (λ x. refl) old.now.trees new.now.trees u s.users put tt (holds.rows in_users));
+      },
+      apart_by_rowid user_cells user_no AnyRow (λ x. refl) u s.users (old.now.trees 1) (holds.rows in_users) put.free,
+    )
 
 -- ---- UPDATE
 
@@ -127,7 +113,7 @@ made u r x is same = ap (λ v. cast_row users_table (v ∷ Null ∷ drop 1 (show
 pub sets_user : (old new : State) (s : Sheets) (u : KeptUser) (count : ℕ) → HoldsTables old.now s → Executes set_user_text (shown_user u) old new (Ok count) → HoldsTables new.now (record s { users = set_row user_no u s.users })
 sets_user old new s u count holds h =
     let it = sets_row all_of_it (λ c. c) user_cells user_no AnyRow 1 users_table (λ db. refl) by_key set_user_columns set_user_text (shown_user u) u set_user_is.0 set_user_is.1 refl
-        (λ r. refl) (λ y _. one_equals (user_no y) (user_no u)) (λ r. refl) (λ r x is same _. made u r x is same) (λ olds news. nothing_set_off 0 1 refl olds news) old new s.users count holds.schema (holds.rows in_users) tt h in
+    (λ r. refl) (λ y _. one_equals (user_no y) (user_no u)) (λ r. refl) (λ r x is same _. made u r x is same) (λ olds news. nothing_set_off 0 1 refl olds news) old new s.users count holds.schema (holds.rows in_users) tt h in
     record { schema = it.schema; sound = it.sound; rows = with_users old.now.trees new.now.trees s (set_row user_no u s.users) holds.rows it.others it.rows }
 
 -- ---- a row that is read back

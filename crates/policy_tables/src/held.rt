@@ -18,7 +18,11 @@ use sqlite::{Alter, Transaction};
 use std::alloc::Global;
 
 /// The triple with the members of its set.
-fn held_row<S: Alter>(alloc: Global, tx: &mut Transaction<'_, S>, triple: &Triple) -> Result<HeldRow, Fault>
+fn held_row<S: Alter>(
+    alloc: Global,
+    tx: &mut Transaction<'_, S>,
+    triple: &Triple,
+) -> Result<HeldRow, Fault>
     ensures same_reference { tx.new.conn.ghost_name ≡ tx.old.conn.ghost_name }
     ensures found { HasCleanDisk (state S.Store tx.new.conn.now) → (s : Sheets) → HoldsTables (state S.Store tx.old.conn.now).now s → IfOk result (λ row. row ≡ held_in s triple.now) }
     ensures steps { Steps (state S.Store tx.old.conn.now) (state S.Store tx.new.conn.now) (λ s. s) result }
@@ -30,7 +34,11 @@ fn held_row<S: Alter>(alloc: Global, tx: &mut Transaction<'_, S>, triple: &Tripl
 }
 
 /// These triples, each with the members of its set.
-fn held_rows<S: Alter>(alloc: Global, tx: &mut Transaction<'_, S>, triples: &[Triple]) -> Result<Vec<HeldRow>, Fault>
+fn held_rows<S: Alter>(
+    alloc: Global,
+    tx: &mut Transaction<'_, S>,
+    triples: &[Triple],
+) -> Result<Vec<HeldRow>, Fault>
     ensures same_reference { tx.new.conn.ghost_name ≡ tx.old.conn.ghost_name }
     ensures found { HasCleanDisk (state S.Store tx.new.conn.now) → IsTrue (state S.Store tx.old.conn.now).in_transaction → (s : Sheets) → HoldsTables (state S.Store tx.old.conn.now).now s → IfOk result (λ rows. rows.items ≡ map (held_in s) triples.now) }
     ensures steps { Steps (state S.Store tx.old.conn.now) (state S.Store tx.new.conn.now) (λ s. s) result }
@@ -45,7 +53,12 @@ fn held_rows<S: Alter>(alloc: Global, tx: &mut Transaction<'_, S>, triples: &[Tr
 }
 
 /// The triples of this user for this procedure, each with the members of its set, by set.
-pub fn triples_of<S: Alter>(alloc: Global, tx: &mut Transaction<'_, S>, user: u32, procedure: Procedure) -> Result<Vec<HeldRow>, Fault>
+pub fn triples_of<S: Alter>(
+    alloc: Global,
+    tx: &mut Transaction<'_, S>,
+    user: u32,
+    procedure: Procedure,
+) -> Result<Vec<HeldRow>, Fault>
     ensures same_reference { tx.new.conn.ghost_name ≡ tx.old.conn.ghost_name }
     ensures found { HasCleanDisk (state S.Store tx.new.conn.now) → IsTrue (state S.Store tx.old.conn.now).in_transaction → (s : Sheets) → HoldsTables (state S.Store tx.old.conn.now).now s → IfOk result (λ rows. rows.items ≡ map (held_in s) (filter (is_triple_of user procedure) s.triples)) }
     ensures steps { Steps (state S.Store tx.old.conn.now) (state S.Store tx.new.conn.now) (λ s. s) result }
@@ -57,7 +70,11 @@ pub fn triples_of<S: Alter>(alloc: Global, tx: &mut Transaction<'_, S>, user: u3
 }
 
 /// The relation with the members of its set.
-fn certified_row<S: Alter>(alloc: Global, tx: &mut Transaction<'_, S>, relation: &Relation) -> Result<CertifiedRow, Fault>
+fn certified_row<S: Alter>(
+    alloc: Global,
+    tx: &mut Transaction<'_, S>,
+    relation: &Relation,
+) -> Result<CertifiedRow, Fault>
     ensures same_reference { tx.new.conn.ghost_name ≡ tx.old.conn.ghost_name }
     ensures found { HasCleanDisk (state S.Store tx.new.conn.now) → (s : Sheets) → HoldsTables (state S.Store tx.old.conn.now).now s → IfOk result (λ row. row ≡ certified_in s relation.now) }
     ensures steps { Steps (state S.Store tx.old.conn.now) (state S.Store tx.new.conn.now) (λ s. s) result }
@@ -69,7 +86,11 @@ fn certified_row<S: Alter>(alloc: Global, tx: &mut Transaction<'_, S>, relation:
 }
 
 /// These relations, each with the members of its set.
-fn certified_rows<S: Alter>(alloc: Global, tx: &mut Transaction<'_, S>, relations: &[Relation]) -> Result<Vec<CertifiedRow>, Fault>
+fn certified_rows<S: Alter>(
+    alloc: Global,
+    tx: &mut Transaction<'_, S>,
+    relations: &[Relation],
+) -> Result<Vec<CertifiedRow>, Fault>
     ensures same_reference { tx.new.conn.ghost_name ≡ tx.old.conn.ghost_name }
     ensures found { HasCleanDisk (state S.Store tx.new.conn.now) → IsTrue (state S.Store tx.old.conn.now).in_transaction → (s : Sheets) → HoldsTables (state S.Store tx.old.conn.now).now s → IfOk result (λ rows. rows.items ≡ map (certified_in s) relations.now) }
     ensures steps { Steps (state S.Store tx.old.conn.now) (state S.Store tx.new.conn.now) (λ s. s) result }
@@ -84,7 +105,11 @@ fn certified_rows<S: Alter>(alloc: Global, tx: &mut Transaction<'_, S>, relation
 }
 
 /// The relations of this procedure, each with the members of its set, by set.
-pub fn relations_of<S: Alter>(alloc: Global, tx: &mut Transaction<'_, S>, procedure: Procedure) -> Result<Vec<CertifiedRow>, Fault>
+pub fn relations_of<S: Alter>(
+    alloc: Global,
+    tx: &mut Transaction<'_, S>,
+    procedure: Procedure,
+) -> Result<Vec<CertifiedRow>, Fault>
     ensures same_reference { tx.new.conn.ghost_name ≡ tx.old.conn.ghost_name }
     ensures found { HasCleanDisk (state S.Store tx.new.conn.now) → IsTrue (state S.Store tx.old.conn.now).in_transaction → (s : Sheets) → HoldsTables (state S.Store tx.old.conn.now).now s → IfOk result (λ rows. rows.items ≡ map (certified_in s) (filter (is_relation_of procedure) s.relations)) }
     ensures steps { Steps (state S.Store tx.old.conn.now) (state S.Store tx.new.conn.now) (λ s. s) result }

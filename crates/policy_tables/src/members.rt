@@ -59,7 +59,11 @@ fn read_members(alloc: Global, rows: &[Row]) -> Result<Vec<Member>, Fault>
 }
 
 /// The members of this set, in order; none where there is no such set.
-pub fn members_of<S: Alter>(alloc: Global, tx: &mut Transaction<'_, S>, set: u32) -> Result<Vec<Member>, Fault>
+pub fn members_of<S: Alter>(
+    alloc: Global,
+    tx: &mut Transaction<'_, S>,
+    set: u32,
+) -> Result<Vec<Member>, Fault>
     ensures same_reference { tx.new.conn.ghost_name ≡ tx.old.conn.ghost_name }
     ensures found { HasCleanDisk (state S.Store tx.new.conn.now) → (s : Sheets) → HoldsTables (state S.Store tx.old.conn.now).now s → IfOk result (λ members. members.items ≡ map (λ m. m.member) (filter (is_member_of set) s.members)) }
     ensures steps { Steps (state S.Store tx.old.conn.now) (state S.Store tx.new.conn.now) (λ s. s) result }
@@ -72,7 +76,11 @@ pub fn members_of<S: Alter>(alloc: Global, tx: &mut Transaction<'_, S>, set: u32
     }
 }
 
-fn insert_member<S: Alter>(tx: &mut Transaction<'_, S>, member: &MemberRow, kind: u32) -> Result<usize, Error>
+fn insert_member<S: Alter>(
+    tx: &mut Transaction<'_, S>,
+    member: &MemberRow,
+    kind: u32,
+) -> Result<usize, Error>
     ensures same_reference { tx.new.conn.ghost_name ≡ tx.old.conn.ghost_name }
     ensures runs { HasCleanDisk (state S.Store tx.new.conn.now) → IsTrue (state S.Store tx.old.conn.now).in_transaction → ExecutesInside 0 add_member_text (Int (pos member.now.set) ∷ Int (pos member.now.place) ∷ Int (pos kind) ∷ Int (pos member.now.member.low) ∷ Int (pos member.now.member.high) ∷ []) (state S.Store tx.old.conn.now) (state S.Store tx.new.conn.now) result }
     ensures small { member.now.place < 2 ^ 32 }
@@ -80,7 +88,13 @@ fn insert_member<S: Alter>(tx: &mut Transaction<'_, S>, member: &MemberRow, kind
 {
     tx.execute(
         "INSERT INTO members (set_no, place, kind, low, high) VALUES (?1, ?2, ?3, ?4, ?5)",
-        params![member.set, member.place, kind, member.member.low, member.member.high],
+        params![
+            member.set,
+            member.place,
+            kind,
+            member.member.low,
+            member.member.high
+        ],
     )
 }
 

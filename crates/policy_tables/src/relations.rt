@@ -26,7 +26,11 @@ use sqlite::{Alter, Error, Row, Transaction, params};
 use std::alloc::Global;
 
 /// The row of this key: one, or none.
-fn select_relation<S: Alter>(tx: &mut Transaction<'_, S>, procedure: u32, set: u32) -> Result<Vec<Row>, Error>
+fn select_relation<S: Alter>(
+    tx: &mut Transaction<'_, S>,
+    procedure: u32,
+    set: u32,
+) -> Result<Vec<Row>, Error>
     ensures same_reference { tx.new.conn.ghost_name ≡ tx.old.conn.ghost_name }
     ensures rows { HasCleanDisk (state S.Store tx.new.conn.now) → (s : Sheets) → HoldsTables (state S.Store tx.old.conn.now).now s → IfOk result (λ rows. rows.items ≡ map relation_cells (cons_option (find (λ r. relation_key r == 2 ^ 32 * procedure + set) s.relations) [])) }
     ensures steps { Steps (state S.Store tx.old.conn.now) (state S.Store tx.new.conn.now) (λ s. s) result }
@@ -40,7 +44,10 @@ fn select_relation<S: Alter>(tx: &mut Transaction<'_, S>, procedure: u32, set: u
 }
 
 /// The rows of the procedure of this number, by set.
-fn select_relations<S: Alter>(tx: &mut Transaction<'_, S>, procedure: u32) -> Result<Vec<Row>, Error>
+fn select_relations<S: Alter>(
+    tx: &mut Transaction<'_, S>,
+    procedure: u32,
+) -> Result<Vec<Row>, Error>
     ensures same_reference { tx.new.conn.ghost_name ≡ tx.old.conn.ghost_name }
     ensures rows { HasCleanDisk (state S.Store tx.new.conn.now) → (s : Sheets) → HoldsTables (state S.Store tx.old.conn.now).now s → IfOk result (λ rows. rows.items ≡ map relation_cells (filter (is_relation_numbered procedure) s.relations)) }
     ensures steps { Steps (state S.Store tx.old.conn.now) (state S.Store tx.new.conn.now) (λ s. s) result }
@@ -75,7 +82,11 @@ fn read_relations(alloc: Global, rows: &[Row]) -> Result<Vec<Relation>, Fault>
 }
 
 /// The relation of this procedure on this set, if it is there.
-pub fn relation_of<S: Alter>(tx: &mut Transaction<'_, S>, procedure: Procedure, set: u32) -> Result<Option<Relation>, Fault>
+pub fn relation_of<S: Alter>(
+    tx: &mut Transaction<'_, S>,
+    procedure: Procedure,
+    set: u32,
+) -> Result<Option<Relation>, Fault>
     ensures same_reference { tx.new.conn.ghost_name ≡ tx.old.conn.ghost_name }
     ensures found { HasCleanDisk (state S.Store tx.new.conn.now) → (s : Sheets) → HoldsTables (state S.Store tx.old.conn.now).now s → IfOk result (λ found. found ≡ find (λ r. relation_key r == relation_number procedure set) s.relations) }
     ensures steps { Steps (state S.Store tx.old.conn.now) (state S.Store tx.new.conn.now) (λ s. s) result }
@@ -93,7 +104,11 @@ pub fn relation_of<S: Alter>(tx: &mut Transaction<'_, S>, procedure: Procedure, 
 }
 
 /// The relations of this procedure, by set.
-pub fn relations_in<S: Alter>(alloc: Global, tx: &mut Transaction<'_, S>, procedure: Procedure) -> Result<Vec<Relation>, Fault>
+pub fn relations_in<S: Alter>(
+    alloc: Global,
+    tx: &mut Transaction<'_, S>,
+    procedure: Procedure,
+) -> Result<Vec<Relation>, Fault>
     ensures same_reference { tx.new.conn.ghost_name ≡ tx.old.conn.ghost_name }
     ensures found { HasCleanDisk (state S.Store tx.new.conn.now) → (s : Sheets) → HoldsTables (state S.Store tx.old.conn.now).now s → IfOk result (λ list. list.items ≡ filter (is_relation_of procedure) s.relations) }
     ensures steps { Steps (state S.Store tx.old.conn.now) (state S.Store tx.new.conn.now) (λ s. s) result }
@@ -106,7 +121,11 @@ pub fn relations_in<S: Alter>(alloc: Global, tx: &mut Transaction<'_, S>, proced
     }
 }
 
-fn insert_relation<S: Alter>(tx: &mut Transaction<'_, S>, relation: &Relation, procedure: u32) -> Result<usize, Error>
+fn insert_relation<S: Alter>(
+    tx: &mut Transaction<'_, S>,
+    relation: &Relation,
+    procedure: u32,
+) -> Result<usize, Error>
     ensures same_reference { tx.new.conn.ghost_name ≡ tx.old.conn.ghost_name }
     ensures runs { HasCleanDisk (state S.Store tx.new.conn.now) → IsTrue (state S.Store tx.old.conn.now).in_transaction → ExecutesInside 0 add_relation_text (Int (pos procedure) ∷ Int (pos relation.now.set) ∷ Int (pos relation.now.by) ∷ []) (state S.Store tx.old.conn.now) (state S.Store tx.new.conn.now) result }
     ensures small { relation.now.set < 2 ^ 32 }
@@ -132,7 +151,11 @@ pub fn add_relation<S: Alter>(tx: &mut Transaction<'_, S>, relation: &Relation) 
     }
 }
 
-fn delete_relation<S: Alter>(tx: &mut Transaction<'_, S>, key: &RelationKey, procedure: u32) -> Result<usize, Error>
+fn delete_relation<S: Alter>(
+    tx: &mut Transaction<'_, S>,
+    key: &RelationKey,
+    procedure: u32,
+) -> Result<usize, Error>
     ensures same_reference { tx.new.conn.ghost_name ≡ tx.old.conn.ghost_name }
     ensures runs { HasCleanDisk (state S.Store tx.new.conn.now) → IsTrue (state S.Store tx.old.conn.now).in_transaction → ExecutesInside 0 remove_relation_text (Int (pos procedure) ∷ Int (pos key.now.set) ∷ []) (state S.Store tx.old.conn.now) (state S.Store tx.new.conn.now) result }
     ensures small { key.now.set < 2 ^ 32 }
@@ -145,7 +168,10 @@ fn delete_relation<S: Alter>(tx: &mut Transaction<'_, S>, key: &RelationKey, pro
 }
 
 /// Takes a relation away, and with it its triples, whosever they are. One that isn't there is passed over.
-pub fn remove_relation<S: Alter>(tx: &mut Transaction<'_, S>, key: &RelationKey) -> Result<(), Fault>
+pub fn remove_relation<S: Alter>(
+    tx: &mut Transaction<'_, S>,
+    key: &RelationKey,
+) -> Result<(), Fault>
     ensures same_reference { tx.new.conn.ghost_name ≡ tx.old.conn.ghost_name }
     ensures steps { Steps (state S.Store tx.old.conn.now) (state S.Store tx.new.conn.now) (λ s. record s { relations = delete_rows relation_key (relation_number key.now.procedure key.now.set) s.relations; triples = filter (λ row. not (is_triple_on key.now row)) s.triples }) result }
     ensures survives { Survives (state S.Store tx.old.conn.now) (state S.Store tx.new.conn.now) (λ _. ⊥) }

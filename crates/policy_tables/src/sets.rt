@@ -26,10 +26,7 @@ fn select_set<S: Alter>(tx: &mut Transaction<'_, S>, set: u32) -> Result<Vec<Row
     ensures open { StaysOpen (state S.Store tx.old.conn.now) (state S.Store tx.new.conn.now) result }
     ensures survives { Survives (state S.Store tx.old.conn.now) (state S.Store tx.new.conn.now) (λ _. ⊥) }
 {
-    tx.query_all(
-        "SELECT set_no FROM sets WHERE set_no = ?1",
-        params![set],
-    )
+    tx.query_all("SELECT set_no FROM sets WHERE set_no = ?1", params![set])
 }
 
 /// The rows of all sets, by number.
@@ -76,10 +73,7 @@ fn insert_set<S: Alter>(tx: &mut Transaction<'_, S>, set: u32) -> Result<usize, 
     ensures runs { HasCleanDisk (state S.Store tx.new.conn.now) → IsTrue (state S.Store tx.old.conn.now).in_transaction → ExecutesInside 0 add_set_text (shown_set set) (state S.Store tx.old.conn.now) (state S.Store tx.new.conn.now) result }
     ensures survives { Survives (state S.Store tx.old.conn.now) (state S.Store tx.new.conn.now) (λ _. ⊥) }
 {
-    tx.execute(
-        "INSERT INTO sets (set_no) VALUES (?1)",
-        params![set],
-    )
+    tx.execute("INSERT INTO sets (set_no) VALUES (?1)", params![set])
 }
 
 /// Adds a set of this number, without its members. One that is there already is a fault of the disk.

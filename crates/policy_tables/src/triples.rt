@@ -25,7 +25,12 @@ use sqlite::{Alter, Error, Row, Transaction, params};
 use std::alloc::Global;
 
 /// The row of this key: one, or none.
-fn select_triple<S: Alter>(tx: &mut Transaction<'_, S>, user: u32, procedure: u32, set: u32) -> Result<Vec<Row>, Error>
+fn select_triple<S: Alter>(
+    tx: &mut Transaction<'_, S>,
+    user: u32,
+    procedure: u32,
+    set: u32,
+) -> Result<Vec<Row>, Error>
     ensures same_reference { tx.new.conn.ghost_name ≡ tx.old.conn.ghost_name }
     ensures rows { HasCleanDisk (state S.Store tx.new.conn.now) → (s : Sheets) → HoldsTables (state S.Store tx.old.conn.now).now s → IfOk result (λ rows. rows.items ≡ map triple_cells (cons_option (find (λ r. triple_key r == 2 ^ 64 * user + 2 ^ 32 * procedure + set) s.triples) [])) }
     ensures steps { Steps (state S.Store tx.old.conn.now) (state S.Store tx.new.conn.now) (λ s. s) result }
@@ -39,7 +44,11 @@ fn select_triple<S: Alter>(tx: &mut Transaction<'_, S>, user: u32, procedure: u3
 }
 
 /// The rows of the user and the procedure of this number, by set.
-fn select_triples<S: Alter>(tx: &mut Transaction<'_, S>, user: u32, procedure: u32) -> Result<Vec<Row>, Error>
+fn select_triples<S: Alter>(
+    tx: &mut Transaction<'_, S>,
+    user: u32,
+    procedure: u32,
+) -> Result<Vec<Row>, Error>
     ensures same_reference { tx.new.conn.ghost_name ≡ tx.old.conn.ghost_name }
     ensures rows { HasCleanDisk (state S.Store tx.new.conn.now) → (s : Sheets) → HoldsTables (state S.Store tx.old.conn.now).now s → IfOk result (λ rows. rows.items ≡ map triple_cells (filter (is_triple_numbered user procedure) s.triples)) }
     ensures steps { Steps (state S.Store tx.old.conn.now) (state S.Store tx.new.conn.now) (λ s. s) result }
@@ -89,7 +98,12 @@ fn read_triples(alloc: Global, rows: &[Row]) -> Result<Vec<Triple>, Fault>
 }
 
 /// The triple of this user, this procedure and this set, if it is there.
-pub fn triple_of<S: Alter>(tx: &mut Transaction<'_, S>, user: u32, procedure: Procedure, set: u32) -> Result<Option<Triple>, Fault>
+pub fn triple_of<S: Alter>(
+    tx: &mut Transaction<'_, S>,
+    user: u32,
+    procedure: Procedure,
+    set: u32,
+) -> Result<Option<Triple>, Fault>
     ensures same_reference { tx.new.conn.ghost_name ≡ tx.old.conn.ghost_name }
     ensures found { HasCleanDisk (state S.Store tx.new.conn.now) → (s : Sheets) → HoldsTables (state S.Store tx.old.conn.now).now s → IfOk result (λ found. found ≡ find (λ r. triple_key r == triple_number user procedure set) s.triples) }
     ensures steps { Steps (state S.Store tx.old.conn.now) (state S.Store tx.new.conn.now) (λ s. s) result }
@@ -107,7 +121,12 @@ pub fn triple_of<S: Alter>(tx: &mut Transaction<'_, S>, user: u32, procedure: Pr
 }
 
 /// The triples of this user for this procedure, by set.
-pub fn triples_in<S: Alter>(alloc: Global, tx: &mut Transaction<'_, S>, user: u32, procedure: Procedure) -> Result<Vec<Triple>, Fault>
+pub fn triples_in<S: Alter>(
+    alloc: Global,
+    tx: &mut Transaction<'_, S>,
+    user: u32,
+    procedure: Procedure,
+) -> Result<Vec<Triple>, Fault>
     ensures same_reference { tx.new.conn.ghost_name ≡ tx.old.conn.ghost_name }
     ensures found { HasCleanDisk (state S.Store tx.new.conn.now) → (s : Sheets) → HoldsTables (state S.Store tx.old.conn.now).now s → IfOk result (λ list. list.items ≡ filter (is_triple_of user procedure) s.triples) }
     ensures steps { Steps (state S.Store tx.old.conn.now) (state S.Store tx.new.conn.now) (λ s. s) result }
@@ -134,7 +153,11 @@ pub fn triple_count<S: Alter>(tx: &mut Transaction<'_, S>, user: u32) -> Result<
     }
 }
 
-fn insert_triple<S: Alter>(tx: &mut Transaction<'_, S>, triple: &Triple, procedure: u32) -> Result<usize, Error>
+fn insert_triple<S: Alter>(
+    tx: &mut Transaction<'_, S>,
+    triple: &Triple,
+    procedure: u32,
+) -> Result<usize, Error>
     ensures same_reference { tx.new.conn.ghost_name ≡ tx.old.conn.ghost_name }
     ensures runs { HasCleanDisk (state S.Store tx.new.conn.now) → IsTrue (state S.Store tx.old.conn.now).in_transaction → ExecutesInside 0 add_triple_text (Int (pos triple.now.user) ∷ Int (pos procedure) ∷ Int (pos triple.now.set) ∷ Int (pos triple.now.limit) ∷ []) (state S.Store tx.old.conn.now) (state S.Store tx.new.conn.now) result }
     ensures small { triple.now.set < 2 ^ 32 }
@@ -160,7 +183,11 @@ pub fn add_triple<S: Alter>(tx: &mut Transaction<'_, S>, triple: &Triple) -> Res
     }
 }
 
-fn delete_triple<S: Alter>(tx: &mut Transaction<'_, S>, key: &TripleKey, procedure: u32) -> Result<usize, Error>
+fn delete_triple<S: Alter>(
+    tx: &mut Transaction<'_, S>,
+    key: &TripleKey,
+    procedure: u32,
+) -> Result<usize, Error>
     ensures same_reference { tx.new.conn.ghost_name ≡ tx.old.conn.ghost_name }
     ensures runs { HasCleanDisk (state S.Store tx.new.conn.now) → IsTrue (state S.Store tx.old.conn.now).in_transaction → ExecutesInside 0 remove_triple_text (Int (pos key.now.user) ∷ Int (pos procedure) ∷ Int (pos key.now.set) ∷ []) (state S.Store tx.old.conn.now) (state S.Store tx.new.conn.now) result }
     ensures small { key.now.set < 2 ^ 32 }

@@ -62,7 +62,11 @@ fn read_user(alloc: Global, row: &Row) -> Result<KeptUser, Fault>
 }
 
 /// The user of this number with how many releases he was given, if he is there.
-pub fn user_of<S: Alter>(alloc: Global, tx: &mut Transaction<'_, S>, user: u32) -> Result<Option<KeptUser>, Fault>
+pub fn user_of<S: Alter>(
+    alloc: Global,
+    tx: &mut Transaction<'_, S>,
+    user: u32,
+) -> Result<Option<KeptUser>, Fault>
     ensures same_reference { tx.new.conn.ghost_name ≡ tx.old.conn.ghost_name }
     ensures found { HasCleanDisk (state S.Store tx.new.conn.now) → (s : Sheets) → HoldsTables (state S.Store tx.old.conn.now).now s → IfOk result (λ found. found ≡ find (λ u. user_no u == user) s.users) }
     ensures steps { Steps (state S.Store tx.old.conn.now) (state S.Store tx.new.conn.now) (λ s. s) result }
@@ -109,14 +113,26 @@ fn cells_of(kept: &KeptUser) -> Result<UserCells, Fault>
     })
 }
 
-fn insert_user<S: Alter>(tx: &mut Transaction<'_, S>, cells: &UserCells, name: &str) -> Result<usize, Error>
+fn insert_user<S: Alter>(
+    tx: &mut Transaction<'_, S>,
+    cells: &UserCells,
+    name: &str,
+) -> Result<usize, Error>
     ensures same_reference { tx.new.conn.ghost_name ≡ tx.old.conn.ghost_name }
     ensures runs { HasCleanDisk (state S.Store tx.new.conn.now) → IsTrue (state S.Store tx.old.conn.now).in_transaction → ExecutesInside 0 add_user_text (given_user cells.now name.now) (state S.Store tx.old.conn.now) (state S.Store tx.new.conn.now) result }
     ensures survives { Survives (state S.Store tx.old.conn.now) (state S.Store tx.new.conn.now) (λ _. ⊥) }
 {
     tx.execute(
         "INSERT INTO users (user_no, name, officer, suspended, session, is_on, releases) VALUES (?1, ?2, ?3, ?4, ?5, ?6, ?7)",
-        params![cells.user, name, cells.officer, cells.suspended, cells.session, cells.on, &cells.releases],
+        params![
+            cells.user,
+            name,
+            cells.officer,
+            cells.suspended,
+            cells.session,
+            cells.on,
+            &cells.releases
+        ],
     )
 }
 
@@ -134,14 +150,26 @@ pub fn add_user<S: Alter>(tx: &mut Transaction<'_, S>, kept: &KeptUser) -> Resul
     }
 }
 
-fn update_user<S: Alter>(tx: &mut Transaction<'_, S>, cells: &UserCells, name: &str) -> Result<usize, Error>
+fn update_user<S: Alter>(
+    tx: &mut Transaction<'_, S>,
+    cells: &UserCells,
+    name: &str,
+) -> Result<usize, Error>
     ensures same_reference { tx.new.conn.ghost_name ≡ tx.old.conn.ghost_name }
     ensures runs { HasCleanDisk (state S.Store tx.new.conn.now) → IsTrue (state S.Store tx.old.conn.now).in_transaction → ExecutesInside 0 set_user_text (given_user cells.now name.now) (state S.Store tx.old.conn.now) (state S.Store tx.new.conn.now) result }
     ensures survives { Survives (state S.Store tx.old.conn.now) (state S.Store tx.new.conn.now) (λ _. ⊥) }
 {
     tx.execute(
         "UPDATE users SET name = ?2, officer = ?3, suspended = ?4, session = ?5, is_on = ?6, releases = ?7 WHERE user_no = ?1",
-        params![cells.user, name, cells.officer, cells.suspended, cells.session, cells.on, &cells.releases],
+        params![
+            cells.user,
+            name,
+            cells.officer,
+            cells.suspended,
+            cells.session,
+            cells.on,
+            &cells.releases
+        ],
     )
 }
 

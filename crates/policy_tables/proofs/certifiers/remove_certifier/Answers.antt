@@ -15,4 +15,4 @@ returns-in-Ok-clause-steps g c clean inside s holds =
     let new = state g.S.Store c.delete_certifier.new.tx.conn.now in
     write_steps remove_certifier_text _ old new (Ok c.in-Ok.field-0) (record s { certifiers = delete_rows certifier_key (certifier_key c.args.certifier.now) s.certifiers }) (c.in-Ok.ensures.runs clean inside)
     (λ count h. removes_certifier old new s c.args.certifier.now count holds
-        (subst (λ n. Executes remove_certifier_text (Int (pos c.args.certifier.now.user) ∷ Int (pos n) ∷ []) old new (Ok count)) c.number.ensures h))
+    (subst (λ n. Executes remove_certifier_text (Int (pos c.args.certifier.now.user) ∷ Int (pos n) ∷ []) old new (Ok count)) c.number.ensures h))

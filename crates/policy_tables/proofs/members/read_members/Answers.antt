@@ -1,7 +1,7 @@
 use Rattle.std.proofs.Common.{◌∙◌}
 use Rattle.kept_rows.specs.declared.records.MemberRow.{MemberRow}
 use Rattle.bank_schema.specs.Cells.{member_cells}
-use Rattle.policy_tables.proofs.DecodeLemmas.{map-same, read_all, read_more}
+use Rattle.policy_tables.proofs.DecodeLemmas.{read_all, read_more}
 use Rattle.policy_tables.proofs.members.read_members.Goals as goal
 
 pub loop-row-preserved : goal.loop-row-preserved

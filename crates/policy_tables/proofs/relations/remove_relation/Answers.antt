@@ -19,4 +19,4 @@ returns-in-Ok-clause-steps g c clean inside s holds =
     write_steps remove_relation_text _ old new (Ok c.in-Ok.field-0)
     (record s { relations = delete_rows relation_key (relation_number key.procedure key.set) s.relations; triples = filter (λ row. not (is_triple_on key row)) s.triples }) (c.in-Ok.ensures.runs clean inside)
     (λ count h. removes_relation old new s (number_of key.procedure) key.set count c.delete_relation.ensures.small holds
-        (subst (λ n. Executes remove_relation_text (Int (pos n) ∷ Int (pos key.set) ∷ []) old new (Ok count)) c.number-procedure.ensures h))
+    (subst (λ n. Executes remove_relation_text (Int (pos n) ∷ Int (pos key.set) ∷ []) old new (Ok count)) c.number-procedure.ensures h))

@@ -1,7 +1,5 @@
-use Rattle.std.proofs.Common.{Ok, [], ◌∷◌, arith, pos, subst}
+use Rattle.std.proofs.Common.{Ok}
 use Rattle.sqlite.specs.Held.{state}
-use Rattle.sqlite.specs.State.{Executes}
-use Rattle.sqlite.specs.declared.types.Value.TheVariants.{Int}
 use Rattle.keyed_rows.specs.Ordered.{add_row}
 use Rattle.bank_schema.specs.Held.{set_no}
 use Rattle.bank_schema.proofs.StepLemmas.{write_steps}

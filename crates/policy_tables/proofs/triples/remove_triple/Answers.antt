@@ -1,4 +1,4 @@
-use Rattle.std.proofs.Common.{Ok, [], ◌∷◌, arith, pos, subst}
+use Rattle.std.proofs.Common.{Ok, [], ◌∷◌, pos, subst}
 use Rattle.sqlite.specs.Held.{state}
 use Rattle.sqlite.specs.State.{Executes}
 use Rattle.sqlite.specs.declared.types.Value.TheVariants.{Int}
@@ -18,4 +18,4 @@ returns-in-Ok-clause-steps g c clean inside s holds =
     let key = c.args.key.now in
     write_steps remove_triple_text _ old new (Ok c.in-Ok.field-0) (record s { triples = delete_rows triple_key (triple_number key.user key.procedure key.set) s.triples }) (c.in-Ok.ensures.runs clean inside)
     (λ count h. removes_triple old new s key.user (number_of key.procedure) key.set count (small_number key.procedure) c.delete_triple.ensures.small holds
-        (subst (λ n. Executes remove_triple_text (Int (pos key.user) ∷ Int (pos n) ∷ Int (pos key.set) ∷ []) old new (Ok count)) c.number-procedure.ensures h))
+    (subst (λ n. Executes remove_triple_text (Int (pos key.user) ∷ Int (pos n) ∷ Int (pos key.set) ∷ []) old new (Ok count)) c.number-procedure.ensures h))

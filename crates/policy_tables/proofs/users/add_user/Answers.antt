@@ -2,7 +2,7 @@ use Rattle.std.proofs.Common.{Ok, ◌∙◌, ap, subst}
 use Rattle.sqlite.specs.Held.{state}
 use Rattle.sqlite.specs.State.{Executes}
 use Rattle.keyed_rows.specs.Ordered.{add_row}
-use Rattle.kept_rows.specs.Sheets.{set_row, user_no}
+use Rattle.kept_rows.specs.Sheets.{user_no}
 use Rattle.bank_schema.proofs.StepLemmas.{write_steps}
 use Rattle.policy_tables.specs.Shown.{given_user}
 use Rattle.policy_tables.specs.Texts.{add_user_text}
