@@ -1,0 +1,4 @@
+pub mod HeldRows
+pub mod Shown
+pub mod Tests
+pub mod Texts
