@@ -1,0 +1,11 @@
+pub mod ActionLemmas
+pub mod FrameLemmas
+pub mod HeldLemmas
+pub mod InsertLemmas
+pub mod KeyLemmas
+pub mod PickLemmas
+pub mod ReadLemmas
+pub mod ScanLemmas
+pub mod SchemaTexts
+pub mod StepLemmas
+pub mod WriteLemmas

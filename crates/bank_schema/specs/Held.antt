@@ -1,0 +1,92 @@
+-- What it is that a database holds the rows of a World and the numbers that are kept beside them.
+use Rattle.std.specs.Prelude.{ℕ, ◌≡◌, List, [], ◌∷◌}
+use Rattle.sqlite.specs.Effect.{Database, IsDatabase}
+use Rattle.sqlite.specs.Order.{Row}
+use Rattle.sqlite.specs.State.{State}
+use Rattle.sqlite.specs.Tree.{Trees}
+use Rattle.bank_policy.specs.PolicyKeys.{certifier_key, relation_key, triple_key}
+use Rattle.bank_books.specs.Keys.{line_key, proof_key, release_key}
+use Rattle.bank_books.specs.WorldLists.{WorldLists}
+use Rattle.kept_rows.specs.Keepable.{IsKeepable}
+use Rattle.kept_rows.specs.Sheets.{Sheets, account_no, branch_no, entry_no, member_no, sheets_of, teller_no, user_no}
+use Rattle.bank_schema.specs.Cells.{AnyRow, EntryFits, LineFits, MemberFits, ProofFits, RelationFits, ReleaseFits, TripleFits, account_cells, bank_cells, branch_cells, certifier_cells, entry_cells, line_cells, member_cells, proof_cells, relation_cells, release_cells, set_cells, teller_cells, triple_cells, user_cells}
+use Rattle.bank_schema.specs.HeldRows.{HoldsRows, all_but_rowid, all_of_it}
+use Rattle.bank_schema.specs.Schema.{bank_schema}
+
+-- the tables
+pub data Sheet : Type 0 where
+  bank : Sheet
+  users : Sheet
+  sets : Sheet
+  members : Sheet
+  relations : Sheet
+  triples : Sheet
+  certifiers : Sheet
+  branches : Sheet
+  tellers : Sheet
+  accounts : Sheet
+  entries : Sheet
+  lines : Sheet
+  proofs : Sheet
+  releases : Sheet
+
+abbrev pub tree_of : Sheet → ℕ
+tree_of bank = 0
+tree_of users = 1
+tree_of sets = 2
+tree_of members = 3
+tree_of relations = 5
+tree_of triples = 7
+tree_of certifiers = 9
+tree_of branches = 11
+tree_of tellers = 12
+tree_of accounts = 13
+tree_of entries = 14
+tree_of lines = 17
+tree_of proofs = 19
+tree_of releases = 21
+
+-- the number of a set is its key
+abbrev pub set_no : ℕ → ℕ
+set_no set = set
+
+-- the rows of one table
+abbrev pub HoldsSheet : Sheet → Sheets → List Row → Type 0
+HoldsSheet bank s tree = tree ≡ bank_cells s.version ∷ []
+HoldsSheet users s tree = HoldsRows all_of_it user_cells user_no AnyRow s.users tree
+HoldsSheet sets s tree = HoldsRows all_of_it set_cells set_no AnyRow s.sets tree
+HoldsSheet members s tree = HoldsRows all_but_rowid member_cells member_no MemberFits s.members tree
+HoldsSheet relations s tree = HoldsRows all_but_rowid relation_cells relation_key RelationFits s.relations tree
+HoldsSheet triples s tree = HoldsRows all_but_rowid triple_cells triple_key TripleFits s.triples tree
+HoldsSheet certifiers s tree = HoldsRows all_but_rowid certifier_cells certifier_key AnyRow s.certifiers tree
+HoldsSheet branches s tree = HoldsRows all_of_it branch_cells branch_no AnyRow s.branches tree
+HoldsSheet tellers s tree = HoldsRows all_of_it teller_cells teller_no AnyRow s.tellers tree
+HoldsSheet accounts s tree = HoldsRows all_of_it account_cells account_no AnyRow s.accounts tree
+HoldsSheet entries s tree = HoldsRows all_but_rowid entry_cells entry_no EntryFits s.entries tree
+HoldsSheet lines s tree = HoldsRows all_but_rowid line_cells line_key LineFits s.lines tree
+HoldsSheet proofs s tree = HoldsRows all_but_rowid proof_cells proof_key ProofFits s.proofs tree
+HoldsSheet releases s tree = HoldsRows all_but_rowid release_cells release_key ReleaseFits s.releases tree
+
+abbrev pub HoldsSheets : Trees → Sheets → Type 0
+HoldsSheets trees s = (t : Sheet) → HoldsSheet t s (trees (tree_of t))
+
+-- The tables hold these rows, and keep the rules of the schema: a triple is of a relation that is there.
+pub record HoldsTables (db : Database) (s : Sheets) : Type 0 where
+  pub schema : db.schema ≡ bank_schema
+  pub sound : IsDatabase db
+  pub rows : HoldsSheets db.trees s
+
+-- the World whose rows and numbers these trees hold
+pub record AreOfWorld (w : WorldLists) (trees : Trees) : Type 0 where
+  pub rows : HoldsSheets trees (sheets_of w)
+  pub keepable : IsKeepable w
+
+pub record HoldsWorld (db : Database) (w : WorldLists) : Type 0 where
+  pub schema : db.schema ≡ bank_schema
+  pub sound : IsDatabase db
+  pub world : AreOfWorld w db.trees
+
+-- between calls: the last commit has it too
+pub record HoldsBank (s : State) (w : WorldLists) : Type 0 where
+  pub now : HoldsWorld s.now w
+  pub settled : s.committed ≡ s.now

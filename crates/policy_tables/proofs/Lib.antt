@@ -1,0 +1,12 @@
+pub mod CascadeLemmas
+pub mod CertifierLemmas
+pub mod DecodeLemmas
+pub mod KeyTests
+pub mod MemberLemmas
+pub mod ProcedureNumbers
+pub mod RelationLemmas
+pub mod RemovalLemmas
+pub mod ResultLemmas
+pub mod SetLemmas
+pub mod TripleLemmas
+pub mod UserLemmas

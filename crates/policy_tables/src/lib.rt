@@ -1,0 +1,16 @@
+//! The tables of the policy: rows of them read, added, set and taken away inside a transaction.
+#![tactic(auto)]
+
+mod certifiers;
+mod members;
+mod relations;
+mod sets;
+mod triples;
+mod users;
+
+pub use certifiers::{add_certifier, is_certifier, remove_certifier};
+pub use members::{add_member, members_of};
+pub use relations::{add_relation, relation_of, relations_in, remove_relation};
+pub use sets::{add_set, is_set, set_count};
+pub use triples::{add_triple, remove_triple, triple_count, triple_of, triples_in};
+pub use users::{add_user, set_user, user_of};

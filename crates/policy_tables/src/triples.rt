@@ -1,0 +1,186 @@
+ghost use Rattle.std.specs.Prelude.{◌≡◌, ◌==◌, ◌+◌, ◌*◌, ◌^◌, ◌<◌, ◌∷◌, [], ℕ, List, length, pos, map, IfOk, IsTrue};
+ghost use Rattle.std.specs.List.{cons_option, filter, find, list_any};
+ghost use Rattle.sqlite.specs.Held.{state};
+ghost use Rattle.sqlite.specs.State.{ExecutesInside, HasCleanDisk, Survives};
+ghost use Rattle.sqlite.specs.declared.types.Value.TheVariants.{Int};
+ghost use Rattle.keyed_rows.specs.Changed.{delete_rows};
+ghost use Rattle.keyed_rows.specs.Ordered.{add_row};
+ghost use Rattle.bank_terms.specs.Procedure.{number_of};
+ghost use Rattle.kept_rows.specs.Named.{IsFree};
+ghost use Rattle.kept_rows.specs.Sheets.{Sheets};
+ghost use Rattle.bank_schema.specs.Held.{HoldsTables};
+ghost use Rattle.bank_schema.specs.Steps.{StaysOpen, Steps, Tells};
+ghost use Rattle.bank_policy.specs.HeldRows.{is_triple_of};
+ghost use Rattle.bank_policy.specs.PolicyKeys.{triple_key, triple_number};
+ghost use Rattle.bank_policy.specs.declared.rows.Triple.{Triple as TheTriple};
+ghost use Rattle.bank_schema.specs.Cells.{triple_cells};
+ghost use Rattle.policy_tables.specs.Tests.{is_triple_by, is_triple_numbered};
+ghost use Rattle.policy_tables.specs.Texts.{add_triple_text, remove_triple_text};
+
+use bank_policy::{Triple, TripleKey};
+use bank_schema::{fault_of, number_at, procedure_at};
+use bank_terms::Procedure;
+use money::Fault;
+use sqlite::{Alter, Error, Row, Transaction, params};
+use std::alloc::Global;
+
+/// The row of this key: one, or none.
+fn select_triple<S: Alter>(tx: &mut Transaction<'_, S>, user: u32, procedure: u32, set: u32) -> Result<Vec<Row>, Error>
+    ensures same_reference { tx.new.conn.ghost_name ≡ tx.old.conn.ghost_name }
+    ensures rows { HasCleanDisk (state S.Store tx.new.conn.now) → (s : Sheets) → HoldsTables (state S.Store tx.old.conn.now).now s → IfOk result (λ rows. rows.items ≡ map triple_cells (cons_option (find (λ r. triple_key r == 2 ^ 64 * user + 2 ^ 32 * procedure + set) s.triples) [])) }
+    ensures steps { Steps (state S.Store tx.old.conn.now) (state S.Store tx.new.conn.now) (λ s. s) result }
+    ensures open { StaysOpen (state S.Store tx.old.conn.now) (state S.Store tx.new.conn.now) result }
+    ensures survives { Survives (state S.Store tx.old.conn.now) (state S.Store tx.new.conn.now) (λ _. ⊥) }
+{
+    tx.query_all(
+        "SELECT user_no, procedure, set_no, ceiling FROM triples WHERE user_no = ?1 AND procedure = ?2 AND set_no = ?3",
+        params![user, procedure, set],
+    )
+}
+
+/// The rows of the user and the procedure of this number, by set.
+fn select_triples<S: Alter>(tx: &mut Transaction<'_, S>, user: u32, procedure: u32) -> Result<Vec<Row>, Error>
+    ensures same_reference { tx.new.conn.ghost_name ≡ tx.old.conn.ghost_name }
+    ensures rows { HasCleanDisk (state S.Store tx.new.conn.now) → (s : Sheets) → HoldsTables (state S.Store tx.old.conn.now).now s → IfOk result (λ rows. rows.items ≡ map triple_cells (filter (is_triple_numbered user procedure) s.triples)) }
+    ensures steps { Steps (state S.Store tx.old.conn.now) (state S.Store tx.new.conn.now) (λ s. s) result }
+    ensures open { StaysOpen (state S.Store tx.old.conn.now) (state S.Store tx.new.conn.now) result }
+    ensures survives { Survives (state S.Store tx.old.conn.now) (state S.Store tx.new.conn.now) (λ _. ⊥) }
+{
+    tx.query_all(
+        "SELECT user_no, procedure, set_no, ceiling FROM triples WHERE user_no = ?1 AND procedure = ?2 ORDER BY set_no",
+        params![user, procedure],
+    )
+}
+
+/// The rows of the user, by procedure and set.
+fn select_user_triples<S: Alter>(tx: &mut Transaction<'_, S>, user: u32) -> Result<Vec<Row>, Error>
+    ensures same_reference { tx.new.conn.ghost_name ≡ tx.old.conn.ghost_name }
+    ensures rows { HasCleanDisk (state S.Store tx.new.conn.now) → (s : Sheets) → HoldsTables (state S.Store tx.old.conn.now).now s → IfOk result (λ rows. length rows.items ≡ length (filter (is_triple_by user) s.triples)) }
+    ensures steps { Steps (state S.Store tx.old.conn.now) (state S.Store tx.new.conn.now) (λ s. s) result }
+    ensures open { StaysOpen (state S.Store tx.old.conn.now) (state S.Store tx.new.conn.now) result }
+    ensures survives { Survives (state S.Store tx.old.conn.now) (state S.Store tx.new.conn.now) (λ _. ⊥) }
+{
+    tx.query_all(
+        "SELECT user_no, procedure, set_no, ceiling FROM triples WHERE user_no = ?1 ORDER BY procedure, set_no",
+        params![user],
+    )
+}
+
+fn read_triple(row: &Row) -> Result<Triple, Fault>
+    ensures { IfOk result (λ a. (b : TheTriple) → row.now ≡ triple_cells b → a ≡ b) }
+{
+    Ok(Triple {
+        user: number_at(row, 0)?,
+        procedure: procedure_at(row, 1)?,
+        set: number_at(row, 2)?,
+        limit: number_at(row, 3)?,
+    })
+}
+
+/// All of these rows.
+fn read_triples(alloc: Global, rows: &[Row]) -> Result<Vec<Triple>, Fault>
+    ensures { IfOk result (λ list. (there : List TheTriple) → rows.now ≡ map triple_cells there → list.items ≡ there) }
+{
+    let mut list = Vec::new(alloc);
+    for row in rows {
+        list.push(read_triple(row)?)?;
+    }
+    Ok(list)
+}
+
+/// The triple of this user, this procedure and this set, if it is there.
+pub fn triple_of<S: Alter>(tx: &mut Transaction<'_, S>, user: u32, procedure: Procedure, set: u32) -> Result<Option<Triple>, Fault>
+    ensures same_reference { tx.new.conn.ghost_name ≡ tx.old.conn.ghost_name }
+    ensures found { HasCleanDisk (state S.Store tx.new.conn.now) → (s : Sheets) → HoldsTables (state S.Store tx.old.conn.now).now s → IfOk result (λ found. found ≡ find (λ r. triple_key r == triple_number user procedure set) s.triples) }
+    ensures steps { Steps (state S.Store tx.old.conn.now) (state S.Store tx.new.conn.now) (λ s. s) result }
+    ensures open { StaysOpen (state S.Store tx.old.conn.now) (state S.Store tx.new.conn.now) result }
+    ensures survives { Survives (state S.Store tx.old.conn.now) (state S.Store tx.new.conn.now) (λ _. ⊥) }
+{
+    let rows = match select_triple(tx, user, procedure.number() as u32, set) {
+        Ok(rows) => rows,
+        Err(error) => return Err(fault_of(error)),
+    };
+    match rows.first() {
+        Some(row) => Ok(Some(read_triple(row)?)),
+        None => Ok(None),
+    }
+}
+
+/// The triples of this user for this procedure, by set.
+pub fn triples_in<S: Alter>(alloc: Global, tx: &mut Transaction<'_, S>, user: u32, procedure: Procedure) -> Result<Vec<Triple>, Fault>
+    ensures same_reference { tx.new.conn.ghost_name ≡ tx.old.conn.ghost_name }
+    ensures found { HasCleanDisk (state S.Store tx.new.conn.now) → (s : Sheets) → HoldsTables (state S.Store tx.old.conn.now).now s → IfOk result (λ list. list.items ≡ filter (is_triple_of user procedure) s.triples) }
+    ensures steps { Steps (state S.Store tx.old.conn.now) (state S.Store tx.new.conn.now) (λ s. s) result }
+    ensures open { StaysOpen (state S.Store tx.old.conn.now) (state S.Store tx.new.conn.now) result }
+    ensures survives { Survives (state S.Store tx.old.conn.now) (state S.Store tx.new.conn.now) (λ _. ⊥) }
+{
+    match select_triples(tx, user, procedure.number() as u32) {
+        Ok(rows) => read_triples(alloc, &rows),
+        Err(error) => Err(fault_of(error)),
+    }
+}
+
+/// How many triples the user has.
+pub fn triple_count<S: Alter>(tx: &mut Transaction<'_, S>, user: u32) -> Result<u64, Fault>
+    ensures same_reference { tx.new.conn.ghost_name ≡ tx.old.conn.ghost_name }
+    ensures found { HasCleanDisk (state S.Store tx.new.conn.now) → (s : Sheets) → HoldsTables (state S.Store tx.old.conn.now).now s → IfOk result (λ count. count ≡ length (filter (is_triple_by user) s.triples)) }
+    ensures steps { Steps (state S.Store tx.old.conn.now) (state S.Store tx.new.conn.now) (λ s. s) result }
+    ensures open { StaysOpen (state S.Store tx.old.conn.now) (state S.Store tx.new.conn.now) result }
+    ensures survives { Survives (state S.Store tx.old.conn.now) (state S.Store tx.new.conn.now) (λ _. ⊥) }
+{
+    match select_user_triples(tx, user) {
+        Ok(rows) => Ok(rows.len() as u64),
+        Err(error) => Err(fault_of(error)),
+    }
+}
+
+fn insert_triple<S: Alter>(tx: &mut Transaction<'_, S>, triple: &Triple, procedure: u32) -> Result<usize, Error>
+    ensures same_reference { tx.new.conn.ghost_name ≡ tx.old.conn.ghost_name }
+    ensures runs { HasCleanDisk (state S.Store tx.new.conn.now) → IsTrue (state S.Store tx.old.conn.now).in_transaction → ExecutesInside 0 add_triple_text (Int (pos triple.now.user) ∷ Int (pos procedure) ∷ Int (pos triple.now.set) ∷ Int (pos triple.now.limit) ∷ []) (state S.Store tx.old.conn.now) (state S.Store tx.new.conn.now) result }
+    ensures small { triple.now.set < 2 ^ 32 }
+    ensures survives { Survives (state S.Store tx.old.conn.now) (state S.Store tx.new.conn.now) (λ _. ⊥) }
+{
+    tx.execute(
+        "INSERT INTO triples (user_no, procedure, set_no, ceiling) VALUES (?1, ?2, ?3, ?4)",
+        params![triple.user, procedure, triple.set, triple.limit],
+    )
+}
+
+/// Adds a triple. One of its key that is there already is a fault of the disk, and so is one of no relation.
+pub fn add_triple<S: Alter>(tx: &mut Transaction<'_, S>, triple: &Triple) -> Result<(), Fault>
+    ensures same_reference { tx.new.conn.ghost_name ≡ tx.old.conn.ghost_name }
+    ensures steps { Steps (state S.Store tx.old.conn.now) (state S.Store tx.new.conn.now) (λ s. record s { triples = add_row triple_key triple.now s.triples }) result }
+    ensures free { Tells (state S.Store tx.old.conn.now) (state S.Store tx.new.conn.now) (λ s. IsFree triple_key s.triples (triple_key triple.now)) result }
+    ensures survives { Survives (state S.Store tx.old.conn.now) (state S.Store tx.new.conn.now) (λ _. ⊥) }
+{
+    let procedure = triple.procedure.number() as u32;
+    match insert_triple(tx, triple, procedure) {
+        Ok(_) => Ok(()),
+        Err(error) => Err(fault_of(error)),
+    }
+}
+
+fn delete_triple<S: Alter>(tx: &mut Transaction<'_, S>, key: &TripleKey, procedure: u32) -> Result<usize, Error>
+    ensures same_reference { tx.new.conn.ghost_name ≡ tx.old.conn.ghost_name }
+    ensures runs { HasCleanDisk (state S.Store tx.new.conn.now) → IsTrue (state S.Store tx.old.conn.now).in_transaction → ExecutesInside 0 remove_triple_text (Int (pos key.now.user) ∷ Int (pos procedure) ∷ Int (pos key.now.set) ∷ []) (state S.Store tx.old.conn.now) (state S.Store tx.new.conn.now) result }
+    ensures small { key.now.set < 2 ^ 32 }
+    ensures survives { Survives (state S.Store tx.old.conn.now) (state S.Store tx.new.conn.now) (λ _. ⊥) }
+{
+    tx.execute(
+        "DELETE FROM triples WHERE user_no = ?1 AND procedure = ?2 AND set_no = ?3",
+        params![key.user, procedure, key.set],
+    )
+}
+
+/// Takes a triple away. One that isn't there is passed over.
+pub fn remove_triple<S: Alter>(tx: &mut Transaction<'_, S>, key: &TripleKey) -> Result<(), Fault>
+    ensures same_reference { tx.new.conn.ghost_name ≡ tx.old.conn.ghost_name }
+    ensures steps { Steps (state S.Store tx.old.conn.now) (state S.Store tx.new.conn.now) (λ s. record s { triples = delete_rows triple_key (triple_number key.now.user key.now.procedure key.now.set) s.triples }) result }
+    ensures survives { Survives (state S.Store tx.old.conn.now) (state S.Store tx.new.conn.now) (λ _. ⊥) }
+{
+    let procedure = key.procedure.number() as u32;
+    match delete_triple(tx, key, procedure) {
+        Ok(_) => Ok(()),
+        Err(error) => Err(fault_of(error)),
+    }
+}

@@ -1,0 +1,160 @@
+ghost use Rattle.std.specs.Prelude.{◌≡◌, ◌==◌, ◌∷◌, [], pos, map, IfOk, IsTrue};
+ghost use Rattle.std.specs.List.{cons_option, find};
+ghost use Rattle.sqlite.specs.Held.{state};
+ghost use Rattle.sqlite.specs.State.{ExecutesInside, HasCleanDisk, Survives};
+ghost use Rattle.sqlite.specs.declared.types.Value.{Value};
+ghost use Rattle.sqlite.specs.declared.types.Value.TheVariants.{Int, Text};
+ghost use Rattle.sqlite_value.specs.Order.{column};
+ghost use Rattle.keyed_rows.specs.Ordered.{add_row};
+ghost use Rattle.kept_rows.specs.Named.{IsFree};
+ghost use Rattle.kept_rows.specs.Sheets.{Sheets, set_row, user_no};
+ghost use Rattle.kept_rows.specs.declared.records.KeptUser.{KeptUser as TheUser};
+ghost use Rattle.bank_schema.specs.Held.{HoldsTables};
+ghost use Rattle.bank_schema.specs.Numbers.{truth_cell};
+ghost use Rattle.bank_schema.specs.Steps.{StaysOpen, Steps, Tells};
+ghost use Rattle.policy_tables.specs.Shown.{given_user, shown_user};
+ghost use Rattle.policy_tables.specs.Texts.{add_user_text, set_user_text};
+
+use bank_policy::{Name, User};
+use bank_schema::{count_at, count_cell, fault_of, number_at, truth_at};
+use kept_rows::KeptUser;
+use money::Fault;
+use sqlite::{Alter, Error, Row, Transaction, params};
+use std::alloc::Global;
+
+/// The row of this user: one, or none.
+fn select_user<S: Alter>(tx: &mut Transaction<'_, S>, user: u32) -> Result<Vec<Row>, Error>
+    ensures same_reference { tx.new.conn.ghost_name ≡ tx.old.conn.ghost_name }
+    ensures rows { HasCleanDisk (state S.Store tx.new.conn.now) → (s : Sheets) → HoldsTables (state S.Store tx.old.conn.now).now s → IfOk result (λ rows. rows.items ≡ map shown_user (cons_option (find (λ u. user_no u == user) s.users) [])) }
+    ensures steps { Steps (state S.Store tx.old.conn.now) (state S.Store tx.new.conn.now) (λ s. s) result }
+    ensures open { StaysOpen (state S.Store tx.old.conn.now) (state S.Store tx.new.conn.now) result }
+    ensures survives { Survives (state S.Store tx.old.conn.now) (state S.Store tx.new.conn.now) (λ _. ⊥) }
+{
+    tx.query_all(
+        "SELECT user_no, name, officer, suspended, session, is_on, releases FROM users WHERE user_no = ?1",
+        params![user],
+    )
+}
+
+fn read_name(alloc: Global, row: &Row) -> Result<Name, Fault>
+    ensures { IfOk result (λ name. column row.now 1 ≡ Text name) }
+{
+    match row.get::<String>(1) {
+        Ok(text) => Ok(Name::new(alloc, text.as_str())?),
+        Err(error) => Err(fault_of(error)),
+    }
+}
+
+fn read_user(alloc: Global, row: &Row) -> Result<KeptUser, Fault>
+    ensures { IfOk result (λ a. (b : TheUser) → row.now ≡ shown_user b → a ≡ b) }
+{
+    Ok(KeptUser {
+        row: User {
+            user: number_at(row, 0)?,
+            name: read_name(alloc, row)?,
+            officer: truth_at(row, 2)?,
+            suspended: truth_at(row, 3)?,
+            session: number_at(row, 4)?,
+            on: truth_at(row, 5)?,
+        },
+        releases: count_at(row, 6)?,
+    })
+}
+
+/// The user of this number with how many releases he was given, if he is there.
+pub fn user_of<S: Alter>(alloc: Global, tx: &mut Transaction<'_, S>, user: u32) -> Result<Option<KeptUser>, Fault>
+    ensures same_reference { tx.new.conn.ghost_name ≡ tx.old.conn.ghost_name }
+    ensures found { HasCleanDisk (state S.Store tx.new.conn.now) → (s : Sheets) → HoldsTables (state S.Store tx.old.conn.now).now s → IfOk result (λ found. found ≡ find (λ u. user_no u == user) s.users) }
+    ensures steps { Steps (state S.Store tx.old.conn.now) (state S.Store tx.new.conn.now) (λ s. s) result }
+    ensures open { StaysOpen (state S.Store tx.old.conn.now) (state S.Store tx.new.conn.now) result }
+    ensures survives { Survives (state S.Store tx.old.conn.now) (state S.Store tx.new.conn.now) (λ _. ⊥) }
+{
+    let rows = match select_user(tx, user) {
+        Ok(rows) => rows,
+        Err(error) => return Err(fault_of(error)),
+    };
+    match rows.first() {
+        Some(row) => Ok(Some(read_user(alloc, row)?)),
+        None => Ok(None),
+    }
+}
+
+/// What is given with the statement that writes a user, beside his name.
+#[derive(Clone, Copy, Debug)]
+struct UserCells {
+    user: u32,
+    officer: u32,
+    suspended: u32,
+    session: u32,
+    on: u32,
+    releases: i64,
+}
+
+fn truth_number(truth: bool) -> u32
+    ensures { Int (pos result) ≡ truth_cell truth }
+{
+    if truth { 1 } else { 0 }
+}
+
+fn cells_of(kept: &KeptUser) -> Result<UserCells, Fault>
+    ensures { IfOk result (λ c. given_user c kept.now.row.name ≡ shown_user kept.now) }
+{
+    Ok(UserCells {
+        user: kept.row.user,
+        officer: truth_number(kept.row.officer),
+        suspended: truth_number(kept.row.suspended),
+        session: kept.row.session,
+        on: truth_number(kept.row.on),
+        releases: count_cell(kept.releases)?,
+    })
+}
+
+fn insert_user<S: Alter>(tx: &mut Transaction<'_, S>, cells: &UserCells, name: &str) -> Result<usize, Error>
+    ensures same_reference { tx.new.conn.ghost_name ≡ tx.old.conn.ghost_name }
+    ensures runs { HasCleanDisk (state S.Store tx.new.conn.now) → IsTrue (state S.Store tx.old.conn.now).in_transaction → ExecutesInside 0 add_user_text (given_user cells.now name.now) (state S.Store tx.old.conn.now) (state S.Store tx.new.conn.now) result }
+    ensures survives { Survives (state S.Store tx.old.conn.now) (state S.Store tx.new.conn.now) (λ _. ⊥) }
+{
+    tx.execute(
+        "INSERT INTO users (user_no, name, officer, suspended, session, is_on, releases) VALUES (?1, ?2, ?3, ?4, ?5, ?6, ?7)",
+        params![cells.user, name, cells.officer, cells.suspended, cells.session, cells.on, &cells.releases],
+    )
+}
+
+/// Adds a user. One of his number who is there already is a fault of the disk, and a number of releases of more than 63 bits one of size.
+pub fn add_user<S: Alter>(tx: &mut Transaction<'_, S>, kept: &KeptUser) -> Result<(), Fault>
+    ensures same_reference { tx.new.conn.ghost_name ≡ tx.old.conn.ghost_name }
+    ensures steps { Steps (state S.Store tx.old.conn.now) (state S.Store tx.new.conn.now) (λ s. record s { users = add_row user_no kept.now s.users }) result }
+    ensures free { Tells (state S.Store tx.old.conn.now) (state S.Store tx.new.conn.now) (λ s. IsFree user_no s.users (user_no kept.now)) result }
+    ensures survives { Survives (state S.Store tx.old.conn.now) (state S.Store tx.new.conn.now) (λ _. ⊥) }
+{
+    let cells = cells_of(kept)?;
+    match insert_user(tx, &cells, kept.row.name.as_str()) {
+        Ok(_) => Ok(()),
+        Err(error) => Err(fault_of(error)),
+    }
+}
+
+fn update_user<S: Alter>(tx: &mut Transaction<'_, S>, cells: &UserCells, name: &str) -> Result<usize, Error>
+    ensures same_reference { tx.new.conn.ghost_name ≡ tx.old.conn.ghost_name }
+    ensures runs { HasCleanDisk (state S.Store tx.new.conn.now) → IsTrue (state S.Store tx.old.conn.now).in_transaction → ExecutesInside 0 set_user_text (given_user cells.now name.now) (state S.Store tx.old.conn.now) (state S.Store tx.new.conn.now) result }
+    ensures survives { Survives (state S.Store tx.old.conn.now) (state S.Store tx.new.conn.now) (λ _. ⊥) }
+{
+    tx.execute(
+        "UPDATE users SET name = ?2, officer = ?3, suspended = ?4, session = ?5, is_on = ?6, releases = ?7 WHERE user_no = ?1",
+        params![cells.user, name, cells.officer, cells.suspended, cells.session, cells.on, &cells.releases],
+    )
+}
+
+/// Writes this user in place of the one of his number. Where there is none it writes nothing. A number of releases of more than 63 bits is
+/// a fault of size.
+pub fn set_user<S: Alter>(tx: &mut Transaction<'_, S>, kept: &KeptUser) -> Result<(), Fault>
+    ensures same_reference { tx.new.conn.ghost_name ≡ tx.old.conn.ghost_name }
+    ensures steps { Steps (state S.Store tx.old.conn.now) (state S.Store tx.new.conn.now) (λ s. record s { users = set_row user_no kept.now s.users }) result }
+    ensures survives { Survives (state S.Store tx.old.conn.now) (state S.Store tx.new.conn.now) (λ _. ⊥) }
+{
+    let cells = cells_of(kept)?;
+    match update_user(tx, &cells, kept.row.name.as_str()) {
+        Ok(_) => Ok(()),
+        Err(error) => Err(fault_of(error)),
+    }
+}
