@@ -1,5 +1,5 @@
 -- UPDATE of the row of a key by what some of its columns become, while the others stay.
-use Rattle.std.proofs.Common.{◌≡◌, ℕ, List, [], ◌∷◌, map, filter, drop, length, slice_get, Bool, true, false, not, cond, refl, ap, arith, sym, ◌∙◌, subst, ◌==◌, ◌&&◌, ◌≤◌, Some, None, Option, Ok, IsPermutation, inl, Contains}
+use Rattle.std.proofs.Common.{◌≡◌, ℕ, List, [], ◌∷◌, map, filter, drop, slice_get, Bool, true, false, not, cond, refl, ap, arith, sym, ◌∙◌, subst, ◌==◌, ◌&&◌, Some, None, Option, Ok, IsPermutation, Contains}
 use Rattle.std.specs.Prelude.{if◌then◌else◌}
 use Rattle.std.specs.List.{find, cons_option}
 use Rattle.std.proofs.lemmas.Bool.{and_parts, eqb-true}
@@ -134,8 +134,8 @@ module _ {X : Type 0} (shows back : Row → Row) (cells : X → Row) (key : X �
           let named = found_row key k xs x found in
           let same : key (anew x) ≡ k = keeps x ∙ named.1 in
           let set = held_set shows cells key Fits (anew x) x (changed r) (passes terms params) (λ c. passes terms params (back c)) xs (old table.tree) holds
-              (subst (λ j. find (λ y. key y == j) xs ≡ Some x) (sym same) found) reads (λ y fit. passing y fit ∙ ap (λ j. key y == j) (sym same)) (made r x one.2)
-              (and_parts _ true keyed).0 free (still x (holds.fit x named.0)) in
+          (subst (λ j. find (λ y. key y == j) xs ≡ Some x) (sym same) found) reads (λ y fit. passing y fit ∙ ap (λ j. key y == j) (sym same)) (made r x one.2)
+          (and_parts _ true keyed).0 free (still x (holds.fit x named.0)) in
           subst (λ l. Held l (next table.tree)) (set_row-changes key k anew x xs holds.ordered.distinct found same) (subst (Held (set_row key (anew x) xs)) (sym now) set)
 
   pub changes_row : ((olds news : List Row) → works bank_schema Enforced 0 table.tree olds news ≡ []) → (old new : State) (xs : List X) (count : ℕ) → old.now.schema ≡ bank_schema

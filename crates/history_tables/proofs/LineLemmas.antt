@@ -1,5 +1,5 @@
 -- What the INSERT of a line does.
-use Rattle.std.proofs.Common.{◌≡◌, ◌/◌, ◌<◌, ◌+◌, ◌*◌, ◌^◌, ℕ, pos, List, [], ◌∷◌, drop, codes, true, Ok, inl, inr, refl}
+use Rattle.std.proofs.Common.{◌≡◌, ◌/◌, ℕ, pos, List, [], ◌∷◌, drop, codes, true, Ok, inl, inr, refl}
 use Rattle.sqlite.specs.declared.types.Value.TheVariants.{Null, Int}
 use Rattle.sqlite.specs.Command.TheVariants.{Insert}
 use Rattle.sqlite.specs.Edit.{edit_of}
@@ -66,7 +66,7 @@ adds_line old new s r count fit holds h =
     let row = new_line (old.now.trees 17) r in
     let put = puts lines_table row (value_rows (line_cells r) 9 (9 / 9) add_line_terms) old.now.trees new.now.trees it.applies (news_are old.now.trees r) in
     let free = apart_by_index line_cells line_key LineFits lines_table line_index (inr (inr (inr (inr (inr (inr (inr (inr (inr (inr (inr (inl refl))))))))))))
-        (inr (inr (inr (inr (inr (inr (inl refl))))))) refl blind alike old.now.trees new.now.trees row r s.lines put refl fit (holds.rows in_lines) in
+    (inr (inr (inr (inr (inr (inr (inl refl))))))) refl blind alike old.now.trees new.now.trees row r s.lines put refl fit (holds.rows in_lines) in
     record {
       schema = it.schema_is;
       sound = it.sound;

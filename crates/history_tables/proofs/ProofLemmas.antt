@@ -1,5 +1,5 @@
 -- What the INSERT of a proof does.
-use Rattle.std.proofs.Common.{◌≡◌, ◌/◌, ◌<◌, ◌+◌, ◌*◌, ◌^◌, ℕ, pos, List, [], ◌∷◌, drop, codes, true, Ok, inl, inr, refl, ap, subst}
+use Rattle.std.proofs.Common.{◌≡◌, ◌/◌, ◌<◌, ◌^◌, ℕ, pos, List, [], ◌∷◌, drop, codes, true, Ok, inl, inr, refl, ap, subst}
 use Rattle.sqlite.specs.declared.types.Value.TheVariants.{Null, Int}
 use Rattle.sqlite.specs.Command.TheVariants.{Insert}
 use Rattle.sqlite.specs.Edit.{edit_of}
@@ -69,13 +69,15 @@ adds_proof old new s r count fit holds h =
     let row = new_proof (old.now.trees 19) r in
     let put = puts proofs_table row (value_rows (proof_cells r) 6 (6 / 6) add_proof_terms) old.now.trees new.now.trees it.applies (news_are old.now.trees r) in
     let free = apart_by_index proof_cells proof_key ProofFits proofs_table proof_index (inr (inr (inr (inr (inr (inr (inr (inr (inr (inr (inr (inr (inl refl)))))))))))))
-        (inr (inr (inr (inr (inr (inr (inr (inl refl)))))))) refl blind alike old.now.trees new.now.trees row r s.proofs put refl fit (holds.rows in_proofs) in
-    (record {
-      schema = it.schema_is;
-      sound = it.sound;
-      rows = with_proofs old.now.trees new.now.trees s (add_row proof_key r s.proofs) holds.rows it.applies.tables
-          (adds_by_columns proof_cells proof_key ProofFits proofs_table old.now.trees new.now.trees row r s.proofs put refl fit free (holds.rows in_proofs));
-    }, free)
+    (inr (inr (inr (inr (inr (inr (inr (inl refl)))))))) refl blind alike old.now.trees new.now.trees row r s.proofs put refl fit (holds.rows in_proofs) in (
+      record {
+        schema = it.schema_is;
+        sound = it.sound;
+        rows = with_proofs old.now.trees new.now.trees s (add_row proof_key r s.proofs) holds.rows it.applies.tables
+            (adds_by_columns proof_cells proof_key ProofFits proofs_table old.now.trees new.now.trees row r s.proofs put refl fit free (holds.rows in_proofs));
+      },
+      free,
+    )
 
 -- ---- what is given with it
 

@@ -1,5 +1,5 @@
 -- What the statements on the releases do.
-use Rattle.std.proofs.Common.{◌≡◌, ◌/◌, ◌<◌, ◌+◌, ◌*◌, ◌^◌, ◌≤◌, ℕ, pos, List, [], ◌∷◌, map, filter, drop, length, codes, Bool, true, false, Ok, inl, inr, refl, ap, arith, sym, ◌∙◌, subst, ◌==◌, ◌&&◌, slice_index_or}
+use Rattle.std.proofs.Common.{◌≡◌, ◌/◌, ◌<◌, ◌^◌, ◌≤◌, ℕ, pos, List, [], ◌∷◌, map, filter, drop, length, codes, Bool, true, false, Ok, inl, inr, refl, ap, sym, ◌∙◌, subst, ◌==◌, ◌&&◌, slice_index_or}
 use Rattle.std.specs.List.{find, cons_option}
 use Rattle.sqlite.specs.declared.types.Value.{Value}
 use Rattle.sqlite.specs.declared.types.Value.TheVariants.{Null, Int}
@@ -126,10 +126,24 @@ new_release rows r = Int (next_rowid rows) ∷ release_cells r
 
 news_are : (db : Trees) (r : Release) → (edit_of db releases_table [] Chosen 0 (value_rows (release_cells r) 16 (16 / 16) add_release_terms)).news ≡ new_release (db 21) r ∷ []
 news_are db r =
-    rw (cast_null, cast_int (pos r.user), cast_int (pos r.number), cast_int (pos r.giver), cast_int (pos r.branch), cast_int (pos r.day), cast_int (pos (number_of r.operation.form)),
-    cast_int (slice_index_or r.operation.members 0 (pos 0)), cast_int (slice_index_or r.operation.members 1 (pos 0)), cast_int (slice_index_or r.operation.members 2 (pos 0)), cast_int (slice_index_or r.operation.members 3 (pos 0)),
-    cast_int (slice_index_or r.operation.members 4 (pos 0)), cast_int (slice_index_or r.operation.members 5 (pos 0)), cast_int (slice_index_or r.operation.members 6 (pos 0)), cast_int (slice_index_or r.operation.members 7 (pos 0)),
-    cast_truth r.used) refl
+    rw (
+      cast_null,
+      cast_int (pos r.user),
+      cast_int (pos r.number),
+      cast_int (pos r.giver),
+      cast_int (pos r.branch),
+      cast_int (pos r.day),
+      cast_int (pos (number_of r.operation.form)),
+      cast_int (slice_index_or r.operation.members 0 (pos 0)),
+      cast_int (slice_index_or r.operation.members 1 (pos 0)),
+      cast_int (slice_index_or r.operation.members 2 (pos 0)),
+      cast_int (slice_index_or r.operation.members 3 (pos 0)),
+      cast_int (slice_index_or r.operation.members 4 (pos 0)),
+      cast_int (slice_index_or r.operation.members 5 (pos 0)),
+      cast_int (slice_index_or r.operation.members 6 (pos 0)),
+      cast_int (slice_index_or r.operation.members 7 (pos 0)),
+      cast_truth r.used,
+    ) refl
 
 pub adds_release : (old new : State) (s : Sheets) (r : Release) (count : ℕ) → ReleaseFits r → HoldsTables old.now s → Executes add_release_text (release_cells r) old new (Ok count)
     → HoldsTables new.now (record s { releases = add_row release_key r s.releases })
@@ -138,7 +152,7 @@ adds_release old new s r count fit holds h =
     let row = new_release (old.now.trees 21) r in
     let put = puts releases_table row (value_rows (release_cells r) 16 (16 / 16) add_release_terms) old.now.trees new.now.trees it.applies (news_are old.now.trees r) in
     let free = apart_by_index release_cells release_key ReleaseFits releases_table release_index (inr (inr (inr (inr (inr (inr (inr (inr (inr (inr (inr (inr (inr (inl refl))))))))))))))
-        (inr (inr (inr (inr (inr (inr (inr (inr (inl refl))))))))) refl blind alike old.now.trees new.now.trees row r s.releases put refl fit (holds.rows in_releases) in
+    (inr (inr (inr (inr (inr (inr (inr (inr (inl refl))))))))) refl blind alike old.now.trees new.now.trees row r s.releases put refl fit (holds.rows in_releases) in
     record {
       schema = it.schema_is;
       sound = it.sound;
@@ -159,10 +173,23 @@ use_up_is = (refl, (refl, refl))
 
 used_casts : (v : Value) (x : Release) → all_but_rowid (cast_row releases_table (v ∷ release_cells (used_up x))) ≡ release_cells (used_up x)
 used_casts v x =
-    rw (cast_int (pos x.user), cast_int (pos x.number), cast_int (pos x.giver), cast_int (pos x.branch), cast_int (pos x.day), cast_int (pos (number_of x.operation.form)),
-    cast_int (slice_index_or x.operation.members 0 (pos 0)), cast_int (slice_index_or x.operation.members 1 (pos 0)), cast_int (slice_index_or x.operation.members 2 (pos 0)), cast_int (slice_index_or x.operation.members 3 (pos 0)),
-    cast_int (slice_index_or x.operation.members 4 (pos 0)), cast_int (slice_index_or x.operation.members 5 (pos 0)), cast_int (slice_index_or x.operation.members 6 (pos 0)), cast_int (slice_index_or x.operation.members 7 (pos 0)),
-    cast_int (pos 1)) refl
+    rw (
+      cast_int (pos x.user),
+      cast_int (pos x.number),
+      cast_int (pos x.giver),
+      cast_int (pos x.branch),
+      cast_int (pos x.day),
+      cast_int (pos (number_of x.operation.form)),
+      cast_int (slice_index_or x.operation.members 0 (pos 0)),
+      cast_int (slice_index_or x.operation.members 1 (pos 0)),
+      cast_int (slice_index_or x.operation.members 2 (pos 0)),
+      cast_int (slice_index_or x.operation.members 3 (pos 0)),
+      cast_int (slice_index_or x.operation.members 4 (pos 0)),
+      cast_int (slice_index_or x.operation.members 5 (pos 0)),
+      cast_int (slice_index_or x.operation.members 6 (pos 0)),
+      cast_int (slice_index_or x.operation.members 7 (pos 0)),
+      cast_int (pos 1),
+    ) refl
 
 -- the row that an UPDATE makes of that of the release
 made : (params r : Row) (x : Release) → all_but_rowid r ≡ release_cells x
@@ -178,8 +205,8 @@ pub uses_up : (old new : State) (s : Sheets) (k : ReleaseKey) (count : ℕ) → 
 uses_up old new s k count small holds h =
     let params = Int (pos k.user) ∷ Int (pos k.number) ∷ [] in
     let it = changes_row all_but_rowid (λ c. Null ∷ c) release_cells release_key ReleaseFits 13 releases_table (λ db. refl) by_two use_up_columns use_up_text params (release_number k.user k.number) used_up
-        (λ x. refl) still_fits use_up_is.0 use_up_is.1 refl (λ r. (release_reads params r).0) (λ x fit. two_equal x.user x.number k.user k.number ∙ by_number k.user k.number small x fit) (λ r. refl)
-        (made params) (λ olds news. nothing_set_off 0 21 refl olds news) old new s.releases count holds.schema (holds.rows in_releases) h in
+    (λ x. refl) still_fits use_up_is.0 use_up_is.1 refl (λ r. (release_reads params r).0) (λ x fit. two_equal x.user x.number k.user k.number ∙ by_number k.user k.number small x fit) (λ r. refl)
+    (made params) (λ olds news. nothing_set_off 0 21 refl olds news) old new s.releases count holds.schema (holds.rows in_releases) h in
     record {
       schema = it.schema;
       sound = it.sound;

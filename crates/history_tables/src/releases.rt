@@ -22,7 +22,11 @@ use money::Fault;
 use sqlite::{Alter, Error, Row, Transaction, params};
 
 /// The release of this key: one, or none.
-fn select_release<S: Alter>(tx: &mut Transaction<'_, S>, user: u32, number: u32) -> Result<Vec<Row>, Error>
+fn select_release<S: Alter>(
+    tx: &mut Transaction<'_, S>,
+    user: u32,
+    number: u32,
+) -> Result<Vec<Row>, Error>
     ensures same_reference { tx.new.conn.ghost_name ≡ tx.old.conn.ghost_name }
     ensures rows { HasCleanDisk (state S.Store tx.new.conn.now) → (s : Sheets) → HoldsTables (state S.Store tx.old.conn.now).now s → IfOk result (λ rows. rows.items ≡ map release_cells (cons_option (find (λ r. release_key r == release_number user number) s.releases) [])) }
     ensures steps { Steps (state S.Store tx.old.conn.now) (state S.Store tx.new.conn.now) (λ s. s) result }
@@ -69,7 +73,11 @@ fn read_release(row: &Row) -> Result<Release, Fault>
 }
 
 /// The release of this user and this number, if it is there.
-pub fn release_of<S: Alter>(tx: &mut Transaction<'_, S>, user: u32, number: u32) -> Result<Option<Release>, Fault>
+pub fn release_of<S: Alter>(
+    tx: &mut Transaction<'_, S>,
+    user: u32,
+    number: u32,
+) -> Result<Option<Release>, Fault>
     ensures same_reference { tx.new.conn.ghost_name ≡ tx.old.conn.ghost_name }
     ensures found { HasCleanDisk (state S.Store tx.new.conn.now) → (s : Sheets) → HoldsTables (state S.Store tx.old.conn.now).now s → IfOk result (λ found. found ≡ find (λ r. release_key r == release_number user number) s.releases) }
     ensures steps { Steps (state S.Store tx.old.conn.now) (state S.Store tx.new.conn.now) (λ s. s) result }
@@ -136,7 +144,10 @@ fn cells_of(release: &Release) -> ReleaseCells
     }
 }
 
-fn insert_release<S: Alter>(tx: &mut Transaction<'_, S>, cells: &ReleaseCells) -> Result<usize, Error>
+fn insert_release<S: Alter>(
+    tx: &mut Transaction<'_, S>,
+    cells: &ReleaseCells,
+) -> Result<usize, Error>
     ensures same_reference { tx.new.conn.ghost_name ≡ tx.old.conn.ghost_name }
     ensures runs { HasCleanDisk (state S.Store tx.new.conn.now) → IsTrue (state S.Store tx.old.conn.now).in_transaction → ExecutesInside 0 add_release_text (given_release cells.now) (state S.Store tx.old.conn.now) (state S.Store tx.new.conn.now) result }
     ensures survives { Survives (state S.Store tx.old.conn.now) (state S.Store tx.new.conn.now) (λ _. ⊥) }
