@@ -1,0 +1,6 @@
+pub mod ChangeLemmas
+pub mod KeyTests
+pub mod LineLemmas
+pub mod ProofLemmas
+pub mod ReadBack
+pub mod ReleaseLemmas

@@ -1,0 +1,23 @@
+-- The texts of the statements on the lines, the proofs and the releases.
+use Rattle.std.specs.Prelude.{ℕ, List, codes}
+
+-- ---- lines
+
+abbrev pub add_line_text : List ℕ
+add_line_text = codes "INSERT INTO lines (branch, number, place, amount, form, moment, day, user_no) VALUES (?1, ?2, ?3, ?4, ?5, ?6, ?7, ?8)"
+
+-- ---- proofs
+
+abbrev pub add_proof_text : List ℕ
+add_proof_text = codes "INSERT INTO proofs (branch, day, entries, balance, cash) VALUES (?1, ?2, ?3, ?4, ?5)"
+
+-- ---- releases
+
+abbrev pub release_text : List ℕ
+release_text = codes "SELECT user_no, number, giver, branch, day, form, member1, member2, member3, member4, member5, member6, member7, member8, used FROM releases WHERE user_no = ?1 AND number = ?2"
+
+abbrev pub add_release_text : List ℕ
+add_release_text = codes "INSERT INTO releases (user_no, number, giver, branch, day, form, member1, member2, member3, member4, member5, member6, member7, member8, used) VALUES (?1, ?2, ?3, ?4, ?5, ?6, ?7, ?8, ?9, ?10, ?11, ?12, ?13, ?14, ?15)"
+
+abbrev pub use_up_text : List ℕ
+use_up_text = codes "UPDATE releases SET used = 1 WHERE user_no = ?1 AND number = ?2"
