@@ -11,3 +11,4 @@ pub mod SetLemmas
 pub mod SoFarLemmas
 pub mod TripleLemmas
 pub mod UserLemmas
+pub mod WorldLemmas
