@@ -1,5 +1,5 @@
 -- What one change makes of the rows and of the numbers beside them. Where numbers are moved, the rows that bear the new ones are given.
-use Rattle.std.specs.Prelude.{ℕ, ◌<◌, ◌^◌, ⊤, List, [], ◌∷◌, length, not}
+use Rattle.std.specs.Prelude.{ℕ, ◌+◌, ◌<◌, ◌^◌, Bool, true, false, ⊤, List, [], ◌∷◌, length, not}
 use Rattle.std.specs.List.{filter}
 use Rattle.keyed_rows.specs.Changed.{change_rows, delete_rows}
 use Rattle.keyed_rows.specs.Ordered.{add_row}
@@ -93,6 +93,11 @@ policy_sheets (write.NoTriple k) s = record s { triples = delete_rows triple_key
 policy_sheets (write.Certifier row) s = record s { certifiers = add_row certifier_key row s.certifiers }
 policy_sheets (write.NoCertifier row) s = record s { certifiers = delete_rows certifier_key (certifier_key row) s.certifiers }
 policy_sheets (write.Suspended c) s = record s { users = change_rows user_no c.user (λ u. record u { row = in_suspension c u.row }) s.users }
+
+-- after plans that changed the policy, if it did
+abbrev pub version_sheets : Bool → Sheets → Sheets
+version_sheets true s = record s { version = s.version + 1 }
+version_sheets false s = s
 
 -- what the change adds has a key that no row has, and a set so few members that their places are small enough for the key
 abbrev pub IsNew : PolicyWrite → Sheets → Type 0

@@ -65,6 +65,15 @@ pub record IsPolicyKeepable (policy : PolicyLists) : Type 0 where
   pub triples : IsOrdered triple_key policy.triples
   pub certifiers : IsOrdered certifier_key policy.certifiers
 
+-- what a check of the policy makes sure of: no key of it stands twice, and sets have few members
+pub record HasDistinctRows (policy : PolicyLists) : Type 0 where
+  pub users : AreDistinct (map user_key policy.users)
+  pub sets : AreDistinct (map set_key policy.sets)
+  pub few : (s : SetRow) → Contains policy.sets s → length s.members < 2 ^ 32
+  pub relations : AreDistinct (map relation_key policy.relations)
+  pub triples : AreDistinct (map triple_key policy.triples)
+  pub certifiers : AreDistinct (map certifier_key policy.certifiers)
+
 pub record IsKeepable (w : WorldLists) : Type 0 where
   pub branches : IsOrdered branch_key w.branches
   pub tellers : AreTellersKeepable w.tellers w.lines

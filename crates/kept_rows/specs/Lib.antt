@@ -1,6 +1,8 @@
+pub mod After
 pub mod Changes
 pub mod Keepable
 pub mod Kept
+pub mod Laws
 pub mod Named
 pub mod Next
 pub mod Records

@@ -8,31 +8,36 @@ use Rattle.bank_books.specs.declared.rows.CashLine.{CashLine}
 use Rattle.bank_books.specs.declared.rows.Entry.{Entry}
 use Rattle.kept_rows.specs.declared.records.KeptTeller.{KeptTeller}
 
+-- what the entries of a branch come to is within the limits
+pub record IsHistoryTold (b : BranchRecord) : Type 0 where
+  pub balance : IsCents b.balance
+  pub history : IsCents b.history
+
+-- what the lines of a branch come to is
+pub record IsCashTold (b : BranchRecord) : Type 0 where
+  pub vault : IsCents b.vault
+  pub drawers : IsCents b.drawers
+  pub cash_entries : IsCents b.cash_entries
+  pub differences : IsCents b.differences
+
 -- an entry of the next turn of its account and the next number of its branch
 pub record IsNextOf (e : Entry) (a : AccountRecord) (t : KeptTeller) (b : BranchRecord) : Type 0 where
   pub turn : e.turn ≡ a.turns + 1
   pub number : e.number ≡ b.entries + 1
   pub account : IsCents a.balance
   pub teller : IsCents t.balance
-  pub branch : IsCents b.balance
-  pub history : IsCents b.history
+  pub branch : IsHistoryTold b
 
--- a line of the next number of its branch
-pub record IsNextIn (l : CashLine) (b : BranchRecord) : Type 0 where
-  pub number : l.number ≡ b.lines + 1
-  pub vault : IsCents b.vault
-  pub drawers : IsCents b.drawers
-  pub cash_entries : IsCents b.cash_entries
-  pub differences : IsCents b.differences
-
--- at the vault
+-- a line at the vault, of the next number of its branch
 pub record IsNextAtVault (l : CashLine) (b : BranchRecord) : Type 0 where
   pub place : l.place ≡ 0
-  pub next : IsNextIn l b
+  pub number : l.number ≡ b.lines + 1
+  pub cash : IsCashTold b
 
--- at the drawer of a teller of the branch, who holds it under a number that is not 0
+-- a line at the drawer of a teller of its branch, of the next number of that; who puts the drawer on is not user 0
 pub record IsNextAtDrawer (l : CashLine) (t : KeptTeller) (b : BranchRecord) : Type 0 where
   pub branch : t.row.branch ≡ l.branch
   pub holder : holder_after l l.form ≢ Some 0
-  pub cash : IsCents t.cash
-  pub next : IsNextIn l b
+  pub number : l.number ≡ b.lines + 1
+  pub drawer : IsCents t.cash
+  pub cash : IsCashTold b

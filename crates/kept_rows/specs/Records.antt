@@ -9,6 +9,7 @@ use Rattle.bank_books.specs.WorldLists.{WorldLists}
 use Rattle.bank_books.specs.declared.records.AccountRecord.{AccountRecord}
 use Rattle.bank_books.specs.declared.records.EntryRecord.{EntryRecord}
 use Rattle.bank_books.specs.declared.records.TellerRecord.{TellerRecord}
+use Rattle.bank_books.specs.declared.rows.Account.{Account}
 use Rattle.bank_books.specs.declared.rows.CashLine.{CashLine}
 use Rattle.bank_books.specs.declared.rows.Entry.{Entry}
 use Rattle.bank_books.specs.declared.rows.LineForm.{LineForm}
@@ -39,9 +40,13 @@ kept_holder l _ holder = holder
 abbrev pub kept_teller_lined : CashLine → KeptTeller → KeptTeller
 kept_teller_lined l t = record t { cash = t.cash +ℤ l.amount; holder = kept_holder l l.form t.holder }
 
--- an entry that leaves its account with the balance that it had and the delta
-abbrev pub entry_kept : Entry → AccountRecord → EntryRecord
-entry_kept e a = record { row = e; balance_after = a.balance +ℤ e.delta }
+-- an account that no entry names
+abbrev pub account_begun : Account → AccountRecord
+account_begun row = record { row = row; balance = row.opening; turns = 0 }
+
+-- an entry that leaves its account with this balance
+abbrev pub entry_left : Entry → AccountRecord → EntryRecord
+entry_left e after = record { row = e; balance_after = after.balance }
 
 abbrev pub kept_user_of : WorldLists → User → KeptUser
 kept_user_of w row = record { row = row; releases = release_count row.user w.releases }

@@ -3,10 +3,13 @@
 
 mod account;
 mod entry;
+pub mod laws;
 mod lines;
 mod records;
+mod release;
 
-pub use account::AccountRows;
-pub use entry::EntryRows;
-pub use lines::DrawerRows;
+pub use account::{AccountRows, with_account};
+pub use entry::{EntryRows, with_entry};
+pub use lines::{DrawerRows, with_drawer_line, with_vault_line};
 pub use records::{KeptTeller, KeptUser, MemberRow};
+pub use release::with_release;

@@ -1,0 +1,12 @@
+pub mod AccountKept
+pub mod BooksKeepable
+pub mod EntryKept
+pub mod LastRow
+pub mod LineKept
+pub mod MemberRows
+pub mod NextNumber
+pub mod PlainKept
+pub mod PolicyKept
+pub mod ReleaseKept
+pub mod RowLemmas
+pub mod SheetsTell

@@ -1,0 +1,65 @@
+-- What holds of every World whose numbers can be kept.
+use Rattle.std.specs.Prelude.{ℕ, ◌≡◌, ◌≢◌, ◌==◌, Bool, Some, option_map}
+use Rattle.std.specs.List.{find}
+use Rattle.bank_policy.specs.HeldRows.{user_row}
+use Rattle.bank_policy.specs.declared.policy_write.PolicyWrite.{PolicyWrite}
+use Rattle.bank_policy.specs.declared.policy_write.Session.{Session}
+use Rattle.bank_books.specs.Keys.{proof_key}
+use Rattle.bank_books.specs.Records.{account_record, branch_record, teller_record}
+use Rattle.bank_books.specs.Version.{with_version}
+use Rattle.bank_books.specs.WorldLists.{WorldLists}
+use Rattle.bank_books.specs.declared.records.TellerRecord.{TellerRecord}
+use Rattle.bank_books.specs.declared.row_write.BranchDay.{BranchDay}
+use Rattle.bank_books.specs.declared.row_write.ReleaseKey.{ReleaseKey}
+use Rattle.bank_books.specs.declared.row_write.RowWrite.TheVariants as write
+use Rattle.bank_books.specs.declared.rows.Proof.{Proof}
+use Rattle.kept_rows.specs.Changes.{IsNew, day_sheets, policy_sheets, proof_sheets, session_sheets, used_sheets, version_sheets}
+use Rattle.kept_rows.specs.Keepable.{IsKeepable}
+use Rattle.kept_rows.specs.Kept.{IsKept}
+use Rattle.kept_rows.specs.Named.{IsFree}
+use Rattle.kept_rows.specs.Records.{kept_teller, kept_user_of}
+use Rattle.kept_rows.specs.Sheets.{account_no, branch_no, sheets_of, teller_no, user_no}
+
+-- ---- changes that move no number beside another row
+
+-- the proof of a day that none proves yet
+abbrev pub ProofIsKept : Type 0
+ProofIsKept = (w : WorldLists) (p : Proof) → IsKeepable w → IsFree proof_key (sheets_of w).proofs (proof_key p) → IsKept w (write.Proof p) (proof_sheets p)
+
+abbrev pub DayIsKept : Type 0
+DayIsKept = (w : WorldLists) (d : BranchDay) → IsKeepable w → IsKept w (write.Day d) (day_sheets d)
+
+abbrev pub UsedIsKept : Type 0
+UsedIsKept = (w : WorldLists) (k : ReleaseKey) → IsKeepable w → IsKept w (write.Used k) (used_sheets k)
+
+abbrev pub SessionIsKept : Type 0
+SessionIsKept = (w : WorldLists) (c : Session) → IsKeepable w → IsKept w (write.Session c) (session_sheets c)
+
+-- a change of the policy that adds no key that is there
+abbrev pub PolicyIsKept : Type 0
+PolicyIsKept = (w : WorldLists) (change : PolicyWrite) → IsKeepable w → IsNew change (sheets_of w) → IsKept w (write.Policy change) (policy_sheets change)
+
+-- and the next version of the policy
+pub record IsVersionKept (w : WorldLists) (raised : Bool) : Type 0 where
+  pub keepable : IsKeepable (with_version raised w)
+  pub sheets : sheets_of (with_version raised w) ≡ version_sheets raised (sheets_of w)
+
+abbrev pub VersionIsKept : Type 0
+VersionIsKept = (w : WorldLists) (raised : Bool) → IsKeepable w → IsVersionKept w raised
+
+-- ---- what kept rows tell
+
+-- Two Worlds of the same rows and numbers are one.
+abbrev pub SheetsTellWorld : Type 0
+SheetsTellWorld = (v w : WorldLists) → IsKeepable v → IsKeepable w → sheets_of v ≡ sheets_of w → v ≡ w
+
+-- the row of a key is what the World answers of that key, and user 0 holds no drawer
+pub record AreRowsTold (w : WorldLists) (key : ℕ) : Type 0 where
+  pub account : find (λ r. account_no r == key) (sheets_of w).accounts ≡ account_record w key
+  pub teller : find (λ r. teller_no r == key) (sheets_of w).tellers ≡ option_map kept_teller (teller_record w key)
+  pub holder : (t : TellerRecord) → teller_record w key ≡ Some t → t.holder ≢ Some 0
+  pub branch : find (λ r. branch_no r == key) (sheets_of w).branches ≡ branch_record w key
+  pub user : find (λ r. user_no r == key) (sheets_of w).users ≡ option_map (kept_user_of w) (user_row w.policy key)
+
+abbrev pub RowsAreTold : Type 0
+RowsAreTold = (w : WorldLists) (key : ℕ) → IsKeepable w → AreRowsTold w key
