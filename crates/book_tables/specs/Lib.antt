@@ -1,0 +1,4 @@
+pub mod Given
+pub mod Picks
+pub mod Shown
+pub mod Texts
