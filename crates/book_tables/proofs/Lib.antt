@@ -1,2 +1,10 @@
 pub mod AccountLemmas
+pub mod BankLemmas
+pub mod BranchLemmas
+pub mod Casts
+pub mod EntryLemmas
+pub mod LineLemmas
 pub mod PickedRows
+pub mod ProofLemmas
+pub mod ReleaseLemmas
+pub mod TellerLemmas

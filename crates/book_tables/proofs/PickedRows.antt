@@ -1,7 +1,8 @@
 -- Rows that pass a test: how many there are, in which order they come, and the first.
-use Rattle.std.proofs.Common.{◌≡◌, ◌≤◌, ◌<◌, ◌+◌, ◌*◌, ◌^◌, ◌==◌, ◌&&◌, ℕ, pos, List, [], ◌∷◌, map, filter, take, length, slice_get, Bool, true, false, cond, Option, Some, None, refl, sym, ap, arith, ◌∙◌, subst, inl, inr, int_cmp, Less, Equal}
+use Rattle.std.proofs.Common.{not, Contains, ◌≡◌, ◌≤◌, ◌<◌, ◌+◌, ◌*◌, ◌^◌, ◌==◌, ◌&&◌, ℕ, zero, suc, ◌++◌, get_or, pos, List, [], ◌∷◌, map, filter, take, length, slice_get, Bool, true, false, cond, Option, Some, None, Result, Ok, Err, OnOk, refl, sym, ap, arith, ◌∙◌, subst, inl, inr, int_cmp, Less, Equal}
+use Rattle.std.proofs.lemmas.List.{take_more}
 use Rattle.std.specs.Prelude.{option_map, nat_le, nat_lt}
-use Rattle.std.specs.List.{cons_option, find}
+use Rattle.std.specs.List.{cons_option, find, list_any}
 use Rattle.std.specs.Ordering.{is_le, ordering_then}
 use Rattle.std.proofs.lemmas.Bool.{and_from, and_parts, eq-eqb, eqb-true}
 use Rattle.std.proofs.lemmas.Bool.Decides.{nat_tests}
@@ -24,9 +25,10 @@ use Rattle.sqlite_trees.specs.Tree.{IsAscending}
 use Rattle.sqlite_value.specs.Order.{value_cmp}
 use Rattle.sqlite_value.specs.declared.keys.Key.{Key}
 use Rattle.sqlite_value.proofs.OrderLemmas.{value_cmp-Int}
-use Rattle.sqlite_keyed.proofs.ListLemmas.{ascending-map, map-map}
+use Rattle.sqlite_keyed.proofs.ListLemmas.{ascending-map, map-map, none_counted}
 use Rattle.sqlite_keyed.proofs.SortLemmas.{sorted_unique}
 use Rattle.keyed_rows.specs.Ordered.{AreDistinct}
+use Rattle.book_growth.proofs.Rows.{find-found}
 use Rattle.bank_schema.specs.HeldRows.{HoldsRows, all_but_rowid}
 use Rattle.bank_schema.proofs.HeldLemmas.{picked_alike}
 use Rattle.bank_schema.proofs.InsertLemmas.{parts_of}
@@ -66,6 +68,14 @@ few_of_parts f cells key Fits a b is fits m n small xs tree holds =
     (λ x fit. two_parts (a x) (b x) m n (fits x fit) small ∙ ap (λ k. k == 2 ^ 32 * m + n) (sym (is x))) in
     subst (λ ys. length (map f ys) ≤ 1) (sym alike) (few_of_key f key (2 ^ 32 * m + n) xs holds.ordered.distinct)
 
+-- rows are shown exactly where one passes
+pub any_counted : {X : Type 0} (p : X → Bool) (xs : List X) (rows : List Row) (n : ℕ) (is_empty : Bool) → is_empty ≡ (n == 0) → length rows ≡ n → length rows ≡ length (filter p xs) → not is_empty ≡ list_any p xs
+any_counted p xs rows n is_empty is counted shown = ap not (is ∙ ap (λ k. k == 0) (sym counted ∙ shown) ∙ none_counted p xs) ∙ not_not (list_any p xs)
+  where
+    not_not : (b : Bool) → not (not b) ≡ b
+    not_not true = refl
+    not_not false = refl
+
 -- ---- the first
 
 -- LIMIT 1
@@ -84,6 +94,26 @@ one_first (row ∷ rows) = refl
 
 pub first_of_one : {X : Type 0} (shown : X → Row) (p : X → Bool) (xs : List X) → slice_get (take 1 (map shown (filter p xs))) 0 ≡ option_map shown (find p xs)
 first_of_one shown p xs = one_first (map shown (filter p xs)) ∙ first_picked shown p xs
+
+-- what holds whatever the outcome is
+pub on_any : {A E : Type 0} (r : Result A E) (P : Type 0) → P → OnOk r P
+on_any (Ok x) P holds = holds
+on_any (Err e) P holds = tt
+
+-- ---- rows that are read one after another
+
+shown_at : {X : Type 0} (shown : X → Row) (there : List X) (k : ℕ) (x : X) (row : Row) → k < length there → get_or (map shown there) k row ≡ shown (get_or there k x)
+shown_at shown [] k x row below = absurd (omega arith)
+shown_at shown (y ∷ there) zero x row below = refl
+shown_at shown (y ∷ there) (suc k) x row below = shown_at shown there k x row (omega arith)
+
+-- the next is what stands there
+pub read_more : {X : Type 0} (shown : X → Row) (rows : List Row) (there before made : List X) (k : ℕ) (row : Row) (read : X) → k < length rows → row ≡ get_or rows k row → ((x : X) → row ≡ shown x → read ≡ x)
+    → rows ≡ map shown there → before ≡ take k there → made ≡ before ++ read ∷ [] → made ≡ take (k + 1) there
+read_more shown rows there before made k row read below is reads are so_far made_is =
+    let within : k < length there = subst (λ n. k < n) (ap length are ∙ length-mapped shown there) below in
+    let here : row ≡ shown (get_or there k read) = is ∙ ap (λ rs. get_or rs k row) are ∙ shown_at shown there k read row within in
+    made_is ∙ (λ i. so_far i ++ reads (get_or there k read) here i ∷ []) ∙ sym (take_more there k read within)
 
 -- ---- in order of keys whose parts are small
 
@@ -121,6 +151,15 @@ by_parts a b m n p q less = grind (arith, nat_tests)
 pub rises_by_two : (a b m n : ℕ) → b < 2 ^ 32 → n < 2 ^ 32 → 2 ^ 32 * a + b < 2 ^ 32 * m + n
     → ordering_then (value_cmp (Int (pos a)) (Int (pos m))) (ordering_then (value_cmp (Int (pos b)) (Int (pos n))) Equal) ≡ Less
 rises_by_two a b m n p q less = (λ i. ordering_then (value_cmp-Int (pos a) (pos m) i) (ordering_then (value_cmp-Int (pos b) (pos n) i) Equal)) ∙ by_parts a b m n p q less
+
+-- the row that was found is that of the one that is there, where rows that fit tell theirs
+pub decoded_fitting : {X : Type 0} (shown : X → Row) (Fits : X → Type 0) (p : X → Bool) (xs : List X) (row : Row) (read : X) → ((x : X) → Contains xs x → Fits x) → Some row ≡ option_map shown (find p xs)
+    → ((x : X) → Fits x → row ≡ shown x → read ≡ x) → Some read ≡ find p xs
+decoded_fitting {X} shown Fits p xs row read fit is reads = go (find p xs) refl is
+  where
+    go : (o : Option X) → find p xs ≡ o → Some row ≡ option_map shown o → Some read ≡ o
+    go None found same = absurd cc
+    go (Some x) found same = ap (λ y. Some y) (reads x (fit x (find-found p xs x found).0) cc)
 
 -- ---- tests of whole numbers
 

@@ -2,5 +2,19 @@
 #![tactic(auto)]
 
 mod accounts;
+mod bank;
+mod branches;
+mod entries;
+mod lines;
+mod proofs;
+mod releases;
+mod tellers;
 
 pub use accounts::{account_of, add_account, least_account, set_account};
+pub use bank::{set_version, version_of};
+pub use branches::{add_branch, branch_of, set_branch};
+pub use entries::{add_entry, entry_at, entry_of, is_undone};
+pub use lines::add_line;
+pub use proofs::add_proof;
+pub use releases::{add_release, release_of, set_release};
+pub use tellers::{add_teller, next_teller, roster, set_teller, teller_of};

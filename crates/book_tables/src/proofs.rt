@@ -1,0 +1,70 @@
+ghost use Rattle.std.specs.Prelude.{◌≡◌, IsTrue};
+ghost use Rattle.sqlite.specs.Held.{state};
+ghost use Rattle.sqlite.specs.State.{ExecutesInside, HasCleanDisk, Survives};
+ghost use Rattle.keyed_rows.specs.Ordered.{add_row};
+ghost use Rattle.bank_books.specs.Keys.{proof_key};
+ghost use Rattle.kept_rows.specs.Named.{IsFree};
+ghost use Rattle.kept_rows.specs.Sheets.{Sheets};
+ghost use Rattle.bank_schema.specs.Cells.{ProofFits, proof_cells};
+ghost use Rattle.bank_schema.specs.Steps.{Steps, Tells};
+ghost use Rattle.book_tables.specs.Given.{given_proof};
+ghost use Rattle.book_tables.specs.Texts.{add_proof_text};
+
+use bank_books::Proof;
+use bank_schema::fault_of;
+use money::Fault;
+use sqlite::{Alter, Error, Transaction, params};
+
+/// What is given with a statement that writes a proof.
+#[derive(Drop)]
+struct ProofCells {
+    branch: u32,
+    day: u32,
+    entries: u32,
+    balance: i64,
+    cash: i64,
+}
+
+fn cells_of(proof: Proof) -> ProofCells
+    ensures cells { given_proof result ≡ proof_cells proof }
+    ensures fits { ProofFits proof }
+{
+    ProofCells {
+        branch: proof.branch,
+        day: proof.day,
+        entries: proof.entries,
+        balance: proof.balance.get(),
+        cash: proof.cash.get(),
+    }
+}
+
+fn insert_proof<S: Alter>(tx: &mut Transaction<'_, S>, cells: &ProofCells) -> Result<usize, Error>
+    ensures same_reference { tx.new.conn.ghost_name ≡ tx.old.conn.ghost_name }
+    ensures runs { HasCleanDisk (state S.Store tx.new.conn.now) → IsTrue (state S.Store tx.old.conn.now).in_transaction → ExecutesInside 0 add_proof_text (given_proof cells.now) (state S.Store tx.old.conn.now) (state S.Store tx.new.conn.now) result }
+    ensures survives { Survives (state S.Store tx.old.conn.now) (state S.Store tx.new.conn.now) (λ _. ⊥) }
+{
+    tx.execute(
+        "INSERT INTO proofs (branch, day, entries, balance, cash) VALUES (?1, ?2, ?3, ?4, ?5)",
+        params![
+            cells.branch,
+            cells.day,
+            cells.entries,
+            &cells.balance,
+            &cells.cash
+        ],
+    )
+}
+
+/// Adds the proof of a day. A day of the branch that is proved already is a fault of the disk.
+pub fn add_proof<S: Alter>(tx: &mut Transaction<'_, S>, proof: &Proof) -> Result<(), Fault>
+    ensures same_reference { tx.new.conn.ghost_name ≡ tx.old.conn.ghost_name }
+    ensures steps { Steps (state S.Store tx.old.conn.now) (state S.Store tx.new.conn.now) (λ s. record s { proofs = add_row proof_key proof.now s.proofs }) result }
+    ensures free { Tells (state S.Store tx.old.conn.now) (state S.Store tx.new.conn.now) (λ s. IsFree proof_key s.proofs (proof_key proof.now)) result }
+    ensures survives { Survives (state S.Store tx.old.conn.now) (state S.Store tx.new.conn.now) (λ _. ⊥) }
+{
+    let cells = cells_of(*proof);
+    match insert_proof(tx, &cells) {
+        Ok(_) => Ok(()),
+        Err(error) => Err(fault_of(error)),
+    }
+}

@@ -1,0 +1,233 @@
+ghost use Rattle.std.specs.Prelude.{◌≡◌, ◌==◌, pos, map, IfOk, IsTrue};
+ghost use Rattle.std.specs.List.{filter, find};
+ghost use Rattle.sqlite.specs.Held.{state};
+ghost use Rattle.sqlite.specs.State.{ExecutesInside, HasCleanDisk, Survives};
+ghost use Rattle.sqlite.specs.declared.types.Value.TheVariants.{Int};
+ghost use Rattle.keyed_rows.specs.Ordered.{add_row};
+ghost use Rattle.bank_books.specs.Keys.{release_key};
+ghost use Rattle.bank_books.specs.declared.rows.Release.{Release as TheRecord};
+ghost use Rattle.kept_rows.specs.Named.{IsFree};
+ghost use Rattle.kept_rows.specs.Sheets.{Sheets, set_row};
+ghost use Rattle.bank_schema.specs.Cells.{ReleaseFits, release_cells};
+ghost use Rattle.bank_schema.specs.Numbers.{truth_cell};
+ghost use Rattle.bank_schema.specs.Held.{HoldsTables};
+ghost use Rattle.bank_schema.specs.Steps.{StaysOpen, Steps, Tells};
+ghost use Rattle.book_tables.specs.Given.{given_release};
+ghost use Rattle.book_tables.specs.Picks.{is_release};
+ghost use Rattle.book_tables.specs.Texts.{add_release_text, set_release_text};
+
+use bank_books::Release;
+use bank_schema::{fault_of, number_at, procedure_at, truth_at, whole_at};
+use bank_terms::OperationRow;
+use money::Fault;
+use sqlite::{Alter, Error, Row, Transaction, params};
+
+/// The release of a user that bears this number: one, or none.
+fn select_release<S: Alter>(
+    tx: &mut Transaction<'_, S>,
+    user: u32,
+    number: u32,
+) -> Result<Vec<Row>, Error>
+    ensures same_reference { tx.new.conn.ghost_name ≡ tx.old.conn.ghost_name }
+    ensures rows { HasCleanDisk (state S.Store tx.new.conn.now) → (s : Sheets) → HoldsTables (state S.Store tx.old.conn.now).now s → IfOk result (λ rows. rows.items ≡ map release_cells (filter (is_release user number) s.releases)) }
+    ensures steps { Steps (state S.Store tx.old.conn.now) (state S.Store tx.new.conn.now) (λ s. s) result }
+    ensures open { StaysOpen (state S.Store tx.old.conn.now) (state S.Store tx.new.conn.now) result }
+    ensures survives { Survives (state S.Store tx.old.conn.now) (state S.Store tx.new.conn.now) (λ _. ⊥) }
+{
+    tx.query_all(
+        "SELECT user_no, number, giver, branch, day, form, member1, member2, member3, member4, member5, member6, member7, member8, used FROM releases WHERE user_no = ?1 AND number = ?2",
+        params![user, number],
+    )
+}
+
+fn read_release(row: &Row) -> Result<Release, Fault>
+    ensures { IfOk result (λ release. (there : TheRecord) → ReleaseFits there → row.now ≡ release_cells there → release ≡ there) }
+{
+    Ok(Release {
+        user: number_at(row, 0)?,
+        number: number_at(row, 1)?,
+        giver: number_at(row, 2)?,
+        branch: number_at(row, 3)?,
+        day: number_at(row, 4)?,
+        operation: OperationRow {
+            form: procedure_at(row, 5)?,
+            members: read_members(row)?,
+        },
+        used: truth_at(row, 14)?,
+    })
+}
+
+/// The numbers of the members of the operation, from the seventh column on.
+fn read_members(row: &Row) -> Result<[i64; 8], Fault>
+    ensures { IfOk result (λ members. (there : TheRecord) → ReleaseFits there → row.now ≡ release_cells there → members ≡ there.operation.members) }
+{
+    Ok([
+        whole_at(row, 6)?,
+        whole_at(row, 7)?,
+        whole_at(row, 8)?,
+        whole_at(row, 9)?,
+        whole_at(row, 10)?,
+        whole_at(row, 11)?,
+        whole_at(row, 12)?,
+        whole_at(row, 13)?,
+    ])
+}
+
+/// The release of a user that bears this number, or none where it isn't there.
+pub fn release_of<S: Alter>(
+    tx: &mut Transaction<'_, S>,
+    user: u32,
+    number: u32,
+) -> Result<Option<Release>, Fault>
+    ensures same_reference { tx.new.conn.ghost_name ≡ tx.old.conn.ghost_name }
+    ensures found { HasCleanDisk (state S.Store tx.new.conn.now) → (s : Sheets) → HoldsTables (state S.Store tx.old.conn.now).now s → IfOk result (λ found. found ≡ find (is_release user number) s.releases) }
+    ensures steps { Steps (state S.Store tx.old.conn.now) (state S.Store tx.new.conn.now) (λ s. s) result }
+    ensures open { StaysOpen (state S.Store tx.old.conn.now) (state S.Store tx.new.conn.now) result }
+    ensures survives { Survives (state S.Store tx.old.conn.now) (state S.Store tx.new.conn.now) (λ _. ⊥) }
+{
+    let rows = match select_release(tx, user, number) {
+        Ok(rows) => rows,
+        Err(error) => return Err(fault_of(error)),
+    };
+    match rows.first() {
+        Some(row) => Ok(Some(read_release(row)?)),
+        None => Ok(None),
+    }
+}
+
+/// What is given with a statement that writes a release.
+#[derive(Drop)]
+struct ReleaseCells {
+    user: u32,
+    number: u32,
+    giver: u32,
+    branch: u32,
+    day: u32,
+    form: u32,
+    member1: i64,
+    member2: i64,
+    member3: i64,
+    member4: i64,
+    member5: i64,
+    member6: i64,
+    member7: i64,
+    member8: i64,
+    used: u32,
+}
+
+fn truth_number(truth: bool) -> u32
+    ensures { Int (pos result) ≡ truth_cell truth }
+{
+    if truth { 1 } else { 0 }
+}
+
+fn cells_of(release: &Release) -> Result<ReleaseCells, Fault>
+    ensures cells { IfOk result (λ c. given_release c ≡ release_cells release.now) }
+    ensures fits { IfOk result (λ _. ReleaseFits release.now) }
+{
+    let number = release.number;
+    Ok(ReleaseCells {
+        user: release.user,
+        number,
+        giver: release.giver,
+        branch: release.branch,
+        day: release.day,
+        form: release.operation.form.number() as u32,
+        member1: release.operation.members[0],
+        member2: release.operation.members[1],
+        member3: release.operation.members[2],
+        member4: release.operation.members[3],
+        member5: release.operation.members[4],
+        member6: release.operation.members[5],
+        member7: release.operation.members[6],
+        member8: release.operation.members[7],
+        used: truth_number(release.used),
+    })
+}
+
+fn insert_release<S: Alter>(
+    tx: &mut Transaction<'_, S>,
+    cells: &ReleaseCells,
+) -> Result<usize, Error>
+    ensures same_reference { tx.new.conn.ghost_name ≡ tx.old.conn.ghost_name }
+    ensures runs { HasCleanDisk (state S.Store tx.new.conn.now) → IsTrue (state S.Store tx.old.conn.now).in_transaction → ExecutesInside 0 add_release_text (given_release cells.now) (state S.Store tx.old.conn.now) (state S.Store tx.new.conn.now) result }
+    ensures survives { Survives (state S.Store tx.old.conn.now) (state S.Store tx.new.conn.now) (λ _. ⊥) }
+{
+    tx.execute(
+        "INSERT INTO releases (user_no, number, giver, branch, day, form, member1, member2, member3, member4, member5, member6, member7, member8, used) VALUES (?1, ?2, ?3, ?4, ?5, ?6, ?7, ?8, ?9, ?10, ?11, ?12, ?13, ?14, ?15)",
+        params![
+            cells.user,
+            cells.number,
+            cells.giver,
+            cells.branch,
+            cells.day,
+            cells.form,
+            &cells.member1,
+            &cells.member2,
+            &cells.member3,
+            &cells.member4,
+            &cells.member5,
+            &cells.member6,
+            &cells.member7,
+            &cells.member8,
+            cells.used
+        ],
+    )
+}
+
+/// Adds a release. One whose number the user has already is a fault of the disk.
+pub fn add_release<S: Alter>(tx: &mut Transaction<'_, S>, release: &Release) -> Result<(), Fault>
+    ensures same_reference { tx.new.conn.ghost_name ≡ tx.old.conn.ghost_name }
+    ensures steps { Steps (state S.Store tx.old.conn.now) (state S.Store tx.new.conn.now) (λ s. record s { releases = add_row release_key release.now s.releases }) result }
+    ensures free { Tells (state S.Store tx.old.conn.now) (state S.Store tx.new.conn.now) (λ s. IsFree release_key s.releases (release_key release.now)) result }
+    ensures survives { Survives (state S.Store tx.old.conn.now) (state S.Store tx.new.conn.now) (λ _. ⊥) }
+{
+    let cells = cells_of(release)?;
+    match insert_release(tx, &cells) {
+        Ok(_) => Ok(()),
+        Err(error) => Err(fault_of(error)),
+    }
+}
+
+fn update_release<S: Alter>(
+    tx: &mut Transaction<'_, S>,
+    cells: &ReleaseCells,
+) -> Result<usize, Error>
+    ensures same_reference { tx.new.conn.ghost_name ≡ tx.old.conn.ghost_name }
+    ensures runs { HasCleanDisk (state S.Store tx.new.conn.now) → IsTrue (state S.Store tx.old.conn.now).in_transaction → ExecutesInside 0 set_release_text (given_release cells.now) (state S.Store tx.old.conn.now) (state S.Store tx.new.conn.now) result }
+    ensures survives { Survives (state S.Store tx.old.conn.now) (state S.Store tx.new.conn.now) (λ _. ⊥) }
+{
+    tx.execute(
+        "UPDATE releases SET user_no = ?1, number = ?2, giver = ?3, branch = ?4, day = ?5, form = ?6, member1 = ?7, member2 = ?8, member3 = ?9, member4 = ?10, member5 = ?11, member6 = ?12, member7 = ?13, member8 = ?14, used = ?15 WHERE user_no = ?1 AND number = ?2",
+        params![
+            cells.user,
+            cells.number,
+            cells.giver,
+            cells.branch,
+            cells.day,
+            cells.form,
+            &cells.member1,
+            &cells.member2,
+            &cells.member3,
+            &cells.member4,
+            &cells.member5,
+            &cells.member6,
+            &cells.member7,
+            &cells.member8,
+            cells.used
+        ],
+    )
+}
+
+/// Writes a release in place of the one of its user and number.
+pub fn set_release<S: Alter>(tx: &mut Transaction<'_, S>, release: &Release) -> Result<(), Fault>
+    ensures same_reference { tx.new.conn.ghost_name ≡ tx.old.conn.ghost_name }
+    ensures steps { Steps (state S.Store tx.old.conn.now) (state S.Store tx.new.conn.now) (λ s. record s { releases = set_row release_key release.now s.releases }) result }
+    ensures survives { Survives (state S.Store tx.old.conn.now) (state S.Store tx.new.conn.now) (λ _. ⊥) }
+{
+    let cells = cells_of(release)?;
+    match update_release(tx, &cells) {
+        Ok(_) => Ok(()),
+        Err(error) => Err(fault_of(error)),
+    }
+}
