@@ -8,3 +8,4 @@ pub mod PickedRows
 pub mod ProofLemmas
 pub mod ReleaseLemmas
 pub mod TellerLemmas
+pub mod TurnLemmas

@@ -10,6 +10,7 @@ use Rattle.book_tables.specs.declared.entries.EntryCells.{EntryCells}
 use Rattle.book_tables.specs.declared.lines.LineCells.{LineCells}
 use Rattle.book_tables.specs.declared.proofs.ProofCells.{ProofCells}
 use Rattle.book_tables.specs.declared.releases.ReleaseCells.{ReleaseCells}
+use Rattle.book_tables.specs.declared.turns.TurnCells.{TurnCells}
 
 abbrev pub given_account : AccountCells → Row
 given_account c = Int (pos c.account) ∷ Int (pos c.home) ∷ Int c.opening ∷ Int c.floor ∷ Int c.balance ∷ Int c.turns ∷ []
@@ -34,3 +35,6 @@ given_release c = Int (pos c.user) ∷ Int (pos c.number) ∷ Int (pos c.giver) 
 
 abbrev pub given_version : VersionCells → Row
 given_version c = Int c.version ∷ []
+
+abbrev pub given_turn : TurnCells → Row
+given_turn c = Int (pos c.account) ∷ Int c.turn ∷ []

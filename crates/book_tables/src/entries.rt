@@ -1,4 +1,4 @@
-ghost use Rattle.std.specs.Prelude.{◌≡◌, pos, map, take, length, IfOk, IsTrue};
+ghost use Rattle.std.specs.Prelude.{◌≡◌, pos, map, length, IfOk, IsTrue};
 ghost use Rattle.std.specs.List.{filter, find, list_any};
 ghost use Rattle.sqlite.specs.Held.{state};
 ghost use Rattle.sqlite.specs.State.{ExecutesInside, HasCleanDisk, Survives};
@@ -13,7 +13,7 @@ ghost use Rattle.bank_schema.specs.Numbers.{entry_form_number};
 ghost use Rattle.bank_schema.specs.Held.{HoldsTables};
 ghost use Rattle.bank_schema.specs.Steps.{StaysOpen, Steps, Tells};
 ghost use Rattle.book_tables.specs.Given.{given_entry};
-ghost use Rattle.book_tables.specs.Picks.{is_entry, is_entry_at, undoes_entry};
+ghost use Rattle.book_tables.specs.Picks.{is_entry, undoes_entry};
 ghost use Rattle.book_tables.specs.Texts.{add_entry_text};
 
 use bank_books::{Entry, EntryForm, EntryRecord};
@@ -61,7 +61,7 @@ fn delta_at(row: &Row, at: usize) -> Result<Delta, Fault>
     }
 }
 
-fn read_entry(row: &Row) -> Result<EntryRecord, Fault>
+pub(crate) fn read_entry(row: &Row) -> Result<EntryRecord, Fault>
     ensures { IfOk result (λ entry. (there : TheRecord) → row.now ≡ entry_cells there → entry ≡ there) }
 {
     Ok(EntryRecord {
@@ -96,46 +96,6 @@ pub fn entry_of<S: Alter>(
     ensures survives { Survives (state S.Store tx.old.conn.now) (state S.Store tx.new.conn.now) (λ _. ⊥) }
 {
     let rows = match select_entry(tx, branch, number) {
-        Ok(rows) => rows,
-        Err(error) => return Err(fault_of(error)),
-    };
-    match rows.first() {
-        Some(row) => Ok(Some(read_entry(row)?)),
-        None => Ok(None),
-    }
-}
-
-/// The entry of an account that is its turn of this number: one, or none.
-fn select_turn<S: Alter>(
-    tx: &mut Transaction<'_, S>,
-    account: u32,
-    turn: u32,
-) -> Result<Vec<Row>, Error>
-    ensures same_reference { tx.new.conn.ghost_name ≡ tx.old.conn.ghost_name }
-    ensures rows { HasCleanDisk (state S.Store tx.new.conn.now) → (s : Sheets) → HoldsTables (state S.Store tx.old.conn.now).now s → IfOk result (λ rows. rows.items ≡ take 1 (map entry_cells (filter (is_entry_at account turn) s.entries))) }
-    ensures steps { Steps (state S.Store tx.old.conn.now) (state S.Store tx.new.conn.now) (λ s. s) result }
-    ensures open { StaysOpen (state S.Store tx.old.conn.now) (state S.Store tx.new.conn.now) result }
-    ensures survives { Survives (state S.Store tx.old.conn.now) (state S.Store tx.new.conn.now) (λ _. ⊥) }
-{
-    tx.query_all(
-        "SELECT branch, number, account, turn, teller, delta, moment, day, user_no, form, partner, undoes, balance_after FROM entries WHERE account = ?1 AND turn = ?2 ORDER BY branch, number LIMIT 1",
-        params![account, turn],
-    )
-}
-
-/// The entry of an account that is its turn of this number, with the balance after it, or none where it isn't there.
-pub fn entry_at<S: Alter>(
-    tx: &mut Transaction<'_, S>,
-    account: u32,
-    turn: u32,
-) -> Result<Option<EntryRecord>, Fault>
-    ensures same_reference { tx.new.conn.ghost_name ≡ tx.old.conn.ghost_name }
-    ensures found { HasCleanDisk (state S.Store tx.new.conn.now) → (s : Sheets) → HoldsTables (state S.Store tx.old.conn.now).now s → IfOk result (λ found. found ≡ find (is_entry_at account turn) s.entries) }
-    ensures steps { Steps (state S.Store tx.old.conn.now) (state S.Store tx.new.conn.now) (λ s. s) result }
-    ensures open { StaysOpen (state S.Store tx.old.conn.now) (state S.Store tx.new.conn.now) result }
-    ensures survives { Survives (state S.Store tx.old.conn.now) (state S.Store tx.new.conn.now) (λ _. ⊥) }
-{
-    let rows = match select_turn(tx, account, turn) {
         Ok(rows) => rows,
         Err(error) => return Err(fault_of(error)),
     };

@@ -9,12 +9,16 @@ mod lines;
 mod proofs;
 mod releases;
 mod tellers;
+#[cfg(test)]
+mod tests;
+mod turns;
 
 pub use accounts::{account_of, add_account, least_account, set_account};
 pub use bank::{set_version, version_of};
 pub use branches::{add_branch, branch_of, set_branch};
-pub use entries::{add_entry, entry_at, entry_of, is_undone};
+pub use entries::{add_entry, entry_of, is_undone};
 pub use lines::add_line;
 pub use proofs::add_proof;
 pub use releases::{add_release, release_of, set_release};
 pub use tellers::{add_teller, next_teller, roster, set_teller, teller_of};
+pub use turns::{entries_from, entry_at};

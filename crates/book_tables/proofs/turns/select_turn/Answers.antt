@@ -1,13 +1,17 @@
+use Rattle.std.proofs.Common.{subst}
 use Rattle.std.proofs.lemmas.Result.{IfOk-weaker}
 use Rattle.sqlite.specs.Held.{state}
+use Rattle.sqlite.specs.State.{Shown}
 use Rattle.bank_schema.proofs.StepLemmas.{query_open, query_steps}
 use Rattle.book_tables.specs.Texts.{turn_text}
 use Rattle.book_tables.proofs.EntryLemmas.{turn_is, selects_turn}
-use Rattle.book_tables.proofs.entries.select_turn.Goals as goal
+use Rattle.book_tables.proofs.turns.select_turn.Goals as goal
 
 pub returns-clause-rows : goal.returns-clause-rows
-returns-clause-rows g c clean s holds =
-    IfOk-weaker c.query_all.result _ _ (λ rows h. selects_turn (state g.S.Store c.args.tx.now.conn.now) (state g.S.Store c.query_all.new.self.conn.now) s c.args.account c.args.turn rows.items holds h)
+returns-clause-rows g c clean s holds account turn is =
+    let old = state g.S.Store c.args.tx.now.conn.now in
+    let new = state g.S.Store c.query_all.new.self.conn.now in
+    IfOk-weaker c.query_all.result _ _ (λ rows h. selects_turn old new s account turn rows.items holds (subst (λ ps. Shown turn_text ps old new rows.items) is h))
     (rw (c.params-to_sql.ensures, c.params-to_sql-2.ensures) at (c.query_all.ensures.ok clean))
 
 pub returns-clause-steps : goal.returns-clause-steps
