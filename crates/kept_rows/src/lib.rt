@@ -8,8 +8,6 @@ mod lines;
 mod posting;
 mod records;
 mod release;
-#[cfg(test)]
-mod tests;
 
 pub use account::{AccountRows, with_account};
 pub use entry::{EntryRows, with_entry};

@@ -3,7 +3,13 @@
 #![tactic(auto)]
 
 #[cfg(test)]
+mod books;
+#[cfg(test)]
 mod cells;
+#[cfg(test)]
+mod history;
+#[cfg(test)]
+mod kept;
 #[cfg(test)]
 mod policy;
 #[cfg(test)]

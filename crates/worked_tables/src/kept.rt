@@ -1,12 +1,14 @@
-use crate::{
-    KeptTeller, laws, with_account, with_drawer_line, with_entry, with_posting, with_release,
-    with_vault_line,
-};
+//! What changes make of rows with kept numbers.
+
 use bank_books::{
     Account, AccountRecord, Branch, BranchRecord, CashLine, Entry, EntryForm, LineForm, Release,
     Teller, TellerRecord, World,
 };
 use bank_policy::{OperationRow, Policy, Procedure};
+use kept_rows::{
+    KeptTeller, laws, with_account, with_drawer_line, with_entry, with_posting, with_release,
+    with_vault_line,
+};
 use money::{Cents, Delta};
 use std::process::Abort;
 use std::test::Fail;

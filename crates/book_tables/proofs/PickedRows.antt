@@ -1,0 +1,189 @@
+-- Rows that pass a test: how many there are, in which order they come, and the first.
+use Rattle.std.proofs.Common.{not, Contains, ◌≡◌, ◌≤◌, ◌<◌, ◌+◌, ◌*◌, ◌^◌, ◌==◌, ◌&&◌, ℕ, zero, suc, ◌++◌, get_or, pos, List, [], ◌∷◌, map, filter, take, length, slice_get, Bool, true, false, cond, Option, Some, None, Result, Ok, Err, OnOk, refl, sym, ap, arith, ◌∙◌, subst, inl, inr, int_cmp, Less, Equal}
+use Rattle.std.proofs.lemmas.List.{take_more}
+use Rattle.std.specs.Prelude.{option_map, nat_le, nat_lt}
+use Rattle.std.specs.List.{cons_option, find, list_any}
+use Rattle.std.specs.Ordering.{is_le, ordering_then}
+use Rattle.std.proofs.lemmas.Bool.{and_from, and_parts, eq-eqb, eqb-true}
+use Rattle.std.proofs.lemmas.Bool.Decides.{nat_tests}
+use Rattle.sqlite.specs.declared.types.Value.TheVariants.{Int}
+use Rattle.sqlite.specs.Order.{Row}
+use Rattle.sqlite.specs.Query.{Output, Query, output, page}
+use Rattle.sqlite.specs.Program.{overlay}
+use Rattle.sqlite.specs.Term.{Term, col, lit, op2}
+use Rattle.sqlite.specs.Tree.{Trees}
+use Rattle.sqlite.specs.Collation.TheVariants.{Binary}
+use Rattle.sqlite_rules.specs.Lists.{Has}
+use Rattle.sqlite_rules.proofs.ListLemmas.{all_from, all_has, contains_had, has_filtered}
+use Rattle.sqlite_sql.specs.declared.ops.BinaryOp.TheVariants.{Compare}
+use Rattle.sqlite_sql.specs.declared.ops.CompareOp.TheVariants.{Eq, Ge, Gt, Le}
+use Rattle.sqlite_sql.specs.Ops.{binary, from_truth, is_true}
+use Rattle.sqlite_sql.specs.Program.{IsProgramAnswer}
+use Rattle.sqlite_sql.specs.Query.{output_cmp}
+use Rattle.sqlite_sql.proofs.QueryLemmas.{output_cmp_total}
+use Rattle.sqlite_trees.specs.Tree.{IsAscending}
+use Rattle.sqlite_value.specs.Order.{value_cmp}
+use Rattle.sqlite_value.specs.declared.keys.Key.{Key}
+use Rattle.sqlite_value.proofs.OrderLemmas.{value_cmp-Int}
+use Rattle.sqlite_keyed.proofs.ListLemmas.{ascending-map, map-map, none_counted}
+use Rattle.sqlite_keyed.proofs.SortLemmas.{sorted_unique}
+use Rattle.keyed_rows.specs.Ordered.{AreDistinct}
+use Rattle.book_growth.proofs.Rows.{find-found}
+use Rattle.bank_schema.specs.HeldRows.{HoldsRows, all_but_rowid}
+use Rattle.bank_schema.proofs.HeldLemmas.{picked_alike}
+use Rattle.bank_schema.proofs.InsertLemmas.{parts_of}
+use Rattle.bank_schema.proofs.KeyLemmas.{one_of_key, picked_rise, rising}
+use Rattle.bank_schema.proofs.ReadLemmas.{above, answers, at_least, equals}
+use Rattle.bank_schema.proofs.ScanLemmas.{passes, scan}
+
+-- ---- how many
+
+pub length-mapped : {X Y : Type 0} (f : X → Y) (xs : List X) → length (map f xs) ≡ length xs
+length-mapped f [] = refl
+length-mapped f (x ∷ xs) = let rest = length-mapped f xs in omega (arith, rest)
+
+at_most_one : {X Y : Type 0} (f : X → Y) (o : Option X) → length (map f (cons_option o [])) ≤ 1
+at_most_one f None = omega arith
+at_most_one f (Some x) = omega arith
+
+pub few_of_key : {X Y : Type 0} (f : X → Y) (key : X → ℕ) (k : ℕ) (xs : List X) → AreDistinct (map key xs) → length (map f (filter (λ x. key x == k) xs)) ≤ 1
+few_of_key f key k xs distinct = subst (λ ys. length (map f ys) ≤ 1) (sym (one_of_key key k xs distinct)) (at_most_one f (find (λ x. key x == k) xs))
+
+-- tests that imply each other give the same
+same_test : (b c : Bool) → (b ≡ true → c ≡ true) → (c ≡ true → b ≡ true) → b ≡ c
+same_test true c p q = sym (p refl)
+same_test false true p q = q refl
+same_test false false p q = refl
+
+-- a test by the two parts of a key is one by the key
+pub two_parts : (a b m n : ℕ) → b < 2 ^ 32 → n < 2 ^ 32 → (a == m && b == n) ≡ (2 ^ 32 * a + b == 2 ^ 32 * m + n)
+two_parts a b m n p q = same_test (a == m && b == n) (2 ^ 32 * a + b == 2 ^ 32 * m + n)
+    (λ h. let both = and_parts (a == m) (b == n) h in eq-eqb _ _ (λ i. 2 ^ 32 * eqb-true a m both.0 i + eqb-true b n both.1 i))
+    (λ h. let both = parts_of a b m n p q (eqb-true _ _ h) in and_from (a == m) (b == n) (eq-eqb a m both.0) (eq-eqb b n both.1))
+
+pub few_of_parts : {X Y : Type 0} (f : X → Y) (cells : X → Row) (key : X → ℕ) (Fits : X → Type 0) (a b : X → ℕ) → ((x : X) → key x ≡ 2 ^ 32 * a x + b x) → ((x : X) → Fits x → b x < 2 ^ 32)
+    → (m n : ℕ) → n < 2 ^ 32 → (xs : List X) (tree : List Row) → HoldsRows all_but_rowid cells key Fits xs tree → length (map f (filter (λ x. a x == m && b x == n) xs)) ≤ 1
+few_of_parts f cells key Fits a b is fits m n small xs tree holds =
+    let alike = picked_alike all_but_rowid cells key Fits (λ x. a x == m && b x == n) (λ x. key x == 2 ^ 32 * m + n) xs tree holds
+    (λ x fit. two_parts (a x) (b x) m n (fits x fit) small ∙ ap (λ k. k == 2 ^ 32 * m + n) (sym (is x))) in
+    subst (λ ys. length (map f ys) ≤ 1) (sym alike) (few_of_key f key (2 ^ 32 * m + n) xs holds.ordered.distinct)
+
+-- rows are shown exactly where one passes
+pub any_counted : {X : Type 0} (p : X → Bool) (xs : List X) (rows : List Row) (n : ℕ) (is_empty : Bool) → is_empty ≡ (n == 0) → length rows ≡ n → length rows ≡ length (filter p xs) → not is_empty ≡ list_any p xs
+any_counted p xs rows n is_empty is counted shown = ap not (is ∙ ap (λ k. k == 0) (sym counted ∙ shown) ∙ none_counted p xs) ∙ not_not (list_any p xs)
+  where
+    not_not : (b : Bool) → not (not b) ≡ b
+    not_not true = refl
+    not_not false = refl
+
+-- ---- the first
+
+-- LIMIT 1
+abbrev pub first_alone : Term
+first_alone = lit (Int (pos 1))
+
+pub first_picked : {X : Type 0} (shown : X → Row) (p : X → Bool) (xs : List X) → slice_get (map shown (filter p xs)) 0 ≡ option_map shown (find p xs)
+first_picked shown p [] = refl
+first_picked shown p (x ∷ xs) =
+    elim (p x) as (λ b. slice_get (map shown (cond b (x ∷ filter p xs) (filter p xs))) 0 ≡ option_map shown (cond b (Some x) (find p xs)))
+    [ true ↦ refl | false ↦ first_picked shown p xs ]
+
+one_first : (rows : List Row) → slice_get (take 1 rows) 0 ≡ slice_get rows 0
+one_first [] = refl
+one_first (row ∷ rows) = refl
+
+pub first_of_one : {X : Type 0} (shown : X → Row) (p : X → Bool) (xs : List X) → slice_get (take 1 (map shown (filter p xs))) 0 ≡ option_map shown (find p xs)
+first_of_one shown p xs = one_first (map shown (filter p xs)) ∙ first_picked shown p xs
+
+-- what holds whatever the outcome is
+pub on_any : {A E : Type 0} (r : Result A E) (P : Type 0) → P → OnOk r P
+on_any (Ok x) P holds = holds
+on_any (Err e) P holds = tt
+
+-- ---- rows that are read one after another
+
+shown_at : {X : Type 0} (shown : X → Row) (there : List X) (k : ℕ) (x : X) (row : Row) → k < length there → get_or (map shown there) k row ≡ shown (get_or there k x)
+shown_at shown [] k x row below = absurd (omega arith)
+shown_at shown (y ∷ there) zero x row below = refl
+shown_at shown (y ∷ there) (suc k) x row below = shown_at shown there k x row (omega arith)
+
+-- the next is what stands there
+pub read_more : {X : Type 0} (shown : X → Row) (rows : List Row) (there before made : List X) (k : ℕ) (row : Row) (read : X) → k < length rows → row ≡ get_or rows k row → ((x : X) → row ≡ shown x → read ≡ x)
+    → rows ≡ map shown there → before ≡ take k there → made ≡ before ++ read ∷ [] → made ≡ take (k + 1) there
+read_more shown rows there before made k row read below is reads are so_far made_is =
+    let within : k < length there = subst (λ n. k < n) (ap length are ∙ length-mapped shown there) below in
+    let here : row ≡ shown (get_or there k read) = is ∙ ap (λ rs. get_or rs k row) are ∙ shown_at shown there k read row within in
+    made_is ∙ (λ i. so_far i ++ reads (get_or there k read) here i ∷ []) ∙ sym (take_more there k read within)
+
+-- ---- in order of keys whose parts are small
+
+module _ {X : Type 0} (F : X → Type 0) (R : X → X → Type 0) where
+  -- what is so along rows that fit, where both do
+  fitting_rise : (xs : List X) → ((x : X) → Has xs x → F x) → IsAscending (λ x y. F x → F y → R x y) xs → IsAscending R xs
+  fitting_rise [] fit up = tt
+  fitting_rise (x ∷ xs) fit up =
+      (all_from (R x) xs (λ y there. all_has (λ z. F x → F z → R x z) xs y up.0 there (fit x (inl refl)) (fit y (inr there))), fitting_rise xs (λ y there. fit y (inr there)) up.1)
+
+module _ {X : Type 0} (shows back : Row → Row) (cells : X → Row) (key : X → ℕ) (Fits : X → Type 0) (tree : ℕ) (over : (db : Trees) → overlay db [] tree ≡ db tree)
+    (terms project : List Term) (order : List (Term × Key)) (limit offset : Term) (params : Row) (p : X → Bool)
+    (reads : (r : Row) → (passes terms params r ≡ passes terms params (back (shows r))) × (output (scan tree terms project order limit offset) (params ∷ r ∷ []) ≡ output (scan tree terms project order limit offset) (params ∷ back (shows r) ∷ [])))
+    (passing : (x : X) → passes terms params (back (cells x)) ≡ p x) where
+  abbrev q : Query
+  q = scan tree terms project order limit offset
+
+  abbrev shown : X → Output
+  shown x = output q (params ∷ back (cells x) ∷ [])
+
+  -- where the query is sorted by what rises with the keys of rows that fit, they come in order of key
+  pub in_order_of_fitting : (db : Trees) (xs : List X) (rows : List Row) → HoldsRows shows cells key Fits xs (db tree) → IsProgramAnswer [] q db params rows
+      → ((x y : X) → Fits x → Fits y → key x < key y → output_cmp q (shown x) (shown y) ≡ Less) → rows ≡ page q params (map (λ x. (shown x).1) (filter p xs))
+  in_order_of_fitting db xs rows holds h rises =
+      let it = answers shows back cells key Fits tree over terms project order limit offset params p reads passing db xs rows holds h in
+      let R : X → X → Type 0 = λ x y. output_cmp q (shown x) (shown y) ≡ Less in
+      let loose = picked_rise key p (λ x y. Fits x → Fits y → R x y) (λ x y _ _ less a b. rises x y a b less) xs (rising key xs holds.ordered.distinct holds.ordered.in_order) in
+      let up = ascending-map (λ a b. output_cmp q a b ≡ Less) shown (filter p xs) (fitting_rise Fits R (filter p xs) (λ x there. holds.fit x (contains_had xs x (has_filtered p xs x there).0)) loose) in
+      let ordered = sorted_unique (output_cmp q) (output_cmp_total q) (map shown (filter p xs)) it.0 up it.1 it.2 in
+      it.3 ∙ ap (λ os. page q params (map (λ (o : Output). o.1) os)) ordered ∙ ap (page q params) (map-map (λ (o : Output). o.1) shown (filter p xs))
+
+by_parts : (a b m n : ℕ) → b < 2 ^ 32 → n < 2 ^ 32 → 2 ^ 32 * a + b < 2 ^ 32 * m + n → ordering_then (int_cmp (pos a) (pos m)) (ordering_then (int_cmp (pos b) (pos n)) Equal) ≡ Less
+by_parts a b m n p q less = grind (arith, nat_tests)
+
+pub rises_by_two : (a b m n : ℕ) → b < 2 ^ 32 → n < 2 ^ 32 → 2 ^ 32 * a + b < 2 ^ 32 * m + n
+    → ordering_then (value_cmp (Int (pos a)) (Int (pos m))) (ordering_then (value_cmp (Int (pos b)) (Int (pos n))) Equal) ≡ Less
+rises_by_two a b m n p q less = (λ i. ordering_then (value_cmp-Int (pos a) (pos m) i) (ordering_then (value_cmp-Int (pos b) (pos n) i) Equal)) ∙ by_parts a b m n p q less
+
+-- the row that was found is that of the one that is there, where rows that fit tell theirs
+pub decoded_fitting : {X : Type 0} (shown : X → Row) (Fits : X → Type 0) (p : X → Bool) (xs : List X) (row : Row) (read : X) → ((x : X) → Contains xs x → Fits x) → Some row ≡ option_map shown (find p xs)
+    → ((x : X) → Fits x → row ≡ shown x → read ≡ x) → Some read ≡ find p xs
+decoded_fitting {X} shown Fits p xs row read fit is reads = go (find p xs) refl is
+  where
+    go : (o : Option X) → find p xs ≡ o → Some row ≡ option_map shown o → Some read ≡ o
+    go None found same = absurd cc
+    go (Some x) found same = ap (λ y. Some y) (reads x (fit x (find-found p xs x found).0) cc)
+
+-- ---- tests of whole numbers
+
+truth_back : (b : Bool) → is_true (from_truth (Some b)) ≡ b
+truth_back true = refl
+truth_back false = refl
+
+and_true : (b : Bool) → (b && true) ≡ b
+and_true true = refl
+and_true false = refl
+
+-- the column is the parameter or below it
+abbrev pub is_at_most : ℕ → ℕ → Term
+is_at_most place parameter = op2 (Compare Le Binary) (col 1 place) (col 0 parameter)
+
+up_to : (m n : ℕ) → is_le (int_cmp (pos m) (pos n)) ≡ nat_le m n
+up_to m n = grind (arith, nat_tests)
+
+at_most : (m n : ℕ) → is_true (binary (Compare Le Binary) (Int (pos m)) (Int (pos n))) ≡ nat_le m n
+unfolding binary
+at_most m n = truth_back _ ∙ ap is_le (value_cmp-Int (pos m) (pos n)) ∙ up_to m n
+
+pub within : (m low high : ℕ) → (is_true (binary (Compare Ge Binary) (Int (pos m)) (Int (pos low))) && (is_true (binary (Compare Le Binary) (Int (pos m)) (Int (pos high))) && true)) ≡ (nat_le low m && nat_le m high)
+within m low high = λ i. at_least m low i && (and_true _ ∙ at_most m high) i
+
+pub equal_and_above : (a b m n : ℕ) → (is_true (binary (Compare Eq Binary) (Int (pos a)) (Int (pos m))) && (is_true (binary (Compare Gt Binary) (Int (pos b)) (Int (pos n))) && true)) ≡ (a == m && nat_lt n b)
+equal_and_above a b m n = λ i. equals a m i && (and_true _ ∙ above b n) i

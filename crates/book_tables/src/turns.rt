@@ -1,0 +1,114 @@
+ghost use Rattle.std.specs.Prelude.{◌≡◌, ◌<◌, ◌∷◌, [], ℕ, pos, map, take, IfOk, IsTrue, OnOk};
+ghost use Rattle.std.specs.List.{filter, find};
+ghost use Rattle.sqlite.specs.Held.{state};
+ghost use Rattle.sqlite.specs.State.{HasCleanDisk, Survives};
+ghost use Rattle.sqlite.specs.declared.types.Value.TheVariants.{Int};
+ghost use Rattle.kept_rows.specs.Sheets.{Sheets};
+ghost use Rattle.bank_schema.specs.Cells.{entry_cells};
+ghost use Rattle.bank_schema.specs.Held.{HoldsTables};
+ghost use Rattle.bank_schema.specs.Steps.{StaysOpen, Steps};
+ghost use Rattle.book_tables.specs.Given.{given_turn};
+ghost use Rattle.book_tables.specs.Picks.{is_entry_at};
+ghost use Rattle.book_tables.specs.Turns.{entries_from};
+
+use crate::entries::read_entry;
+use bank_books::EntryRecord;
+use bank_schema::{count_cell, fault_of};
+use money::Fault;
+use sqlite::{Alter, Error, Row, Transaction, params};
+use std::alloc::Global;
+
+/// What is given with the query for an account's entry of a turn.
+#[derive(Drop)]
+struct TurnCells {
+    account: u32,
+    turn: i64,
+}
+
+fn cells_of(account: u32, turn: u64) -> Result<TurnCells, Fault>
+    ensures { IfOk result (λ c. given_turn c ≡ Int (pos account) ∷ Int (pos turn) ∷ []) }
+{
+    Ok(TurnCells {
+        account,
+        turn: count_cell(turn)?,
+    })
+}
+
+/// The entry of an account that is its turn of this number: one, or none.
+fn select_turn<S: Alter>(tx: &mut Transaction<'_, S>, cells: &TurnCells) -> Result<Vec<Row>, Error>
+    ensures same_reference { tx.new.conn.ghost_name ≡ tx.old.conn.ghost_name }
+    ensures rows { HasCleanDisk (state S.Store tx.new.conn.now) → (s : Sheets) → HoldsTables (state S.Store tx.old.conn.now).now s → (account turn : ℕ) → given_turn cells.now ≡ Int (pos account) ∷ Int (pos turn) ∷ []
+        → IfOk result (λ rows. rows.items ≡ take 1 (map entry_cells (filter (is_entry_at account turn) s.entries))) }
+    ensures steps { Steps (state S.Store tx.old.conn.now) (state S.Store tx.new.conn.now) (λ s. s) result }
+    ensures open { StaysOpen (state S.Store tx.old.conn.now) (state S.Store tx.new.conn.now) result }
+    ensures survives { Survives (state S.Store tx.old.conn.now) (state S.Store tx.new.conn.now) (λ _. ⊥) }
+{
+    tx.query_all(
+        "SELECT branch, number, account, turn, teller, delta, moment, day, user_no, form, partner, undoes, balance_after FROM entries WHERE account = ?1 AND turn = ?2 ORDER BY branch, number LIMIT 1",
+        params![cells.account, &cells.turn],
+    )
+}
+
+fn entry_of_turn<S: Alter>(
+    tx: &mut Transaction<'_, S>,
+    account: u32,
+    turn: u64,
+) -> Result<Option<EntryRecord>, Fault>
+    ensures same_reference { tx.new.conn.ghost_name ≡ tx.old.conn.ghost_name }
+    ensures found { HasCleanDisk (state S.Store tx.new.conn.now) → (s : Sheets) → HoldsTables (state S.Store tx.old.conn.now).now s → IfOk result (λ found. found ≡ find (is_entry_at account turn) s.entries) }
+    ensures steps { Steps (state S.Store tx.old.conn.now) (state S.Store tx.new.conn.now) (λ s. s) result }
+    ensures open { StaysOpen (state S.Store tx.old.conn.now) (state S.Store tx.new.conn.now) result }
+    ensures survives { Survives (state S.Store tx.old.conn.now) (state S.Store tx.new.conn.now) (λ _. ⊥) }
+{
+    let cells = cells_of(account, turn)?;
+    let rows = match select_turn(tx, &cells) {
+        Ok(rows) => rows,
+        Err(error) => return Err(fault_of(error)),
+    };
+    match rows.first() {
+        Some(row) => Ok(Some(read_entry(row)?)),
+        None => Ok(None),
+    }
+}
+
+/// The entry of an account that is its turn of this number, with the balance after it, or none where
+/// it isn't there.
+pub fn entry_at<S: Alter>(
+    tx: &mut Transaction<'_, S>,
+    account: u32,
+    turn: u32,
+) -> Result<Option<EntryRecord>, Fault>
+    ensures same_reference { tx.new.conn.ghost_name ≡ tx.old.conn.ghost_name }
+    ensures found { HasCleanDisk (state S.Store tx.new.conn.now) → (s : Sheets) → HoldsTables (state S.Store tx.old.conn.now).now s → IfOk result (λ found. found ≡ find (is_entry_at account turn) s.entries) }
+    ensures steps { Steps (state S.Store tx.old.conn.now) (state S.Store tx.new.conn.now) (λ s. s) result }
+    ensures open { StaysOpen (state S.Store tx.old.conn.now) (state S.Store tx.new.conn.now) result }
+    ensures survives { Survives (state S.Store tx.old.conn.now) (state S.Store tx.new.conn.now) (λ _. ⊥) }
+{
+    entry_of_turn(tx, account, u64::from(turn))
+}
+
+/// The entries of an account that are its turns `start`, `start + 1` and so on, as long as they are
+/// there, at most `count`, each with the balance after it.
+pub fn entries_from<S: Alter>(
+    alloc: Global,
+    tx: &mut Transaction<'_, S>,
+    account: u32,
+    start: u32,
+    count: u32,
+) -> Result<Vec<EntryRecord>, Fault>
+    ensures same_reference { tx.new.conn.ghost_name ≡ tx.old.conn.ghost_name }
+    ensures listed { HasCleanDisk (state S.Store tx.new.conn.now) → IsTrue (state S.Store tx.old.conn.now).in_transaction → (s : Sheets) → HoldsTables (state S.Store tx.old.conn.now).now s → IfOk result (λ rows. rows.items ≡ entries_from s.entries account start count) }
+    ensures steps { Steps (state S.Store tx.old.conn.now) (state S.Store tx.new.conn.now) (λ s. s) result }
+    ensures open { HasCleanDisk (state S.Store tx.new.conn.now) → OnOk result (0 < count → IsTrue (state S.Store tx.old.conn.now).is_open) × (IsTrue (state S.Store tx.new.conn.now).is_open → IsTrue (state S.Store tx.old.conn.now).is_open) }
+    ensures survives { Survives (state S.Store tx.old.conn.now) (state S.Store tx.new.conn.now) (λ _. ⊥) }
+{
+    let first = u64::from(start);
+    let mut rows = Vec::new(alloc);
+    for turn in first..first + u64::from(count) {
+        match entry_of_turn(tx, account, turn)? {
+            Some(row) => rows.push(row)?,
+            None => return Ok(rows),
+        }
+    }
+    Ok(rows)
+}
