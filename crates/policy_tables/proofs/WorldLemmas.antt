@@ -1,5 +1,5 @@
 -- What the tables of a World hold of its policy is what the policy says.
-use Rattle.std.proofs.Common.{◌≡◌, ◌+◌, ℕ, List, [], ◌∷◌, ◌++◌, append-nil, map, filter, flat_map, Bool, true, false, cond, ◌||◌, ◌==◌, Some, refl, sym, ap, ◌∙◌, subst}
+use Rattle.std.proofs.Common.{◌≡◌, ◌+◌, ℕ, List, [], ◌∷◌, ◌++◌, append-nil, map, filter, flat_map, Bool, true, false, cond, ◌==◌, Some, refl, sym, ap, ◌∙◌, subst}
 use Rattle.std.specs.List.{enumerate_from, find, list_any}
 use Rattle.std.specs.Option.{option_map_or}
 use Rattle.std.proofs.lemmas.Bool.{eq-eqb, eqb-true, or_parts}
@@ -7,7 +7,7 @@ use Rattle.std.proofs.lemmas.List.{map-append}
 use Rattle.std.proofs.lemmas.List.Elements.{filter-append}
 use Rattle.keyed_rows.specs.Ordered.{AreDistinct}
 use Rattle.bank_policy.specs.Execution.{members_of}
-use Rattle.bank_policy.specs.HeldRows.{CertifiedSet, HeldTriple, is_relation_of, is_triple_of, relations_of, triples_of}
+use Rattle.bank_policy.specs.HeldRows.{is_relation_of, is_triple_of, relations_of, triples_of}
 use Rattle.bank_policy.specs.PolicyKeys.{set_key}
 use Rattle.bank_policy.specs.SetRow.{SetRow}
 use Rattle.bank_policy.specs.declared.rows.Member.{Member}
