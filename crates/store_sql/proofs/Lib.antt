@@ -1,0 +1,5 @@
+pub mod CellLemmas
+pub mod OrderLemmas
+pub mod PolicyLemmas
+pub mod ReadLemmas
+pub mod WorldLemmas

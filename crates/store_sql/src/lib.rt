@@ -1,0 +1,4 @@
+//! What stands yet of the store over the tables of a bank: its first reads of the policy.
+#![tactic(auto)]
+
+pub mod policy_reads;
