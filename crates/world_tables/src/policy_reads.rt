@@ -5,8 +5,8 @@ ghost use Rattle.std.specs.Prelude.{◌≡◌, option_map};
 ghost use Rattle.sqlite.specs.Held.{state};
 ghost use Rattle.row_reads.specs.BookReads.{release};
 ghost use Rattle.row_reads.specs.PolicyReads.{is_certifier, is_set, set_count, triple_count, user_record};
-ghost use Rattle.store_sql.specs.Reads.{ReadsWorld};
-ghost use Rattle.store_sql.specs.Shown.{user_told};
+ghost use Rattle.world_tables.specs.Reads.{ReadsWorld};
+ghost use Rattle.world_tables.specs.Shown.{user_told};
 
 use bank_books::Release;
 use bank_policy::Standing;

@@ -2,8 +2,8 @@ use Rattle.std.proofs.Common.{◌≡◌, ◌∙◌, filter, length}
 use Rattle.std.proofs.lemmas.List.Sums.{length-filter}
 use Rattle.policy_tables.specs.Tests.{is_triple_by}
 use Rattle.sqlite.specs.Held.{state}
-use Rattle.store_sql.proofs.ReadLemmas.{reads_world}
-use Rattle.store_sql.proofs.policy_reads.triples_inside.Goals as goal
+use Rattle.world_tables.proofs.ReadLemmas.{reads_world}
+use Rattle.world_tables.proofs.policy_reads.triples_inside.Goals as goal
 
 pub returns-clause-reads : goal.returns-clause-reads
 returns-clause-reads g c =

@@ -11,8 +11,8 @@ use Rattle.bank_schema.specs.Cells.{AnyRow, EntryFits, LineFits, MemberFits, Pro
 use Rattle.bank_schema.specs.Held.{AreOfWorld, HoldsSheets, set_no}
 use Rattle.bank_schema.specs.Held.Sheet.{accounts as in_accounts, bank as in_bank, branches as in_branches, certifiers as in_certifiers, entries as in_entries, lines as in_lines, members as in_members, proofs as in_proofs, relations as in_relations, releases as in_releases, sets as in_sets, tellers as in_tellers, triples as in_triples, users as in_users}
 use Rattle.bank_schema.specs.HeldRows.{all_but_rowid, all_of_it}
-use Rattle.store_sql.proofs.CellLemmas as cells
-use Rattle.store_sql.proofs.OrderLemmas.{one_list}
+use Rattle.world_tables.proofs.CellLemmas as cells
+use Rattle.world_tables.proofs.OrderLemmas.{one_list}
 
 abbrev first_version : List Row → ℕ
 first_version [] = 0

@@ -1,9 +1,9 @@
 use Rattle.std.proofs.Common.{◌≡◌, ◌∙◌, ◌==◌, arith, find}
 use Rattle.bank_books.specs.Keys.{release_key, release_number}
-use Rattle.store_sql.proofs.PolicyLemmas.{release_is}
+use Rattle.world_tables.proofs.PolicyLemmas.{release_is}
 use Rattle.sqlite.specs.Held.{state}
-use Rattle.store_sql.proofs.ReadLemmas.{reads_world}
-use Rattle.store_sql.proofs.policy_reads.release_inside.Goals as goal
+use Rattle.world_tables.proofs.ReadLemmas.{reads_world}
+use Rattle.world_tables.proofs.policy_reads.release_inside.Goals as goal
 
 pub returns-clause-reads : goal.returns-clause-reads
 returns-clause-reads g c =

@@ -1,9 +1,9 @@
 use Rattle.std.proofs.Common.{◌≡◌, ◌∙◌, ◌==◌}
 use Rattle.std.specs.List.{list_any}
-use Rattle.store_sql.proofs.PolicyLemmas.{any-mapped}
+use Rattle.world_tables.proofs.PolicyLemmas.{any-mapped}
 use Rattle.sqlite.specs.Held.{state}
-use Rattle.store_sql.proofs.ReadLemmas.{reads_world}
-use Rattle.store_sql.proofs.policy_reads.set_inside.Goals as goal
+use Rattle.world_tables.proofs.ReadLemmas.{reads_world}
+use Rattle.world_tables.proofs.policy_reads.set_inside.Goals as goal
 
 pub returns-clause-reads : goal.returns-clause-reads
 returns-clause-reads g c =

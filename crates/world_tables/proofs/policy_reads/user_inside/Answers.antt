@@ -3,10 +3,10 @@ use Rattle.std.specs.Prelude.{option_map}
 use Rattle.sqlite.specs.Held.{state}
 use Rattle.row_reads.specs.PolicyReads.{user_record}
 use Rattle.kept_rows.specs.Sheets.{user_no}
-use Rattle.store_sql.specs.Shown.{user_told}
-use Rattle.store_sql.proofs.PolicyLemmas.{user_is}
-use Rattle.store_sql.proofs.ReadLemmas.{reads_world}
-use Rattle.store_sql.proofs.policy_reads.user_inside.Goals as goal
+use Rattle.world_tables.specs.Shown.{user_told}
+use Rattle.world_tables.proofs.PolicyLemmas.{user_is}
+use Rattle.world_tables.proofs.ReadLemmas.{reads_world}
+use Rattle.world_tables.proofs.policy_reads.user_inside.Goals as goal
 
 pub returns-in-Ok-clause-reads : goal.returns-in-Ok-clause-reads
 returns-in-Ok-clause-reads g c =

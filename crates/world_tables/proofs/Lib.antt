@@ -1,4 +1,5 @@
 pub mod CellLemmas
+pub mod KeptLemmas
 pub mod OrderLemmas
 pub mod PolicyLemmas
 pub mod ReadLemmas

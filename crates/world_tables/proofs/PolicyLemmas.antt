@@ -17,7 +17,7 @@ use Rattle.kept_rows.specs.Sheets.{sheets_of, user_no}
 use Rattle.kept_rows.specs.declared.records.KeptUser.{KeptUser}
 use Rattle.kept_rows.proofs.PlainKept.{rows_are_told}
 use Rattle.policy_tables.proofs.KeyTests.{two_parts}
-use Rattle.store_sql.specs.Shown.{user_told}
+use Rattle.world_tables.specs.Shown.{user_told}
 
 pub user_is : (w : WorldLists) (user : ℕ) → IsKeepable w → (found : Option KeptUser) (told : Option UserRecord) → told ≡ option_map user_told found → found ≡ find (λ u. user_no u == user) (sheets_of w).users → told ≡ user_record w user
 user_is w user can found told is at = is ∙ ap (option_map user_told) (at ∙ (rows_are_told w user can).user) ∙ twice (user_row w.policy user)

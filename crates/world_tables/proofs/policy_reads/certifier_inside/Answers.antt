@@ -3,8 +3,8 @@ use Rattle.std.specs.List.{list_any}
 use Rattle.bank_terms.specs.Procedure.{number_of}
 use Rattle.policy_tables.specs.Tests.{is_certifier_of}
 use Rattle.sqlite.specs.Held.{state}
-use Rattle.store_sql.proofs.ReadLemmas.{reads_world}
-use Rattle.store_sql.proofs.policy_reads.certifier_inside.Goals as goal
+use Rattle.world_tables.proofs.ReadLemmas.{reads_world}
+use Rattle.world_tables.proofs.policy_reads.certifier_inside.Goals as goal
 
 pub returns-clause-reads : goal.returns-clause-reads
 returns-clause-reads g c =

@@ -11,7 +11,7 @@ use Rattle.kept_rows.specs.Sheets.{Sheets, sheets_of}
 use Rattle.bank_schema.specs.Held.{HoldsBank, HoldsTables, HoldsWorld}
 use Rattle.bank_schema.specs.Steps.{Moves, StaysOpen, Steps}
 use Rattle.bank_schema.proofs.StepLemmas.{early, ok_weaker}
-use Rattle.store_sql.specs.Reads.{ReadsBank, ReadsWorld}
+use Rattle.world_tables.specs.Reads.{ReadsBank, ReadsWorld}
 
 pub tables_of : (db : Database) (w : WorldLists) → HoldsWorld db w → HoldsTables db (sheets_of w)
 tables_of db w h = record { schema = h.schema; sound = h.sound; rows = h.world.rows }
