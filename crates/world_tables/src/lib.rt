@@ -1,4 +1,6 @@
 //! What stands yet of the store over the tables of a bank: its first reads of the policy.
 #![tactic(auto)]
 
+pub mod policy_questions;
 pub mod policy_reads;
+pub mod question;
