@@ -24,3 +24,8 @@ moves_kept {X} {E} old new change after says result kept steps tells clean insid
         let it = kept w holds.world.keepable told in
         (h.0, record { schema = h.1.schema; sound = h.1.sound; world = record { rows = subst (HoldsSheets new.now.trees) (sym it.sheets) h.1.rows; keepable = it.keepable } })
     go (Err e) h told = tt
+
+pub kept_held : {X E : Type 0} (new : State) (change : RowWrite) (after : Sheets → Sheets) (w : WorldLists) (r : Result X E) → IsKept w change after
+    → OnOk r (IsTrue new.in_transaction × HoldsTables new.now (after (sheets_of w))) → OnOk r (IsTrue new.in_transaction × HoldsWorld new.now (written change w))
+kept_held new change after w (Ok x) it h = (h.0, record { schema = h.1.schema; sound = h.1.sound; world = record { rows = subst (HoldsSheets new.now.trees) (sym it.sheets) h.1.rows; keepable = it.keepable } })
+kept_held new change after w (Err e) it h = tt

@@ -1,6 +1,12 @@
-//! What stands yet of the store over the tables of a bank: its first reads of the policy.
+//! The tables of a bank, read and written as the World that they hold.
 #![tactic(auto)]
 
+mod book_writes;
+mod plan_writes;
 pub mod policy_questions;
 pub mod policy_reads;
-pub mod question;
+mod policy_writes;
+mod question;
+
+pub use plan_writes::write_plan;
+pub use question::Question;

@@ -1,0 +1,51 @@
+ghost use Rattle.std.specs.Prelude.{◌≡◌, false, IsTrue, OnErr, OnOk};
+ghost use Rattle.sqlite.specs.Held.{state};
+ghost use Rattle.sqlite.specs.State.{HasCleanDisk, Survives};
+ghost use Rattle.bank_books.specs.Effects.{applied};
+ghost use Rattle.bank_books.specs.WorldLists.{WorldLists};
+ghost use Rattle.bank_schema.specs.Held.{AreOfWorld, HoldsBank};
+ghost use Rattle.bank_schema.specs.Steps.{Moves, StaysOpen};
+
+use bank_books::RowWrite;
+use bank_schema::fault_of;
+use book_tables::version_of;
+use money::Fault;
+use sqlite::{Alter, Connection, Transaction};
+use std::alloc::Global;
+use world_tables::write_plan;
+
+/// Reads something, which shows that the connection is open.
+fn look<S: Alter>(tx: &mut Transaction<'_, S>) -> Result<(), Fault>
+    ensures same_reference { tx.new.conn.ghost_name ≡ tx.old.conn.ghost_name }
+    ensures moves { Moves (state S.Store tx.old.conn.now) (state S.Store tx.new.conn.now) (λ w. w) result }
+    ensures open { StaysOpen (state S.Store tx.old.conn.now) (state S.Store tx.new.conn.now) result }
+    ensures survives { Survives (state S.Store tx.old.conn.now) (state S.Store tx.new.conn.now) (λ _. ⊥) }
+{
+    match version_of(tx) {
+        Ok(_) => Ok(()),
+        Err(fault) => Err(fault),
+    }
+}
+
+/// Writes the whole plan in one transaction, or at a fault nothing of it.
+pub(crate) fn apply_plan<S: Alter>(
+    alloc: Global,
+    conn: &mut Connection<S>,
+    plan: &[RowWrite],
+) -> Result<(), Fault>
+    requires { conn.old.in_transaction ≡ false }
+    ensures mode { conn.new.in_transaction ≡ false }
+    ensures in_full { HasCleanDisk (state S.Store conn.new) → (w : WorldLists) → HoldsBank (state S.Store conn.old) w → OnOk result (HoldsBank (state S.Store conn.new) (applied plan.now w)) }
+    ensures refused { HasCleanDisk (state S.Store conn.new) → (w : WorldLists) → HoldsBank (state S.Store conn.old) w → OnErr result (IsTrue (state S.Store conn.new).is_open → HoldsBank (state S.Store conn.new) w) }
+    ensures was_open { HasCleanDisk (state S.Store conn.new) → IsTrue (state S.Store conn.new).is_open → IsTrue (state S.Store conn.old).is_open }
+    ensures stays_open { HasCleanDisk (state S.Store conn.new) → OnOk result (IsTrue (state S.Store conn.new).is_open) }
+    ensures crash { Survives (state S.Store conn.old) (state S.Store conn.new) (λ trees. IsTrue (state S.Store conn.old).is_open × ((w : WorldLists) → HoldsBank (state S.Store conn.old) w → AreOfWorld (applied plan.now w) trees)) }
+{
+    let mut tx = conn.transaction();
+    look(&mut tx)?;
+    write_plan(alloc, &mut tx, plan)?;
+    match tx.commit() {
+        Ok(()) => Ok(()),
+        Err(error) => Err(fault_of(error)),
+    }
+}

@@ -1,0 +1,118 @@
+ghost use Rattle.std.specs.Prelude.{◌≡◌, ◌≢◌, ◌≤◌, ◌+◌, false, IsTrue, Some};
+ghost use Rattle.sqlite.specs.Held.{state};
+ghost use Rattle.bank_books.specs.Effects.{applied};
+ghost use Rattle.money.specs.declared.fault.Fault.TheVariants.{Stopped};
+ghost use Rattle.store_rows.specs.Status.{Changes, ReadsRow, RoseBy, count_after, counts, failures_after, mark_of, stops};
+ghost use Rattle.store_sql.specs.Bank.{sql_status};
+
+use crate::applying::apply_plan;
+use crate::asking::ask;
+use bank_books::RowWrite;
+use money::Fault;
+use sqlite::{Alter, Connection};
+use std::alloc::Global;
+use store_rows::Stands;
+use world_tables::Question;
+
+/// The bank in a SQL database. After a fault of the disk it is stopped, and answers nothing any more.
+#[derive(Drop)]
+pub struct SqlStore<S: Alter> {
+    conn: Connection<S>,
+    is_stopped: bool,
+    faults: u64,
+    failures: u64,
+    ghost idle: { conn.in_transaction ≡ false },
+}
+
+impl<S: Alter> SqlStore<S> {
+    /// The store over the tables of this connection. It stands for the World that they hold.
+    pub fn over(conn: Connection<S>) -> SqlStore<S>
+        requires { conn.in_transaction ≡ false }
+        ensures connection { result.conn ≡ conn }
+        ensures works { result.is_stopped ≡ false }
+        ensures none { result.faults ≡ 0 }
+        ensures no_failure { result.failures ≡ 0 }
+    {
+        SqlStore {
+            conn,
+            is_stopped: false,
+            faults: 0,
+            failures: 0,
+        }
+    }
+
+    /// Counts a fault of the database and says which it is told as: what is neither memory nor size is the disk, and stops the store.
+    fn refuse(&mut self, fault: Fault) -> Fault
+        ensures conn { self.new.conn ≡ self.old.conn }
+        ensures named { result ≢ Stopped }
+        ensures state { self.new.is_stopped ≡ stops (Some result) self.old.is_stopped }
+        ensures counted { self.new.faults ≡ count_after (Some result) self.old.faults }
+        ensures rose { RoseBy (counts (Some result)) self.old.faults self.new.faults }
+        ensures no_more { self.new.faults ≤ self.old.faults + 1 }
+        ensures failed { self.new.failures ≡ failures_after (Some result) self.old.failures }
+    {
+        self.faults = self.faults.saturating_add(1);
+        match fault {
+            Fault::Memory => Fault::Memory,
+            Fault::Size => {
+                self.failures = self.failures.saturating_add(1);
+                Fault::Size
+            }
+            Fault::Disk | Fault::Stopped => {
+                self.failures = self.failures.saturating_add(1);
+                self.is_stopped = true;
+                Fault::Disk
+            }
+        }
+    }
+
+    /// Counts a call of a store that is stopped.
+    fn refuse_stopped(&mut self) -> Fault
+        ensures conn { self.new.conn ≡ self.old.conn }
+        ensures fault { result ≡ Stopped }
+        ensures state { self.new.is_stopped ≡ self.old.is_stopped }
+        ensures counted { self.new.faults ≡ count_after (Some result) self.old.faults }
+        ensures failed { self.new.failures ≡ failures_after (Some result) self.old.failures }
+    {
+        self.faults = self.faults.saturating_add(1);
+        self.failures = self.failures.saturating_add(1);
+        Fault::Stopped
+    }
+
+    /// Carries out the whole plan in one transaction, or at a fault nothing of it.
+    pub fn write(&mut self, alloc: Global, plan: &[RowWrite]) -> Result<(), Fault>
+        ensures changed { Changes (sql_status (state S.Store self.old.conn) self.old.is_stopped self.old.faults self.old.failures) (sql_status (state S.Store self.new.conn) self.new.is_stopped self.new.faults self.new.failures) (applied plan.now) (mark_of result) }
+        ensures refused { IsTrue self.old.is_stopped → mark_of result ≡ Some Stopped }
+        ensures counted { self.new.faults ≡ count_after (mark_of result) self.old.faults }
+    {
+        if self.is_stopped {
+            return Err(self.refuse_stopped());
+        }
+        match apply_plan(alloc, &mut self.conn, plan) {
+            Ok(()) => Ok(()),
+            Err(fault) => Err(self.refuse(fault)),
+        }
+    }
+
+    /// Asks the tables.
+    pub fn ask<Q: Question>(&mut self, alloc: Global, question: &Q) -> Result<Q::Answer, Fault>
+        ensures { ReadsRow (sql_status (state S.Store self.old.conn) self.old.is_stopped self.old.faults self.old.failures) (sql_status (state S.Store self.new.conn) self.new.is_stopped self.new.faults self.new.failures) result (Q.says question.now) }
+    {
+        if self.is_stopped {
+            Err(self.refuse_stopped())
+        } else {
+            match ask(alloc, &mut self.conn, question) {
+                Ok(answer) => Ok(answer),
+                Err(fault) => Err(self.refuse(fault)),
+            }
+        }
+    }
+}
+
+impl<S: Alter> Stands for SqlStore<S> {
+    ghost status = { λ store. sql_status (state S.Store store.conn) store.is_stopped store.faults store.failures };
+
+    fn faults(&self) -> u64 {
+        self.faults
+    }
+}
