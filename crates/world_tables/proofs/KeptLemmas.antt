@@ -3,13 +3,13 @@ use Rattle.std.specs.Bool.{⊤}
 use Rattle.std.proofs.Common.{Result, Ok, Err, IsTrue, OnOk, true, sym, subst}
 use Rattle.sqlite.specs.State.{State}
 use Rattle.bank_policy.specs.declared.policy_write.PolicyWrite.{PolicyWrite}
+use Rattle.bank_policy.specs.declared.policy_write.Session.{Session}
 use Rattle.bank_books.specs.Effects.{written}
 use Rattle.bank_books.specs.WorldLists.{WorldLists}
+use Rattle.bank_books.specs.Version.{with_version}
 use Rattle.bank_books.specs.declared.row_write.RowWrite.{RowWrite}
 use Rattle.bank_books.specs.declared.row_write.RowWrite.TheVariants as write
-use Rattle.bank_books.specs.Version.{with_version}
 use Rattle.kept_rows.specs.Changes.{IsNew, policy_sheets, session_sheets, version_sheets}
-use Rattle.bank_policy.specs.declared.policy_write.Session.{Session}
 use Rattle.kept_rows.specs.Keepable.{IsKeepable}
 use Rattle.kept_rows.specs.Kept.{IsKept}
 use Rattle.kept_rows.specs.Sheets.{Sheets, sheets_of}

@@ -3,18 +3,18 @@ use Rattle.std.proofs.Common.{◌≡◌, ◌∙◌, ◌+◌, ◌<◌, ℕ, List,
 use Rattle.std.specs.Prelude.{⊤}
 use Rattle.std.specs.List.{enumerate_from}
 use Rattle.std.proofs.lemmas.List.{length-take-le, map-append, take_more}
+use Rattle.sqlite.specs.State.{HasCleanDisk, State, Survives}
 use Rattle.keyed_rows.specs.Ordered.{add_row}
+use Rattle.bank_policy.specs.SetRow.{SetRow}
 use Rattle.bank_policy.specs.declared.rows.Member.{Member}
+use Rattle.bank_policy.specs.declared.policy_write.PolicyWrite.TheVariants as policy
 use Rattle.bank_books.specs.Effects.{written}
 use Rattle.bank_books.specs.declared.row_write.RowWrite.TheVariants as write
 use Rattle.kept_rows.specs.Changes.{IsNew, add_rows, policy_sheets}
 use Rattle.kept_rows.specs.Records.{member_row, member_rows}
 use Rattle.kept_rows.specs.Sheets.{Sheets, member_no}
-use Rattle.kept_rows.specs.declared.records.MemberRow.{MemberRow}
-use Rattle.sqlite.specs.State.{HasCleanDisk, State, Survives}
-use Rattle.bank_policy.specs.SetRow.{SetRow}
-use Rattle.bank_policy.specs.declared.policy_write.PolicyWrite.TheVariants as policy
 use Rattle.kept_rows.specs.Named.{IsFree}
+use Rattle.kept_rows.specs.declared.records.MemberRow.{MemberRow}
 use Rattle.bank_schema.specs.Held.{HoldsTables, set_no}
 use Rattle.bank_schema.specs.Steps.{Moves, Steps, Tells}
 use Rattle.bank_schema.proofs.StepLemmas.{early, ok_weaker}

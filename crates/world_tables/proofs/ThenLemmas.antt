@@ -1,8 +1,12 @@
 -- Steps one after another.
 use Rattle.std.specs.Prelude.{⊤}
-use Rattle.std.proofs.Common.{◌≡◌, ℕ, ◌+◌, Result, Ok, Err, IsTrue, OnOk, ap, subst, true}
+use Rattle.std.proofs.Common.{◌≡◌, ℕ, ◌+◌, ◌<◌, ◌||◌, not, nat_lt, List, Bool, Result, Ok, Err, IsTrue, OnOk, ap, subst, true, false, refl}
+use Rattle.std.proofs.lemmas.Bool.{lt-ltb}
 use Rattle.sqlite.specs.State.{HasCleanDisk, KeepsCommit, State, Survives}
 use Rattle.keyed_rows.specs.Changed.{change_rows}
+use Rattle.bank_terms.specs.Limits.{max_version}
+use Rattle.bank_books.specs.Version.{changes_policy, has_version_for}
+use Rattle.bank_books.specs.declared.row_write.RowWrite.{RowWrite}
 use Rattle.kept_rows.specs.Changes.{version_sheets}
 use Rattle.kept_rows.specs.Named.{IsUserRow}
 use Rattle.kept_rows.specs.Sheets.{Sheets, set_row, user_no}
@@ -53,3 +57,11 @@ on_ok (Err e) P it = tt
 pub stepped_then : (old mid new : State) (one two both : Sheets → Sheets) → SteppedBy old mid one → Survives mid new (λ _. ⊥) → SteppedBy mid new two → ((s : Sheets) → two (one s) ≡ both s) → SteppedBy old new both
 stepped_then old mid new one two both first over second same =
     steps_then {X = ⊤} {E = ⊤} old mid new one two both (λ s. ⊤) (Ok tt) first (λ clean inside s holds. tt) over second (λ s holds told. same s)
+
+-- below the last version there is one for every plan
+pub has_room : (version : ℕ) → version < max_version → (plan : List RowWrite) → IsTrue (has_version_for plan version)
+has_room version below plan = go (changes_policy plan) (lt-ltb version max_version below)
+  where
+    go : (b : Bool) → nat_lt version max_version ≡ true → IsTrue (not b || nat_lt version max_version)
+    go true is = is
+    go false is = refl

@@ -1,11 +1,11 @@
 //! The version of the policy inside a transaction.
 
-ghost use Rattle.std.specs.Prelude.{◌≡◌, ◌<◌, true, IsTrue, OnOk};
+ghost use Rattle.std.specs.Prelude.{◌≡◌, true, IsTrue, List, OnOk};
 ghost use Rattle.sqlite.specs.Held.{state};
 ghost use Rattle.sqlite.specs.State.{HasCleanDisk, Survives};
-ghost use Rattle.bank_terms.specs.Limits.{max_version};
-ghost use Rattle.bank_books.specs.Version.{with_version};
+ghost use Rattle.bank_books.specs.Version.{has_version_for, with_version};
 ghost use Rattle.bank_books.specs.WorldLists.{WorldLists};
+ghost use Rattle.bank_books.specs.declared.row_write.RowWrite.{RowWrite as TheWrite};
 ghost use Rattle.bank_schema.specs.Held.{HoldsWorld};
 ghost use Rattle.bank_schema.specs.Steps.{Moves};
 
@@ -18,7 +18,7 @@ use sqlite::{Alter, Transaction};
 pub fn raise_version<S: Alter>(tx: &mut Transaction<'_, S>) -> Result<(), Fault>
     ensures same_reference { tx.new.conn.ghost_name ≡ tx.old.conn.ghost_name }
     ensures moves { Moves (state S.Store tx.old.conn.now) (state S.Store tx.new.conn.now) (with_version true) result }
-    ensures room { HasCleanDisk (state S.Store tx.new.conn.now) → IsTrue (state S.Store tx.old.conn.now).in_transaction → (w : WorldLists) → HoldsWorld (state S.Store tx.old.conn.now).now w → OnOk result (w.version < max_version) }
+    ensures room { HasCleanDisk (state S.Store tx.new.conn.now) → IsTrue (state S.Store tx.old.conn.now).in_transaction → (w : WorldLists) → HoldsWorld (state S.Store tx.old.conn.now).now w → OnOk result ((plan : List TheWrite) → IsTrue (has_version_for plan w.version)) }
     ensures survives { Survives (state S.Store tx.old.conn.now) (state S.Store tx.new.conn.now) (λ _. ⊥) }
 {
     let version = version_of(tx)?;

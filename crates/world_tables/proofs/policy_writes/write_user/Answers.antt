@@ -1,9 +1,9 @@
 use Rattle.std.proofs.Common.{subst}
 use Rattle.sqlite.specs.Held.{state}
+use Rattle.keyed_rows.specs.Ordered.{add_row}
 use Rattle.bank_policy.specs.declared.policy_write.PolicyWrite.TheVariants as policy
 use Rattle.kept_rows.specs.Named.{IsFree}
 use Rattle.kept_rows.specs.Sheets.{user_no}
-use Rattle.keyed_rows.specs.Ordered.{add_row}
 use Rattle.bank_schema.specs.Steps.{Steps, Tells}
 use Rattle.world_tables.proofs.KeptLemmas.{policy_moves}
 use Rattle.world_tables.proofs.policy_writes.write_user.Goals as goal
