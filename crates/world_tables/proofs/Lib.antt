@@ -1,8 +1,10 @@
 pub mod CellLemmas
 pub mod KeptLemmas
 pub mod OrderLemmas
+pub mod PlaceLemmas
 pub mod PlanLemmas
 pub mod PolicyLemmas
 pub mod ReadLemmas
 pub mod SetLemmas
+pub mod ThenLemmas
 pub mod WorldLemmas

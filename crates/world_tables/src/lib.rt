@@ -7,6 +7,7 @@ pub mod policy_questions;
 pub mod policy_reads;
 mod policy_writes;
 mod question;
+mod version_writes;
 
 pub use plan_writes::write_plan;
 pub use question::Question;

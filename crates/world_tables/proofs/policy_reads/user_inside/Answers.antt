@@ -1,9 +1,7 @@
-use Rattle.std.proofs.Common.{◌≡◌, ◌==◌, ◌∙◌, Err, Ok, Some, ap, find, refl}
-use Rattle.std.specs.Prelude.{option_map}
+use Rattle.std.proofs.Common.{◌≡◌, ◌==◌, ◌∙◌, Err, Ok, find, refl}
 use Rattle.sqlite.specs.Held.{state}
 use Rattle.row_reads.specs.PolicyReads.{user_record}
 use Rattle.kept_rows.specs.Sheets.{user_no}
-use Rattle.world_tables.specs.Shown.{user_told}
 use Rattle.world_tables.proofs.PolicyLemmas.{user_is}
 use Rattle.world_tables.proofs.ReadLemmas.{reads_world}
 use Rattle.world_tables.proofs.policy_reads.user_inside.Goals as goal
