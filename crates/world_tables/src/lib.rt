@@ -2,5 +2,4 @@
 #![tactic(auto)]
 
 pub mod policy_questions;
-pub mod policy_reads;
 pub mod question;
