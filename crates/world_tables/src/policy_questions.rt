@@ -1,13 +1,14 @@
 //! Questions about the policy.
 
 ghost use Rattle.std.specs.Prelude.{◌≡◌, option_map};
+ghost use Rattle.bank_policy.specs.HeldRows.{relations_of, triples_of};
 ghost use Rattle.row_reads.specs.BookReads.{release};
 ghost use Rattle.row_reads.specs.PolicyReads.{is_certifier, is_set, set_count, triple_count, user_record};
 ghost use Rattle.world_tables.specs.Shown.{user_told};
 
 use crate::question::Question;
 use bank_books::Release;
-use bank_policy::Standing;
+use bank_policy::{CertifiedRow, HeldRow, Standing};
 use bank_terms::Procedure;
 use kept_rows::KeptUser;
 use money::Fault;
@@ -54,6 +55,50 @@ impl Question for UserRow {
             Ok(found) => Ok(record_of(found)),
             Err(fault) => Err(fault),
         }
+    }
+}
+
+/// The triples of this user for this procedure, each with the members of its set.
+#[derive(Clone, Copy, Debug)]
+pub struct TriplesFor {
+    /// The user.
+    pub user: u32,
+    /// The procedure.
+    pub procedure: Procedure,
+}
+
+impl Question for TriplesFor {
+    type Answer = Vec<HeldRow>;
+
+    ghost says = { λ asked w rows. rows.items ≡ triples_of w.policy asked.user asked.procedure };
+
+    fn ask<S: Alter>(
+        &self,
+        alloc: Global,
+        tx: &mut Transaction<'_, S>,
+    ) -> Result<Vec<HeldRow>, Fault> {
+        policy_tables::triples_of(alloc, tx, self.user, self.procedure)
+    }
+}
+
+/// The relations of this procedure, each with the members of its set.
+#[derive(Clone, Copy, Debug)]
+pub struct RelationsOf {
+    /// The procedure.
+    pub procedure: Procedure,
+}
+
+impl Question for RelationsOf {
+    type Answer = Vec<CertifiedRow>;
+
+    ghost says = { λ asked w rows. rows.items ≡ relations_of w.policy asked.procedure };
+
+    fn ask<S: Alter>(
+        &self,
+        alloc: Global,
+        tx: &mut Transaction<'_, S>,
+    ) -> Result<Vec<CertifiedRow>, Fault> {
+        policy_tables::relations_of(alloc, tx, self.procedure)
     }
 }
 
