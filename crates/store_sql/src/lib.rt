@@ -3,6 +3,8 @@
 
 mod applying;
 mod asking;
+mod book_reads;
+mod policy_reads;
 mod sql_store;
 
 pub use sql_store::SqlStore;

@@ -1,3 +1,4 @@
+pub mod BookLemmas
 pub mod CellLemmas
 pub mod KeptLemmas
 pub mod OrderLemmas

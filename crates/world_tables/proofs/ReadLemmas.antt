@@ -11,6 +11,7 @@ use Rattle.kept_rows.specs.Sheets.{Sheets, sheets_of}
 use Rattle.bank_schema.specs.Held.{HoldsTables, HoldsWorld}
 use Rattle.bank_schema.specs.Steps.{Moves, StaysOpen, Steps}
 use Rattle.bank_schema.proofs.StepLemmas.{early, ok_weaker}
+use Rattle.book_tables.proofs.PickedRows.{on_any}
 use Rattle.world_tables.specs.Reads.{ReadsBank, ReadsWorld}
 
 pub tables_of : (db : Database) (w : WorldLists) → HoldsWorld db w → HoldsTables db (sheets_of w)
@@ -26,22 +27,49 @@ moves_nothing old new result steps clean inside w holds =
     (ok_weaker result _ _ (λ h. (h.0, world_of new.now w holds.world.keepable h.1)) it.0, it.1)
 
 -- a read of the tables is one of the World, where what it finds among the rows is so of the World
-pub reads_world : {A E : Type 0} (old new : State) (finds : Sheets → A → Type 0) (says : WorldLists → A → Type 0) (result : Result A E)
-    → ((w : WorldLists) → IsKeepable w → (a : A) → finds (sheets_of w) a → says w a)
-    → (HasCleanDisk new → (s : Sheets) → HoldsTables old.now s → IfOk result (finds s))
-    → Steps old new (λ s. s) result → StaysOpen old new result → Survives old new (λ _. ⊥) → ReadsWorld old new says result
-reads_world old new finds says result means found steps stays survives = record {
-  told = λ clean w holds. IfOk-weaker result _ _ (means w holds.world.keepable) (found clean (sheets_of w) (tables_of old.now w holds));
-  moves = moves_nothing old new result steps;
-  stays_open = stays;
+module _ {A E : Type 0} (old new : State) (finds : Sheets → A → Type 0) (says : WorldLists → A → Type 0) (result : Result A E)
+    (means : (w : WorldLists) → IsKeepable w → (a : A) → finds (sheets_of w) a → says w a) where
+  pub reads_inside : (HasCleanDisk new → IsTrue old.in_transaction → (s : Sheets) → HoldsTables old.now s → IfOk result (finds s))
+      → Steps old new (λ s. s) result → StaysOpen old new result → Survives old new (λ _. ⊥) → ReadsWorld old new says result
+  reads_inside found steps stays survives = record {
+    told = λ clean inside w holds. IfOk-weaker result _ _ (means w holds.world.keepable) (found clean inside (sheets_of w) (tables_of old.now w holds));
+    moves = moves_nothing old new result steps;
+    stays_open = stays;
+    survives = survives;
+  }
+
+  pub reads_world : (HasCleanDisk new → (s : Sheets) → HoldsTables old.now s → IfOk result (finds s))
+      → Steps old new (λ s. s) result → StaysOpen old new result → Survives old new (λ _. ⊥) → ReadsWorld old new says result
+  reads_world found = reads_inside (λ clean inside. found clean)
+
+-- a World is told of what is made of what was read
+pub reads_made : {A E : Type 0} (old new : State) (finds : Sheets → Type 0) (says : WorldLists → A → Type 0) (made : A)
+    → ((w : WorldLists) → IsKeepable w → finds (sheets_of w) → says w made) → (HasCleanDisk new → (s : Sheets) → HoldsTables old.now s → finds s)
+    → Steps {X = A} {E = E} old new (λ s. s) (Ok made) → StaysOpen {X = A} {E = E} old new (Ok made) → Survives old new (λ _. ⊥) → ReadsWorld {A = A} {E = E} old new says (Ok made)
+reads_made old new finds says made means found =
+    reads_world old new (λ s a. finds s × (made ≡ a)) says (Ok made) (λ w can a it. subst (says w) it.1 (means w can it.0)) (λ clean s holds. (found clean s holds, refl))
+
+-- the same, where it may not be made
+pub reads_then : {A E : Type 0} (old new : State) (finds : Sheets → Type 0) (says : WorldLists → A → Type 0) (result : Result A E)
+    → ((w : WorldLists) → IsKeepable w → finds (sheets_of w) → IfOk result (says w)) → (HasCleanDisk new → (s : Sheets) → HoldsTables old.now s → finds s)
+    → Steps {X = Unit {0}} {E = E} old new (λ s. s) (Ok tt) → StaysOpen {X = Unit {0}} {E = E} old new (Ok tt) → Survives old new (λ _. ⊥) → ReadsWorld old new says result
+reads_then {A} {E} old new finds says result means found steps stays survives = record {
+  told = λ clean inside w holds. means w holds.world.keepable (found clean (sheets_of w) (tables_of old.now w holds));
+  moves = moves_nothing old new result (λ clean inside s holds. let it = steps clean inside s holds in (on_any result _ it.0, it.1));
+  stays_open = λ clean. let it = stays clean in (on_any result _ it.0, it.1);
   survives = survives;
 }
+
+-- nothing is told where a fault is answered
+pub reads_none : {A E : Type 0} (old new : State) (says : WorldLists → A → Type 0) (fault : E)
+    → Steps {X = A} {E = E} old new (λ s. s) (Err fault) → StaysOpen {X = A} {E = E} old new (Err fault) → Survives old new (λ _. ⊥) → ReadsWorld {A = A} {E = E} old new says (Err fault)
+reads_none old new says fault = reads_world old new (λ _ _. ⊥) says (Err fault) (λ w can _ none. absurd none) (λ clean s holds. tt)
 
 -- the transaction in which it was read is rolled back
 pub reads_bank : {A E : Type 0} (old done new : State) (says : WorldLists → A → Type 0) (result : Result A E)
     → ReadsWorld (record old { in_transaction = true }) done says result → (HasCleanDisk new → IsRolledBack done new) → Survives done new (λ _. ⊥) → ReadsBank old new says result
 reads_bank old done new says result reads back over = record {
-  told = λ clean w holds. reads.told (before clean) w holds.now;
+  told = λ clean w holds. reads.told (before clean) refl w holds.now;
   kept = λ clean w holds is_open.
       let keeps = (reads.moves (before clean) refl w holds.now).1 in
       let last = (back clean).undone is_open in

@@ -1,13 +1,20 @@
 //! The tables of a bank, read and written as the World that they hold.
 #![tactic(auto)]
 
+mod book_questions;
 mod book_writes;
 mod plan_writes;
-pub mod policy_questions;
-pub mod policy_reads;
+mod policy_questions;
 mod policy_writes;
 mod question;
 mod version_writes;
 
+pub use book_questions::{
+    AccountRow, BranchRow, DrawerRow, EntryRow, IsUndone, Roster, TellerRow, VaultCash,
+};
 pub use plan_writes::write_plan;
+pub use policy_questions::{
+    HasSet, IsCertifier, PolicyVersion, RelationsOf, ReleaseRow, SetCount, TripleCount, TriplesFor,
+    UserRow,
+};
 pub use question::Question;

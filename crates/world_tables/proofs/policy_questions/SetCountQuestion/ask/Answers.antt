@@ -2,7 +2,7 @@ use Rattle.std.proofs.Common.{◌≡◌, ◌∙◌, length}
 use Rattle.policy_tables.proofs.KeyTests.{length-mapped}
 use Rattle.sqlite.specs.Held.{state}
 use Rattle.world_tables.proofs.ReadLemmas.{reads_world}
-use Rattle.world_tables.proofs.policy_reads.sets_inside.Goals as goal
+use Rattle.world_tables.proofs.policy_questions.SetCountQuestion.ask.Goals as goal
 
 pub returns-clause-reads : goal.returns-clause-reads
 returns-clause-reads g c =

@@ -3,10 +3,10 @@ use Rattle.std.specs.List.{list_any}
 use Rattle.world_tables.proofs.PolicyLemmas.{any-mapped}
 use Rattle.sqlite.specs.Held.{state}
 use Rattle.world_tables.proofs.ReadLemmas.{reads_world}
-use Rattle.world_tables.proofs.policy_reads.set_inside.Goals as goal
+use Rattle.world_tables.proofs.policy_questions.HasSetQuestion.ask.Goals as goal
 
 pub returns-clause-reads : goal.returns-clause-reads
 returns-clause-reads g c =
-    reads_world (state g.S.Store c.args.tx.now.conn.now) (state g.S.Store c.is_set.new.tx.conn.now) (λ s there. there ≡ list_any (λ n. n == c.args.number) s.sets) _ c.is_set.result
+    reads_world (state g.S.Store c.args.tx.now.conn.now) (state g.S.Store c.is_set.new.tx.conn.now) (λ s there. there ≡ list_any (λ n. n == c.args.self.now.number) s.sets) _ c.is_set.result
     (λ w can there is. is ∙ any-mapped _ _ w.policy.sets)
     c.is_set.ensures.found c.is_set.ensures.steps c.is_set.ensures.open c.is_set.ensures.survives
