@@ -1,14 +1,14 @@
 -- Reads of tables as reads of Worlds.
-use Rattle.std.proofs.Common.{◌≡◌, ◌∙◌, Result, Ok, Err, IsTrue, OnOk, true, refl, sym, subst}
+use Rattle.std.proofs.Common.{◌≡◌, ◌∙◌, Result, Ok, Err, IsTrue, true, refl, sym, subst}
 use Rattle.std.specs.Prelude.{IfOk}
 use Rattle.std.proofs.lemmas.Result.{IfOk-weaker}
 use Rattle.sqlite.specs.Effect.{Database}
-use Rattle.sqlite.specs.State.{HasCleanDisk, IsRolledBack, KeepsCommit, State, Survives}
+use Rattle.sqlite.specs.State.{HasCleanDisk, IsRolledBack, State, Survives}
 use Rattle.sqlite.proofs.StateLemmas.{survives_then}
 use Rattle.bank_books.specs.WorldLists.{WorldLists}
 use Rattle.kept_rows.specs.Keepable.{IsKeepable}
 use Rattle.kept_rows.specs.Sheets.{Sheets, sheets_of}
-use Rattle.bank_schema.specs.Held.{HoldsBank, HoldsTables, HoldsWorld}
+use Rattle.bank_schema.specs.Held.{HoldsTables, HoldsWorld}
 use Rattle.bank_schema.specs.Steps.{Moves, StaysOpen, Steps}
 use Rattle.bank_schema.proofs.StepLemmas.{early, ok_weaker}
 use Rattle.book_tables.proofs.PickedRows.{on_any}

@@ -1,4 +1,4 @@
-//! What stands yet of the store over the tables of a bank: its first reads of the policy.
+//! What stands yet of the store over the tables of a bank: its reads of the policy and of the books, as questions to the tables.
 #![tactic(auto)]
 
 pub mod book_questions;
