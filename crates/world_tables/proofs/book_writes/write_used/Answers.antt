@@ -10,4 +10,4 @@ pub returns-clause-moves : goal.returns-clause-moves
 returns-clause-moves g c =
     let k = c.args.key.now in
     moves_kept (state g.S.Store c.args.tx.now.conn.now) (state g.S.Store c.use_up.new.tx.conn.now) (write.Used k) (used_sheets k) (λ s. ⊤) c.use_up.result
-    (λ w can _. used_is_kept w k can) c.use_up.ensures.steps (told_nothing _ _ c.use_up.result)
+    (λ w can _. used_is_kept w k can) c.use_up.ensures.steps (told_nothing (state g.S.Store c.args.tx.now.conn.now) (state g.S.Store c.use_up.new.tx.conn.now) c.use_up.result)
