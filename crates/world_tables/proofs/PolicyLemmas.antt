@@ -1,13 +1,12 @@
 -- What the tables of the policy tell of a World.
-use Rattle.std.proofs.Common.{◌≡◌, ◌<◌, ◌+◌, ◌*◌, ◌^◌, ℕ, List, [], ◌∷◌, map, filter, length, Bool, true, false, cond, Option, Some, None, refl, ap, sym, ◌∙◌, ◌==◌, ◌&&◌, ◌||◌, Contains}
+use Rattle.std.proofs.Common.{◌≡◌, ◌<◌, ◌^◌, ℕ, List, [], ◌∷◌, map, Bool, cond, Option, Some, None, refl, ap, sym, ◌∙◌, ◌==◌, ◌||◌, Contains}
 use Rattle.std.specs.Prelude.{option_map}
 use Rattle.std.specs.List.{find, list_any}
 use Rattle.book_growth.proofs.Rows.{Contains-head, Contains-tail}
-use Rattle.bank_policy.specs.HeldRows.{standing_of, user_row}
+use Rattle.bank_policy.specs.HeldRows.{user_row}
 use Rattle.bank_policy.specs.declared.rows.User.{User}
 use Rattle.bank_books.specs.Keys.{release_key, release_number}
 use Rattle.bank_books.specs.WorldLists.{WorldLists}
-use Rattle.bank_books.specs.declared.rows.Release.{Release}
 use Rattle.row_reads.specs.BookReads.{is_release, release}
 use Rattle.row_reads.specs.PolicyReads.{user_record, user_record_of}
 use Rattle.row_reads.specs.declared.records.UserRecord.{UserRecord}

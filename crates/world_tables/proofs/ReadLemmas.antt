@@ -1,14 +1,14 @@
 -- Reads of tables as reads of Worlds.
-use Rattle.std.proofs.Common.{◌≡◌, ◌∙◌, Result, Ok, Err, IsTrue, OnOk, true, refl, sym, subst}
+use Rattle.std.proofs.Common.{◌∙◌, Result, IsTrue, true, refl, sym, subst}
 use Rattle.std.specs.Prelude.{IfOk}
 use Rattle.std.proofs.lemmas.Result.{IfOk-weaker}
 use Rattle.sqlite.specs.Effect.{Database}
-use Rattle.sqlite.specs.State.{HasCleanDisk, IsRolledBack, KeepsCommit, State, Survives}
+use Rattle.sqlite.specs.State.{HasCleanDisk, IsRolledBack, State, Survives}
 use Rattle.sqlite.proofs.StateLemmas.{survives_then}
 use Rattle.bank_books.specs.WorldLists.{WorldLists}
 use Rattle.kept_rows.specs.Keepable.{IsKeepable}
 use Rattle.kept_rows.specs.Sheets.{Sheets, sheets_of}
-use Rattle.bank_schema.specs.Held.{HoldsBank, HoldsTables, HoldsWorld}
+use Rattle.bank_schema.specs.Held.{HoldsTables, HoldsWorld}
 use Rattle.bank_schema.specs.Steps.{Moves, StaysOpen, Steps}
 use Rattle.bank_schema.proofs.StepLemmas.{early, ok_weaker}
 use Rattle.world_tables.specs.Reads.{ReadsBank, ReadsWorld}
@@ -28,10 +28,10 @@ moves_nothing old new result steps clean inside w holds =
 -- a read of the tables is one of the World, where what it finds among the rows is so of the World
 pub reads_world : {A E : Type 0} (old new : State) (finds : Sheets → A → Type 0) (says : WorldLists → A → Type 0) (result : Result A E)
     → ((w : WorldLists) → IsKeepable w → (a : A) → finds (sheets_of w) a → says w a)
-    → (HasCleanDisk new → (s : Sheets) → HoldsTables old.now s → IfOk result (finds s))
+    → (HasCleanDisk new → IsTrue old.in_transaction → (s : Sheets) → HoldsTables old.now s → IfOk result (finds s))
     → Steps old new (λ s. s) result → StaysOpen old new result → Survives old new (λ _. ⊥) → ReadsWorld old new says result
 reads_world old new finds says result means found steps stays survives = record {
-  told = λ clean w holds. IfOk-weaker result _ _ (means w holds.world.keepable) (found clean (sheets_of w) (tables_of old.now w holds));
+  told = λ clean inside w holds. IfOk-weaker result _ _ (means w holds.world.keepable) (found clean inside (sheets_of w) (tables_of old.now w holds));
   moves = moves_nothing old new result steps;
   stays_open = stays;
   survives = survives;
@@ -41,7 +41,7 @@ reads_world old new finds says result means found steps stays survives = record 
 pub reads_bank : {A E : Type 0} (old done new : State) (says : WorldLists → A → Type 0) (result : Result A E)
     → ReadsWorld (record old { in_transaction = true }) done says result → (HasCleanDisk new → IsRolledBack done new) → Survives done new (λ _. ⊥) → ReadsBank old new says result
 reads_bank old done new says result reads back over = record {
-  told = λ clean w holds. reads.told (before clean) w holds.now;
+  told = λ clean w holds. reads.told (before clean) refl w holds.now;
   kept = λ clean w holds is_open.
       let keeps = (reads.moves (before clean) refl w holds.now).1 in
       let last = (back clean).undone is_open in

@@ -7,7 +7,7 @@ use Rattle.bank_schema.specs.Steps.{Moves, StaysOpen}
 
 -- A read inside a transaction says this of every World that the tables hold, and leaves them as they are.
 pub record ReadsWorld {A E : Type 0} (old new : State) (says : WorldLists → A → Type 0) (result : Result A E) : Type 0 where
-  pub told : HasCleanDisk new → (w : WorldLists) → HoldsWorld old.now w → IfOk result (says w)
+  pub told : HasCleanDisk new → IsTrue old.in_transaction → (w : WorldLists) → HoldsWorld old.now w → IfOk result (says w)
   pub moves : Moves old new (λ w. w) result
   pub stays_open : StaysOpen old new result
   pub survives : Survives old new (λ _. ⊥)

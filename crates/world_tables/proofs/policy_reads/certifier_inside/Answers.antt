@@ -10,4 +10,4 @@ pub returns-clause-reads : goal.returns-clause-reads
 returns-clause-reads g c =
     reads_world (state g.S.Store c.args.tx.now.conn.now) (state g.S.Store c.is_certifier.new.tx.conn.now) (λ s there. there ≡ list_any (is_certifier_of c.args.user (number_of c.args.procedure)) s.certifiers) _ c.is_certifier.result
     (λ w can there is. is)
-    c.is_certifier.ensures.found c.is_certifier.ensures.steps c.is_certifier.ensures.open c.is_certifier.ensures.survives
+    (λ clean inside. c.is_certifier.ensures.found clean) c.is_certifier.ensures.steps c.is_certifier.ensures.open c.is_certifier.ensures.survives

@@ -9,4 +9,4 @@ pub returns-clause-reads : goal.returns-clause-reads
 returns-clause-reads g c =
     reads_world (state g.S.Store c.args.tx.now.conn.now) (state g.S.Store c.is_set.new.tx.conn.now) (λ s there. there ≡ list_any (λ n. n == c.args.number) s.sets) _ c.is_set.result
     (λ w can there is. is ∙ any-mapped _ _ w.policy.sets)
-    c.is_set.ensures.found c.is_set.ensures.steps c.is_set.ensures.open c.is_set.ensures.survives
+    (λ clean inside. c.is_set.ensures.found clean) c.is_set.ensures.steps c.is_set.ensures.open c.is_set.ensures.survives

@@ -9,4 +9,4 @@ pub returns-clause-reads : goal.returns-clause-reads
 returns-clause-reads g c =
     reads_world (state g.S.Store c.args.tx.now.conn.now) (state g.S.Store c.triple_count.new.tx.conn.now) (λ s n. n ≡ length (filter (is_triple_by c.args.user) s.triples)) _ c.triple_count.result
     (λ w can n is. is ∙ length-filter _ w.policy.triples)
-    c.triple_count.ensures.found c.triple_count.ensures.steps c.triple_count.ensures.open c.triple_count.ensures.survives
+    (λ clean inside. c.triple_count.ensures.found clean) c.triple_count.ensures.steps c.triple_count.ensures.open c.triple_count.ensures.survives
