@@ -1,5 +1,7 @@
 pub mod CellLemmas
 pub mod KeptLemmas
+pub mod LeastLemmas
+pub mod LowerLemmas
 pub mod OrderLemmas
 pub mod PolicyLemmas
 pub mod ReadLemmas

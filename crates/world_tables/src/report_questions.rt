@@ -1,11 +1,13 @@
 //! Questions that reports ask: many rows at once, or one after another.
 
 ghost use Rattle.std.specs.Prelude.{◌≡◌};
-ghost use Rattle.row_reads.specs.BookReads.{entries_of, entry_at, next_teller};
+ghost use Rattle.row_reads.specs.BookReads.{entries_of, entry_at, next_shown, next_teller};
 
+use crate::least_reads::least_of;
 use crate::question::Question;
 use crate::report_rows::teller_told;
-use bank_books::{EntryRecord, TellerRecord};
+use bank_books::{AccountRecord, EntryRecord, TellerRecord};
+use bank_terms::Procedure;
 use money::Fault;
 use sqlite::{Alter, Transaction};
 use std::alloc::Global;
@@ -83,5 +85,29 @@ impl Question for EntriesOf {
     ) -> Result<Vec<EntryRecord>, Fault> {
         book_tables::version_of(tx)?;
         book_tables::entries_from(alloc, tx, self.account, self.start, self.count)
+    }
+}
+
+/// The next account above a number that a user is shown, or none where there is no other.
+#[derive(Clone, Copy, Debug)]
+pub struct NextShown {
+    /// The user.
+    pub user: u32,
+    /// The number that the account's is above.
+    pub after: u32,
+}
+
+impl Question for NextShown {
+    type Answer = Option<AccountRecord>;
+
+    ghost says = { λ asked w row. row ≡ next_shown w asked.user asked.after };
+
+    fn ask<S: Alter>(
+        &self,
+        alloc: Global,
+        tx: &mut Transaction<'_, S>,
+    ) -> Result<Option<AccountRecord>, Fault> {
+        let held = policy_tables::triples_of(alloc, tx, self.user, Procedure::Accounts)?;
+        least_of(tx, &held, self.after)
     }
 }
