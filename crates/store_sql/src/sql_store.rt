@@ -95,7 +95,11 @@ impl<S: Alter> SqlStore<S> {
     }
 
     /// Asks the tables.
-    pub(crate) fn ask<Q: Question>(&mut self, alloc: Global, question: &Q) -> Result<Q::Answer, Fault>
+    pub(crate) fn ask<Q: Question>(
+        &mut self,
+        alloc: Global,
+        question: &Q,
+    ) -> Result<Q::Answer, Fault>
         ensures { ReadsRow (sql_status (state S.Store self.old.conn) self.old.is_stopped self.old.faults self.old.failures) (sql_status (state S.Store self.new.conn) self.new.is_stopped self.new.faults self.new.failures) result (Q.says question.now) }
     {
         if self.is_stopped {

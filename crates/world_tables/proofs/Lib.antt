@@ -1,11 +1,15 @@
 pub mod BookLemmas
 pub mod CellLemmas
 pub mod KeptLemmas
+pub mod LeastLemmas
+pub mod LowerLemmas
 pub mod OrderLemmas
 pub mod PlaceLemmas
 pub mod PlanLemmas
 pub mod PolicyLemmas
 pub mod ReadLemmas
+pub mod ReportLemmas
 pub mod SetLemmas
+pub mod StepsLemmas
 pub mod ThenLemmas
 pub mod WorldLemmas

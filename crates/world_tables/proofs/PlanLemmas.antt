@@ -39,4 +39,4 @@ applied_still plan w still =
 pub applied_raised : (plan : List RowWrite) (w : WorldLists) → changes_policy plan ≡ true → has_version_for plan (all_written plan w).version ≡ true → with_version true (all_written plan w) ≡ applied plan w
 applied_raised plan w raised room =
     sym (ap (λ b. if b then with_version (changes_policy plan) (all_written plan w) else w) (subst (λ v. has_version_for plan v ≡ true) (versions_stay plan w) room)
-         ∙ ap (λ b. with_version b (all_written plan w)) raised)
+    ∙ ap (λ b. with_version b (all_written plan w)) raised)

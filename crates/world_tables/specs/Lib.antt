@@ -1,2 +1,3 @@
+pub mod LeastShown
 pub mod Reads
 pub mod Shown

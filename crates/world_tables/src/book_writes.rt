@@ -30,10 +30,7 @@ use sqlite::{Alter, Transaction};
 use std::alloc::Global;
 
 /// The account of this number. One that isn't there is a fault of the disk.
-fn account_row<S: Alter>(
-    tx: &mut Transaction<'_, S>,
-    account: u32,
-) -> Result<AccountRecord, Fault>
+fn account_row<S: Alter>(tx: &mut Transaction<'_, S>, account: u32) -> Result<AccountRecord, Fault>
     ensures same_reference { tx.new.conn.ghost_name ≡ tx.old.conn.ghost_name }
     ensures told { HasCleanDisk (state S.Store tx.new.conn.now) → IsTrue (state S.Store tx.old.conn.now).in_transaction → (s : Sheets) → HoldsTables (state S.Store tx.old.conn.now).now s → IfOk result (λ row. IsAccountRow s account row) }
     ensures steps { Steps (state S.Store tx.old.conn.now) (state S.Store tx.new.conn.now) (λ s. s) result }
@@ -46,10 +43,7 @@ fn account_row<S: Alter>(
 }
 
 /// The teller of this number. One that isn't there is a fault of the disk.
-fn teller_row<S: Alter>(
-    tx: &mut Transaction<'_, S>,
-    teller: u32,
-) -> Result<KeptTeller, Fault>
+fn teller_row<S: Alter>(tx: &mut Transaction<'_, S>, teller: u32) -> Result<KeptTeller, Fault>
     ensures same_reference { tx.new.conn.ghost_name ≡ tx.old.conn.ghost_name }
     ensures told { HasCleanDisk (state S.Store tx.new.conn.now) → IsTrue (state S.Store tx.old.conn.now).in_transaction → (s : Sheets) → HoldsTables (state S.Store tx.old.conn.now).now s → IfOk result (λ row. IsTellerRow s teller row) }
     ensures steps { Steps (state S.Store tx.old.conn.now) (state S.Store tx.new.conn.now) (λ s. s) result }
@@ -62,10 +56,7 @@ fn teller_row<S: Alter>(
 }
 
 /// The branch of this number. One that isn't there is a fault of the disk.
-fn branch_row<S: Alter>(
-    tx: &mut Transaction<'_, S>,
-    branch: u32,
-) -> Result<BranchRecord, Fault>
+fn branch_row<S: Alter>(tx: &mut Transaction<'_, S>, branch: u32) -> Result<BranchRecord, Fault>
     ensures same_reference { tx.new.conn.ghost_name ≡ tx.old.conn.ghost_name }
     ensures told { HasCleanDisk (state S.Store tx.new.conn.now) → IsTrue (state S.Store tx.old.conn.now).in_transaction → (s : Sheets) → HoldsTables (state S.Store tx.old.conn.now).now s → IfOk result (λ row. IsBranchRow s branch row) }
     ensures steps { Steps (state S.Store tx.old.conn.now) (state S.Store tx.new.conn.now) (λ s. s) result }
@@ -86,10 +77,7 @@ struct EntryNames {
 }
 
 /// The account, the teller and the branch of an entry.
-fn rows_of_entry<S: Alter>(
-    tx: &mut Transaction<'_, S>,
-    entry: &Entry,
-) -> Result<EntryNames, Fault>
+fn rows_of_entry<S: Alter>(tx: &mut Transaction<'_, S>, entry: &Entry) -> Result<EntryNames, Fault>
     ensures same_reference { tx.new.conn.ghost_name ≡ tx.old.conn.ghost_name }
     ensures told { HasCleanDisk (state S.Store tx.new.conn.now) → IsTrue (state S.Store tx.old.conn.now).in_transaction → (s : Sheets) → HoldsTables (state S.Store tx.old.conn.now).now s → IfOk result (λ rows. AreOfEntry s entry.now rows.account rows.teller rows.branch) }
     ensures steps { Steps (state S.Store tx.old.conn.now) (state S.Store tx.new.conn.now) (λ s. s) result }
@@ -106,10 +94,7 @@ fn rows_of_entry<S: Alter>(
 }
 
 /// Writes the rows that an entry moves, and the entry.
-fn put_entry<S: Alter>(
-    tx: &mut Transaction<'_, S>,
-    rows: &EntryRows,
-) -> Result<(), Fault>
+fn put_entry<S: Alter>(tx: &mut Transaction<'_, S>, rows: &EntryRows) -> Result<(), Fault>
     ensures same_reference { tx.new.conn.ghost_name ≡ tx.old.conn.ghost_name }
     ensures steps { Steps (state S.Store tx.old.conn.now) (state S.Store tx.new.conn.now) (entry_sheets rows.now) result }
     ensures survives { Survives (state S.Store tx.old.conn.now) (state S.Store tx.new.conn.now) (λ _. ⊥) }
@@ -121,10 +106,7 @@ fn put_entry<S: Alter>(
 }
 
 /// Writes an entry. One that is not the next of its account and of its branch is a fault of the disk, and changes nothing.
-pub(crate) fn write_entry<S: Alter>(
-    tx: &mut Transaction<'_, S>,
-    entry: &Entry,
-) -> Result<(), Fault>
+pub(crate) fn write_entry<S: Alter>(tx: &mut Transaction<'_, S>, entry: &Entry) -> Result<(), Fault>
     ensures same_reference { tx.new.conn.ghost_name ≡ tx.old.conn.ghost_name }
     ensures moves { Moves (state S.Store tx.old.conn.now) (state S.Store tx.new.conn.now) (written (write.Entry entry.now)) result }
     ensures survives { Survives (state S.Store tx.old.conn.now) (state S.Store tx.new.conn.now) (λ _. ⊥) }
@@ -144,10 +126,7 @@ struct LineNames {
 }
 
 /// The teller and the branch of a line at a drawer.
-fn rows_of_line<S: Alter>(
-    tx: &mut Transaction<'_, S>,
-    line: &CashLine,
-) -> Result<LineNames, Fault>
+fn rows_of_line<S: Alter>(tx: &mut Transaction<'_, S>, line: &CashLine) -> Result<LineNames, Fault>
     ensures same_reference { tx.new.conn.ghost_name ≡ tx.old.conn.ghost_name }
     ensures told { HasCleanDisk (state S.Store tx.new.conn.now) → IsTrue (state S.Store tx.old.conn.now).in_transaction → (s : Sheets) → HoldsTables (state S.Store tx.old.conn.now).now s → IfOk result (λ rows. AreOfLine s line.now rows.teller rows.branch) }
     ensures steps { Steps (state S.Store tx.old.conn.now) (state S.Store tx.new.conn.now) (λ s. s) result }
@@ -174,10 +153,7 @@ fn put_drawer_line<S: Alter>(
 }
 
 /// Writes a line at a drawer. One that is not the next of its branch is a fault of the disk, and changes nothing.
-fn write_drawer_line<S: Alter>(
-    tx: &mut Transaction<'_, S>,
-    line: &CashLine,
-) -> Result<(), Fault>
+fn write_drawer_line<S: Alter>(tx: &mut Transaction<'_, S>, line: &CashLine) -> Result<(), Fault>
     ensures same_reference { tx.new.conn.ghost_name ≡ tx.old.conn.ghost_name }
     ensures moves { Moves (state S.Store tx.old.conn.now) (state S.Store tx.new.conn.now) (written (write.Line line.now)) result }
     ensures survives { Survives (state S.Store tx.old.conn.now) (state S.Store tx.new.conn.now) (λ _. ⊥) }
@@ -204,10 +180,7 @@ fn put_vault_line<S: Alter>(
 }
 
 /// Writes a line at the vault. One that is not the next of its branch is a fault of the disk, and changes nothing.
-fn write_vault_line<S: Alter>(
-    tx: &mut Transaction<'_, S>,
-    line: &CashLine,
-) -> Result<(), Fault>
+fn write_vault_line<S: Alter>(tx: &mut Transaction<'_, S>, line: &CashLine) -> Result<(), Fault>
     ensures same_reference { tx.new.conn.ghost_name ≡ tx.old.conn.ghost_name }
     ensures moves { Moves (state S.Store tx.old.conn.now) (state S.Store tx.new.conn.now) (written (write.Line line.now)) result }
     ensures survives { Survives (state S.Store tx.old.conn.now) (state S.Store tx.new.conn.now) (λ _. ⊥) }
@@ -236,10 +209,7 @@ pub(crate) fn write_line<S: Alter>(
 }
 
 /// Shows that no account has this number. One that has is a fault of the disk.
-fn no_account<S: Alter>(
-    tx: &mut Transaction<'_, S>,
-    account: u32,
-) -> Result<(), Fault>
+fn no_account<S: Alter>(tx: &mut Transaction<'_, S>, account: u32) -> Result<(), Fault>
     ensures same_reference { tx.new.conn.ghost_name ≡ tx.old.conn.ghost_name }
     ensures told { HasCleanDisk (state S.Store tx.new.conn.now) → IsTrue (state S.Store tx.old.conn.now).in_transaction → (s : Sheets) → HoldsTables (state S.Store tx.old.conn.now).now s → IfOk result (λ _. IsFree account_no s.accounts account) }
     ensures steps { Steps (state S.Store tx.old.conn.now) (state S.Store tx.new.conn.now) (λ s. s) result }
@@ -252,10 +222,7 @@ fn no_account<S: Alter>(
 }
 
 /// Writes a new account and the number of accounts of its home.
-fn put_account<S: Alter>(
-    tx: &mut Transaction<'_, S>,
-    rows: &AccountRows,
-) -> Result<(), Fault>
+fn put_account<S: Alter>(tx: &mut Transaction<'_, S>, rows: &AccountRows) -> Result<(), Fault>
     ensures same_reference { tx.new.conn.ghost_name ≡ tx.old.conn.ghost_name }
     ensures steps { Steps (state S.Store tx.old.conn.now) (state S.Store tx.new.conn.now) (account_sheets rows.now) result }
     ensures survives { Survives (state S.Store tx.old.conn.now) (state S.Store tx.new.conn.now) (λ _. ⊥) }
@@ -282,10 +249,7 @@ pub(crate) fn write_account<S: Alter>(
 }
 
 /// Writes the proof of a day that none proves yet.
-pub(crate) fn write_proof<S: Alter>(
-    tx: &mut Transaction<'_, S>,
-    proof: &Proof,
-) -> Result<(), Fault>
+pub(crate) fn write_proof<S: Alter>(tx: &mut Transaction<'_, S>, proof: &Proof) -> Result<(), Fault>
     ensures same_reference { tx.new.conn.ghost_name ≡ tx.old.conn.ghost_name }
     ensures moves { Moves (state S.Store tx.old.conn.now) (state S.Store tx.new.conn.now) (written (write.Proof proof.now)) result }
     ensures survives { Survives (state S.Store tx.old.conn.now) (state S.Store tx.new.conn.now) (λ _. ⊥) }
@@ -315,10 +279,7 @@ fn on_day(branch: &BranchRecord, day: u32) -> BranchRecord
 }
 
 /// Writes the next day of a branch.
-pub(crate) fn write_day<S: Alter>(
-    tx: &mut Transaction<'_, S>,
-    day: &BranchDay,
-) -> Result<(), Fault>
+pub(crate) fn write_day<S: Alter>(tx: &mut Transaction<'_, S>, day: &BranchDay) -> Result<(), Fault>
     ensures same_reference { tx.new.conn.ghost_name ≡ tx.old.conn.ghost_name }
     ensures moves { Moves (state S.Store tx.old.conn.now) (state S.Store tx.new.conn.now) (written (write.Day day.now)) result }
     ensures survives { Survives (state S.Store tx.old.conn.now) (state S.Store tx.new.conn.now) (λ _. ⊥) }

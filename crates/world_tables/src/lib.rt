@@ -3,10 +3,14 @@
 
 mod book_questions;
 mod book_writes;
+mod least_reads;
+mod least_rows;
 mod plan_writes;
 mod policy_questions;
 mod policy_writes;
 mod question;
+mod report_questions;
+mod report_rows;
 mod version_writes;
 
 pub use book_questions::{
@@ -18,3 +22,4 @@ pub use policy_questions::{
     UserRow,
 };
 pub use question::Question;
+pub use report_questions::{EntriesOf, EntryAt, NextShown, NextTeller};

@@ -43,7 +43,7 @@ returns-clause-told g c clean inside s holds =
     let clean1 = early s1 s2 _ c.teller_row.ensures.survives clean2 in
     let x1 = c.in_ok-account.ensures.steps clean1 inside s holds in
     let x2 = c.in_ok-teller.ensures.steps clean2 x1.0.0 _ x1.0.1 in
-    record { account = c.in_ok-account.ensures.told clean1 inside s holds; teller = c.in_ok-teller.ensures.told clean2 x1.0.0 s x1.0.1; branch = c.in_ok-branch.ensures.told clean x2.0.0 s x2.0.1; }
+    record { account = c.in_ok-account.ensures.told clean1 inside s holds; teller = c.in_ok-teller.ensures.told clean2 x1.0.0 s x1.0.1; branch = c.in_ok-branch.ensures.told clean x2.0.0 s x2.0.1 }
 
 pub returns-clause-steps : goal.returns-clause-steps
 returns-clause-steps g c clean inside s holds =

@@ -27,7 +27,7 @@ returns-clause-told g c clean inside s holds =
     let s2 = state g.S.Store c.branch_row.new.tx.conn.now in
     let clean1 = early s1 s2 _ c.branch_row.ensures.survives clean in
     let x1 = c.in_ok-teller.ensures.steps clean1 inside s holds in
-    record { teller = c.in_ok-teller.ensures.told clean1 inside s holds; branch = c.in_ok-branch.ensures.told clean x1.0.0 s x1.0.1; }
+    record { teller = c.in_ok-teller.ensures.told clean1 inside s holds; branch = c.in_ok-branch.ensures.told clean x1.0.0 s x1.0.1 }
 
 pub returns-clause-steps : goal.returns-clause-steps
 returns-clause-steps g c clean inside s holds =

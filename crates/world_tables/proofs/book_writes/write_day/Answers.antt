@@ -30,6 +30,8 @@ returns-clause-moves g c clean inside w holds =
     let x1 = c.in_ok-branch.ensures.steps clean1 inside (sheets_of w) tables in
     let found = c.in_ok-branch.ensures.told clean1 inside (sheets_of w) tables in
     let x2 = c.set_branch.ensures.steps clean x1.0.0 (sheets_of w) x1.0.1 in
-    let made = set_made branch_no d.branch (λ b. record b { row = on_day d.day b.row }) (sheets_of w).branches c.in_ok-branch.branch c.on_day-after.result (tables.rows in_branches).ordered.distinct found c.on_day-after.ensures (ap (λ (b : BranchRecord). branch_no b) c.on_day-after.ensures) in
-    (kept_held s2 (write.Day d) (day_sheets d) w c.set_branch.result (day_is_kept w d holds.world.keepable)
-     (ok_weaker c.set_branch.result _ _ (λ h. (h.0, subst (λ rows. HoldsTables s2.now (record (sheets_of w) { branches = rows })) made h.1)) x2.0), kept_then s0 s1 s2 x1.1 x2.1)
+    let made = set_made branch_no d.branch (λ b. record b { row = on_day d.day b.row }) (sheets_of w).branches c.in_ok-branch.branch c.on_day-after.result (tables.rows in_branches).ordered.distinct found c.on_day-after.ensures (ap (λ (b : BranchRecord). branch_no b) c.on_day-after.ensures) in (
+      kept_held s2 (write.Day d) (day_sheets d) w c.set_branch.result (day_is_kept w d holds.world.keepable)
+          (ok_weaker c.set_branch.result _ _ (λ h. (h.0, subst (λ rows. HoldsTables s2.now (record (sheets_of w) { branches = rows })) made h.1)) x2.0),
+      kept_then s0 s1 s2 x1.1 x2.1,
+    )

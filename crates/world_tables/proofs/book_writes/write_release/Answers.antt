@@ -37,6 +37,8 @@ returns-in-Some-clause-moves g c clean inside w holds =
     let found = c.in_ok-user.ensures.told clean1 inside (sheets_of w) tables in
     let x2 = c.put_release.ensures.steps clean x1.0.0 (sheets_of w) x1.0.1 in
     let made = set_made user_no r.user (λ u. record u { releases = n }) (sheets_of w).users old (record old { releases = n }) (tables.rows in_users).ordered.distinct found refl refl in
-    let kept = c.in-Some.ensures.kept w holds.world.keepable (record { row = old; found = found; count = refl }) in
-    (kept_held s2 (write.Release r) (release_sheets r n) w c.put_release.result kept
-     (ok_weaker c.put_release.result _ _ (λ h. (h.0, subst (λ rows. HoldsTables s2.now (record (sheets_of w) { releases = add_row release_key r (sheets_of w).releases; users = rows })) made h.1)) x2.0), kept_then s0 s1 s2 x1.1 x2.1)
+    let kept = c.in-Some.ensures.kept w holds.world.keepable (record { row = old; found = found; count = refl }) in (
+      kept_held s2 (write.Release r) (release_sheets r n) w c.put_release.result kept
+          (ok_weaker c.put_release.result _ _ (λ h. (h.0, subst (λ rows. HoldsTables s2.now (record (sheets_of w) { releases = add_row release_key r (sheets_of w).releases; users = rows })) made h.1)) x2.0),
+      kept_then s0 s1 s2 x1.1 x2.1,
+    )

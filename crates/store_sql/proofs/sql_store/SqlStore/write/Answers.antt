@@ -18,10 +18,10 @@ returns-in-Ok-clause-changed g c =
         | inr new ↦ inr (same_world left (applied c.args.plan.now w) may.0 may.2 (new.1 w (holds c.if-self.false (before honest) new.0)))
       ];
       settled = λ honest _ w left holds may.
-        let is_open = c.in-Ok.ensures.stays_open honest in
-        let bank = c.in-Ok.ensures.in_full honest w (holds c.if-self.false (before honest) (c.apply_plan.ensures.was_open honest is_open)) in
-        let last = g.met.S.Store.settled c.apply_plan.new.conn.store may.0 is_open may.1 in
-        same_world left (applied c.args.plan.now w) may.0 may.2 (subst (AreOfWorld (applied c.args.plan.now w)) (sym (last ∙ ap (λ (d : Database). d.trees) bank.settled)) bank.now.world);
+          let is_open = c.in-Ok.ensures.stays_open honest in
+          let bank = c.in-Ok.ensures.in_full honest w (holds c.if-self.false (before honest) (c.apply_plan.ensures.was_open honest is_open)) in
+          let last = g.met.S.Store.settled c.apply_plan.new.conn.store may.0 is_open may.1 in
+          same_world left (applied c.args.plan.now w) may.0 may.2 (subst (AreOfWorld (applied c.args.plan.now w)) (sym (last ∙ ap (λ (d : Database). d.trees) bank.settled)) bank.now.world);
     }
 
 pub returns-in-Err-clause-changed : goal.returns-in-Err-clause-changed
