@@ -9,8 +9,6 @@ mod policy_cache;
 mod policy_reads;
 mod report_reads;
 mod store;
-#[cfg(test)]
-mod tests;
 
 pub use cached::Cached;
 pub use policy_cache::MAX_ENTRIES;

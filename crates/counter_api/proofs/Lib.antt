@@ -2,6 +2,4 @@ pub mod CarriedOut
 pub mod CounterLemmas
 pub mod ExitLemmas
 pub mod FramingLemmas
-pub mod NumberLemmas
-pub mod RouteLemmas
 pub mod RunLemmas

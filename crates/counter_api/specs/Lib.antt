@@ -1,9 +1,5 @@
 pub mod Answers
 pub mod Exit
 pub mod Fault
-pub mod Fields
-pub mod Request
 pub mod Response
-pub mod RouterRows
-pub mod Routes
 pub mod Run

@@ -13,7 +13,7 @@ use Rattle.bank_run.specs.Meaning.{ReplyText}
 use Rattle.bank_run.specs.Run.{Marked, reply, step, world_after}
 use Rattle.bank_run.specs.Sums.{IsProper, PassesChecks, SumsAgree}
 use Rattle.bank_run.specs.declared.request.Request.{Request}
-use Rattle.counter_api.specs.Request.{request_of}
+use Rattle.requests.specs.Request.{request_of}
 use Rattle.counter_api.specs.Response.{ResponseParts, denied_parts, done_parts, faulted_parts, refused_parts}
 
 -- a message, the moment that it bears, and the fault that kept it from being answered otherwise, if one did

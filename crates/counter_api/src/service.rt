@@ -5,10 +5,10 @@ ghost use Rattle.counter_api.specs.Exit.{IsServed};
 
 use crate::clock::Clock;
 use crate::counter::Counter;
-use crate::gate::Gate;
-use crate::routes::Routes;
 use messages::{ServeFault, Served, serve_messages};
 use money::Tallied;
+use requests::Gate;
+use routes::Routes;
 use std::alloc::Global;
 use std::io::{Read, Write};
 use store_rows::{Bank, Store};

@@ -18,6 +18,7 @@ pub struct AccountRows {
 /// of that branch are as many as a `u64` tells.
 pub fn with_account(home: &BranchRecord, account: &Account) -> Option<AccountRows>
     ensures kept { IfSome result (λ rows. AreAfterAccount account.now home.now rows) }
+    ensures begun { IfSome result (λ rows. rows.account ≡ account_begun account.now) }
     ensures told { home.now.accounts + 1 < 2 ^ 64 → IsSome result }
 {
     let home = home_moved(home)?;

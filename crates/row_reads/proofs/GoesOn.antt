@@ -8,7 +8,7 @@ use Rattle.row_reads.specs.Laws.{ShownGoesOn}
 use Rattle.row_reads.proofs.Rising.{Rises, rises}
 
 -- above a key, and passes the test
-abbrev passes : {X : Type 0} → (X → ℕ) → (X → Bool) → ℕ → X → Bool
+abbrev pub passes : {X : Type 0} → (X → ℕ) → (X → Bool) → ℕ → X → Bool
 passes key q a x = ltb a (key x) && q x
 
 found-holds : {X : Type 0} (p : X → Bool) (P : X → Type 0) (xs : List X) (r : X) → All P xs → find p xs ≡ Some r → P r
@@ -28,7 +28,7 @@ same-above key q a b (x ∷ xs) below all =
     ap (λ t. cond (t && q x) (x ∷ filter (passes key q a) xs) (filter (passes key q a) xs)) over
     ∙ ap (λ ys. cond (passes key q b x) (x ∷ ys) ys) rest
 
-next-kept : {X : Type 0} (key : X → ℕ) (q : X → Bool) (a : ℕ) (xs : List X) (r : X) → Rises key xs → find (passes key q a) xs ≡ Some r →
+pub next-kept : {X : Type 0} (key : X → ℕ) (q : X → Bool) (a : ℕ) (xs : List X) (r : X) → Rises key xs → find (passes key q a) xs ≡ Some r →
     filter (passes key q a) xs ≡ r ∷ filter (passes key q (key r)) xs
 next-kept key q a [] r order e = cc
 next-kept key q a (x ∷ xs) r order e = tested (passes key q a x) refl (next-kept key q a xs r order.1) e

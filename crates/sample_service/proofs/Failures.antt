@@ -6,7 +6,7 @@ use Rattle.messages.specs.declared.serving.ServeFault.TheVariants.{Cut, Memory, 
 use Rattle.messages.specs.declared.serving.Served.{Served}
 use Rattle.money.specs.declared.tallied.Tallied.{Tallied}
 use Rattle.sample_service.specs.Serving.{FailuresByExit}
-use Rattle.sample_service.specs.Streams.{streams_at}
+use Rattle.ends.specs.Streams.{streams_at}
 
 pub failures_told : {R W : Type 0} (remaining : R → Option (List ℕ)) (contents : W → Option (List ℕ)) (reader_old reader_new : Tallied R) (writer_old writer_new : Tallied W) (r : Result Served ServeFault)
     → CountsByExit reader_old reader_new writer_old writer_new r → FailuresByExit (streams_at remaining contents reader_old writer_old) (streams_at remaining contents reader_new writer_new) r

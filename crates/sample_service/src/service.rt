@@ -1,6 +1,6 @@
 ghost use Rattle.std.specs.Prelude.{◌≡◌, ◌≤◌, IfOk, Err};
 ghost use Rattle.sample_service.specs.Serving.{IsOpening, IsSampleServed};
-ghost use Rattle.sample_service.specs.Streams.{streams_at};
+ghost use Rattle.ends.specs.Streams.{streams_at};
 
 use crate::badges::SampleBadges;
 use crate::clock::Fixed;

@@ -1,9 +1,11 @@
 //! Worked commands of the policy, the limits that they meet, releases by rows that the sample never has, and what a cache
-//! reads. It holds tests alone.
+//! reads and tells. It holds tests alone.
 #![tactic(auto)]
 
 #[cfg(test)]
 mod cached_reads;
+#[cfg(test)]
+mod cached_rows;
 #[cfg(test)]
 mod commands;
 #[cfg(test)]

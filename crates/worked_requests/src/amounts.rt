@@ -1,19 +1,13 @@
-ghost use Rattle.std.specs.Prelude.{◌≡◌};
-
 use money::{Cents, Delta};
 use std::process::Abort;
 
 /// The greatest amount of money, in cents.
 pub(crate) const MOST: i64 = 999_999_999_999;
 
-pub(crate) fn cents(rt: &impl Abort, value: i64) -> Cents
-    ensures { result ≡ value }
-{
+pub(crate) fn cents(rt: &impl Abort, value: i64) -> Cents {
     Cents::new(value).expect(rt, "an amount of money")
 }
 
-pub(crate) fn delta(rt: &impl Abort, value: i64) -> Delta
-    ensures { result ≡ value }
-{
+pub(crate) fn delta(rt: &impl Abort, value: i64) -> Delta {
     Delta::new(value).expect(rt, "what an entry may add")
 }

@@ -1,13 +1,8 @@
 //! A bank in memory that is asked, and what has to come of it.
 
-ghost use Rattle.std.specs.Prelude.{◌≡◌, ◌≤◌, true};
-ghost use Rattle.bank_terms.specs.Limits.{max_moment};
-ghost use Rattle.counter_ops.specs.Op.{procedure_of};
-ghost use Rattle.counter_ops.specs.Operations.{IsOp};
-ghost use Rattle.bank_run.specs.Operations.{is_served};
-
 use bank_books::{BranchRecord, Entry, TellerRecord, World};
-use decide::{Decision, Op, Reply, Rule, Who, carry_out, decide};
+use bank_terms::MAX_MOMENT;
+use decide::{Decision, Op, Reply, Rule, Who, carry_out, decide, is_served};
 use row_rules::{CashBook, Ledger};
 use sample_bank::sample_world;
 use std::alloc::Global;
@@ -77,12 +72,14 @@ impl Desk {
     }
 
     /// The body of the reply to a request that is carried out, or the rule that denies it.
-    fn ask(&mut self, rt: &impl Abort, who: Who, moment: u64, op: Op) -> Result<Vec<u8>, Rule>
-        requires moment { moment ≤ max_moment }
-        requires served { is_served (procedure_of op) ≡ true }
-        requires proper { IsOp op }
-    {
-        match decide(&mut self.bank, self.alloc, who, moment, &op) {
+    ///
+    /// What `decide` wants of it is asked here, once: that it is served, that its moment is one, and that its members
+    /// are in their ranges, as an operation is that is read back from its row.
+    fn ask(&mut self, rt: &impl Abort, who: Who, moment: u64, op: Op) -> Result<Vec<u8>, Rule> {
+        assert!(rt; moment <= MAX_MOMENT, "{moment}");
+        let read = Op::from_row(&op.to_row()).expect(rt, "an operation in its ranges");
+        assert!(rt; is_served(read.procedure()), "no operation that is served");
+        match decide(&mut self.bank, self.alloc, who, moment, &read) {
             Ok(Decision::Allowed(permit)) => match carry_out(permit) {
                 Ok(Reply::Done(done)) => Ok(done.into_body()),
                 Err(fault) => panic!(rt; "{fault}"),
@@ -93,11 +90,7 @@ impl Desk {
     }
 
     /// An operation at this moment that has to be carried out, with the body of its reply.
-    pub(crate) fn done_at(&mut self, rt: &impl Abort, who: Who, moment: u64, op: Op, body: &str)
-        requires moment { moment ≤ max_moment }
-        requires served { is_served (procedure_of op) ≡ true }
-        requires proper { IsOp op }
-    {
+    pub(crate) fn done_at(&mut self, rt: &impl Abort, who: Who, moment: u64, op: Op, body: &str) {
         match self.ask(rt, who, moment, op) {
             Ok(given) => assert!(rt; given.as_slice() == body.as_bytes(), "{body}"),
             Err(rule) => panic!(rt; "{}", rule.name()),
@@ -105,18 +98,12 @@ impl Desk {
     }
 
     /// An operation that has to be carried out, with the body of its reply.
-    pub(crate) fn done(&mut self, rt: &impl Abort, who: Who, op: Op, body: &str)
-        requires served { is_served (procedure_of op) ≡ true }
-        requires proper { IsOp op }
-    {
+    pub(crate) fn done(&mut self, rt: &impl Abort, who: Who, op: Op, body: &str) {
         self.done_at(rt, who, MOMENT, op, body);
     }
 
     /// An operation that has to be denied by this rule.
-    pub(crate) fn denied(&mut self, rt: &impl Abort, who: Who, op: Op, rule: Rule)
-        requires served { is_served (procedure_of op) ≡ true }
-        requires proper { IsOp op }
-    {
+    pub(crate) fn denied(&mut self, rt: &impl Abort, who: Who, op: Op, rule: Rule) {
         match self.ask(rt, who, MOMENT, op) {
             Ok(_) => panic!(rt; "carried out"),
             Err(given) => assert!(rt; given == rule, "{}", given.name()),

@@ -1,12 +1,5 @@
 //! The operations that are asked for. Each is at branch 1 but a post, which names its branch.
 
-ghost use Rattle.std.specs.Prelude.{◌≡◌, ◌≢◌, ◌≤◌, true};
-ghost use Rattle.bank_terms.specs.Limits.{max_key, max_limit, max_transfer};
-ghost use Rattle.bank_run.specs.Operations.{is_served};
-ghost use Rattle.counter_ops.specs.Op.{procedure_of};
-ghost use Rattle.counter_ops.specs.Operations.{IsOp};
-ghost use Rattle.counter_ops.specs.Ranges.{IsCash, IsFloor, IsKey, IsKeyOrZero, IsWithin};
-
 use crate::amounts::{cents, delta};
 use bank_books::{Entry, EntryForm};
 use counter_ops::{
@@ -16,13 +9,7 @@ use decide::Op;
 use std::process::Abort;
 
 /// A post of so many cents.
-pub(crate) fn post(rt: &impl Abort, account: u32, teller: u32, branch: u32, added: i64) -> Op
-    requires account { IsKey account }
-    requires teller { IsKey teller }
-    requires branch { IsKey branch }
-    ensures served { is_served (procedure_of result) ≡ true }
-    ensures proper { IsOp result }
-{
+pub(crate) fn post(rt: &impl Abort, account: u32, teller: u32, branch: u32, added: i64) -> Op {
     Op::Post(Post {
         account,
         branch,
@@ -32,14 +19,7 @@ pub(crate) fn post(rt: &impl Abort, account: u32, teller: u32, branch: u32, adde
 }
 
 /// A transfer at teller 12, who is Tom's.
-pub(crate) fn transfer(source: u32, target: u32, amount: u32) -> Op
-    requires source { IsKey source }
-    requires target { IsKey target }
-    requires two_accounts { source ≢ target }
-    requires amount { IsWithin 1 max_transfer amount }
-    ensures served { is_served (procedure_of result) ≡ true }
-    ensures proper { IsOp result }
-{
+pub(crate) fn transfer(source: u32, target: u32, amount: u32) -> Op {
     Op::Transfer(Transfer {
         source,
         target,
@@ -57,15 +37,7 @@ pub(crate) fn correct(
     other: u32,
     teller: u32,
     added: i64,
-) -> Op
-    requires entry { IsKey entry }
-    requires account { IsKey account }
-    requires other { other ≤ max_key }
-    requires two_accounts { account ≢ other }
-    requires teller { IsKey teller }
-    ensures served { is_served (procedure_of result) ≡ true }
-    ensures proper { IsOp result }
-{
+) -> Op {
     Op::Correct(Correct {
         branch: 1,
         entry,
@@ -77,12 +49,7 @@ pub(crate) fn correct(
 }
 
 /// A drawer put on with so much cash.
-pub(crate) fn on(teller: u32, cash: u32) -> Op
-    requires teller { IsKey teller }
-    requires cash { cash ≤ max_limit }
-    ensures served { is_served (procedure_of result) ≡ true }
-    ensures proper { IsOp result }
-{
+pub(crate) fn on(teller: u32, cash: u32) -> Op {
     Op::DrawerOn(DrawerOn {
         teller,
         branch: 1,
@@ -91,12 +58,7 @@ pub(crate) fn on(teller: u32, cash: u32) -> Op
 }
 
 /// A drawer put off in which so much was counted.
-pub(crate) fn off(rt: &impl Abort, teller: u32, counted: i64) -> Op
-    requires teller { IsKey teller }
-    requires counted { IsCash counted }
-    ensures served { is_served (procedure_of result) ≡ true }
-    ensures proper { IsOp result }
-{
+pub(crate) fn off(rt: &impl Abort, teller: u32, counted: i64) -> Op {
     Op::DrawerOff(DrawerOff {
         teller,
         branch: 1,
@@ -105,14 +67,7 @@ pub(crate) fn off(rt: &impl Abort, teller: u32, counted: i64) -> Op
 }
 
 /// Cash moved from one place to another. The vault is 0.
-pub(crate) fn moved(source: u32, target: u32, amount: u32) -> Op
-    requires source { IsKeyOrZero source }
-    requires target { IsKeyOrZero target }
-    requires two_places { source ≢ target }
-    requires amount { IsWithin 1 max_limit amount }
-    ensures served { is_served (procedure_of result) ≡ true }
-    ensures proper { IsOp result }
-{
+pub(crate) fn moved(source: u32, target: u32, amount: u32) -> Op {
     Op::MoveCash(MoveCash {
         source,
         target,
@@ -122,13 +77,7 @@ pub(crate) fn moved(source: u32, target: u32, amount: u32) -> Op
 }
 
 /// A new account, whose balance may not fall below this.
-pub(crate) fn opened(account: u32, branch: u32, floor: i32) -> Op
-    requires account { IsKey account }
-    requires branch { IsKey branch }
-    requires floor { IsFloor floor }
-    ensures served { is_served (procedure_of result) ≡ true }
-    ensures proper { IsOp result }
-{
+pub(crate) fn opened(account: u32, branch: u32, floor: i32) -> Op {
     Op::NewAccount(NewAccount {
         account,
         branch,
@@ -137,11 +86,7 @@ pub(crate) fn opened(account: u32, branch: u32, floor: i32) -> Op
 }
 
 /// The question for the balance of an account.
-pub(crate) fn balance(account: u32) -> Op
-    requires { IsKey account }
-    ensures served { is_served (procedure_of result) ≡ true }
-    ensures proper { IsOp result }
-{
+pub(crate) fn balance(account: u32) -> Op {
     Op::Balance(Balance { account })
 }
 

@@ -1,7 +1,5 @@
 //! Banks made up, with the policy of the sample, and its branches, tellers and accounts.
 
-ghost use Rattle.money.specs.Range.{IsCents};
-
 use crate::amounts::{MOST, cents};
 use bank_books::{Account, Branch, CashLine, LineForm, RowWrite, Teller, World};
 use book_check::check_books;
@@ -146,13 +144,12 @@ pub(crate) fn opening_at(rt: &impl Abort, alloc: Global, balance: i64) -> World 
 
 /// A bank whose teller 12 and branch 1 stand at this balance, with drawers 11 and 12 on. Account 101 has 10.00, and
 /// account 102 owes as much.
-pub(crate) fn teller_12_at(rt: &impl Abort, alloc: Global, balance: i64) -> World
-    requires { IsCents balance }
-{
+pub(crate) fn teller_12_at(rt: &impl Abort, alloc: Global, balance: i64) -> World {
+    let against = 0i64.saturating_sub(balance);
     let opening = Opening {
         accounts: [1_000, -1_000, 0],
-        tellers: [0, balance, -balance],
-        branches: [balance, -balance],
+        tellers: [0, balance, against],
+        branches: [balance, against],
         cash: 100_000,
     };
     with_drawers_on(rt, alloc, opening)

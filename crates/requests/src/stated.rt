@@ -1,0 +1,134 @@
+ghost use Rattle.std.specs.Prelude.{◌≡◌, ◌≤◌, true, IfOk, IfSome, IsOkUnless};
+ghost use Rattle.bank_terms.specs.Limits.{max_moment};
+ghost use Rattle.money.specs.declared.fault.Fault.TheVariants.{Memory};
+ghost use Rattle.bank_run.specs.Operations.{is_served};
+ghost use Rattle.bank_run.specs.Sums.{IsProper};
+ghost use Rattle.requests.specs.Fields.{who_of, who_of_operation};
+ghost use Rattle.requests.specs.Request.{IsServedAsked, IsServedRoute, asked_by, commanded_by, request_of, served, session_by};
+ghost use Rattle.routes.specs.Routes.{asked_route};
+
+use crate::fields::{who_by_badge, who_of, who_of_operation};
+use crate::gate::Gate;
+use bank_run::{Asked, Request, Who};
+use bank_terms::Procedure;
+use bodies::read_op;
+use command_bodies::read_command;
+use heads::MessageFault;
+use messages::Message;
+use money::Fault;
+use op_plans::is_served;
+use policy_ops::Command;
+use routes::{Route, Routes};
+use std::alloc::Global;
+
+/// What a message asks for, if it is served.
+fn served_route(routes: &Routes, message: &Message<'_>) -> Option<Route>
+    ensures asked { result ≡ served (asked_route message.now.head.method message.now.head.target) }
+    ensures served { IfSome result IsServedRoute }
+{
+    match routes.route(message.method(), message.target()) {
+        Some(Route::Operation(procedure)) if !is_served(procedure) => None,
+        route => route,
+    }
+}
+
+/// The request that a message states at a moment, or its fault.
+pub fn stated_request<G: Gate>(
+    alloc: Global,
+    routes: &Routes,
+    gate: &G,
+    message: &Message<'_>,
+    moment: u64,
+) -> Result<Result<Request, MessageFault>, Fault>
+    requires { moment ≤ max_moment }
+    ensures stated { IfOk result (λ stated. stated ≡ request_of (G.users gate.now) moment message.now) }
+    ensures proper { IfOk result (λ stated. IfOk stated IsProper) }
+    ensures served { IfOk result (λ stated. IfOk stated (λ request. IsServedAsked request.asked)) }
+    ensures memory { IsOkUnless result Memory }
+{
+    match served_route(routes, message) {
+        Some(Route::Operation(procedure)) => {
+            stated_operation(alloc, procedure, gate, message, moment)
+        }
+        Some(Route::Opening) => Ok(stated_session(
+            who_by_badge(message, gate),
+            moment,
+            Asked::Opening,
+        )),
+        Some(Route::Ending) => Ok(stated_session(who_of(message, gate), moment, Asked::Ending)),
+        Some(Route::Policy(command)) => stated_policy(alloc, command, gate, message, moment),
+        None => Ok(Err(MessageFault::NoSuchRoute)),
+    }
+}
+
+/// The operation of a procedure that a message states at a moment, or its fault.
+fn stated_operation<G: Gate>(
+    alloc: Global,
+    procedure: Procedure,
+    gate: &G,
+    message: &Message<'_>,
+    moment: u64,
+) -> Result<Result<Request, MessageFault>, Fault>
+    requires moment { moment ≤ max_moment }
+    requires served { is_served procedure ≡ true }
+    ensures stated { IfOk result (λ stated. stated ≡ asked_by procedure moment message.now.body (who_of_operation (G.users gate.now) message.now.head.fields)) }
+    ensures proper { IfOk result (λ stated. IfOk stated IsProper) }
+    ensures served { IfOk result (λ stated. IfOk stated (λ request. IsServedAsked request.asked)) }
+    ensures memory { IsOkUnless result Memory }
+{
+    let who = match who_of_operation(message, gate) {
+        Ok(who) => who,
+        Err(fault) => return Ok(Err(fault)),
+    };
+    match read_op(alloc, procedure, message.body())? {
+        Some(op) => Ok(Ok(Request {
+            who,
+            moment,
+            asked: Asked::Operation(op),
+        })),
+        None => Ok(Err(MessageFault::BadContent)),
+    }
+}
+
+/// The command of the policy that a message states at a moment, or its fault.
+fn stated_policy<G: Gate>(
+    alloc: Global,
+    command: Command,
+    gate: &G,
+    message: &Message<'_>,
+    moment: u64,
+) -> Result<Result<Request, MessageFault>, Fault>
+    requires { moment ≤ max_moment }
+    ensures stated { IfOk result (λ stated. stated ≡ commanded_by command moment message.now.body (who_of (G.users gate.now) message.now.head.fields)) }
+    ensures proper { IfOk result (λ stated. IfOk stated IsProper) }
+    ensures served { IfOk result (λ stated. IfOk stated (λ request. IsServedAsked request.asked)) }
+    ensures memory { IsOkUnless result Memory }
+{
+    let who = match who_of(message, gate) {
+        Ok(who) => who,
+        Err(fault) => return Ok(Err(fault)),
+    };
+    match read_command(alloc, command, message.body())? {
+        Some(command) => Ok(Ok(Request {
+            who,
+            moment,
+            asked: Asked::Command(command),
+        })),
+        None => Ok(Err(MessageFault::BadContent)),
+    }
+}
+
+/// The opening or the ending of a session, asked at a moment by who it is. The body isn't looked at.
+fn stated_session(
+    who: Result<Who, MessageFault>,
+    moment: u64,
+    asked: Asked,
+) -> Result<Request, MessageFault>
+    ensures { result ≡ session_by asked moment who }
+{
+    Ok(Request {
+        who: who?,
+        moment,
+        asked,
+    })
+}

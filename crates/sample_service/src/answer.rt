@@ -1,0 +1,32 @@
+ghost use Rattle.std.specs.Prelude.{IfOk};
+ghost use Rattle.ends.specs.Streams.{stream_at, streams_at};
+ghost use Rattle.sample_service.specs.Ends.{IsSampleEnd};
+ghost use Rattle.sample_service.specs.Serving.{IsOpening};
+
+use crate::moment::Moment;
+use crate::service::serve_sample;
+use ends::tell_end;
+use money::Tallied;
+use std::alloc::{AllocError, Global};
+use std::io::{Read, Write};
+use store_rows::Store;
+
+/// Serves a stream over a store of the sample bank, as `serve_sample` does, and answers the status: `DONE` exactly where
+/// that went well, otherwise `FAILED` behind a line on `errors` that says what failed.
+pub fn answer_sample<S: Store + Drop, R: Read, W: Write, E: Write>(
+    alloc: Global,
+    store: Result<S, AllocError>,
+    moment: Moment,
+    input: &mut Tallied<R>,
+    output: &mut Tallied<W>,
+    errors: &mut Tallied<E>,
+) -> u8
+    requires opened { IfOk store (IsOpening S.status) }
+    ensures { IsSampleEnd S.status moment
+        (streams_at R.remaining W.contents input.old output.old)
+        (streams_at R.remaining W.contents input.new output.new)
+        (stream_at E.contents errors.old) (stream_at E.contents errors.new) result }
+{
+    let served = serve_sample(alloc, store, moment, input, output);
+    tell_end(errors, served)
+}
