@@ -1,11 +1,14 @@
 pub mod ActionLemmas
+pub mod ChangeLemmas
 pub mod FrameLemmas
 pub mod HeldLemmas
 pub mod InsertLemmas
 pub mod KeyLemmas
+pub mod KeyTests
 pub mod PickLemmas
 pub mod ReadLemmas
 pub mod ScanLemmas
 pub mod SchemaTexts
 pub mod StepLemmas
+pub mod WorldLemmas
 pub mod WriteLemmas

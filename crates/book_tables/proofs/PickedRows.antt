@@ -4,7 +4,6 @@ use Rattle.std.proofs.lemmas.List.{take_more}
 use Rattle.std.specs.Prelude.{option_map, nat_le, nat_lt}
 use Rattle.std.specs.List.{cons_option, find, list_any}
 use Rattle.std.specs.Ordering.{is_le, ordering_then}
-use Rattle.std.proofs.lemmas.Bool.{and_from, and_parts, eq-eqb, eqb-true}
 use Rattle.std.proofs.lemmas.Bool.Decides.{nat_tests}
 use Rattle.sqlite.specs.declared.types.Value.TheVariants.{Int}
 use Rattle.sqlite.specs.Order.{Row}
@@ -31,35 +30,15 @@ use Rattle.keyed_rows.specs.Ordered.{AreDistinct}
 use Rattle.book_growth.proofs.Rows.{find-found}
 use Rattle.bank_schema.specs.HeldRows.{HoldsRows, all_but_rowid}
 use Rattle.bank_schema.proofs.HeldLemmas.{picked_alike}
-use Rattle.bank_schema.proofs.InsertLemmas.{parts_of}
+use Rattle.bank_schema.proofs.KeyTests.{at_most_one, few_mapped, length-mapped, two_parts}
 use Rattle.bank_schema.proofs.KeyLemmas.{one_of_key, picked_rise, rising}
 use Rattle.bank_schema.proofs.ReadLemmas.{above, answers, at_least, equals}
 use Rattle.bank_schema.proofs.ScanLemmas.{passes, scan}
 
 -- ---- how many
 
-pub length-mapped : {X Y : Type 0} (f : X → Y) (xs : List X) → length (map f xs) ≡ length xs
-length-mapped f [] = refl
-length-mapped f (x ∷ xs) = let rest = length-mapped f xs in omega (arith, rest)
-
-at_most_one : {X Y : Type 0} (f : X → Y) (o : Option X) → length (map f (cons_option o [])) ≤ 1
-at_most_one f None = omega arith
-at_most_one f (Some x) = omega arith
-
 pub few_of_key : {X Y : Type 0} (f : X → Y) (key : X → ℕ) (k : ℕ) (xs : List X) → AreDistinct (map key xs) → length (map f (filter (λ x. key x == k) xs)) ≤ 1
-few_of_key f key k xs distinct = subst (λ ys. length (map f ys) ≤ 1) (sym (one_of_key key k xs distinct)) (at_most_one f (find (λ x. key x == k) xs))
-
--- tests that imply each other give the same
-same_test : (b c : Bool) → (b ≡ true → c ≡ true) → (c ≡ true → b ≡ true) → b ≡ c
-same_test true c p q = sym (p refl)
-same_test false true p q = q refl
-same_test false false p q = refl
-
--- a test by the two parts of a key is one by the key
-pub two_parts : (a b m n : ℕ) → b < 2 ^ 32 → n < 2 ^ 32 → (a == m && b == n) ≡ (2 ^ 32 * a + b == 2 ^ 32 * m + n)
-two_parts a b m n p q = same_test (a == m && b == n) (2 ^ 32 * a + b == 2 ^ 32 * m + n)
-    (λ h. let both = and_parts (a == m) (b == n) h in eq-eqb _ _ (λ i. 2 ^ 32 * eqb-true a m both.0 i + eqb-true b n both.1 i))
-    (λ h. let both = parts_of a b m n p q (eqb-true _ _ h) in and_from (a == m) (b == n) (eq-eqb a m both.0) (eq-eqb b n both.1))
+few_of_key f key k xs distinct = subst (λ ys. length (map f ys) ≤ 1) (sym (one_of_key key k xs distinct)) (few_mapped f _ (at_most_one (find (λ x. key x == k) xs)))
 
 pub few_of_parts : {X Y : Type 0} (f : X → Y) (cells : X → Row) (key : X → ℕ) (Fits : X → Type 0) (a b : X → ℕ) → ((x : X) → key x ≡ 2 ^ 32 * a x + b x) → ((x : X) → Fits x → b x < 2 ^ 32)
     → (m n : ℕ) → n < 2 ^ 32 → (xs : List X) (tree : List Row) → HoldsRows all_but_rowid cells key Fits xs tree → length (map f (filter (λ x. a x == m && b x == n) xs)) ≤ 1

@@ -1,5 +1,3 @@
-pub mod ChangeLemmas
-pub mod KeyTests
 pub mod LineLemmas
 pub mod ProofLemmas
 pub mod ReadBack

@@ -47,8 +47,8 @@ use Rattle.bank_schema.proofs.PickLemmas.{pick}
 use Rattle.bank_schema.proofs.ReadLemmas.{alone, answered, by_two, no_limit, no_offset, two_equal}
 use Rattle.bank_schema.proofs.ScanLemmas.{passes, scan}
 use Rattle.bank_schema.proofs.WriteLemmas.{cast_int, cast_null, inserts}
-use Rattle.history_tables.proofs.ChangeLemmas.{changes_row}
-use Rattle.history_tables.proofs.KeyTests.{at_most_one, few_mapped, two_parts}
+use Rattle.bank_schema.proofs.ChangeLemmas.{changes_row}
+use Rattle.bank_schema.proofs.KeyTests.{at_most_one, few_mapped, two_parts}
 use Rattle.history_tables.specs.Texts.{add_release_text, release_text, use_up_text}
 
 -- ---- SELECT

@@ -1,7 +1,7 @@
+pub mod AnyLemmas
 pub mod CascadeLemmas
 pub mod CertifierLemmas
 pub mod DecodeLemmas
-pub mod KeyTests
 pub mod MemberLemmas
 pub mod ProcedureNumbers
 pub mod RelationLemmas

@@ -38,7 +38,7 @@ use Rattle.bank_schema.proofs.KeyLemmas.{one_of_key}
 use Rattle.bank_schema.proofs.ReadLemmas.{alone, answered, by_one, by_two, in_order, no_limit, no_offset, one_equals, rises_by_one, rising_key, two_equal}
 use Rattle.bank_schema.proofs.ScanLemmas.{passes, scan}
 use Rattle.bank_schema.proofs.WriteLemmas.{cast_int, cast_null, inserts}
-use Rattle.policy_tables.proofs.KeyTests.{at_most_one, few_mapped, two_parts}
+use Rattle.bank_schema.proofs.KeyTests.{at_most_one, few_mapped, two_parts}
 use Rattle.policy_tables.specs.Tests.{is_relation_numbered, is_relation_on}
 use Rattle.policy_tables.specs.Texts.{add_relation_text, relation_text, relations_text}
 

@@ -52,7 +52,7 @@ use Rattle.bank_schema.proofs.WriteLemmas.{deletes}
 use Rattle.policy_tables.specs.Tests.{is_relation_on, is_triple_under}
 use Rattle.policy_tables.specs.Texts.{remove_relation_text}
 use Rattle.policy_tables.proofs.CascadeLemmas.{IsRemoved, bears, child_of, lost, parent_of, removed}
-use Rattle.policy_tables.proofs.KeyTests.{same_test}
+use Rattle.bank_schema.proofs.KeyTests.{same_test}
 use Rattle.policy_tables.proofs.RelationLemmas.{by_number}
 
 -- ---- rows and moves

@@ -30,7 +30,7 @@ use Rattle.bank_schema.proofs.KeyLemmas.{one_of_key}
 use Rattle.bank_schema.proofs.ReadLemmas.{alone, answered, answers, by_key, no_limit, no_offset, one_equals, rising_key}
 use Rattle.bank_schema.proofs.ScanLemmas.{scan}
 use Rattle.bank_schema.proofs.WriteLemmas.{cast_int, cast_null, inserts}
-use Rattle.policy_tables.proofs.KeyTests.{at_most_one, few_mapped, length-mapped}
+use Rattle.bank_schema.proofs.KeyTests.{at_most_one, few_mapped, length-mapped}
 use Rattle.policy_tables.specs.Shown.{shown_set}
 use Rattle.policy_tables.specs.Texts.{add_set_text, set_text, sets_text}
 

@@ -42,7 +42,7 @@ use Rattle.bank_schema.proofs.PickLemmas.{deletes_rows, pick}
 use Rattle.bank_schema.proofs.ReadLemmas.{alone, answered, answers, by_one, by_three, by_two, in_order, no_limit, no_offset, one_equals, rises_by_one, rising_key, three_equal, two_equal}
 use Rattle.bank_schema.proofs.ScanLemmas.{passes, scan}
 use Rattle.bank_schema.proofs.WriteLemmas.{cast_int, cast_null, inserts}
-use Rattle.policy_tables.proofs.KeyTests.{at_most_one, few_mapped, length-mapped, three_parts, three_parts_of}
+use Rattle.bank_schema.proofs.KeyTests.{at_most_one, few_mapped, length-mapped, three_parts, three_parts_of}
 use Rattle.policy_tables.proofs.ProcedureNumbers.{small_number}
 use Rattle.policy_tables.specs.Tests.{is_triple_at, is_triple_by, is_triple_numbered}
 use Rattle.policy_tables.specs.Texts.{add_triple_text, remove_triple_text, triple_text, triples_text, user_triples_text}

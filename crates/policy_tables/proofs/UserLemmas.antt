@@ -37,7 +37,7 @@ use Rattle.bank_schema.proofs.PickLemmas.{pick, sets_row}
 use Rattle.bank_schema.proofs.ReadLemmas.{alone, answered, by_key, no_limit, no_offset, one_equals}
 use Rattle.bank_schema.proofs.ScanLemmas.{scan}
 use Rattle.bank_schema.proofs.WriteLemmas.{cast_int, cast_null, inserts}
-use Rattle.policy_tables.proofs.KeyTests.{at_most_one, few_mapped}
+use Rattle.bank_schema.proofs.KeyTests.{at_most_one, few_mapped}
 use Rattle.policy_tables.specs.Shown.{shown_user}
 use Rattle.policy_tables.specs.Texts.{add_user_text, set_user_text, user_text}
 

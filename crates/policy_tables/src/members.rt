@@ -37,7 +37,8 @@ fn select_members<S: Alter>(tx: &mut Transaction<'_, S>, set: u32) -> Result<Vec
     )
 }
 
-fn read_member(row: &Row) -> Result<Member, Fault>
+/// The member of this row as a query shows it. Any other row is a fault of the disk.
+pub fn read_member(row: &Row) -> Result<Member, Fault>
     ensures { IfOk result (λ a. (b : TheMember) → row.now ≡ member_cells b → a ≡ b.member) }
 {
     Ok(Member {

@@ -60,7 +60,8 @@ fn select_relations<S: Alter>(
     )
 }
 
-fn read_relation(row: &Row) -> Result<Relation, Fault>
+/// The relation of this row as a query shows it. Any other row is a fault of the disk.
+pub fn read_relation(row: &Row) -> Result<Relation, Fault>
     ensures { IfOk result (λ a. (b : TheRelation) → row.now ≡ relation_cells b → a ≡ b) }
 {
     Ok(Relation {

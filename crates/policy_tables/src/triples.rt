@@ -75,7 +75,8 @@ fn select_user_triples<S: Alter>(tx: &mut Transaction<'_, S>, user: u32) -> Resu
     )
 }
 
-fn read_triple(row: &Row) -> Result<Triple, Fault>
+/// The triple of this row as a query shows it. Any other row is a fault of the disk.
+pub fn read_triple(row: &Row) -> Result<Triple, Fault>
     ensures { IfOk result (λ a. (b : TheTriple) → row.now ≡ triple_cells b → a ≡ b) }
 {
     Ok(Triple {

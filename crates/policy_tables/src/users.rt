@@ -45,7 +45,8 @@ fn read_name(alloc: Global, row: &Row) -> Result<Name, Fault>
     }
 }
 
-fn read_user(alloc: Global, row: &Row) -> Result<KeptUser, Fault>
+/// The user of this row as a query shows him, with how many releases he was given. Any other row is a fault of the disk.
+pub fn read_user(alloc: Global, row: &Row) -> Result<KeptUser, Fault>
     ensures { IfOk result (λ a. (b : TheUser) → row.now ≡ shown_user b → a ≡ b) }
 {
     Ok(KeptUser {

@@ -2,7 +2,7 @@ use Rattle.std.proofs.Common.{◌≡◌, not, subst, sym}
 use Rattle.std.specs.List.{list_any}
 use Rattle.bank_schema.specs.Cells.{certifier_cells}
 use Rattle.policy_tables.specs.Tests.{is_certifier_of}
-use Rattle.policy_tables.proofs.KeyTests.{any_shown}
+use Rattle.policy_tables.proofs.AnyLemmas.{any_shown}
 use Rattle.policy_tables.proofs.certifiers.is_certifier.Goals as goal
 
 pub returns-in-Ok-clause-found : goal.returns-in-Ok-clause-found

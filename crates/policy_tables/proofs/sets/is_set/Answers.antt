@@ -1,6 +1,6 @@
 use Rattle.std.proofs.Common.{◌==◌, sym}
 use Rattle.policy_tables.specs.Shown.{shown_set}
-use Rattle.policy_tables.proofs.KeyTests.{any_shown}
+use Rattle.policy_tables.proofs.AnyLemmas.{any_shown}
 use Rattle.policy_tables.proofs.sets.is_set.Goals as goal
 
 pub returns-in-Ok-clause-found : goal.returns-in-Ok-clause-found

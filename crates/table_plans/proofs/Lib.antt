@@ -1,0 +1,5 @@
+pub mod KeptLemmas
+pub mod PlaceLemmas
+pub mod PlanLemmas
+pub mod SetLemmas
+pub mod ThenLemmas

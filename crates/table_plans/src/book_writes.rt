@@ -1,0 +1,334 @@
+//! Changes of the books, written to their tables: each writes its row and the numbers that it moves.
+
+ghost use Rattle.std.specs.Prelude.{◌≡◌, IfOk, IsTrue};
+ghost use Rattle.sqlite.specs.Held.{state};
+ghost use Rattle.sqlite.specs.State.{HasCleanDisk, Survives};
+ghost use Rattle.keyed_rows.specs.Ordered.{add_row};
+ghost use Rattle.bank_books.specs.Effects.{on_day, written};
+ghost use Rattle.bank_books.specs.Keys.{release_key};
+ghost use Rattle.bank_books.specs.declared.row_write.RowWrite.TheVariants as write;
+ghost use Rattle.kept_rows.specs.Changes.{account_sheets, drawer_sheets, entry_sheets, vault_sheets};
+ghost use Rattle.kept_rows.specs.Named.{AreOfEntry, AreOfLine, IsAccountRow, IsBranchRow, IsFree, IsTellerRow, IsUserRow};
+ghost use Rattle.kept_rows.specs.Sheets.{Sheets, account_no, set_row, user_no};
+ghost use Rattle.bank_schema.specs.Held.{HoldsTables};
+ghost use Rattle.bank_schema.specs.Steps.{Moves, Steps, Tells};
+
+use bank_books::{
+    Account, AccountRecord, BranchDay, BranchRecord, CashLine, Entry, Proof, Release, ReleaseKey,
+};
+use book_tables::{
+    account_of, add_account, add_entry, branch_of, set_account, set_branch, set_teller, teller_of,
+};
+use history_tables::{add_line, add_proof, add_release, use_up};
+use kept_rows::{
+    AccountRows, EntryRows, KeptTeller, KeptUser, LineRows, with_account, with_drawer_line,
+    with_entry, with_release, with_vault_line,
+};
+use money::Fault;
+use policy_tables::{set_user, user_of};
+use sqlite::{Alter, Transaction};
+use std::alloc::Global;
+
+/// The account of this number. One that isn't there is a fault of the disk.
+fn account_row<S: Alter>(tx: &mut Transaction<'_, S>, account: u32) -> Result<AccountRecord, Fault>
+    ensures same_reference { tx.new.conn.ghost_name ≡ tx.old.conn.ghost_name }
+    ensures told { HasCleanDisk (state S.Store tx.new.conn.now) → IsTrue (state S.Store tx.old.conn.now).in_transaction → (s : Sheets) → HoldsTables (state S.Store tx.old.conn.now).now s → IfOk result (λ row. IsAccountRow s account row) }
+    ensures steps { Steps (state S.Store tx.old.conn.now) (state S.Store tx.new.conn.now) (λ s. s) result }
+    ensures survives { Survives (state S.Store tx.old.conn.now) (state S.Store tx.new.conn.now) (λ _. ⊥) }
+{
+    match account_of(tx, account)? {
+        Some(row) => Ok(row),
+        None => Err(Fault::Disk),
+    }
+}
+
+/// The teller of this number. One that isn't there is a fault of the disk.
+fn teller_row<S: Alter>(tx: &mut Transaction<'_, S>, teller: u32) -> Result<KeptTeller, Fault>
+    ensures same_reference { tx.new.conn.ghost_name ≡ tx.old.conn.ghost_name }
+    ensures told { HasCleanDisk (state S.Store tx.new.conn.now) → IsTrue (state S.Store tx.old.conn.now).in_transaction → (s : Sheets) → HoldsTables (state S.Store tx.old.conn.now).now s → IfOk result (λ row. IsTellerRow s teller row) }
+    ensures steps { Steps (state S.Store tx.old.conn.now) (state S.Store tx.new.conn.now) (λ s. s) result }
+    ensures survives { Survives (state S.Store tx.old.conn.now) (state S.Store tx.new.conn.now) (λ _. ⊥) }
+{
+    match teller_of(tx, teller)? {
+        Some(row) => Ok(row),
+        None => Err(Fault::Disk),
+    }
+}
+
+/// The branch of this number. One that isn't there is a fault of the disk.
+fn branch_row<S: Alter>(tx: &mut Transaction<'_, S>, branch: u32) -> Result<BranchRecord, Fault>
+    ensures same_reference { tx.new.conn.ghost_name ≡ tx.old.conn.ghost_name }
+    ensures told { HasCleanDisk (state S.Store tx.new.conn.now) → IsTrue (state S.Store tx.old.conn.now).in_transaction → (s : Sheets) → HoldsTables (state S.Store tx.old.conn.now).now s → IfOk result (λ row. IsBranchRow s branch row) }
+    ensures steps { Steps (state S.Store tx.old.conn.now) (state S.Store tx.new.conn.now) (λ s. s) result }
+    ensures survives { Survives (state S.Store tx.old.conn.now) (state S.Store tx.new.conn.now) (λ _. ⊥) }
+{
+    match branch_of(tx, branch)? {
+        Some(row) => Ok(row),
+        None => Err(Fault::Disk),
+    }
+}
+
+/// The rows whose numbers an entry moves.
+#[derive(Clone, Copy, Debug)]
+pub(crate) struct EntryNames {
+    pub(crate) account: AccountRecord,
+    pub(crate) teller: KeptTeller,
+    pub(crate) branch: BranchRecord,
+}
+
+/// The account, the teller and the branch of an entry.
+pub(crate) fn rows_of_entry<S: Alter>(
+    tx: &mut Transaction<'_, S>,
+    entry: &Entry,
+) -> Result<EntryNames, Fault>
+    ensures same_reference { tx.new.conn.ghost_name ≡ tx.old.conn.ghost_name }
+    ensures told { HasCleanDisk (state S.Store tx.new.conn.now) → IsTrue (state S.Store tx.old.conn.now).in_transaction → (s : Sheets) → HoldsTables (state S.Store tx.old.conn.now).now s → IfOk result (λ rows. AreOfEntry s entry.now rows.account rows.teller rows.branch) }
+    ensures steps { Steps (state S.Store tx.old.conn.now) (state S.Store tx.new.conn.now) (λ s. s) result }
+    ensures survives { Survives (state S.Store tx.old.conn.now) (state S.Store tx.new.conn.now) (λ _. ⊥) }
+{
+    let account = account_row(tx, entry.account)?;
+    let teller = teller_row(tx, entry.teller)?;
+    let branch = branch_row(tx, entry.branch)?;
+    Ok(EntryNames {
+        account,
+        teller,
+        branch,
+    })
+}
+
+/// Writes the rows that an entry moves, and the entry.
+pub(crate) fn put_entry<S: Alter>(
+    tx: &mut Transaction<'_, S>,
+    rows: &EntryRows,
+) -> Result<(), Fault>
+    ensures same_reference { tx.new.conn.ghost_name ≡ tx.old.conn.ghost_name }
+    ensures steps { Steps (state S.Store tx.old.conn.now) (state S.Store tx.new.conn.now) (entry_sheets rows.now) result }
+    ensures survives { Survives (state S.Store tx.old.conn.now) (state S.Store tx.new.conn.now) (λ _. ⊥) }
+{
+    add_entry(tx, &rows.entry)?;
+    set_account(tx, &rows.account)?;
+    set_teller(tx, &rows.teller)?;
+    set_branch(tx, &rows.branch)
+}
+
+/// Writes an entry. One that is not the next of its account and of its branch is a fault of the disk, and changes nothing.
+pub(crate) fn write_entry<S: Alter>(tx: &mut Transaction<'_, S>, entry: &Entry) -> Result<(), Fault>
+    ensures same_reference { tx.new.conn.ghost_name ≡ tx.old.conn.ghost_name }
+    ensures moves { Moves (state S.Store tx.old.conn.now) (state S.Store tx.new.conn.now) (written (write.Entry entry.now)) result }
+    ensures survives { Survives (state S.Store tx.old.conn.now) (state S.Store tx.new.conn.now) (λ _. ⊥) }
+{
+    let named = rows_of_entry(tx, entry)?;
+    match with_entry(&named.account, &named.teller, &named.branch, entry) {
+        Some(rows) => put_entry(tx, &rows),
+        None => Err(Fault::Disk),
+    }
+}
+
+/// The rows whose numbers a line at a drawer moves.
+#[derive(Clone, Copy, Debug)]
+struct LineNames {
+    teller: KeptTeller,
+    branch: BranchRecord,
+}
+
+/// The teller and the branch of a line at a drawer.
+fn rows_of_line<S: Alter>(tx: &mut Transaction<'_, S>, line: &CashLine) -> Result<LineNames, Fault>
+    ensures same_reference { tx.new.conn.ghost_name ≡ tx.old.conn.ghost_name }
+    ensures told { HasCleanDisk (state S.Store tx.new.conn.now) → IsTrue (state S.Store tx.old.conn.now).in_transaction → (s : Sheets) → HoldsTables (state S.Store tx.old.conn.now).now s → IfOk result (λ rows. AreOfLine s line.now rows.teller rows.branch) }
+    ensures steps { Steps (state S.Store tx.old.conn.now) (state S.Store tx.new.conn.now) (λ s. s) result }
+    ensures survives { Survives (state S.Store tx.old.conn.now) (state S.Store tx.new.conn.now) (λ _. ⊥) }
+{
+    let teller = teller_row(tx, line.place)?;
+    let branch = branch_row(tx, line.branch)?;
+    Ok(LineNames { teller, branch })
+}
+
+/// Writes the rows that a line at a drawer moves, and the line.
+fn put_drawer_line<S: Alter>(
+    tx: &mut Transaction<'_, S>,
+    line: &CashLine,
+    rows: &LineRows,
+) -> Result<(), Fault>
+    ensures same_reference { tx.new.conn.ghost_name ≡ tx.old.conn.ghost_name }
+    ensures steps { Steps (state S.Store tx.old.conn.now) (state S.Store tx.new.conn.now) (drawer_sheets line.now rows.now) result }
+    ensures survives { Survives (state S.Store tx.old.conn.now) (state S.Store tx.new.conn.now) (λ _. ⊥) }
+{
+    add_line(tx, line)?;
+    set_teller(tx, &rows.teller)?;
+    set_branch(tx, &rows.branch)
+}
+
+/// Writes a line at a drawer. One that is not the next of its branch is a fault of the disk, and changes nothing.
+fn write_drawer_line<S: Alter>(tx: &mut Transaction<'_, S>, line: &CashLine) -> Result<(), Fault>
+    ensures same_reference { tx.new.conn.ghost_name ≡ tx.old.conn.ghost_name }
+    ensures moves { Moves (state S.Store tx.old.conn.now) (state S.Store tx.new.conn.now) (written (write.Line line.now)) result }
+    ensures survives { Survives (state S.Store tx.old.conn.now) (state S.Store tx.new.conn.now) (λ _. ⊥) }
+{
+    let named = rows_of_line(tx, line)?;
+    match with_drawer_line(&named.teller, &named.branch, line) {
+        Some(rows) => put_drawer_line(tx, line, &rows),
+        None => Err(Fault::Disk),
+    }
+}
+
+/// Writes the branch that a line at the vault moves, and the line.
+fn put_vault_line<S: Alter>(
+    tx: &mut Transaction<'_, S>,
+    line: &CashLine,
+    branch: &BranchRecord,
+) -> Result<(), Fault>
+    ensures same_reference { tx.new.conn.ghost_name ≡ tx.old.conn.ghost_name }
+    ensures steps { Steps (state S.Store tx.old.conn.now) (state S.Store tx.new.conn.now) (vault_sheets line.now branch.now) result }
+    ensures survives { Survives (state S.Store tx.old.conn.now) (state S.Store tx.new.conn.now) (λ _. ⊥) }
+{
+    add_line(tx, line)?;
+    set_branch(tx, branch)
+}
+
+/// Writes a line at the vault. One that is not the next of its branch is a fault of the disk, and changes nothing.
+fn write_vault_line<S: Alter>(tx: &mut Transaction<'_, S>, line: &CashLine) -> Result<(), Fault>
+    ensures same_reference { tx.new.conn.ghost_name ≡ tx.old.conn.ghost_name }
+    ensures moves { Moves (state S.Store tx.old.conn.now) (state S.Store tx.new.conn.now) (written (write.Line line.now)) result }
+    ensures survives { Survives (state S.Store tx.old.conn.now) (state S.Store tx.new.conn.now) (λ _. ⊥) }
+{
+    let branch = branch_row(tx, line.branch)?;
+    match with_vault_line(&branch, line) {
+        Some(after) => put_vault_line(tx, line, &after),
+        None => Err(Fault::Disk),
+    }
+}
+
+/// Writes a line of a cash book.
+pub(crate) fn write_line<S: Alter>(
+    tx: &mut Transaction<'_, S>,
+    line: &CashLine,
+) -> Result<(), Fault>
+    ensures same_reference { tx.new.conn.ghost_name ≡ tx.old.conn.ghost_name }
+    ensures moves { Moves (state S.Store tx.old.conn.now) (state S.Store tx.new.conn.now) (written (write.Line line.now)) result }
+    ensures survives { Survives (state S.Store tx.old.conn.now) (state S.Store tx.new.conn.now) (λ _. ⊥) }
+{
+    if line.place == 0 {
+        write_vault_line(tx, line)
+    } else {
+        write_drawer_line(tx, line)
+    }
+}
+
+/// Writes a new account and the number of accounts of its home.
+fn put_account<S: Alter>(tx: &mut Transaction<'_, S>, rows: &AccountRows) -> Result<(), Fault>
+    ensures same_reference { tx.new.conn.ghost_name ≡ tx.old.conn.ghost_name }
+    ensures steps { Steps (state S.Store tx.old.conn.now) (state S.Store tx.new.conn.now) (account_sheets rows.now) result }
+    ensures free { Tells (state S.Store tx.old.conn.now) (state S.Store tx.new.conn.now) (λ s. IsFree account_no s.accounts (account_no rows.now.account)) result }
+    ensures survives { Survives (state S.Store tx.old.conn.now) (state S.Store tx.new.conn.now) (λ _. ⊥) }
+{
+    add_account(tx, &rows.account)?;
+    set_branch(tx, &rows.home)
+}
+
+/// Writes a new account. One whose number is taken is a fault of the disk.
+pub(crate) fn write_account<S: Alter>(
+    tx: &mut Transaction<'_, S>,
+    account: &Account,
+) -> Result<(), Fault>
+    ensures same_reference { tx.new.conn.ghost_name ≡ tx.old.conn.ghost_name }
+    ensures moves { Moves (state S.Store tx.old.conn.now) (state S.Store tx.new.conn.now) (written (write.Account account.now)) result }
+    ensures survives { Survives (state S.Store tx.old.conn.now) (state S.Store tx.new.conn.now) (λ _. ⊥) }
+{
+    let home = branch_row(tx, account.home)?;
+    match with_account(&home, account) {
+        Some(rows) => put_account(tx, &rows),
+        None => Err(Fault::Disk),
+    }
+}
+
+/// Writes the proof of a day that none proves yet.
+pub(crate) fn write_proof<S: Alter>(tx: &mut Transaction<'_, S>, proof: &Proof) -> Result<(), Fault>
+    ensures same_reference { tx.new.conn.ghost_name ≡ tx.old.conn.ghost_name }
+    ensures moves { Moves (state S.Store tx.old.conn.now) (state S.Store tx.new.conn.now) (written (write.Proof proof.now)) result }
+    ensures survives { Survives (state S.Store tx.old.conn.now) (state S.Store tx.new.conn.now) (λ _. ⊥) }
+{
+    add_proof(tx, proof)
+}
+
+/// Writes that a release is used up.
+pub(crate) fn write_used<S: Alter>(
+    tx: &mut Transaction<'_, S>,
+    key: &ReleaseKey,
+) -> Result<(), Fault>
+    ensures same_reference { tx.new.conn.ghost_name ≡ tx.old.conn.ghost_name }
+    ensures moves { Moves (state S.Store tx.old.conn.now) (state S.Store tx.new.conn.now) (written (write.Used key.now)) result }
+    ensures survives { Survives (state S.Store tx.old.conn.now) (state S.Store tx.new.conn.now) (λ _. ⊥) }
+{
+    use_up(tx, key)
+}
+
+/// The branch on this day.
+fn on_day(branch: &BranchRecord, day: u32) -> BranchRecord
+    ensures { result ≡ record branch.now { row = on_day day branch.now.row } }
+{
+    let mut after = *branch;
+    after.row.day = day;
+    after
+}
+
+/// Writes the next day of a branch.
+pub(crate) fn write_day<S: Alter>(tx: &mut Transaction<'_, S>, day: &BranchDay) -> Result<(), Fault>
+    ensures same_reference { tx.new.conn.ghost_name ≡ tx.old.conn.ghost_name }
+    ensures moves { Moves (state S.Store tx.old.conn.now) (state S.Store tx.new.conn.now) (written (write.Day day.now)) result }
+    ensures survives { Survives (state S.Store tx.old.conn.now) (state S.Store tx.new.conn.now) (λ _. ⊥) }
+{
+    let branch = branch_row(tx, day.branch)?;
+    let after = on_day(&branch, day.day);
+    set_branch(tx, &after)
+}
+
+/// The user of this number. One who isn't there is a fault of the disk.
+fn user_row<S: Alter>(
+    alloc: Global,
+    tx: &mut Transaction<'_, S>,
+    user: u32,
+) -> Result<KeptUser, Fault>
+    ensures same_reference { tx.new.conn.ghost_name ≡ tx.old.conn.ghost_name }
+    ensures told { HasCleanDisk (state S.Store tx.new.conn.now) → IsTrue (state S.Store tx.old.conn.now).in_transaction → (s : Sheets) → HoldsTables (state S.Store tx.old.conn.now).now s → IfOk result (λ row. IsUserRow s user row) }
+    ensures steps { Steps (state S.Store tx.old.conn.now) (state S.Store tx.new.conn.now) (λ s. s) result }
+    ensures survives { Survives (state S.Store tx.old.conn.now) (state S.Store tx.new.conn.now) (λ _. ⊥) }
+{
+    match user_of(alloc, tx, user)? {
+        Some(row) => Ok(row),
+        None => Err(Fault::Disk),
+    }
+}
+
+/// Writes a release and its user, who has one more.
+fn put_release<S: Alter>(
+    tx: &mut Transaction<'_, S>,
+    release: &Release,
+    user: &KeptUser,
+) -> Result<(), Fault>
+    ensures same_reference { tx.new.conn.ghost_name ≡ tx.old.conn.ghost_name }
+    ensures steps { Steps (state S.Store tx.old.conn.now) (state S.Store tx.new.conn.now) (λ s. record s { releases = add_row release_key release.now s.releases; users = set_row user_no user.now s.users }) result }
+    ensures survives { Survives (state S.Store tx.old.conn.now) (state S.Store tx.new.conn.now) (λ _. ⊥) }
+{
+    add_release(tx, release)?;
+    set_user(tx, user)
+}
+
+/// Writes a release. One that is not the next of its user is a fault of the disk, and changes nothing.
+pub(crate) fn write_release<S: Alter>(
+    alloc: Global,
+    tx: &mut Transaction<'_, S>,
+    release: &Release,
+) -> Result<(), Fault>
+    ensures same_reference { tx.new.conn.ghost_name ≡ tx.old.conn.ghost_name }
+    ensures moves { Moves (state S.Store tx.old.conn.now) (state S.Store tx.new.conn.now) (written (write.Release release.now)) result }
+    ensures survives { Survives (state S.Store tx.old.conn.now) (state S.Store tx.new.conn.now) (λ _. ⊥) }
+{
+    let mut user = user_row(alloc, tx, release.user)?;
+    match with_release(user.releases, release) {
+        Some(releases) => {
+            user.releases = releases;
+            put_release(tx, release, &user)
+        }
+        None => Err(Fault::Disk),
+    }
+}

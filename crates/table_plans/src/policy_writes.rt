@@ -1,0 +1,224 @@
+//! Changes of the policy inside a transaction, and a user's session: each makes of the World that the tables hold what its
+//! definition says, or answers the fault that kept it from that.
+
+ghost use Rattle.std.specs.Prelude.{◌≡◌, ◌<◌, ◌^◌, length, IfOk, OnOk};
+ghost use Rattle.sqlite.specs.Held.{state};
+ghost use Rattle.sqlite.specs.State.{HasCleanDisk, Survives};
+ghost use Rattle.bank_policy.specs.declared.policy_write.PolicyWrite.TheVariants as policy;
+ghost use Rattle.bank_books.specs.Effects.{written};
+ghost use Rattle.bank_books.specs.declared.row_write.RowWrite.TheVariants as write;
+ghost use Rattle.kept_rows.specs.Changes.{add_rows};
+ghost use Rattle.kept_rows.specs.Named.{IsUserRow};
+ghost use Rattle.kept_rows.specs.Records.{member_rows};
+ghost use Rattle.kept_rows.specs.Sheets.{Sheets, member_no};
+ghost use Rattle.bank_schema.specs.Held.{HoldsTables};
+ghost use Rattle.bank_schema.specs.Steps.{Moves, Steps};
+
+use bank_policy::{
+    Certifier, ItemSet, Name, PolicyWrite, Relation, RelationKey, Session, Suspension, Triple,
+    TripleKey, User,
+};
+use kept_rows::{KeptUser, MemberRow};
+use money::Fault;
+use sqlite::{Alter, Transaction};
+use std::alloc::Global;
+
+/// A relation that is certified. One of its key that is there already is a fault of the disk.
+fn write_relation<S: Alter>(tx: &mut Transaction<'_, S>, relation: &Relation) -> Result<(), Fault>
+    ensures same_reference { tx.new.conn.ghost_name ≡ tx.old.conn.ghost_name }
+    ensures moves { Moves (state S.Store tx.old.conn.now) (state S.Store tx.new.conn.now) (written (write.Policy (policy.Relation relation.now))) result }
+    ensures survives { Survives (state S.Store tx.old.conn.now) (state S.Store tx.new.conn.now) (λ _. ⊥) }
+{
+    policy_tables::add_relation(tx, relation)
+}
+
+/// A relation that is certified no longer, with its triples.
+fn write_no_relation<S: Alter>(tx: &mut Transaction<'_, S>, key: &RelationKey) -> Result<(), Fault>
+    ensures same_reference { tx.new.conn.ghost_name ≡ tx.old.conn.ghost_name }
+    ensures moves { Moves (state S.Store tx.old.conn.now) (state S.Store tx.new.conn.now) (written (write.Policy (policy.NoRelation key.now))) result }
+    ensures survives { Survives (state S.Store tx.old.conn.now) (state S.Store tx.new.conn.now) (λ _. ⊥) }
+{
+    policy_tables::remove_relation(tx, key)
+}
+
+/// A triple that is given. One of its key that is there already is a fault of the disk, and so is one of no relation.
+fn write_triple<S: Alter>(tx: &mut Transaction<'_, S>, triple: &Triple) -> Result<(), Fault>
+    ensures same_reference { tx.new.conn.ghost_name ≡ tx.old.conn.ghost_name }
+    ensures moves { Moves (state S.Store tx.old.conn.now) (state S.Store tx.new.conn.now) (written (write.Policy (policy.Triple triple.now))) result }
+    ensures survives { Survives (state S.Store tx.old.conn.now) (state S.Store tx.new.conn.now) (λ _. ⊥) }
+{
+    policy_tables::add_triple(tx, triple)
+}
+
+/// A triple that is taken back.
+fn write_no_triple<S: Alter>(tx: &mut Transaction<'_, S>, key: &TripleKey) -> Result<(), Fault>
+    ensures same_reference { tx.new.conn.ghost_name ≡ tx.old.conn.ghost_name }
+    ensures moves { Moves (state S.Store tx.old.conn.now) (state S.Store tx.new.conn.now) (written (write.Policy (policy.NoTriple key.now))) result }
+    ensures survives { Survives (state S.Store tx.old.conn.now) (state S.Store tx.new.conn.now) (λ _. ⊥) }
+{
+    policy_tables::remove_triple(tx, key)
+}
+
+/// A new certifier. One who is there already is a fault of the disk.
+fn write_certifier<S: Alter>(
+    tx: &mut Transaction<'_, S>,
+    certifier: &Certifier,
+) -> Result<(), Fault>
+    ensures same_reference { tx.new.conn.ghost_name ≡ tx.old.conn.ghost_name }
+    ensures moves { Moves (state S.Store tx.old.conn.now) (state S.Store tx.new.conn.now) (written (write.Policy (policy.Certifier certifier.now))) result }
+    ensures survives { Survives (state S.Store tx.old.conn.now) (state S.Store tx.new.conn.now) (λ _. ⊥) }
+{
+    policy_tables::add_certifier(tx, certifier)
+}
+
+/// A certifier who is one no longer.
+fn write_no_certifier<S: Alter>(
+    tx: &mut Transaction<'_, S>,
+    certifier: &Certifier,
+) -> Result<(), Fault>
+    ensures same_reference { tx.new.conn.ghost_name ≡ tx.old.conn.ghost_name }
+    ensures moves { Moves (state S.Store tx.old.conn.now) (state S.Store tx.new.conn.now) (written (write.Policy (policy.NoCertifier certifier.now))) result }
+    ensures survives { Survives (state S.Store tx.old.conn.now) (state S.Store tx.new.conn.now) (λ _. ⊥) }
+{
+    policy_tables::remove_certifier(tx, certifier)
+}
+
+/// The user with no releases.
+fn kept_user(alloc: Global, user: &User) -> Result<KeptUser, Fault>
+    ensures { IfOk result (λ kept. kept ≡ record { row = user.now; releases = 0 }) }
+{
+    let name = Name::new(alloc, user.name.as_str())?;
+    Ok(KeptUser {
+        row: User {
+            user: user.user,
+            name,
+            officer: user.officer,
+            suspended: user.suspended,
+            session: user.session,
+            on: user.on,
+        },
+        releases: 0,
+    })
+}
+
+/// A new user. One of his number who is there already is a fault of the disk.
+fn write_user<S: Alter>(
+    alloc: Global,
+    tx: &mut Transaction<'_, S>,
+    user: &User,
+) -> Result<(), Fault>
+    ensures same_reference { tx.new.conn.ghost_name ≡ tx.old.conn.ghost_name }
+    ensures moves { Moves (state S.Store tx.old.conn.now) (state S.Store tx.new.conn.now) (written (write.Policy (policy.User user.now))) result }
+    ensures survives { Survives (state S.Store tx.old.conn.now) (state S.Store tx.new.conn.now) (λ _. ⊥) }
+{
+    let kept = kept_user(alloc, user)?;
+    policy_tables::add_user(tx, &kept)
+}
+
+/// The user of this number. One who isn't there is a fault of the disk.
+fn found_user<S: Alter>(
+    alloc: Global,
+    tx: &mut Transaction<'_, S>,
+    user: u32,
+) -> Result<KeptUser, Fault>
+    ensures same_reference { tx.new.conn.ghost_name ≡ tx.old.conn.ghost_name }
+    ensures found { HasCleanDisk (state S.Store tx.new.conn.now) → (s : Sheets) → HoldsTables (state S.Store tx.old.conn.now).now s → IfOk result (IsUserRow s user) }
+    ensures steps { Steps (state S.Store tx.old.conn.now) (state S.Store tx.new.conn.now) (λ s. s) result }
+    ensures survives { Survives (state S.Store tx.old.conn.now) (state S.Store tx.new.conn.now) (λ _. ⊥) }
+{
+    match policy_tables::user_of(alloc, tx, user) {
+        Ok(Some(kept)) => Ok(kept),
+        Ok(None) => Err(Fault::Disk),
+        Err(fault) => Err(fault),
+    }
+}
+
+/// A user's latest session. Where the user isn't there it is a fault of the disk.
+pub fn write_session<S: Alter>(
+    alloc: Global,
+    tx: &mut Transaction<'_, S>,
+    session: &Session,
+) -> Result<(), Fault>
+    ensures same_reference { tx.new.conn.ghost_name ≡ tx.old.conn.ghost_name }
+    ensures moves { Moves (state S.Store tx.old.conn.now) (state S.Store tx.new.conn.now) (written (write.Session session.now)) result }
+    ensures survives { Survives (state S.Store tx.old.conn.now) (state S.Store tx.new.conn.now) (λ _. ⊥) }
+{
+    let mut kept = found_user(alloc, tx, session.user)?;
+    kept.row.session = session.session;
+    kept.row.on = session.on;
+    policy_tables::set_user(tx, &kept)
+}
+
+/// A user who is suspended or restored. Where the user isn't there it is a fault of the disk.
+fn write_suspension<S: Alter>(
+    alloc: Global,
+    tx: &mut Transaction<'_, S>,
+    suspension: &Suspension,
+) -> Result<(), Fault>
+    ensures same_reference { tx.new.conn.ghost_name ≡ tx.old.conn.ghost_name }
+    ensures moves { Moves (state S.Store tx.old.conn.now) (state S.Store tx.new.conn.now) (written (write.Policy (policy.Suspended suspension.now))) result }
+    ensures survives { Survives (state S.Store tx.old.conn.now) (state S.Store tx.new.conn.now) (λ _. ⊥) }
+{
+    let mut kept = found_user(alloc, tx, suspension.user)?;
+    kept.row.suspended = suspension.suspended;
+    kept.row.on = false;
+    policy_tables::set_user(tx, &kept)
+}
+
+/// The members of a set, at places 1, 2 and so on. More of them than places go is a fault of size.
+pub fn write_members<S: Alter>(tx: &mut Transaction<'_, S>, row: &ItemSet) -> Result<(), Fault>
+    ensures same_reference { tx.new.conn.ghost_name ≡ tx.old.conn.ghost_name }
+    ensures steps { Steps (state S.Store tx.old.conn.now) (state S.Store tx.new.conn.now) (λ s. record s { members = add_rows member_no (member_rows row.now) s.members }) result }
+    ensures few { OnOk result (length row.now.members < 2 ^ 32) }
+    ensures survives { Survives (state S.Store tx.old.conn.now) (state S.Store tx.new.conn.now) (λ _. ⊥) }
+{
+    let set = row.set();
+    let members = row.members();
+    if members.len() > u32::MAX as usize {
+        return Err(Fault::Size);
+    }
+    let mut place = 0;
+    for member in members {
+        place += 1;
+        let placed = MemberRow {
+            set,
+            place,
+            member: *member,
+        };
+        policy_tables::add_member(tx, &placed)?;
+    }
+    Ok(())
+}
+
+/// A new set with its members. One of its number that is there already is a fault of the disk.
+fn write_set<S: Alter>(tx: &mut Transaction<'_, S>, row: &ItemSet) -> Result<(), Fault>
+    ensures same_reference { tx.new.conn.ghost_name ≡ tx.old.conn.ghost_name }
+    ensures moves { Moves (state S.Store tx.old.conn.now) (state S.Store tx.new.conn.now) (written (write.Policy (policy.Set row.now))) result }
+    ensures survives { Survives (state S.Store tx.old.conn.now) (state S.Store tx.new.conn.now) (λ _. ⊥) }
+{
+    policy_tables::add_set(tx, row.set())?;
+    write_members(tx, row)
+}
+
+/// One change of the policy. A key that is there already, or a user who isn't, is a fault of the disk.
+pub fn write_policy<S: Alter>(
+    alloc: Global,
+    tx: &mut Transaction<'_, S>,
+    change: &PolicyWrite,
+) -> Result<(), Fault>
+    ensures same_reference { tx.new.conn.ghost_name ≡ tx.old.conn.ghost_name }
+    ensures moves { Moves (state S.Store tx.old.conn.now) (state S.Store tx.new.conn.now) (written (write.Policy change.now)) result }
+    ensures survives { Survives (state S.Store tx.old.conn.now) (state S.Store tx.new.conn.now) (λ _. ⊥) }
+{
+    match change {
+        PolicyWrite::User(user) => write_user(alloc, tx, user),
+        PolicyWrite::Set(row) => write_set(tx, row),
+        PolicyWrite::Relation(relation) => write_relation(tx, relation),
+        PolicyWrite::NoRelation(key) => write_no_relation(tx, key),
+        PolicyWrite::Triple(triple) => write_triple(tx, triple),
+        PolicyWrite::NoTriple(key) => write_no_triple(tx, key),
+        PolicyWrite::Certifier(certifier) => write_certifier(tx, certifier),
+        PolicyWrite::NoCertifier(certifier) => write_no_certifier(tx, certifier),
+        PolicyWrite::Suspended(suspension) => write_suspension(alloc, tx, suspension),
+    }
+}
