@@ -12,7 +12,7 @@ use book_tables::version_of;
 use money::Fault;
 use sqlite::{Alter, Connection, Transaction};
 use std::alloc::Global;
-use world_tables::write_plan;
+use table_plans::write_plan;
 
 /// Reads something, which shows that the connection is open.
 fn look<S: Alter>(tx: &mut Transaction<'_, S>) -> Result<(), Fault>

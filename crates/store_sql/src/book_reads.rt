@@ -5,7 +5,7 @@ use row_reads::DrawerRecord;
 use sqlite::Alter;
 use std::alloc::Global;
 use store_rows::BookReads;
-use world_tables::{
+use table_questions::{
     AccountRow, BranchRow, DrawerRow, EntryRow, IsUndone, Roster, TellerRow, VaultCash,
 };
 

@@ -5,6 +5,7 @@ mod applying;
 mod asking;
 mod book_reads;
 mod policy_reads;
+mod report_reads;
 mod sql_store;
 
 pub use sql_store::SqlStore;

@@ -7,7 +7,7 @@ use row_reads::UserRecord;
 use sqlite::Alter;
 use std::alloc::Global;
 use store_rows::PolicyReads;
-use world_tables::{
+use table_questions::{
     HasSet, IsCertifier, PolicyVersion, RelationsOf, ReleaseRow, SetCount, TripleCount, TriplesFor,
     UserRow,
 };

@@ -7,12 +7,12 @@ ghost use Rattle.store_sql.specs.Bank.{sql_status};
 
 use crate::applying::apply_plan;
 use crate::asking::ask;
-use bank_books::RowWrite;
+use bank_books::{Plan, RowWrite};
 use money::Fault;
 use sqlite::{Alter, Connection};
 use std::alloc::Global;
-use store_rows::Stands;
-use world_tables::Question;
+use store_rows::{Stands, Store};
+use table_questions::Question;
 
 /// The bank in a SQL database. After a fault of the disk it is stopped, and answers nothing any more.
 #[derive(Drop)]
@@ -39,6 +39,14 @@ impl<S: Alter> SqlStore<S> {
             faults: 0,
             failures: 0,
         }
+    }
+
+    /// The connection to its tables, to which nothing is left to be written.
+    pub fn into_connection(self) -> Connection<S>
+        ensures connection { result ≡ self.conn }
+        ensures idle { result.in_transaction ≡ false }
+    {
+        self.conn
     }
 
     /// Counts a fault of the database and says which it is told as: what is neither memory nor size is the disk, and stops the store.
@@ -80,7 +88,7 @@ impl<S: Alter> SqlStore<S> {
     }
 
     /// Carries out the whole plan in one transaction, or at a fault nothing of it.
-    pub fn write(&mut self, alloc: Global, plan: &[RowWrite]) -> Result<(), Fault>
+    fn write(&mut self, alloc: Global, plan: &[RowWrite]) -> Result<(), Fault>
         ensures changed { Changes (sql_status (state S.Store self.old.conn) self.old.is_stopped self.old.faults self.old.failures) (sql_status (state S.Store self.new.conn) self.new.is_stopped self.new.faults self.new.failures) (applied plan.now) (mark_of result) }
         ensures refused { IsTrue self.old.is_stopped → mark_of result ≡ Some Stopped }
         ensures counted { self.new.faults ≡ count_after (mark_of result) self.old.faults }
@@ -118,5 +126,11 @@ impl<S: Alter> Stands for SqlStore<S> {
 
     fn faults(&self) -> u64 {
         self.faults
+    }
+}
+
+impl<S: Alter> Store for SqlStore<S> {
+    fn apply(&mut self, alloc: Global, plan: Plan) -> Result<(), Fault> {
+        self.write(alloc, &plan)
     }
 }

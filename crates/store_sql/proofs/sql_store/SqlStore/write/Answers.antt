@@ -4,7 +4,7 @@ use Rattle.sqlite.specs.Held.{state}
 use Rattle.bank_books.specs.Effects.{applied}
 use Rattle.bank_schema.specs.Held.{AreOfWorld}
 use Rattle.bank_schema.proofs.StepLemmas.{early}
-use Rattle.world_tables.proofs.WorldLemmas.{same_world}
+use Rattle.store_sql.proofs.WorldLemmas.{same_world}
 use Rattle.store_sql.proofs.sql_store.SqlStore.write.Goals as goal
 
 pub returns-in-Ok-clause-changed : goal.returns-in-Ok-clause-changed

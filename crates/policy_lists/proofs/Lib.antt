@@ -1,0 +1,5 @@
+pub mod ColumnTests
+pub mod LineLemmas
+pub mod NextLemmas
+pub mod SelectLemmas
+pub mod WorldLemmas

@@ -1,0 +1,88 @@
+//! The line of the policy behind another.
+
+ghost use Rattle.std.specs.Prelude.{◌≡◌, IfOk, IsTrue};
+ghost use Rattle.std.specs.List.{find};
+ghost use Rattle.sqlite.specs.Held.{state};
+ghost use Rattle.sqlite.specs.State.{HasCleanDisk, Survives};
+ghost use Rattle.kept_rows.specs.Sheets.{Sheets};
+ghost use Rattle.bank_schema.specs.Held.{HoldsTables};
+ghost use Rattle.bank_schema.specs.Steps.{StaysOpen, Steps};
+ghost use Rattle.row_reads.specs.PolicyListing.{is_row_behind};
+ghost use Rattle.policy_lists.specs.Columns.{is_past, or_first};
+ghost use Rattle.policy_lists.specs.Lines.{lines_behind, lines_in, lines_of};
+
+use crate::columns::{Columns, columns_at, kind_at};
+use crate::kinds::LineKind;
+use crate::parts::next_behind;
+use crate::read::read_line;
+use crate::selects::select_lines;
+use bank_schema::fault_of;
+use money::Fault;
+use row_reads::{PolicyKey, PolicyRow};
+use sqlite::{Alter, Transaction};
+use std::alloc::Global;
+
+/// The first line of this kind behind these columns, or the first of all.
+fn next_line<S: Alter>(
+    alloc: Global,
+    tx: &mut Transaction<'_, S>,
+    kind: LineKind,
+    after: Option<Columns>,
+) -> Result<Option<PolicyRow>, Fault>
+    ensures same_reference { tx.new.conn.ghost_name ≡ tx.old.conn.ghost_name }
+    ensures found { HasCleanDisk (state S.Store tx.new.conn.now) → (s : Sheets) → HoldsTables (state S.Store tx.old.conn.now).now s → IfOk result (λ line. line ≡ find (is_past after) (lines_in s kind)) }
+    ensures steps { Steps (state S.Store tx.old.conn.now) (state S.Store tx.new.conn.now) (λ s. s) result }
+    ensures open { StaysOpen (state S.Store tx.old.conn.now) (state S.Store tx.new.conn.now) result }
+    ensures survives { Survives (state S.Store tx.old.conn.now) (state S.Store tx.new.conn.now) (λ _. ⊥) }
+{
+    let part = next_behind(after);
+    let rows = match select_lines(tx, kind, &part) {
+        Ok(rows) => rows,
+        Err(error) => return Err(fault_of(error)),
+    };
+    match rows.first() {
+        Some(row) => Ok(Some(read_line(alloc, kind, row)?)),
+        None => Ok(None),
+    }
+}
+
+/// The first line of this kind behind these columns, or else the first of the kinds behind it.
+fn next_from<S: Alter>(
+    alloc: Global,
+    tx: &mut Transaction<'_, S>,
+    kind: LineKind,
+    after: Option<Columns>,
+) -> Result<Option<PolicyRow>, Fault>
+    ensures same_reference { tx.new.conn.ghost_name ≡ tx.old.conn.ghost_name }
+    ensures found { HasCleanDisk (state S.Store tx.new.conn.now) → IsTrue (state S.Store tx.old.conn.now).in_transaction → (s : Sheets) → HoldsTables (state S.Store tx.old.conn.now).now s → IfOk result (λ line. line ≡ or_first (find (is_past after) (lines_in s kind)) (lines_behind s kind)) }
+    ensures steps { Steps (state S.Store tx.old.conn.now) (state S.Store tx.new.conn.now) (λ s. s) result }
+    ensures open { StaysOpen (state S.Store tx.old.conn.now) (state S.Store tx.new.conn.now) result }
+    ensures survives { Survives (state S.Store tx.old.conn.now) (state S.Store tx.new.conn.now) (λ _. ⊥) }
+{
+    match next_line(alloc, tx, kind, after)? {
+        Some(line) => Ok(Some(line)),
+        None => match kind.following() {
+            Some(next) => next_from(alloc, tx, next, None),
+            None => Ok(None),
+        },
+    }
+}
+
+/// The line of the policy that is listed behind the one of this key, or the first where there is
+/// none; none where no line is listed there.
+pub fn next_policy<S: Alter>(
+    alloc: Global,
+    tx: &mut Transaction<'_, S>,
+    after: Option<PolicyKey>,
+) -> Result<Option<PolicyRow>, Fault>
+    ensures same_reference { tx.new.conn.ghost_name ≡ tx.old.conn.ghost_name }
+    ensures found { HasCleanDisk (state S.Store tx.new.conn.now) → IsTrue (state S.Store tx.old.conn.now).in_transaction → (s : Sheets) → HoldsTables (state S.Store tx.old.conn.now).now s → IfOk result (λ line. line ≡ find (is_row_behind after) (lines_of s)) }
+    ensures steps { Steps (state S.Store tx.old.conn.now) (state S.Store tx.new.conn.now) (λ s. s) result }
+    ensures open { StaysOpen (state S.Store tx.old.conn.now) (state S.Store tx.new.conn.now) result }
+    ensures survives { Survives (state S.Store tx.old.conn.now) (state S.Store tx.new.conn.now) (λ _. ⊥) }
+{
+    match after {
+        Some(key) => next_from(alloc, tx, kind_at(key), Some(columns_at(key))),
+        None => next_from(alloc, tx, LineKind::User, None),
+    }
+}

@@ -1,0 +1,76 @@
+use crate::sql_store::SqlStore;
+use bank_books::{AccountRecord, EntryRecord, TellerRecord};
+use money::Fault;
+use row_reads::{PolicyKey, PolicyRow};
+use sqlite::Alter;
+use std::alloc::Global;
+use store_rows::ReportReads;
+use table_questions::{EntriesOf, EntryAt, NextPolicy, NextShown, NextTeller, PolicyRows, Shown};
+
+impl<S: Alter> ReportReads for SqlStore<S> {
+    fn entries_of(
+        &mut self,
+        alloc: Global,
+        account: u32,
+        start: u32,
+        count: u32,
+    ) -> Result<Vec<EntryRecord>, Fault> {
+        self.ask(
+            alloc,
+            &EntriesOf {
+                account,
+                start,
+                count,
+            },
+        )
+    }
+
+    fn entry_at(
+        &mut self,
+        alloc: Global,
+        account: u32,
+        turn: u32,
+    ) -> Result<Option<EntryRecord>, Fault> {
+        self.ask(alloc, &EntryAt { account, turn })
+    }
+
+    fn shown(
+        &mut self,
+        alloc: Global,
+        user: u32,
+        after: u32,
+        count: u32,
+    ) -> Result<Vec<AccountRecord>, Fault> {
+        self.ask(alloc, &Shown { user, after, count })
+    }
+
+    fn next_shown(
+        &mut self,
+        alloc: Global,
+        user: u32,
+        after: u32,
+    ) -> Result<Option<AccountRecord>, Fault> {
+        self.ask(alloc, &NextShown { user, after })
+    }
+
+    fn next_teller(
+        &mut self,
+        alloc: Global,
+        branch: u32,
+        after: u32,
+    ) -> Result<Option<TellerRecord>, Fault> {
+        self.ask(alloc, &NextTeller { branch, after })
+    }
+
+    fn policy_rows(&mut self, alloc: Global) -> Result<Vec<PolicyRow>, Fault> {
+        self.ask(alloc, &PolicyRows)
+    }
+
+    fn next_policy(
+        &mut self,
+        alloc: Global,
+        after: Option<PolicyKey>,
+    ) -> Result<Option<PolicyRow>, Fault> {
+        self.ask(alloc, &NextPolicy { after })
+    }
+}
