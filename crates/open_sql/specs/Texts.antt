@@ -1,0 +1,6 @@
+-- The statement that writes the row of the bank.
+use Rattle.std.specs.Prelude.{ℕ, List, codes}
+
+-- the first version of the schema
+abbrev pub add_bank_text : List ℕ
+add_bank_text = codes "INSERT INTO bank (id, version, policy) VALUES (1, 1, ?1)"

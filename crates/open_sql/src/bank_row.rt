@@ -1,0 +1,52 @@
+ghost use Rattle.std.specs.Prelude.{◌≡◌, ◌∷◌, [], pos, IfOk, IsTrue};
+ghost use Rattle.sqlite.specs.Held.{state};
+ghost use Rattle.sqlite.specs.State.{ExecutesInside, HasCleanDisk, Survives};
+ghost use Rattle.sqlite.specs.declared.types.Value.TheVariants.{Int};
+ghost use Rattle.bank_schema.specs.Held.{HoldsTables};
+ghost use Rattle.bank_schema.specs.Schema.{bank_schema};
+ghost use Rattle.open_sql.specs.Blank.{IsBlank, bare};
+ghost use Rattle.open_sql.specs.Goes.{Goes};
+ghost use Rattle.open_sql.specs.Texts.{add_bank_text};
+
+use bank_schema::{count_cell, fault_of};
+use money::Fault;
+use sqlite::{Alter, Error, Transaction, params};
+
+/// What is given with the statement that writes the row of the bank.
+#[derive(Drop)]
+struct BankCells {
+    policy: i64,
+}
+
+fn cells_of(version: u64) -> Result<BankCells, Fault>
+    ensures { IfOk result (λ c. c.policy ≡ pos version) }
+{
+    Ok(BankCells {
+        policy: count_cell(version)?,
+    })
+}
+
+fn insert_bank<S: Alter>(tx: &mut Transaction<'_, S>, cells: &BankCells) -> Result<usize, Error>
+    ensures same_reference { tx.new.conn.ghost_name ≡ tx.old.conn.ghost_name }
+    ensures runs { HasCleanDisk (state S.Store tx.new.conn.now) → IsTrue (state S.Store tx.old.conn.now).in_transaction → ExecutesInside 0 add_bank_text (Int cells.now.policy ∷ []) (state S.Store tx.old.conn.now) (state S.Store tx.new.conn.now) result }
+    ensures survives { Survives (state S.Store tx.old.conn.now) (state S.Store tx.new.conn.now) (λ _. ⊥) }
+{
+    tx.execute(
+        "INSERT INTO bank (id, version, policy) VALUES (1, 1, ?1)",
+        params![&cells.policy],
+    )
+}
+
+/// Writes the row of the bank, with the version of its policy, into tables that have no rows. A version
+/// of more than 63 bits is a fault of size.
+pub(crate) fn add_bank<S: Alter>(tx: &mut Transaction<'_, S>, version: u64) -> Result<(), Fault>
+    ensures same_reference { tx.new.conn.ghost_name ≡ tx.old.conn.ghost_name }
+    ensures goes { Goes (state S.Store tx.old.conn.now) (state S.Store tx.new.conn.now) (IsBlank bank_schema) (λ db. HoldsTables db (bare version)) result }
+    ensures survives { Survives (state S.Store tx.old.conn.now) (state S.Store tx.new.conn.now) (λ _. ⊥) }
+{
+    let cells = cells_of(version)?;
+    match insert_bank(tx, &cells) {
+        Ok(_) => Ok(()),
+        Err(error) => Err(fault_of(error)),
+    }
+}

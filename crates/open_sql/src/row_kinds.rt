@@ -1,0 +1,110 @@
+//! The rows of each table.
+
+ghost use Rattle.open_sql.specs.Filled.{with_account, with_branch, with_certifier, with_entry, with_line, with_proof, with_relation, with_release, with_set, with_teller, with_triple, with_user};
+
+use crate::sheet_row::SheetRow;
+use bank_books::{
+    AccountRecord, BranchRecord, CashLine, EntryRecord, Proof, Release, TellerRecord,
+};
+use bank_policy::{Certifier, ItemSet, Relation, Triple};
+use kept_rows::{KeptTeller, KeptUser};
+use money::Fault;
+use sqlite::{Alter, Transaction};
+use table_plans::write_members;
+
+impl SheetRow for KeptUser {
+    ghost with_it = { with_user };
+
+    fn add<S: Alter>(&self, tx: &mut Transaction<'_, S>) -> Result<(), Fault> {
+        policy_tables::add_user(tx, self)
+    }
+}
+
+impl SheetRow for ItemSet {
+    ghost with_it = { with_set };
+
+    fn add<S: Alter>(&self, tx: &mut Transaction<'_, S>) -> Result<(), Fault> {
+        policy_tables::add_set(tx, self.set())?;
+        write_members(tx, self)
+    }
+}
+
+impl SheetRow for Relation {
+    ghost with_it = { with_relation };
+
+    fn add<S: Alter>(&self, tx: &mut Transaction<'_, S>) -> Result<(), Fault> {
+        policy_tables::add_relation(tx, self)
+    }
+}
+
+impl SheetRow for Triple {
+    ghost with_it = { with_triple };
+
+    fn add<S: Alter>(&self, tx: &mut Transaction<'_, S>) -> Result<(), Fault> {
+        policy_tables::add_triple(tx, self)
+    }
+}
+
+impl SheetRow for Certifier {
+    ghost with_it = { with_certifier };
+
+    fn add<S: Alter>(&self, tx: &mut Transaction<'_, S>) -> Result<(), Fault> {
+        policy_tables::add_certifier(tx, self)
+    }
+}
+
+impl SheetRow for BranchRecord {
+    ghost with_it = { with_branch };
+
+    fn add<S: Alter>(&self, tx: &mut Transaction<'_, S>) -> Result<(), Fault> {
+        book_tables::add_branch(tx, self)
+    }
+}
+
+impl SheetRow for TellerRecord {
+    ghost with_it = { with_teller };
+
+    fn add<S: Alter>(&self, tx: &mut Transaction<'_, S>) -> Result<(), Fault> {
+        book_tables::add_teller(tx, &KeptTeller::of(self))
+    }
+}
+
+impl SheetRow for AccountRecord {
+    ghost with_it = { with_account };
+
+    fn add<S: Alter>(&self, tx: &mut Transaction<'_, S>) -> Result<(), Fault> {
+        book_tables::add_account(tx, self)
+    }
+}
+
+impl SheetRow for EntryRecord {
+    ghost with_it = { with_entry };
+
+    fn add<S: Alter>(&self, tx: &mut Transaction<'_, S>) -> Result<(), Fault> {
+        book_tables::add_entry(tx, self)
+    }
+}
+
+impl SheetRow for CashLine {
+    ghost with_it = { with_line };
+
+    fn add<S: Alter>(&self, tx: &mut Transaction<'_, S>) -> Result<(), Fault> {
+        history_tables::add_line(tx, self)
+    }
+}
+
+impl SheetRow for Proof {
+    ghost with_it = { with_proof };
+
+    fn add<S: Alter>(&self, tx: &mut Transaction<'_, S>) -> Result<(), Fault> {
+        history_tables::add_proof(tx, self)
+    }
+}
+
+impl SheetRow for Release {
+    ghost with_it = { with_release };
+
+    fn add<S: Alter>(&self, tx: &mut Transaction<'_, S>) -> Result<(), Fault> {
+        history_tables::add_release(tx, self)
+    }
+}
