@@ -1,0 +1,48 @@
+-- That tables which were read whole hold the World that their rows are of.
+use Rattle.std.proofs.Common.{◌≡◌, ℕ, IsTrue, refl, sym, ap, subst, ◌∙◌}
+use Rattle.sqlite.specs.Effect.{Database, IsDatabase}
+use Rattle.sqlite.specs.State.{KeepsCommit, State}
+use Rattle.sqlite.specs.Tree.{Trees}
+use Rattle.bank_schema.specs.Held.{HoldsBank, HoldsSheets, HoldsWorld, Sheet, tree_of}
+use Rattle.bank_schema.specs.Held.Sheet.{accounts as in_accounts, bank as in_bank, branches as in_branches, certifiers as in_certifiers, entries as in_entries, lines as in_lines, members as in_members, proofs as in_proofs, relations as in_relations, releases as in_releases, sets as in_sets, tellers as in_tellers, triples as in_triples, users as in_users}
+use Rattle.kept_rows.specs.Laws.{AreSheetsOrdered}
+use Rattle.kept_rows.proofs.SheetsTell.{sheets_are_ordered}
+use Rattle.whole_tables.specs.BookRows.{AreBookRows}
+use Rattle.whole_tables.specs.PolicyTables.{ArePolicyTables}
+use Rattle.whole_tables.specs.Whole.{HasBankTables, IsKeptTable}
+use Rattle.whole_tables.specs.declared.book_rows.BookRows.{BookRows}
+use Rattle.whole_tables.specs.declared.policy_tables.PolicyTables.{PolicyTables}
+use Rattle.adopt_sql.specs.Adopted.{Adopts, IsBankFile, IsBankRow, IsLeft}
+use Rattle.adopt_sql.specs.Told.{IsBankOf, sheets_read}
+
+module _ (db : Trees) (books : BookRows) (tables : PolicyTables) (version : ℕ) (row : IsBankRow db version) (b : AreBookRows db books) (p : ArePolicyTables db tables)
+    (kept : (t : Sheet) → IsKeptTable (db (tree_of t))) (o : AreSheetsOrdered (sheets_read books tables version)) where
+  held_sheets : HoldsSheets db (sheets_read books tables version)
+  held_sheets in_bank = row
+  held_sheets in_users = record { same = b.users.users.same; ordered = o.users; fit = b.users.users.fit; shaped = (kept in_users).shaped }
+  held_sheets in_sets = record { same = p.sets.sets.same; ordered = o.sets; fit = p.sets.sets.fit; shaped = (kept in_sets).shaped }
+  held_sheets in_members = record { same = p.sets.members.same; ordered = o.members; fit = p.sets.members.fit; shaped = (kept in_members).shaped }
+  held_sheets in_relations = record { same = p.grants.relations.same; ordered = o.relations; fit = p.grants.relations.fit; shaped = (kept in_relations).shaped }
+  held_sheets in_triples = record { same = p.grants.triples.same; ordered = o.triples; fit = p.grants.triples.fit; shaped = (kept in_triples).shaped }
+  held_sheets in_certifiers = record { same = p.grants.certifiers.same; ordered = o.certifiers; fit = p.grants.certifiers.fit; shaped = (kept in_certifiers).shaped }
+  held_sheets in_branches = record { same = b.ledger.branches.same; ordered = o.branches; fit = b.ledger.branches.fit; shaped = (kept in_branches).shaped }
+  held_sheets in_tellers = record { same = b.ledger.tellers.same; ordered = o.tellers; fit = b.ledger.tellers.fit; shaped = (kept in_tellers).shaped }
+  held_sheets in_accounts = record { same = b.ledger.accounts.same; ordered = o.accounts; fit = b.ledger.accounts.fit; shaped = (kept in_accounts).shaped }
+  held_sheets in_entries = record { same = b.history.entries.same; ordered = o.entries; fit = b.history.entries.fit; shaped = (kept in_entries).shaped }
+  held_sheets in_lines = record { same = b.history.lines.same; ordered = o.lines; fit = b.history.lines.fit; shaped = (kept in_lines).shaped }
+  held_sheets in_proofs = record { same = b.history.proofs.same; ordered = o.proofs; fit = b.history.proofs.fit; shaped = (kept in_proofs).shaped }
+  held_sheets in_releases = record { same = b.users.releases.same; ordered = o.releases; fit = b.users.releases.fit; shaped = (kept in_releases).shaped }
+
+pub adopted : (old new : State) (books : BookRows) (tables : PolicyTables) (version : ℕ) → IsBankFile old → IsDatabase old.now → IsBankRow old.now.trees version → AreBookRows old.now.trees books
+    → ArePolicyTables old.now.trees tables → IsBankOf (sheets_read books tables version) → IsLeft old new → Adopts old new
+adopted old new books tables version file sound row are_books are_tables bank left =
+    let ordered = subst AreSheetsOrdered bank.sheets (sheets_are_ordered bank.world bank.keepable) in
+    let rows = subst (HoldsSheets old.now.trees) (sym bank.sheets) (held_sheets old.now.trees books tables version row are_books are_tables file.kept ordered) in
+    let held : HoldsWorld old.now bank.world = record { schema = file.schema; sound = sound; world = record { rows = rows; keepable = bank.keepable } } in
+    record {
+      world = bank.world;
+      books = bank.books;
+      policy = bank.policy;
+      held = held;
+      holds = λ is_open. record { now = subst (λ (d : Database). HoldsWorld d bank.world) (sym (left.now is_open)) held; settled = left.settled is_open };
+    }

@@ -1,0 +1,5 @@
+pub mod AdoptLemmas
+pub mod MadeLemmas
+pub mod ReadingLemmas
+pub mod SetLemmas
+pub mod ToldLemmas

@@ -1,0 +1,11 @@
+use Rattle.std.proofs.Common.{subst, sym}
+use Rattle.std.specs.Prelude.{IfOk}
+use Rattle.sqlite.specs.Held.{state}
+use Rattle.adopt_sql.proofs.ReadingLemmas.{IsOnly, reads_version}
+use Rattle.adopt_sql.proofs.reading.bank_version.Goals as goal
+
+pub returns-in-Ok-clause-whole : goal.returns-in-Ok-clause-whole
+returns-in-Ok-clause-whole g c clean has =
+    let it = c.in-Ok.ensures.whole clean has in
+    reads_version (state g.S.Store c.args.tx.now.conn.now) (state g.S.Store c.all_bank.new.tx.conn.now) c.in-Ok.rows.items c.told_version.result
+    (subst (λ rows. IfOk c.told_version.result (IsOnly rows)) c.deref.ensures.value c.told_version.ensures) it.0 it.1 it.2

@@ -1,0 +1,47 @@
+use Rattle.std.specs.Prelude.{IfSome}
+use Rattle.sqlite.specs.Held.{state}
+use Rattle.bank_schema.proofs.StepLemmas.{early}
+use Rattle.whole_tables.specs.BookRows.{AreBookRows}
+use Rattle.whole_tables.specs.PolicyTables.{ArePolicyTables}
+use Rattle.whole_tables.proofs.ReadsLemmas.{done_then, gave_then}
+use Rattle.adopt_sql.specs.Adopted.{AreFileRows, IsBankRow}
+use Rattle.adopt_sql.proofs.ReadingLemmas.{gave_last, last_then}
+use Rattle.adopt_sql.proofs.reading.rows_inside.Goals as goal
+
+pub returns-in_err-books-clause-whole : goal.returns-in_err-books-clause-whole
+returns-in_err-books-clause-whole g c =
+    let s0 = state g.S.Store c.args.tx.now.conn.now in
+    let s1 = state g.S.Store c.bank_version.new.tx.conn.now in
+    let s2 = state g.S.Store c.book_rows.new.tx.conn.now in
+    gave_last s0 s2 AreFileRows c.from_residual-in_err-books.result c.from_residual-in_err-books.ensures.0
+    (gave_then s0 s1 s2 (λ db. IsBankRow db c.in_ok-version.version) c.book_rows.ensures.survives c.in_ok-version.ensures.whole (λ clean has. (c.in_err-books.ensures.whole clean has).2))
+
+pub returns-in_err-policy-clause-whole : goal.returns-in_err-policy-clause-whole
+returns-in_err-policy-clause-whole g c =
+    let s0 = state g.S.Store c.args.tx.now.conn.now in
+    let s1 = state g.S.Store c.bank_version.new.tx.conn.now in
+    let s2 = state g.S.Store c.book_rows.new.tx.conn.now in
+    let s3 = state g.S.Store c.policy_tables.new.tx.conn.now in
+    gave_last s0 s3 AreFileRows c.from_residual-in_err-policy.result c.from_residual-in_err-policy.ensures.0
+    (gave_then s0 s2 s3 (λ db. IsBankRow db c.in_ok-version.version × AreBookRows db c.in_ok-books.books) c.policy_tables.ensures.survives
+    (done_then s0 s1 s2 (λ db. IsBankRow db c.in_ok-version.version) (λ db. AreBookRows db c.in_ok-books.books) c.book_rows.ensures.survives c.in_ok-version.ensures.whole c.in_ok-books.ensures.whole)
+    (λ clean has. (c.in_err-policy.ensures.whole clean has).1))
+
+pub returns-clause-whole : goal.returns-clause-whole
+returns-clause-whole g c =
+    let s0 = state g.S.Store c.args.tx.now.conn.now in
+    let s1 = state g.S.Store c.bank_version.new.tx.conn.now in
+    let s2 = state g.S.Store c.book_rows.new.tx.conn.now in
+    let s3 = state g.S.Store c.policy_tables.new.tx.conn.now in
+    last_then s0 s2 s3 (λ db. IsBankRow db c.in_ok-version.version × AreBookRows db c.in_ok-books.books) (λ db. IfSome c.in_ok-policy.policy (ArePolicyTables db))
+    (λ db. AreFileRows db (record { version = c.in_ok-version.version; books = c.in_ok-books.books; policy = c.in_ok-policy.policy }))
+    (λ db p q. record { version = p.0; books = p.1; policy = q }) c.policy_tables.ensures.survives
+    (done_then s0 s1 s2 (λ db. IsBankRow db c.in_ok-version.version) (λ db. AreBookRows db c.in_ok-books.books) c.book_rows.ensures.survives c.in_ok-version.ensures.whole c.in_ok-books.ensures.whole)
+    c.in_ok-policy.ensures.whole
+
+pub returns-clause-open : goal.returns-clause-open
+returns-clause-open g c clean =
+    let s1 = state g.S.Store c.bank_version.new.tx.conn.now in
+    let s2 = state g.S.Store c.book_rows.new.tx.conn.now in
+    let s3 = state g.S.Store c.policy_tables.new.tx.conn.now in
+    (c.in_ok-version.ensures.open (early s1 s2 _ c.book_rows.ensures.survives (early s2 s3 _ c.policy_tables.ensures.survives clean))).0

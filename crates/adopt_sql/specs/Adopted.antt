@@ -1,0 +1,50 @@
+-- What is known of a connection to a file, and what its tables hold where it is adopted.
+use Rattle.std.specs.Prelude.{ℕ, ◌≡◌, ◌∷◌, [], IfOk, IfSome, IsTrue, Ok, OnOk, Result}
+use Rattle.sqlite.specs.State.{HasCleanDisk, KeepsCommit, State}
+use Rattle.sqlite.specs.Tree.{Trees}
+use Rattle.bank_books.specs.Books.{Books}
+use Rattle.bank_books.specs.WorldLists.{WorldLists}
+use Rattle.bank_schema.specs.Cells.{bank_cells}
+use Rattle.bank_schema.specs.Held.{HoldsBank, HoldsWorld, Sheet, tree_of}
+use Rattle.bank_schema.specs.Schema.{bank_schema}
+use Rattle.policy_check.specs.PolicyVerdict.{IsPolicyVerdict}
+use Rattle.whole_tables.specs.BookRows.{AreBookRows}
+use Rattle.whole_tables.specs.PolicyTables.{ArePolicyTables}
+use Rattle.whole_tables.specs.Whole.{HasBankTables, IsKeptTable}
+use Rattle.whole_tables.specs.declared.book_rows.BookRows.{BookRows}
+use Rattle.whole_tables.specs.declared.policy_tables.PolicyTables.{PolicyTables}
+use Rattle.adopt_sql.specs.declared.reading.FileRows.{FileRows}
+
+-- A connection to a file whose tables are as they were made for a bank, and as a store keeps tables. What stands in them may be anything.
+pub record IsBankFile (s : State) : Type 0 where
+  pub schema : s.now.schema ≡ bank_schema
+  pub kept : (t : Sheet) → IsKeptTable (s.now.trees (tree_of t))
+  pub settled : s.committed ≡ s.now
+
+-- the one row of the bank
+abbrev pub IsBankRow : Trees → ℕ → Type 0
+IsBankRow db version = db 0 ≡ bank_cells version ∷ []
+
+-- The rows of all tables. Those of the policy may be missing, where one of them is out of its limits.
+pub record AreFileRows (db : Trees) (rows : FileRows) : Type 0 where
+  pub version : IsBankRow db rows.version
+  pub books : AreBookRows db rows.books
+  pub policy : IfSome rows.policy (ArePolicyTables db)
+
+-- A read after which nothing more is read.
+abbrev pub ReadsLast : {X E : Type 0} → State → State → (Trees → X → Type 0) → Result X E → Type 0
+ReadsLast old new says result = HasCleanDisk new → HasBankTables old → IfOk result (says old.now.trees) × KeepsCommit old new
+
+-- The tables hold a World whose books hold and whose policy is sound, and hold it still.
+pub record Adopts (old new : State) : Type 0 where
+  pub world : WorldLists
+  pub books : Books world
+  pub policy : IsPolicyVerdict world.policy (Ok tt)
+  pub held : HoldsWorld old.now world
+  pub holds : IsTrue new.is_open → HoldsBank new world
+
+-- nothing was changed
+pub record IsLeft (old new : State) : Type 0 where
+  pub was_open : IsTrue new.is_open → IsTrue old.is_open
+  pub now : IsTrue new.is_open → new.now ≡ old.now
+  pub settled : IsTrue new.is_open → new.committed ≡ new.now

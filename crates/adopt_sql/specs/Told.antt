@@ -1,0 +1,92 @@
+-- What rows of tables tell: the World that they are of, and the numbers that are kept beside its rows.
+use Rattle.std.specs.Prelude.{ℕ, ◌≡◌, ◌==◌, List, map, None, Ok, Some, if◌then◌else◌}
+use Rattle.std.specs.List.{flat_map}
+use Rattle.bank_policy.specs.Policy.{PolicyLists}
+use Rattle.bank_policy.specs.SetRow.{SetRow}
+use Rattle.bank_books.specs.Books.{Books}
+use Rattle.bank_books.specs.Records.{KeptLists}
+use Rattle.bank_books.specs.WorldLists.{WorldLists}
+use Rattle.bank_books.specs.declared.records.ReleaseCount.{ReleaseCount}
+use Rattle.bank_books.specs.declared.records.TellerRecord.{TellerRecord}
+use Rattle.kept_rows.specs.Keepable.{IsKeepable}
+use Rattle.kept_rows.specs.Records.{member_rows}
+use Rattle.kept_rows.specs.Sheets.{Sheets, sheets_of}
+use Rattle.kept_rows.specs.declared.records.KeptTeller.{KeptTeller}
+use Rattle.kept_rows.specs.declared.records.KeptUser.{KeptUser}
+use Rattle.kept_rows.specs.declared.records.MemberRow.{MemberRow}
+use Rattle.policy_check.specs.PolicyVerdict.{IsPolicyVerdict}
+use Rattle.whole_tables.specs.declared.book_rows.BookRows.{BookRows}
+use Rattle.whole_tables.specs.declared.policy_tables.PolicyTables.{PolicyTables}
+
+-- ---- single rows
+
+-- the teller of whom it is kept: user 0 is nobody
+abbrev pub teller_told : KeptTeller → TellerRecord
+teller_told t = record { row = t.row; balance = t.balance; cash = t.cash; holder = if t.holder == 0 then None else Some t.holder }
+
+abbrev pub count_told : KeptUser → ReleaseCount
+count_told u = record { user = u.row.user; releases = u.releases }
+
+-- ---- the policy
+
+-- the sets of these numbers, of which these are all members
+pub record AreSetsOf (numbers : List ℕ) (members : List MemberRow) (sets : List SetRow) : Type 0 where
+  pub numbers_are : map (λ s. s.set) sets ≡ numbers
+  pub members_are : flat_map member_rows sets ≡ members
+
+pub record IsPolicyOf (users : List KeptUser) (tables : PolicyTables) (policy : PolicyLists) : Type 0 where
+  pub users_are : policy.users ≡ map (λ u. u.row) users
+  pub sets : AreSetsOf tables.sets.sets.items tables.sets.members.items policy.sets
+  pub relations : policy.relations ≡ tables.grants.relations.items
+  pub triples : policy.triples ≡ tables.grants.triples.items
+  pub certifiers : policy.certifiers ≡ tables.grants.certifiers.items
+
+-- ---- the bank
+
+abbrev pub world_read : BookRows → PolicyLists → ℕ → WorldLists
+world_read books policy version = record {
+  branches = map (λ b. b.row) books.ledger.branches.items;
+  tellers = map (λ t. t.row) books.ledger.tellers.items;
+  accounts = map (λ a. a.row) books.ledger.accounts.items;
+  entries = map (λ e. e.row) books.history.entries.items;
+  lines = books.history.lines.items;
+  proofs = books.history.proofs.items;
+  releases = books.users.releases.items;
+  policy = policy;
+  version = version;
+}
+
+abbrev pub kept_read : BookRows → KeptLists
+kept_read books = record {
+  branches = books.ledger.branches.items;
+  tellers = map teller_told books.ledger.tellers.items;
+  accounts = books.ledger.accounts.items;
+  entries = books.history.entries.items;
+  users = map count_told books.users.users.items;
+}
+
+abbrev pub sheets_read : BookRows → PolicyTables → ℕ → Sheets
+sheets_read books tables version = record {
+  branches = books.ledger.branches.items;
+  tellers = books.ledger.tellers.items;
+  accounts = books.ledger.accounts.items;
+  entries = books.history.entries.items;
+  lines = books.history.lines.items;
+  proofs = books.history.proofs.items;
+  releases = books.users.releases.items;
+  users = books.users.users.items;
+  sets = tables.sets.sets.items;
+  members = tables.sets.members.items;
+  relations = tables.grants.relations.items;
+  triples = tables.grants.triples.items;
+  certifiers = tables.grants.certifiers.items;
+  version = version;
+}
+
+-- These are the rows and the numbers of a World whose books hold, and whose policy is sound and separated.
+pub record IsBankOf (s : Sheets) : Type 0 where
+  pub world : WorldLists
+  pub sheets : sheets_of world ≡ s
+  pub keepable : IsKeepable world
+  pub books : Books world
+  pub policy : IsPolicyVerdict world.policy (Ok tt)

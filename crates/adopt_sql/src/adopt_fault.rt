@@ -1,0 +1,38 @@
+ghost use Rattle.std.specs.Prelude.{◌≡◌};
+
+use book_check::BooksFault;
+use money::Fault;
+use policy_check::PolicyFault;
+use thiserror::Error;
+use whole_tables::{ReadFault, Table};
+
+/// Why a bank is not adopted.
+#[derive(Clone, Copy, Debug, PartialEq, Eq, Error)]
+pub enum AdoptFault {
+    /// A table of a bank is not there as its query asks for it, or the table of the bank has not the one row
+    /// that it has.
+    #[error("not a bank")]
+    NotABank,
+    /// The books do not hold, or a row of them is out of its limits.
+    #[error("books: {0}")]
+    Books(BooksFault),
+    /// The books hold, and the policy is refused, or a row of it is out of its limits.
+    #[error("policy: {0}")]
+    Policy(PolicyFault),
+    /// The tables are those of another version.
+    #[error("other version")]
+    Version,
+    /// The database failed, or memory or a limit on size kept it from the whole.
+    #[error("{0}")]
+    Fault(Fault),
+}
+
+/// Why a bank is not adopted of whose books a table was not read.
+pub(crate) fn books_unread(fault: ReadFault) -> AdoptFault {
+    match fault {
+        ReadFault::Fault(fault) => AdoptFault::Fault(fault),
+        ReadFault::Missing(_) => AdoptFault::NotABank,
+        ReadFault::OutOfLimits(Table::Bank) => AdoptFault::NotABank,
+        ReadFault::OutOfLimits(_) => AdoptFault::Books(BooksFault::Range),
+    }
+}

@@ -1,0 +1,33 @@
+ghost use Rattle.std.specs.Prelude.{◌≡◌, false, OnOk};
+ghost use Rattle.sqlite.specs.Held.{state};
+ghost use Rattle.sqlite.specs.State.{HasCleanDisk, Survives};
+ghost use Rattle.adopt_sql.specs.Adopted.{Adopts, IsBankFile, IsLeft};
+
+use crate::adopt_fault::AdoptFault;
+use crate::judging::{judge, with_no_policy};
+use crate::reading::{FileRows, read_file};
+use sqlite::{Alter, Connection};
+use std::alloc::Global;
+
+/// Looks whether a bank stands in the database: each table is read whole, and the numbers that are kept
+/// beside its rows are compared with those that the rows give. The faults are looked for in this order:
+/// the row of the bank (not a bank, or another version), the other tables (not a bank), the books, the
+/// policy. A fault of the database may come at any point. Nothing is changed.
+pub fn adopt_bank<S: Alter>(alloc: Global, conn: &mut Connection<S>) -> Result<(), AdoptFault>
+    requires { conn.old.in_transaction ≡ false }
+    ensures mode { conn.new.in_transaction ≡ false }
+    ensures adopts { HasCleanDisk (state S.Store conn.new) → IsBankFile (state S.Store conn.old) → OnOk result (Adopts (state S.Store conn.old) (state S.Store conn.new)) }
+    ensures left { HasCleanDisk (state S.Store conn.new) → IsBankFile (state S.Store conn.old) → IsLeft (state S.Store conn.old) (state S.Store conn.new) }
+    ensures survives { Survives (state S.Store conn.old) (state S.Store conn.new) (λ _. ⊥) }
+{
+    let rows = read_file(alloc, conn)?;
+    let FileRows {
+        version,
+        books,
+        policy,
+    } = rows;
+    match policy {
+        Some(tables) => judge(alloc, books, tables, version),
+        None => Err(with_no_policy(alloc, books, version)),
+    }
+}

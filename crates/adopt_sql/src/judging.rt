@@ -1,0 +1,87 @@
+ghost use Rattle.std.specs.Prelude.{◌≡◌, IfOk, Ok, OnOk};
+ghost use Rattle.book_check.specs.Verdict.{IsVerdict};
+ghost use Rattle.policy_check.specs.PolicyVerdict.{IsPolicyVerdict};
+ghost use Rattle.kept_rows.specs.Keepable.{IsKeepable};
+ghost use Rattle.adopt_sql.specs.Told.{IsBankOf, kept_read, sheets_read, world_read};
+
+use crate::adopt_fault::AdoptFault;
+use crate::bank_rows::{BankRows, bank_rows};
+use crate::whole_policy::{users_alone, whole_policy};
+use bank_policy::Policy;
+use book_check::{BooksFault, check_books};
+use kept_rows::laws::books_are_keepable;
+use policy_check::{PolicyFault, check_policy};
+use std::alloc::Global;
+use whole_tables::{BookRows, PolicyTables};
+
+/// Whether these are the rows of a bank whose books hold beside the kept numbers, and then whether its
+/// policy is sound.
+pub(crate) fn judge(
+    alloc: Global,
+    books: BookRows,
+    tables: PolicyTables,
+    version: u64,
+) -> Result<(), AdoptFault>
+    ensures { OnOk result (IsBankOf (sheets_read books tables version)) }
+{
+    let found = match whole_policy(alloc, &books.users.users, tables) {
+        Ok(found) => found,
+        Err(fault) => return Err(AdoptFault::Fault(fault)),
+    };
+    match found {
+        Some(policy) => {
+            let bank = judged_books(alloc, books, policy, version)?;
+            judge_policy(&bank)
+        }
+        None => Err(with_no_policy(alloc, books, version)),
+    }
+}
+
+/// Why a bank is not adopted of whose policy the tables tell none: its books are judged before.
+pub(crate) fn with_no_policy(alloc: Global, books: BookRows, version: u64) -> AdoptFault {
+    match users_alone(alloc, &books.users.users) {
+        Ok(Some(policy)) => match judged_books(alloc, books, policy, version) {
+            Ok(_) => AdoptFault::Policy(PolicyFault::Dangling),
+            Err(fault) => fault,
+        },
+        Ok(None) => AdoptFault::Books(BooksFault::Range),
+        Err(fault) => AdoptFault::Fault(fault),
+    }
+}
+
+/// The World of these rows and the numbers kept beside them, where the books hold and the numbers are
+/// those that the books give.
+fn judged_books(
+    alloc: Global,
+    books: BookRows,
+    policy: Policy,
+    version: u64,
+) -> Result<BankRows, AdoptFault>
+    ensures verdict { IfOk result (λ bank. IsVerdict bank.world bank.kept (Ok tt)) }
+    ensures world { IfOk result (λ bank. bank.world ≡ world_read books policy version) }
+    ensures kept { IfOk result (λ bank. bank.kept ≡ kept_read books) }
+{
+    let bank = match bank_rows(alloc, books, policy, version) {
+        Ok(Some(bank)) => bank,
+        Ok(None) => return Err(AdoptFault::Books(BooksFault::Range)),
+        Err(fault) => return Err(AdoptFault::Fault(fault)),
+    };
+    match check_books(alloc, &bank.world, &bank.kept) {
+        Ok(Ok(())) => Ok(bank),
+        Ok(Err(fault)) => Err(AdoptFault::Books(fault)),
+        Err(fault) => Err(AdoptFault::Fault(fault)),
+    }
+}
+
+/// Whether the policy of a bank whose books hold is sound.
+fn judge_policy(bank: &BankRows) -> Result<(), AdoptFault>
+    requires { IsVerdict bank.now.world bank.now.kept (Ok tt) }
+    ensures policy { OnOk result (IsPolicyVerdict bank.now.world.policy (Ok tt)) }
+    ensures keepable { OnOk result (IsKeepable bank.now.world) }
+{
+    if let Err(fault) = check_policy(bank.world.policy()) {
+        return Err(AdoptFault::Policy(fault));
+    }
+    books_are_keepable(&bank.world);
+    Ok(())
+}

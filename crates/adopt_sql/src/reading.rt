@@ -1,0 +1,119 @@
+ghost use Rattle.std.specs.Prelude.{◌≡◌, ◌∷◌, [], false, pos, IfOk, IfSome, IsTrue, OnOk};
+ghost use Rattle.sqlite.specs.Effect.{IsDatabase};
+ghost use Rattle.sqlite.specs.Held.{state};
+ghost use Rattle.sqlite.specs.State.{HasCleanDisk, Survives};
+ghost use Rattle.bank_schema.specs.Steps.{StaysOpen};
+ghost use Rattle.whole_tables.specs.PolicyTables.{ArePolicyTables};
+ghost use Rattle.whole_tables.specs.BookRows.{AreBookRows};
+ghost use Rattle.whole_tables.specs.Whole.{Reads};
+ghost use Rattle.adopt_sql.specs.Adopted.{AreFileRows, IsBankFile, IsBankRow, IsLeft, ReadsLast};
+
+use crate::adopt_fault::{AdoptFault, books_unread};
+use book_check::BooksFault;
+use sqlite::{Alter, Connection, Transaction};
+use std::alloc::Global;
+use whole_tables::{
+    BankRow, BookRows, PolicyTables, ReadFault, all_bank, all_book_rows, all_policy_tables,
+};
+
+/// The rows of all tables of a bank.
+#[derive(Drop)]
+pub(crate) struct FileRows {
+    /// The version of the policy.
+    pub version: u64,
+    /// The rows of the books, and the users.
+    pub books: BookRows,
+    /// The rows of the policy, or none where one of them is out of its limits.
+    pub policy: Option<PolicyTables>,
+}
+
+/// The version of the policy, where the table of the bank has its one row, of the first version of the tables.
+fn told_version(rows: &[BankRow]) -> Result<u64, AdoptFault>
+    ensures { IfOk result (λ version. rows.now ≡ record { id = pos 1; version = pos 1; policy = pos version } ∷ []) }
+{
+    if rows.len() != 1 || rows[0].id != 1 {
+        return Err(AdoptFault::NotABank);
+    }
+    if rows[0].version != 1 {
+        return Err(AdoptFault::Version);
+    }
+    match u64::try_from(rows[0].policy) {
+        Ok(version) => Ok(version),
+        Err(_) => Err(AdoptFault::Books(BooksFault::Range)),
+    }
+}
+
+fn bank_version<S: Alter>(alloc: Global, tx: &mut Transaction<'_, S>) -> Result<u64, AdoptFault>
+    ensures same_reference { tx.new.conn.ghost_name ≡ tx.old.conn.ghost_name }
+    ensures whole { Reads (state S.Store tx.old.conn.now) (state S.Store tx.new.conn.now) IsBankRow result }
+    ensures open { StaysOpen (state S.Store tx.old.conn.now) (state S.Store tx.new.conn.now) result }
+    ensures survives { Survives (state S.Store tx.old.conn.now) (state S.Store tx.new.conn.now) (λ _. ⊥) }
+{
+    match all_bank(alloc, tx) {
+        Ok(rows) => told_version(&rows),
+        Err(fault) => Err(books_unread(fault)),
+    }
+}
+
+fn book_rows<S: Alter>(alloc: Global, tx: &mut Transaction<'_, S>) -> Result<BookRows, AdoptFault>
+    ensures same_reference { tx.new.conn.ghost_name ≡ tx.old.conn.ghost_name }
+    ensures whole { Reads (state S.Store tx.old.conn.now) (state S.Store tx.new.conn.now) AreBookRows result }
+    ensures survives { Survives (state S.Store tx.old.conn.now) (state S.Store tx.new.conn.now) (λ _. ⊥) }
+{
+    match all_book_rows(alloc, tx) {
+        Ok(rows) => Ok(rows),
+        Err(fault) => Err(books_unread(fault)),
+    }
+}
+
+/// The rows of the policy, or none where one of them is out of its limits.
+fn policy_tables<S: Alter>(
+    alloc: Global,
+    tx: &mut Transaction<'_, S>,
+) -> Result<Option<PolicyTables>, AdoptFault>
+    ensures same_reference { tx.new.conn.ghost_name ≡ tx.old.conn.ghost_name }
+    ensures whole { ReadsLast (state S.Store tx.old.conn.now) (state S.Store tx.new.conn.now) (λ trees found. IfSome found (ArePolicyTables trees)) result }
+    ensures survives { Survives (state S.Store tx.old.conn.now) (state S.Store tx.new.conn.now) (λ _. ⊥) }
+{
+    match all_policy_tables(alloc, tx) {
+        Ok(rows) => Ok(Some(rows)),
+        Err(ReadFault::OutOfLimits(_)) => Ok(None),
+        Err(fault) => Err(books_unread(fault)),
+    }
+}
+
+/// The rows of all tables: the row of the bank first, then those of the books, then those of the policy.
+fn rows_inside<S: Alter>(alloc: Global, tx: &mut Transaction<'_, S>) -> Result<FileRows, AdoptFault>
+    ensures same_reference { tx.new.conn.ghost_name ≡ tx.old.conn.ghost_name }
+    ensures whole { ReadsLast (state S.Store tx.old.conn.now) (state S.Store tx.new.conn.now) AreFileRows result }
+    ensures open { HasCleanDisk (state S.Store tx.new.conn.now) → OnOk result (IsTrue (state S.Store tx.old.conn.now).is_open) }
+    ensures survives { Survives (state S.Store tx.old.conn.now) (state S.Store tx.new.conn.now) (λ _. ⊥) }
+{
+    let version = bank_version(alloc, tx)?;
+    let books = book_rows(alloc, tx)?;
+    let policy = policy_tables(alloc, tx)?;
+    Ok(FileRows {
+        version,
+        books,
+        policy,
+    })
+}
+
+/// The rows of all tables, read in one transaction that is rolled back.
+pub(crate) fn read_file<S: Alter>(
+    alloc: Global,
+    conn: &mut Connection<S>,
+) -> Result<FileRows, AdoptFault>
+    requires { conn.old.in_transaction ≡ false }
+    ensures mode { conn.new.in_transaction ≡ false }
+    ensures whole { HasCleanDisk (state S.Store conn.new) → IsBankFile (state S.Store conn.old) → IfOk result (AreFileRows (state S.Store conn.old).now.trees) }
+    ensures left { HasCleanDisk (state S.Store conn.new) → IsBankFile (state S.Store conn.old) → IsLeft (state S.Store conn.old) (state S.Store conn.new) }
+    ensures sound { HasCleanDisk (state S.Store conn.new) → OnOk result (IsDatabase (state S.Store conn.old).now) }
+    ensures survives { Survives (state S.Store conn.old) (state S.Store conn.new) (λ _. ⊥) }
+{
+    let _schema = conn.schema();
+    let mut tx = conn.transaction();
+    let rows = rows_inside(alloc, &mut tx);
+    tx.rollback();
+    rows
+}

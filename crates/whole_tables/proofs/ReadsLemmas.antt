@@ -1,0 +1,50 @@
+-- Reads of whole tables, one after another.
+use Rattle.std.proofs.Common.{◌≡◌, Ok, Err, IsErr, IfOk, IsTrue, OnOk, Result, refl, sym, ap, ◌∙◌, subst, arith}
+use Rattle.sqlite.specs.Effect.{Database, IsDatabase}
+use Rattle.sqlite.specs.State.{HasCleanDisk, IsUnchanged, KeepsCommit, State, Survives}
+use Rattle.sqlite.specs.Tree.{Trees}
+use Rattle.bank_schema.specs.Held.{Sheet, tree_of}
+use Rattle.bank_schema.proofs.StepLemmas.{early, kept_then}
+use Rattle.whole_tables.specs.Whole.{HasBankTables, IsKeptTable, Reads}
+
+-- reads that went through, which told this
+abbrev pub Done : State → State → (Trees → Type 0) → Type 0
+Done old new says = HasCleanDisk new → HasBankTables old → says old.now.trees × IsUnchanged old new × KeepsCommit old new
+
+-- reads of which one failed
+abbrev pub Gave : State → State → Type 0
+Gave old new = HasCleanDisk new → HasBankTables old → KeepsCommit old new
+
+unchanged_then : (a b c : State) → IsUnchanged a b → IsUnchanged b c → IsUnchanged a c
+unchanged_then a b c p q = (
+  record { was_open = p.0.was_open; is_open = q.0.is_open; now_is = q.0.now_is ∙ p.0.now_is; committed_is = q.0.committed_is ∙ p.0.committed_is; mode = q.0.mode ∙ p.0.mode },
+  record { changes = q.1.changes ∙ p.1.changes; last_rowid = q.1.last_rowid ∙ p.1.last_rowid },
+  q.2 ∙ p.2,
+)
+
+-- the tables are those of a bank still
+pub still_bank : (a b : State) → IsUnchanged a b → HasBankTables a → HasBankTables b
+still_bank a b same has = record {
+  schema = ap (λ (d : Database). d.schema) same.0.now_is ∙ has.schema;
+  sound = λ _. subst IsDatabase (sym same.0.now_is) (has.sound same.0.was_open);
+  kept = λ t. subst (λ (d : Database). IsKeptTable (d.trees (tree_of t))) (sym same.0.now_is) (has.kept t);
+}
+
+pub done_then : (a b c : State) (P Q : Trees → Type 0) → Survives b c (λ _. ⊥) → Done a b P → Done b c Q → Done a c (λ db. P db × Q db)
+done_then a b c P Q survives first second clean has =
+    let p = first (early b c _ survives clean) has in
+    let q = second clean (still_bank a b p.1 has) in
+    ((p.0, subst (λ (d : Database). Q d.trees) p.1.0.now_is q.0), unchanged_then a b c p.1 q.1, kept_then a b c p.2 q.2)
+
+pub gave_then : (a b c : State) (P : Trees → Type 0) → Survives b c (λ _. ⊥) → Done a b P → Gave b c → Gave a c
+gave_then a b c P survives first second clean has =
+    let p = first (early b c _ survives clean) has in
+    kept_then a b c p.2 (second clean (still_bank a b p.1 has))
+
+-- nothing more is said of what a refusal gives
+pub gave_whole : {X E : Type 0} (old new : State) (says : Trees → X → Type 0) (r : Result X E) → IsErr r → Gave old new → Reads old new says r
+gave_whole old new says (Ok x) is gave = absurd cc
+gave_whole old new says (Err e) is gave = λ clean has. (tt, tt, gave clean has)
+
+pub done_whole : (old new : State) (P Q : Trees → Type 0) → ((db : Trees) → P db → Q db) → Done old new P → Done old new Q
+done_whole old new P Q from done clean has = let it = done clean has in (from _ it.0, it.1, it.2)

@@ -1,0 +1,181 @@
+-- What a query for a whole table shows: a row for each row of the table.
+use Rattle.std.proofs.Common.{◌≡◌, ◌<◌, ◌+◌, ℕ, pos, negsuc, List, [], ◌∷◌, map, filter, length, drop, Bool, true, false, Contains, Option, Some, None, Ok, Err, Result, IsPermutation, IfOk, IsTrue, OnOk, inl, inr, ◌&&◌, ◌⊎◌, refl, ap, ap₂, sym, subst, arith, ◌∙◌}
+use Rattle.std.specs.Prelude.{Vec}
+use Rattle.std.specs.declared.alloc.Global.{Global}
+use Rattle.std.specs.List.{AllByRecursion}
+use Rattle.std.proofs.lemmas.List.Sorted.{IsPermutation-map, IsPermutation-sym}
+use Rattle.sqlite.specs.declared.types.Value.TheVariants.{Null}
+use Rattle.sqlite.specs.Command.TheVariants.{Select}
+use Rattle.sqlite.specs.Listing.{understood, reads_listing}
+use Rattle.sqlite.specs.Order.{Row}
+use Rattle.sqlite.specs.Program.{overlay}
+use Rattle.sqlite.specs.Query.{Query, output, Output}
+use Rattle.sqlite.specs.State.{State, Shown, HasCleanDisk, IsUnchanged, KeepsCommit}
+use Rattle.sqlite.specs.Term.{Term}
+use Rattle.sqlite.specs.Tree.{Trees}
+use Rattle.sqlite.proofs.Callers.{IsPlain, command_of}
+use Rattle.sqlite_keyed.proofs.ListLemmas.{map-map, filter_all, all_of}
+use Rattle.sqlite_resolve.specs.declared.compiled.Compiled.{Compiled}
+use Rattle.sqlite_resolve.specs.declared.error.CompileError.{CompileError}
+use Rattle.sqlite_rules.specs.Lists.{Has}
+use Rattle.sqlite_rules.proofs.ListLemmas.{all_has, contains_had}
+use Rattle.sqlite_schema.specs.Rules.{Keeps, Obeys, passes as passes_rule, are_present, are_typed}
+use Rattle.sqlite_schema.specs.declared.schema.Constraint.TheVariants.{Datatype, NotNull}
+use Rattle.sqlite_schema.specs.declared.schema.Table.{Table}
+use Rattle.sqlite_sql.specs.Program.{IsProgramAnswer}
+use Rattle.sqlite_value.specs.declared.keys.Key.{Key}
+use Rattle.sqlite_value.specs.Order.{column}
+use Rattle.bank_schema.specs.Held.{Sheet, tree_of}
+use Rattle.bank_schema.specs.HeldRows.{all_but_rowid, all_of_it}
+use Rattle.bank_schema.specs.Schema.{bank_schema}
+use Rattle.bank_schema.proofs.ReadLemmas.{answered, no_limit, no_offset}
+use Rattle.bank_schema.proofs.ScanLemmas.{passes, scan, scanned}
+use Rattle.bank_schema.proofs.StepLemmas.{shown_open}
+use Rattle.whole_tables.specs.Told.{columns_from, told_by_columns, told_by_key}
+use Rattle.whole_tables.specs.Whole.{AreAll, HasBankTables, IsKeptTable, IsQueryFor, Reads, TellsWhole}
+use Rattle.whole_tables.proofs.WidthLemmas.{columns_behind, columns_by_key, ends_needed, no_narrower, no_wider}
+
+-- ---- the rules of one table
+
+abbrev pub IsOfTable : Table → List Row → Type 0
+IsOfTable table tree = (row : Row) → Has tree row → (are_typed table.key 0 table.columns (drop 1 row) ≡ true) × (are_present table.key 0 table.columns row ≡ true)
+
+first_true : (a b : Bool) → (a && b) ≡ true → a ≡ true
+first_true true b h = refl
+first_true false b h = absurd cc
+
+pub of_table : (db : Trees) (table : Table) → Obeys bank_schema db → Has bank_schema.tables table → IsOfTable table (db table.tree)
+of_table db table obeys listed row there =
+    let typed = all_has (λ r. passes_rule Datatype bank_schema db table r ≡ true) (db table.tree) row (all_has (λ t. AllByRecursion (λ r. passes_rule Datatype bank_schema db t r ≡ true) (db t.tree)) bank_schema.tables table (obeys.rules Datatype) listed) there in
+    let present = all_has (λ r. passes_rule NotNull bank_schema db table r ≡ true) (db table.tree) row (all_has (λ t. AllByRecursion (λ r. passes_rule NotNull bank_schema db t r ≡ true) (db t.tree)) bank_schema.tables table (obeys.rules NotNull) listed) there in
+    (first_true _ _ typed, present)
+
+-- ---- all rows
+
+abbrev pub whole_scan : ℕ → List Term → List (Term × Key) → Query
+whole_scan tree project order = scan tree [] project order no_limit no_offset
+
+map_alike : {X Y : Type 0} (f g : X → Y) (xs : List X) → ((x : X) → Has xs x → f x ≡ g x) → map f xs ≡ map g xs
+map_alike f g [] same = refl
+map_alike f g (x ∷ xs) same = ap₂ (λ y ys. y ∷ ys) (same x (inl refl)) (map_alike f g xs (λ y h. same y (inr h)))
+
+module _ (tree : ℕ) (over : (db : Trees) → overlay db [] tree ≡ db tree) (project : List Term) (order : List (Term × Key)) where
+  abbrev q : Query
+  q = whole_scan tree project order
+
+  -- each row of the table once, in some order
+  pub all_shown : (db : Trees) (rows : List Row) → IsProgramAnswer [] q db [] rows → IsPermutation (map (λ r. (output q ([] ∷ r ∷ [])).1) (db tree)) rows
+  all_shown db rows h =
+      let s = scanned tree [] project order no_limit no_offset db [] rows (over db) h in
+      let every : filter (passes [] []) (db tree) ≡ db tree = filter_all (passes [] []) (db tree) (all_of (λ r. passes [] [] r ≡ true) (λ _. refl) (db tree)) in
+      let one : map (output q) (map (λ r. [] ∷ r ∷ []) (filter (passes [] []) (db tree))) ≡ map (λ r. output q ([] ∷ r ∷ [])) (db tree) =
+      ap (λ rs. map (output q) (map (λ r. [] ∷ r ∷ []) rs)) every ∙ map-map (output q) (λ r. [] ∷ r ∷ []) (db tree) in
+      let moved = IsPermutation-map (λ (o : Output). o.1) _ _ (subst (λ l. IsPermutation l s.0) one s.1) in
+      subst (IsPermutation (map (λ r. (output q ([] ∷ r ∷ [])).1) (db tree))) (sym s.3) (subst (λ l. IsPermutation l (map (λ (o : Output). o.1) s.0)) (map-map (λ (o : Output). o.1) (λ r. output q ([] ∷ r ∷ [])) (db tree)) moved)
+
+  -- so what the rows of the answer tell are the rows of the table, where each of them tells its own
+  pub all_told : (shows told : Row → Row) (db : Trees) (rows : List Row) → ((r : Row) → Has (db tree) r → told (output q ([] ∷ r ∷ [])).1 ≡ shows r) → IsProgramAnswer [] q db [] rows
+      → IsPermutation (map told rows) (map shows (db tree))
+  all_told shows told db rows tells h =
+      let read = IsPermutation-map told _ _ (all_shown db rows h) in
+      IsPermutation-sym _ _ (subst (λ l. IsPermutation l (map told rows)) (map-map told (λ r. (output q ([] ∷ r ∷ [])).1) (db tree) ∙ map_alike (λ r. told (output q ([] ∷ r ∷ [])).1) shows (db tree) tells) read)
+
+-- ---- what a row tells
+
+width : (table : Table) (row : Row) → are_typed table.key 0 table.columns (drop 1 row) ≡ true → length table.columns < length row → length row ≡ length table.columns + 1
+width table [] typed long = absurd (omega (arith, long))
+width table (id ∷ values) typed long = let most = no_wider table.key 0 table.columns values typed in omega (arith, most, long)
+
+-- of a table that has a key of several columns
+pub tells_columns : (table : Table) (row : Row) → ends_needed table.key 0 table.columns ≡ true → (are_typed table.key 0 table.columns (drop 1 row) ≡ true) × (are_present table.key 0 table.columns row ≡ true)
+    → columns_from 1 (length table.columns) row ≡ all_but_rowid row
+tells_columns table row need fits =
+    let long = no_narrower table.key 0 table.columns row need fits.1 in
+    columns_behind row (length table.columns) (width table row fits.0 (omega (arith, long)))
+
+-- of a table whose key is its rowid, its first column
+pub tells_key : (table : Table) (row : Row) (more : ℕ) → table.key ≡ Some 0 → length table.columns ≡ more + 1 → length table.columns < length row
+    → (are_typed table.key 0 table.columns (drop 1 row) ≡ true) × (are_present table.key 0 table.columns row ≡ true) → column row 0 ∷ Null ∷ columns_from 2 more row ≡ all_of_it row
+tells_key table row more keyed wide long fits =
+    let is = width table row fits.0 long in
+    columns_by_key row more table.columns (omega (arith, is, wide)) (subst (λ k. are_typed k 0 table.columns (drop 1 row) ≡ true) keyed fits.0) (omega (arith, wide))
+
+-- ---- the clauses of a read
+
+known : (query : Query) (names : List (List ℕ)) (r : Result Compiled CompileError) → IsQueryFor query names r → command_of r ≡ Select (record { lets = []; body = query }) names
+known query names (Ok c) is = is
+known query names (Err e) is = absurd is
+
+pub query_for : (text : List ℕ) (query : Query) (names : List (List ℕ)) → command_of (understood bank_schema text) ≡ Select (record { lets = []; body = query }) names → IsPlain (understood bank_schema text)
+    → IsQueryFor query names (understood bank_schema text)
+query_for text query names is plain = go (understood bank_schema text) is plain
+  where
+    go : (r : Result Compiled CompileError) → command_of r ≡ Select (record { lets = []; body = query }) names → IsPlain r → IsQueryFor query names r
+    go (Ok c) is plain = is
+    go (Err e) is plain = absurd plain
+
+module _ {X : Type 0} (shows told : Row → Row) (cells : X → Row) (fits : X → Type 0) (t : Sheet) (text : List ℕ) (tells : TellsWhole shows told t text) where
+  pub are_all : (old new : State) (rows : List Row) (xs : List X) → HasBankTables old → Shown text [] old new rows → map told rows ≡ map cells xs → ((x : X) → Contains xs x → fits x)
+      → AreAll shows cells fits t old.now.trees xs
+  are_all old new rows xs has h same fit =
+      let answer = answered text tells.names tells.query [] (known tells.query tells.names (understood bank_schema text) tells.is) tells.unlisted tells.plain old new rows has.schema h in
+      let sound = has.sound (shown_open text [] old new rows h) in
+      record {
+        same = subst (λ l. IsPermutation l (map shows (old.now.trees (tree_of t)))) same (tells.whole old.now.trees rows (subst (λ z. Obeys z old.now.trees) has.schema sound.obeys) (has.kept t) answer);
+        fit = fit;
+      }
+
+  -- a read of what a query shows
+  pub reads_all : {E : Type 0} (old new : State) (rows : List Row) (result : Result (Vec X Global) E) → Shown text [] old new rows → IsUnchanged old new → KeepsCommit old new
+      → IfOk result (λ list. map told rows ≡ map cells list.items) → IfOk result (λ list. (x : X) → Contains list.items x → fits x)
+      → HasBankTables old → IfOk result (λ list. AreAll shows cells fits t old.now.trees list.items) × OnOk result (IsUnchanged old new) × KeepsCommit old new
+  reads_all old new rows (Ok list) h same kept is fit has = (are_all old new rows list.items has h is fit, same, kept)
+  reads_all old new rows (Err e) h same kept is fit has = (tt, tt, kept)
+
+-- the query is plain on a connection to the tables of a bank
+pub plain_there : (text : List ℕ) (s : State) → IsPlain (understood bank_schema text) → HasBankTables s → IsPlain (understood s.now.schema text)
+plain_there text s plain has = subst (λ z. IsPlain (understood z text)) (sym has.schema) plain
+
+-- ---- the queries for whole tables
+
+module _ (t : Sheet) (table : Table) (text : List ℕ) (columns : List Term) (order : List (Term × Key)) (names : List (List ℕ)) (count : ℕ)
+    (is : command_of (understood bank_schema text) ≡ Select (record { lets = []; body = whole_scan (tree_of t) columns order }) names) (unlisted : reads_listing bank_schema text ≡ false)
+    (plain : IsPlain (understood bank_schema text)) (listed : Has bank_schema.tables table) (place : table.tree ≡ tree_of t) (over : (db : Trees) → overlay db [] (tree_of t) ≡ db (tree_of t)) where
+  there : (db : Trees) (row : Row) → Has (db (tree_of t)) row → Has (db table.tree) row
+  there db row h = subst (λ n. Has (db n) row) (sym place) h
+
+  -- of a table whose rowid is its key, with so many columns beside; the row is wide enough where the last column may not be missing, or there is none beside the key
+  pub by_rowid_whole : table.key ≡ Some 0 → length table.columns ≡ count + 1 → (count ≡ 0) ⊎ (ends_needed table.key 0 table.columns ≡ true)
+      → ((r : Row) → told_by_key count (output (whole_scan (tree_of t) columns order) ([] ∷ r ∷ [])).1 ≡ column r 0 ∷ Null ∷ columns_from 2 count r)
+      → TellsWhole all_of_it (told_by_key count) t text
+  by_rowid_whole keyed wide need told = record {
+    query = whole_scan (tree_of t) columns order;
+    names = names;
+    is = query_for text _ names is plain;
+    unlisted = unlisted;
+    plain = plain;
+    whole = λ db answer obeys kept h. all_told (tree_of t) over columns order all_of_it (told_by_key count) db answer
+        (λ r here.
+        let fits = of_table db table obeys listed r (there db r here) in
+        told r ∙ tells_key table r count keyed wide (long r (kept.beside r (contains_had _ r here)) fits.1 need) fits)
+        h;
+  }
+    where
+      long : (r : Row) → 1 < length r → are_present table.key 0 table.columns r ≡ true → (count ≡ 0) ⊎ (ends_needed table.key 0 table.columns ≡ true) → length table.columns < length r
+      long r beside present (inl none) = omega (arith, none, wide, beside)
+      long r beside present (inr need) = let wide = no_narrower table.key 0 table.columns r need present in omega (arith, wide)
+
+  -- of any other table, with so many columns
+  pub by_columns_whole : length table.columns ≡ count → ends_needed table.key 0 table.columns ≡ true
+      → ((r : Row) → told_by_columns count (output (whole_scan (tree_of t) columns order) ([] ∷ r ∷ [])).1 ≡ columns_from 1 count r)
+      → TellsWhole all_but_rowid (told_by_columns count) t text
+  by_columns_whole wide need told = record {
+    query = whole_scan (tree_of t) columns order;
+    names = names;
+    is = query_for text _ names is plain;
+    unlisted = unlisted;
+    plain = plain;
+    whole = λ db answer obeys kept h. all_told (tree_of t) over columns order all_but_rowid (told_by_columns count) db answer
+        (λ r here. told r ∙ ap (λ n. columns_from 1 n r) (sym wide) ∙ tells_columns table r need (of_table db table obeys listed r (there db r here)))
+        h;
+  }

@@ -1,0 +1,56 @@
+-- What a read of whole tables tells of them, and what it leaves.
+use Rattle.std.specs.Prelude.{ℕ, ◌≡◌, ◌<◌, List, [], length, map, Contains, false, IfOk, IsTrue, OnOk, Ok, Err, Result}
+use Rattle.std.specs.List.Sorted.{IsPermutation}
+use Rattle.sqlite.specs.Command.TheVariants.{Select}
+use Rattle.sqlite.specs.Effect.{IsDatabase}
+use Rattle.sqlite.specs.Given.{IsPlain}
+use Rattle.sqlite.specs.Listing.{reads_listing, understood}
+use Rattle.sqlite.specs.Order.{Row}
+use Rattle.sqlite.specs.Query.{Query}
+use Rattle.sqlite.specs.State.{HasCleanDisk, IsUnchanged, KeepsCommit, State}
+use Rattle.sqlite.specs.Tree.{Trees}
+use Rattle.sqlite_resolve.specs.declared.compiled.Compiled.{Compiled}
+use Rattle.sqlite_resolve.specs.declared.error.CompileError.{CompileError}
+use Rattle.sqlite_schema.specs.Rules.{Obeys}
+use Rattle.sqlite_sql.specs.Program.{IsProgramAnswer}
+use Rattle.sqlite_trees.specs.View.{IsShaped}
+use Rattle.sqlite_trees.specs.declared.store.Shape.TheVariants.{Table}
+use Rattle.bank_schema.specs.Held.{Sheet, tree_of}
+use Rattle.bank_schema.specs.Schema.{bank_schema}
+
+-- Rows as a store keeps those of a table: their rowids are whole numbers and rise, and each has a column beside its rowid.
+pub record IsKeptTable (tree : List Row) : Type 0 where
+  pub shaped : IsShaped Table tree
+  pub beside : (row : Row) → Contains tree row → 1 < length row
+
+-- A connection to tables as they were made for a bank. What stands in them may be anything.
+pub record HasBankTables (s : State) : Type 0 where
+  pub schema : s.now.schema ≡ bank_schema
+  pub sound : IsTrue s.is_open → IsDatabase s.now
+  pub kept : (t : Sheet) → IsKeptTable (s.now.trees (tree_of t))
+
+-- These are the rows of a table, each once, and none of them has a number too great for its key.
+pub record AreAll {X : Type 0} (shows : Row → Row) (cells : X → Row) (Fits : X → Type 0) (t : Sheet) (db : Trees) (rows : List X) : Type 0 where
+  pub same : IsPermutation (map cells rows) (map shows (db (tree_of t)))
+  pub fit : (x : X) → Contains rows x → Fits x
+
+-- A read that went through tells this of the trees, and leaves all as it was. One that failed commits nothing.
+abbrev pub Reads : {X E : Type 0} → State → State → (Trees → X → Type 0) → Result X E → Type 0
+Reads old new says result = HasCleanDisk new → HasBankTables old → IfOk result (says old.now.trees) × OnOk result (IsUnchanged old new) × KeepsCommit old new
+
+-- ---- queries for whole tables
+
+abbrev pub IsQueryFor : Query → List (List ℕ) → Result Compiled CompileError → Type 0
+IsQueryFor query names (Ok c) = c.command ≡ Select (record { lets = []; body = query }) names
+IsQueryFor query names (Err e) = ⊥
+
+-- The text is a query of which each answer tells the rows of a table, each once: `shows` gives what of a row counts, and `told` what a
+-- row of the answer tells of it.
+pub record TellsWhole (shows told : Row → Row) (t : Sheet) (text : List ℕ) : Type 0 where
+  pub query : Query
+  pub names : List (List ℕ)
+  pub is : IsQueryFor query names (understood bank_schema text)
+  pub unlisted : reads_listing bank_schema text ≡ false
+  pub plain : IsPlain (understood bank_schema text)
+  pub whole : (db : Trees) (answer : List Row) → Obeys bank_schema db → IsKeptTable (db (tree_of t)) → IsProgramAnswer [] query db [] answer
+      → IsPermutation (map told answer) (map shows (db (tree_of t)))

@@ -1,0 +1,65 @@
+ghost use Rattle.std.specs.Prelude.{◌≡◌};
+ghost use Rattle.sqlite.specs.Held.{state};
+ghost use Rattle.sqlite.specs.State.{Survives};
+ghost use Rattle.bank_schema.specs.Cells.{AnyRow, account_cells};
+ghost use Rattle.bank_schema.specs.Held.Sheet.{accounts as in_accounts};
+ghost use Rattle.bank_schema.specs.HeldRows.{all_of_it};
+ghost use Rattle.bank_schema.specs.Steps.{StaysOpen};
+ghost use Rattle.whole_tables.specs.Whole.{AreAll, Reads};
+
+use crate::fault::{ReadFault, Table};
+use crate::table_row::{TableRow, whole_table};
+use crate::values::sum_at;
+use bank_books::{Account, AccountRecord};
+use bank_schema::{cents_at, count_at, number_at};
+use money::Fault;
+use sqlite::{Alter, Row, Transaction};
+use std::alloc::Global;
+
+/// All accounts with the numbers that are kept beside them, by number.
+pub fn all_accounts<S: Alter>(
+    alloc: Global,
+    tx: &mut Transaction<'_, S>,
+) -> Result<Vec<AccountRecord>, ReadFault>
+    ensures same_reference { tx.new.conn.ghost_name ≡ tx.old.conn.ghost_name }
+    ensures whole { Reads (state S.Store tx.old.conn.now) (state S.Store tx.new.conn.now) (λ trees rows. AreAll all_of_it account_cells AnyRow in_accounts trees rows.items) result }
+    ensures open { StaysOpen (state S.Store tx.old.conn.now) (state S.Store tx.new.conn.now) result }
+    ensures survives { Survives (state S.Store tx.old.conn.now) (state S.Store tx.new.conn.now) (λ _. ⊥) }
+{
+    whole_table(
+        alloc,
+        tx,
+        "SELECT account, home, opening, floor, balance, turns FROM accounts ORDER BY account",
+        Table::Accounts,
+    )
+}
+
+impl TableRow for AccountRecord {
+    ghost use Rattle.bank_schema.specs.Cells.{AnyRow, account_cells};
+    ghost use Rattle.bank_schema.specs.Held.Sheet.{accounts as in_accounts};
+    ghost use Rattle.bank_schema.specs.HeldRows.{all_of_it};
+    ghost use Rattle.whole_tables.specs.Told.{told_by_key};
+
+    ghost sheet = { in_accounts };
+
+    ghost cells = { account_cells };
+
+    ghost shows = { all_of_it };
+
+    ghost told = { told_by_key 5 };
+
+    ghost fits = { AnyRow };
+
+    fn read(_alloc: Global, row: &Row) -> Result<AccountRecord, Fault> {
+        Ok(AccountRecord {
+            row: Account {
+                account: number_at(row, 0)?,
+                home: number_at(row, 1)?,
+                opening: cents_at(row, 2)?,
+                floor: cents_at(row, 3)?,
+            },
+            balance: sum_at(row, 4)?,
+            turns: count_at(row, 5)?,
+        })
+    }
+}

@@ -1,0 +1,126 @@
+ghost use Rattle.std.specs.Prelude.{◌≡◌};
+ghost use Rattle.sqlite.specs.Held.{state};
+ghost use Rattle.sqlite.specs.State.{Survives};
+ghost use Rattle.whole_tables.specs.BookRows.{AreBookRows, AreHistoryRows, AreLedgerRows, AreUserRows};
+ghost use Rattle.whole_tables.specs.Whole.{Reads};
+
+use crate::accounts::all_accounts;
+use crate::branches::all_branches;
+use crate::day_proofs::all_proofs;
+use crate::entries::all_entries;
+use crate::fault::ReadFault;
+use crate::lines::all_lines;
+use crate::releases::all_releases;
+use crate::tellers::all_tellers;
+use crate::users::all_users;
+use bank_books::{AccountRecord, BranchRecord, CashLine, EntryRecord, Proof, Release};
+use kept_rows::{KeptTeller, KeptUser};
+use sqlite::{Alter, Transaction};
+use std::alloc::Global;
+
+/// Branches, tellers and accounts with the numbers that are kept beside them.
+#[derive(Drop)]
+pub struct LedgerRows {
+    /// The branches.
+    pub branches: Vec<BranchRecord>,
+    /// The tellers.
+    pub tellers: Vec<KeptTeller>,
+    /// The accounts.
+    pub accounts: Vec<AccountRecord>,
+}
+
+/// Entries with the balances after them, cash lines and proofs.
+#[derive(Drop)]
+pub struct HistoryRows {
+    /// The entries.
+    pub entries: Vec<EntryRecord>,
+    /// The cash lines.
+    pub lines: Vec<CashLine>,
+    /// The proofs of ended days.
+    pub proofs: Vec<Proof>,
+}
+
+/// Users with the numbers of their releases, and the releases.
+#[derive(Drop)]
+pub struct UserRows {
+    /// The releases.
+    pub releases: Vec<Release>,
+    /// The users.
+    pub users: Vec<KeptUser>,
+}
+
+/// All that a check of the books looks at.
+#[derive(Drop)]
+pub struct BookRows {
+    /// Branches, tellers and accounts.
+    pub ledger: LedgerRows,
+    /// Entries, lines and proofs.
+    pub history: HistoryRows,
+    /// Users and releases.
+    pub users: UserRows,
+}
+
+fn ledger_rows<S: Alter>(
+    alloc: Global,
+    tx: &mut Transaction<'_, S>,
+) -> Result<LedgerRows, ReadFault>
+    ensures same_reference { tx.new.conn.ghost_name ≡ tx.old.conn.ghost_name }
+    ensures whole { Reads (state S.Store tx.old.conn.now) (state S.Store tx.new.conn.now) AreLedgerRows result }
+    ensures survives { Survives (state S.Store tx.old.conn.now) (state S.Store tx.new.conn.now) (λ _. ⊥) }
+{
+    let branches = all_branches(alloc, tx)?;
+    let tellers = all_tellers(alloc, tx)?;
+    let accounts = all_accounts(alloc, tx)?;
+    Ok(LedgerRows {
+        branches,
+        tellers,
+        accounts,
+    })
+}
+
+fn history_rows<S: Alter>(
+    alloc: Global,
+    tx: &mut Transaction<'_, S>,
+) -> Result<HistoryRows, ReadFault>
+    ensures same_reference { tx.new.conn.ghost_name ≡ tx.old.conn.ghost_name }
+    ensures whole { Reads (state S.Store tx.old.conn.now) (state S.Store tx.new.conn.now) AreHistoryRows result }
+    ensures survives { Survives (state S.Store tx.old.conn.now) (state S.Store tx.new.conn.now) (λ _. ⊥) }
+{
+    let entries = all_entries(alloc, tx)?;
+    let lines = all_lines(alloc, tx)?;
+    let proofs = all_proofs(alloc, tx)?;
+    Ok(HistoryRows {
+        entries,
+        lines,
+        proofs,
+    })
+}
+
+fn user_rows<S: Alter>(alloc: Global, tx: &mut Transaction<'_, S>) -> Result<UserRows, ReadFault>
+    ensures same_reference { tx.new.conn.ghost_name ≡ tx.old.conn.ghost_name }
+    ensures whole { Reads (state S.Store tx.old.conn.now) (state S.Store tx.new.conn.now) AreUserRows result }
+    ensures survives { Survives (state S.Store tx.old.conn.now) (state S.Store tx.new.conn.now) (λ _. ⊥) }
+{
+    let releases = all_releases(alloc, tx)?;
+    let users = all_users(alloc, tx)?;
+    Ok(UserRows { releases, users })
+}
+
+/// All rows that a check of the books looks at: those of the books, and the users.
+pub fn all_book_rows<S: Alter>(
+    alloc: Global,
+    tx: &mut Transaction<'_, S>,
+) -> Result<BookRows, ReadFault>
+    ensures same_reference { tx.new.conn.ghost_name ≡ tx.old.conn.ghost_name }
+    ensures whole { Reads (state S.Store tx.old.conn.now) (state S.Store tx.new.conn.now) AreBookRows result }
+    ensures survives { Survives (state S.Store tx.old.conn.now) (state S.Store tx.new.conn.now) (λ _. ⊥) }
+{
+    let ledger = ledger_rows(alloc, tx)?;
+    let history = history_rows(alloc, tx)?;
+    let users = user_rows(alloc, tx)?;
+    Ok(BookRows {
+        ledger,
+        history,
+        users,
+    })
+}

@@ -1,0 +1,61 @@
+ghost use Rattle.std.specs.Prelude.{◌≡◌};
+ghost use Rattle.sqlite.specs.Held.{state};
+ghost use Rattle.sqlite.specs.State.{Survives};
+ghost use Rattle.bank_schema.specs.Cells.{ProofFits, proof_cells};
+ghost use Rattle.bank_schema.specs.Held.Sheet.{proofs as in_proofs};
+ghost use Rattle.bank_schema.specs.HeldRows.{all_but_rowid};
+ghost use Rattle.bank_schema.specs.Steps.{StaysOpen};
+ghost use Rattle.whole_tables.specs.Whole.{AreAll, Reads};
+
+use crate::fault::{ReadFault, Table};
+use crate::table_row::{TableRow, whole_table};
+use bank_books::Proof;
+use bank_schema::{cents_at, number_at};
+use money::Fault;
+use sqlite::{Alter, Row, Transaction};
+use std::alloc::Global;
+
+/// All proofs of ended days, by branch, then day.
+pub fn all_proofs<S: Alter>(
+    alloc: Global,
+    tx: &mut Transaction<'_, S>,
+) -> Result<Vec<Proof>, ReadFault>
+    ensures same_reference { tx.new.conn.ghost_name ≡ tx.old.conn.ghost_name }
+    ensures whole { Reads (state S.Store tx.old.conn.now) (state S.Store tx.new.conn.now) (λ trees rows. AreAll all_but_rowid proof_cells ProofFits in_proofs trees rows.items) result }
+    ensures open { StaysOpen (state S.Store tx.old.conn.now) (state S.Store tx.new.conn.now) result }
+    ensures survives { Survives (state S.Store tx.old.conn.now) (state S.Store tx.new.conn.now) (λ _. ⊥) }
+{
+    whole_table(
+        alloc,
+        tx,
+        "SELECT branch, day, entries, balance, cash FROM proofs ORDER BY branch, day",
+        Table::Proofs,
+    )
+}
+
+impl TableRow for Proof {
+    ghost use Rattle.bank_schema.specs.Cells.{ProofFits, proof_cells};
+    ghost use Rattle.bank_schema.specs.Held.Sheet.{proofs as in_proofs};
+    ghost use Rattle.bank_schema.specs.HeldRows.{all_but_rowid};
+    ghost use Rattle.whole_tables.specs.Told.{told_by_columns};
+
+    ghost sheet = { in_proofs };
+
+    ghost cells = { proof_cells };
+
+    ghost shows = { all_but_rowid };
+
+    ghost told = { told_by_columns 5 };
+
+    ghost fits = { ProofFits };
+
+    fn read(_alloc: Global, row: &Row) -> Result<Proof, Fault> {
+        Ok(Proof {
+            branch: number_at(row, 0)?,
+            day: number_at(row, 1)?,
+            entries: number_at(row, 2)?,
+            balance: cents_at(row, 3)?,
+            cash: cents_at(row, 4)?,
+        })
+    }
+}

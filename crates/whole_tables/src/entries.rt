@@ -1,0 +1,72 @@
+ghost use Rattle.std.specs.Prelude.{◌≡◌};
+ghost use Rattle.sqlite.specs.Held.{state};
+ghost use Rattle.sqlite.specs.State.{Survives};
+ghost use Rattle.bank_schema.specs.Cells.{EntryFits, entry_cells};
+ghost use Rattle.bank_schema.specs.Held.Sheet.{entries as in_entries};
+ghost use Rattle.bank_schema.specs.HeldRows.{all_but_rowid};
+ghost use Rattle.bank_schema.specs.Steps.{StaysOpen};
+ghost use Rattle.whole_tables.specs.Whole.{AreAll, Reads};
+
+use crate::fault::{ReadFault, Table};
+use crate::table_row::{TableRow, whole_table};
+use crate::values::{delta_at, entry_form_at, sum_at};
+use bank_books::{Entry, EntryRecord};
+use bank_schema::{count_at, number_at};
+use money::Fault;
+use sqlite::{Alter, Row, Transaction};
+use std::alloc::Global;
+
+/// All entries with the balances after them, by branch, then number.
+pub fn all_entries<S: Alter>(
+    alloc: Global,
+    tx: &mut Transaction<'_, S>,
+) -> Result<Vec<EntryRecord>, ReadFault>
+    ensures same_reference { tx.new.conn.ghost_name ≡ tx.old.conn.ghost_name }
+    ensures whole { Reads (state S.Store tx.old.conn.now) (state S.Store tx.new.conn.now) (λ trees rows. AreAll all_but_rowid entry_cells EntryFits in_entries trees rows.items) result }
+    ensures open { StaysOpen (state S.Store tx.old.conn.now) (state S.Store tx.new.conn.now) result }
+    ensures survives { Survives (state S.Store tx.old.conn.now) (state S.Store tx.new.conn.now) (λ _. ⊥) }
+{
+    whole_table(
+        alloc,
+        tx,
+        "SELECT branch, number, account, turn, teller, delta, moment, day, user_no, form, partner, undoes, balance_after FROM entries ORDER BY branch, number",
+        Table::Entries,
+    )
+}
+
+impl TableRow for EntryRecord {
+    ghost use Rattle.bank_schema.specs.Cells.{EntryFits, entry_cells};
+    ghost use Rattle.bank_schema.specs.Held.Sheet.{entries as in_entries};
+    ghost use Rattle.bank_schema.specs.HeldRows.{all_but_rowid};
+    ghost use Rattle.whole_tables.specs.Told.{told_by_columns};
+
+    ghost sheet = { in_entries };
+
+    ghost cells = { entry_cells };
+
+    ghost shows = { all_but_rowid };
+
+    ghost told = { told_by_columns 13 };
+
+    ghost fits = { EntryFits };
+
+    fn read(_alloc: Global, row: &Row) -> Result<EntryRecord, Fault> {
+        Ok(EntryRecord {
+            row: Entry {
+                branch: number_at(row, 0)?,
+                number: number_at(row, 1)?,
+                account: number_at(row, 2)?,
+                turn: number_at(row, 3)?,
+                teller: number_at(row, 4)?,
+                delta: delta_at(row, 5)?,
+                moment: count_at(row, 6)?,
+                day: number_at(row, 7)?,
+                user: number_at(row, 8)?,
+                form: entry_form_at(row, 9)?,
+                partner: number_at(row, 10)?,
+                undoes: number_at(row, 11)?,
+            },
+            balance_after: sum_at(row, 12)?,
+        })
+    }
+}

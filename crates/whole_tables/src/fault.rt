@@ -1,0 +1,98 @@
+ghost use Rattle.std.specs.Prelude.{◌≡◌};
+ghost use Rattle.whole_tables.specs.Faults.{read_fault_named};
+
+use bank_schema::fault_of;
+use money::Fault;
+use sqlite::{Error, ErrorCode};
+use std::alloc::{AllocError, AllocFailed};
+use thiserror::Error as FaultText;
+
+/// A table of a bank.
+#[derive(Clone, Copy, Debug, PartialEq, Eq)]
+pub enum Table {
+    /// The row of the bank: the versions of its tables and of its policy.
+    Bank,
+    /// The users.
+    Users,
+    /// The sets, without their members.
+    Sets,
+    /// The members of the sets.
+    Members,
+    /// The certified relations.
+    Relations,
+    /// The triples.
+    Triples,
+    /// The certifiers.
+    Certifiers,
+    /// The branches.
+    Branches,
+    /// The tellers.
+    Tellers,
+    /// The accounts.
+    Accounts,
+    /// The entries of all histories.
+    Entries,
+    /// The lines of all cash books.
+    Lines,
+    /// The proofs of all ended days.
+    Proofs,
+    /// The releases.
+    Releases,
+}
+
+/// Why a table was not read whole.
+#[derive(Clone, Copy, Debug, PartialEq, Eq, FaultText)]
+pub enum ReadFault {
+    /// Memory or a size was refused, or the disk failed.
+    #[error("{0}")]
+    Fault(Fault),
+    /// The table, or a column of it, is not there.
+    #[error("a table is missing")]
+    Missing(Table),
+    /// A value of a row of the table is none that its column may have.
+    #[error("a value is out of its limits")]
+    OutOfLimits(Table),
+}
+
+impl From<AllocError> for ReadFault {
+    ghost use Rattle.std.specs.Prelude.{◌≡◌};
+    ghost use Rattle.money.specs.declared.fault.Fault.TheVariants.{Memory};
+    ghost use Rattle.whole_tables.specs.declared.fault.ReadFault.TheVariants.{Fault as Failed};
+
+    ghost from_gives = { λ _ fault. fault ≡ Failed Memory };
+
+    fn from(_refused: AllocError) -> ReadFault {
+        ReadFault::Fault(Fault::Memory)
+    }
+}
+
+impl<T: Drop> From<AllocFailed<T>> for ReadFault {
+    ghost use Rattle.std.specs.Prelude.{◌≡◌};
+    ghost use Rattle.money.specs.declared.fault.Fault.TheVariants.{Memory};
+    ghost use Rattle.whole_tables.specs.declared.fault.ReadFault.TheVariants.{Fault as Failed};
+
+    ghost from_gives = { λ _ fault. fault ≡ Failed Memory };
+
+    fn from(_refused: AllocFailed<T>) -> ReadFault {
+        ReadFault::from(AllocError)
+    }
+}
+
+/// Why a query for a table was refused: memory, a size or the disk, or else the table is not there, or
+/// not with these columns.
+pub(crate) fn read_fault(error: Error, table: Table) -> ReadFault
+    ensures { result ≡ read_fault_named error table }
+{
+    match error {
+        Error::SqliteFailure(
+            ErrorCode::OutOfMemory
+            | ErrorCode::TooBig
+            | ErrorCode::SystemIoFailure
+            | ErrorCode::DatabaseCorrupt
+            | ErrorCode::NotADatabase
+            | ErrorCode::DiskFull
+            | ErrorCode::Closed,
+        ) => ReadFault::Fault(fault_of(error)),
+        _ => ReadFault::Missing(table),
+    }
+}

@@ -1,0 +1,41 @@
+//! Whole tables of a bank, as an adoption reads them: every row, once.
+#![tactic(auto)]
+
+mod accounts;
+mod bank;
+mod book_rows;
+mod branches;
+mod certifiers;
+mod day_proofs;
+mod entries;
+mod fault;
+mod lines;
+mod members;
+mod policy_tables;
+mod relations;
+mod releases;
+mod sets;
+mod table_row;
+mod tellers;
+mod triples;
+mod users;
+mod values;
+
+pub use accounts::all_accounts;
+pub use bank::{BankRow, all_bank};
+pub use book_rows::{BookRows, HistoryRows, LedgerRows, UserRows, all_book_rows};
+pub use branches::all_branches;
+pub use certifiers::all_certifiers;
+pub use day_proofs::all_proofs;
+pub use entries::all_entries;
+pub use fault::{ReadFault, Table};
+pub use lines::all_lines;
+pub use members::all_members;
+pub use policy_tables::{GrantRows, PolicyTables, SetRows, all_policy_tables};
+pub use relations::all_relations;
+pub use releases::all_releases;
+pub use sets::all_sets;
+pub use table_row::TableRow;
+pub use tellers::all_tellers;
+pub use triples::all_triples;
+pub use users::all_users;

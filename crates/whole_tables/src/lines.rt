@@ -1,0 +1,65 @@
+ghost use Rattle.std.specs.Prelude.{◌≡◌};
+ghost use Rattle.sqlite.specs.Held.{state};
+ghost use Rattle.sqlite.specs.State.{Survives};
+ghost use Rattle.bank_schema.specs.Cells.{LineFits, line_cells};
+ghost use Rattle.bank_schema.specs.Held.Sheet.{lines as in_lines};
+ghost use Rattle.bank_schema.specs.HeldRows.{all_but_rowid};
+ghost use Rattle.bank_schema.specs.Steps.{StaysOpen};
+ghost use Rattle.whole_tables.specs.Whole.{AreAll, Reads};
+
+use crate::fault::{ReadFault, Table};
+use crate::table_row::{TableRow, whole_table};
+use crate::values::line_form_at;
+use bank_books::CashLine;
+use bank_schema::{cents_at, count_at, number_at};
+use money::Fault;
+use sqlite::{Alter, Row, Transaction};
+use std::alloc::Global;
+
+/// All lines of cash books, by branch, then number.
+pub fn all_lines<S: Alter>(
+    alloc: Global,
+    tx: &mut Transaction<'_, S>,
+) -> Result<Vec<CashLine>, ReadFault>
+    ensures same_reference { tx.new.conn.ghost_name ≡ tx.old.conn.ghost_name }
+    ensures whole { Reads (state S.Store tx.old.conn.now) (state S.Store tx.new.conn.now) (λ trees rows. AreAll all_but_rowid line_cells LineFits in_lines trees rows.items) result }
+    ensures open { StaysOpen (state S.Store tx.old.conn.now) (state S.Store tx.new.conn.now) result }
+    ensures survives { Survives (state S.Store tx.old.conn.now) (state S.Store tx.new.conn.now) (λ _. ⊥) }
+{
+    whole_table(
+        alloc,
+        tx,
+        "SELECT branch, number, place, amount, form, moment, day, user_no FROM lines ORDER BY branch, number",
+        Table::Lines,
+    )
+}
+
+impl TableRow for CashLine {
+    ghost use Rattle.bank_schema.specs.Cells.{LineFits, line_cells};
+    ghost use Rattle.bank_schema.specs.Held.Sheet.{lines as in_lines};
+    ghost use Rattle.bank_schema.specs.HeldRows.{all_but_rowid};
+    ghost use Rattle.whole_tables.specs.Told.{told_by_columns};
+
+    ghost sheet = { in_lines };
+
+    ghost cells = { line_cells };
+
+    ghost shows = { all_but_rowid };
+
+    ghost told = { told_by_columns 8 };
+
+    ghost fits = { LineFits };
+
+    fn read(_alloc: Global, row: &Row) -> Result<CashLine, Fault> {
+        Ok(CashLine {
+            branch: number_at(row, 0)?,
+            number: number_at(row, 1)?,
+            place: number_at(row, 2)?,
+            amount: cents_at(row, 3)?,
+            form: line_form_at(row, 4)?,
+            moment: count_at(row, 5)?,
+            day: number_at(row, 6)?,
+            user: number_at(row, 7)?,
+        })
+    }
+}

@@ -1,0 +1,84 @@
+ghost use Rattle.std.specs.Prelude.{◌≡◌};
+ghost use Rattle.sqlite.specs.Held.{state};
+ghost use Rattle.sqlite.specs.State.{Survives};
+ghost use Rattle.whole_tables.specs.PolicyTables.{AreGrantRows, ArePolicyTables, AreSetRows};
+ghost use Rattle.whole_tables.specs.Whole.{Reads};
+
+use crate::certifiers::all_certifiers;
+use crate::fault::ReadFault;
+use crate::members::all_members;
+use crate::relations::all_relations;
+use crate::sets::all_sets;
+use crate::triples::all_triples;
+use bank_policy::{Certifier, Relation, Triple};
+use kept_rows::MemberRow;
+use sqlite::{Alter, Transaction};
+use std::alloc::Global;
+
+/// Sets by their numbers, and their members.
+#[derive(Drop)]
+pub struct SetRows {
+    /// The numbers of the sets.
+    pub sets: Vec<u32>,
+    /// The members.
+    pub members: Vec<MemberRow>,
+}
+
+/// Who may do what.
+#[derive(Drop)]
+pub struct GrantRows {
+    /// The certified relations.
+    pub relations: Vec<Relation>,
+    /// The triples.
+    pub triples: Vec<Triple>,
+    /// The certifiers.
+    pub certifiers: Vec<Certifier>,
+}
+
+/// The tables of the policy but the users, of which a check of the books knows.
+#[derive(Drop)]
+pub struct PolicyTables {
+    /// The sets.
+    pub sets: SetRows,
+    /// Who may do what on them.
+    pub grants: GrantRows,
+}
+
+fn set_rows<S: Alter>(alloc: Global, tx: &mut Transaction<'_, S>) -> Result<SetRows, ReadFault>
+    ensures same_reference { tx.new.conn.ghost_name ≡ tx.old.conn.ghost_name }
+    ensures whole { Reads (state S.Store tx.old.conn.now) (state S.Store tx.new.conn.now) AreSetRows result }
+    ensures survives { Survives (state S.Store tx.old.conn.now) (state S.Store tx.new.conn.now) (λ _. ⊥) }
+{
+    let sets = all_sets(alloc, tx)?;
+    let members = all_members(alloc, tx)?;
+    Ok(SetRows { sets, members })
+}
+
+fn grant_rows<S: Alter>(alloc: Global, tx: &mut Transaction<'_, S>) -> Result<GrantRows, ReadFault>
+    ensures same_reference { tx.new.conn.ghost_name ≡ tx.old.conn.ghost_name }
+    ensures whole { Reads (state S.Store tx.old.conn.now) (state S.Store tx.new.conn.now) AreGrantRows result }
+    ensures survives { Survives (state S.Store tx.old.conn.now) (state S.Store tx.new.conn.now) (λ _. ⊥) }
+{
+    let relations = all_relations(alloc, tx)?;
+    let triples = all_triples(alloc, tx)?;
+    let certifiers = all_certifiers(alloc, tx)?;
+    Ok(GrantRows {
+        relations,
+        triples,
+        certifiers,
+    })
+}
+
+/// All rows of the policy but the users.
+pub fn all_policy_tables<S: Alter>(
+    alloc: Global,
+    tx: &mut Transaction<'_, S>,
+) -> Result<PolicyTables, ReadFault>
+    ensures same_reference { tx.new.conn.ghost_name ≡ tx.old.conn.ghost_name }
+    ensures whole { Reads (state S.Store tx.old.conn.now) (state S.Store tx.new.conn.now) ArePolicyTables result }
+    ensures survives { Survives (state S.Store tx.old.conn.now) (state S.Store tx.new.conn.now) (λ _. ⊥) }
+{
+    let sets = set_rows(alloc, tx)?;
+    let grants = grant_rows(alloc, tx)?;
+    Ok(PolicyTables { sets, grants })
+}

@@ -1,0 +1,51 @@
+ghost use Rattle.std.specs.Prelude.{◌≡◌};
+ghost use Rattle.sqlite.specs.Held.{state};
+ghost use Rattle.sqlite.specs.State.{Survives};
+ghost use Rattle.bank_schema.specs.Cells.{AnyRow, set_cells};
+ghost use Rattle.bank_schema.specs.Held.Sheet.{sets as in_sets};
+ghost use Rattle.bank_schema.specs.HeldRows.{all_of_it};
+ghost use Rattle.bank_schema.specs.Steps.{StaysOpen};
+ghost use Rattle.whole_tables.specs.Whole.{AreAll, Reads};
+
+use crate::fault::{ReadFault, Table};
+use crate::table_row::{TableRow, whole_table};
+use bank_schema::number_at;
+use money::Fault;
+use sqlite::{Alter, Row, Transaction};
+use std::alloc::Global;
+
+/// The numbers of all sets, in order.
+pub fn all_sets<S: Alter>(alloc: Global, tx: &mut Transaction<'_, S>) -> Result<Vec<u32>, ReadFault>
+    ensures same_reference { tx.new.conn.ghost_name ≡ tx.old.conn.ghost_name }
+    ensures whole { Reads (state S.Store tx.old.conn.now) (state S.Store tx.new.conn.now) (λ trees rows. AreAll all_of_it set_cells AnyRow in_sets trees rows.items) result }
+    ensures open { StaysOpen (state S.Store tx.old.conn.now) (state S.Store tx.new.conn.now) result }
+    ensures survives { Survives (state S.Store tx.old.conn.now) (state S.Store tx.new.conn.now) (λ _. ⊥) }
+{
+    whole_table(
+        alloc,
+        tx,
+        "SELECT set_no FROM sets ORDER BY set_no",
+        Table::Sets,
+    )
+}
+
+impl TableRow for u32 {
+    ghost use Rattle.bank_schema.specs.Cells.{AnyRow, set_cells};
+    ghost use Rattle.bank_schema.specs.Held.Sheet.{sets as in_sets};
+    ghost use Rattle.bank_schema.specs.HeldRows.{all_of_it};
+    ghost use Rattle.whole_tables.specs.Told.{told_by_key};
+
+    ghost sheet = { in_sets };
+
+    ghost cells = { set_cells };
+
+    ghost shows = { all_of_it };
+
+    ghost told = { told_by_key 0 };
+
+    ghost fits = { AnyRow };
+
+    fn read(_alloc: Global, row: &Row) -> Result<u32, Fault> {
+        number_at(row, 0)
+    }
+}

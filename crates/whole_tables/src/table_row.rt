@@ -1,0 +1,99 @@
+ghost use Rattle.std.specs.Prelude.{◌≡◌, [], map, Contains, IfOk, OnOk};
+ghost use Rattle.sqlite.specs.Given.{IsPlain};
+ghost use Rattle.sqlite.specs.Held.{state};
+ghost use Rattle.sqlite.specs.Listing.{understood};
+ghost use Rattle.sqlite.specs.State.{HasCleanDisk, IsUnchanged, KeepsCommit, Shown, Survives};
+ghost use Rattle.bank_schema.specs.Steps.{StaysOpen};
+ghost use Rattle.whole_tables.specs.Whole.{AreAll, Reads, TellsWhole};
+
+use crate::fault::{ReadFault, Table, read_fault};
+use money::Fault;
+use sqlite::{Alter, Row, Transaction};
+use std::alloc::Global;
+
+/// A row of a table of a bank.
+pub trait TableRow: Sized {
+    ghost use Rattle.std.specs.Prelude.{◌≡◌, IfOk};
+    ghost use Rattle.sqlite.specs.Order.{Row as Cells};
+    ghost use Rattle.bank_schema.specs.Held.{Sheet};
+
+    // the table, its row, what of a row counts, what a row of an answer tells of it, and that its numbers are small enough for its key
+    ghost sheet: { Sheet };
+
+    ghost cells: { Self → Cells };
+
+    ghost shows: { Cells → Cells };
+
+    ghost told: { Cells → Cells };
+
+    ghost fits: { Self → Type 0 };
+
+    /// The row that a row of an answer tells, whose columns stand as the query for the table names them. A value that its
+    /// column may not have is a fault of the disk.
+    fn read(alloc: Global, row: &Row) -> Result<Self, Fault>
+        ensures same { IfOk result (λ x. told row.now ≡ cells x) }
+        ensures fit { IfOk result fits };
+}
+
+/// All rows of a table, by the query for it.
+pub(crate) fn whole_table<S: Alter, T: TableRow + Drop>(
+    alloc: Global,
+    tx: &mut Transaction<'_, S>,
+    sql: &str,
+    table: Table,
+) -> Result<Vec<T>, ReadFault>
+    requires { TellsWhole T.shows T.told T.sheet sql.now }
+    ensures same_reference { tx.new.conn.ghost_name ≡ tx.old.conn.ghost_name }
+    ensures whole { Reads (state S.Store tx.old.conn.now) (state S.Store tx.new.conn.now) (λ trees rows. AreAll T.shows T.cells T.fits T.sheet trees rows.items) result }
+    ensures open { StaysOpen (state S.Store tx.old.conn.now) (state S.Store tx.new.conn.now) result }
+    ensures survives { Survives (state S.Store tx.old.conn.now) (state S.Store tx.new.conn.now) (λ _. ⊥) }
+{
+    let rows = shown_rows(tx, sql, table)?;
+    read_rows(alloc, &rows, table)
+}
+
+/// The rows that a query shows.
+fn shown_rows<S: Alter>(
+    tx: &mut Transaction<'_, S>,
+    sql: &str,
+    table: Table,
+) -> Result<Vec<Row>, ReadFault>
+    ensures same_reference { tx.new.conn.ghost_name ≡ tx.old.conn.ghost_name }
+    ensures shown { HasCleanDisk (state S.Store tx.new.conn.now) → IfOk result (λ rows. Shown sql.now [] (state S.Store tx.old.conn.now) (state S.Store tx.new.conn.now) rows.items) }
+    ensures still { HasCleanDisk (state S.Store tx.new.conn.now) → IsPlain (understood (state S.Store tx.old.conn.now).now.schema sql.now) → OnOk result (IsUnchanged (state S.Store tx.old.conn.now) (state S.Store tx.new.conn.now)) × KeepsCommit (state S.Store tx.old.conn.now) (state S.Store tx.new.conn.now) }
+    ensures open { StaysOpen (state S.Store tx.old.conn.now) (state S.Store tx.new.conn.now) result }
+    ensures survives { Survives (state S.Store tx.old.conn.now) (state S.Store tx.new.conn.now) (λ _. ⊥) }
+{
+    match tx.query_all(sql, &[]) {
+        Ok(rows) => Ok(rows),
+        Err(error) => Err(read_fault(error, table)),
+    }
+}
+
+/// What all of these rows tell.
+fn read_rows<T: TableRow + Drop>(
+    alloc: Global,
+    rows: &[Row],
+    table: Table,
+) -> Result<Vec<T>, ReadFault>
+    ensures same { IfOk result (λ list. map T.told rows.now ≡ map T.cells list.items) }
+    ensures fit { IfOk result (λ list. (x : T) → Contains list.items x → T.fits x) }
+{
+    let mut list = Vec::new(alloc);
+    for row in rows {
+        list.push(read_row(alloc, row, table)?)?;
+    }
+    Ok(list)
+}
+
+/// What a row tells.
+fn read_row<T: TableRow>(alloc: Global, row: &Row, table: Table) -> Result<T, ReadFault>
+    ensures same { IfOk result (λ x. T.told row.now ≡ T.cells x) }
+    ensures fit { IfOk result T.fits }
+{
+    match T::read(alloc, row) {
+        Ok(read) => Ok(read),
+        Err(Fault::Memory) => Err(ReadFault::Fault(Fault::Memory)),
+        Err(_) => Err(ReadFault::OutOfLimits(table)),
+    }
+}

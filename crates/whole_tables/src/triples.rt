@@ -1,0 +1,60 @@
+ghost use Rattle.std.specs.Prelude.{◌≡◌};
+ghost use Rattle.sqlite.specs.Held.{state};
+ghost use Rattle.sqlite.specs.State.{Survives};
+ghost use Rattle.bank_schema.specs.Cells.{TripleFits, triple_cells};
+ghost use Rattle.bank_schema.specs.Held.Sheet.{triples as in_triples};
+ghost use Rattle.bank_schema.specs.HeldRows.{all_but_rowid};
+ghost use Rattle.bank_schema.specs.Steps.{StaysOpen};
+ghost use Rattle.whole_tables.specs.Whole.{AreAll, Reads};
+
+use crate::fault::{ReadFault, Table};
+use crate::table_row::{TableRow, whole_table};
+use bank_policy::Triple;
+use bank_schema::{number_at, procedure_at};
+use money::Fault;
+use sqlite::{Alter, Row, Transaction};
+use std::alloc::Global;
+
+/// All triples, by user, then procedure, then set.
+pub fn all_triples<S: Alter>(
+    alloc: Global,
+    tx: &mut Transaction<'_, S>,
+) -> Result<Vec<Triple>, ReadFault>
+    ensures same_reference { tx.new.conn.ghost_name ≡ tx.old.conn.ghost_name }
+    ensures whole { Reads (state S.Store tx.old.conn.now) (state S.Store tx.new.conn.now) (λ trees rows. AreAll all_but_rowid triple_cells TripleFits in_triples trees rows.items) result }
+    ensures open { StaysOpen (state S.Store tx.old.conn.now) (state S.Store tx.new.conn.now) result }
+    ensures survives { Survives (state S.Store tx.old.conn.now) (state S.Store tx.new.conn.now) (λ _. ⊥) }
+{
+    whole_table(
+        alloc,
+        tx,
+        "SELECT user_no, procedure, set_no, ceiling FROM triples ORDER BY user_no, procedure, set_no",
+        Table::Triples,
+    )
+}
+
+impl TableRow for Triple {
+    ghost use Rattle.bank_schema.specs.Cells.{TripleFits, triple_cells};
+    ghost use Rattle.bank_schema.specs.Held.Sheet.{triples as in_triples};
+    ghost use Rattle.bank_schema.specs.HeldRows.{all_but_rowid};
+    ghost use Rattle.whole_tables.specs.Told.{told_by_columns};
+
+    ghost sheet = { in_triples };
+
+    ghost cells = { triple_cells };
+
+    ghost shows = { all_but_rowid };
+
+    ghost told = { told_by_columns 4 };
+
+    ghost fits = { TripleFits };
+
+    fn read(_alloc: Global, row: &Row) -> Result<Triple, Fault> {
+        Ok(Triple {
+            user: number_at(row, 0)?,
+            procedure: procedure_at(row, 1)?,
+            set: number_at(row, 2)?,
+            limit: number_at(row, 3)?,
+        })
+    }
+}

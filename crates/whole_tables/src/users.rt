@@ -1,0 +1,67 @@
+ghost use Rattle.std.specs.Prelude.{◌≡◌};
+ghost use Rattle.sqlite.specs.Held.{state};
+ghost use Rattle.sqlite.specs.State.{Survives};
+ghost use Rattle.bank_schema.specs.Cells.{AnyRow, user_cells};
+ghost use Rattle.bank_schema.specs.Held.Sheet.{users as in_users};
+ghost use Rattle.bank_schema.specs.HeldRows.{all_of_it};
+ghost use Rattle.bank_schema.specs.Steps.{StaysOpen};
+ghost use Rattle.whole_tables.specs.Whole.{AreAll, Reads};
+
+use crate::fault::{ReadFault, Table};
+use crate::table_row::{TableRow, whole_table};
+use crate::values::name_at;
+use bank_policy::User;
+use bank_schema::{count_at, number_at, truth_at};
+use kept_rows::KeptUser;
+use money::Fault;
+use sqlite::{Alter, Row, Transaction};
+use std::alloc::Global;
+
+/// All users with how many releases each was given, by number.
+pub fn all_users<S: Alter>(
+    alloc: Global,
+    tx: &mut Transaction<'_, S>,
+) -> Result<Vec<KeptUser>, ReadFault>
+    ensures same_reference { tx.new.conn.ghost_name ≡ tx.old.conn.ghost_name }
+    ensures whole { Reads (state S.Store tx.old.conn.now) (state S.Store tx.new.conn.now) (λ trees rows. AreAll all_of_it user_cells AnyRow in_users trees rows.items) result }
+    ensures open { StaysOpen (state S.Store tx.old.conn.now) (state S.Store tx.new.conn.now) result }
+    ensures survives { Survives (state S.Store tx.old.conn.now) (state S.Store tx.new.conn.now) (λ _. ⊥) }
+{
+    whole_table(
+        alloc,
+        tx,
+        "SELECT user_no, name, officer, suspended, session, is_on, releases FROM users ORDER BY user_no",
+        Table::Users,
+    )
+}
+
+impl TableRow for KeptUser {
+    ghost use Rattle.bank_schema.specs.Cells.{AnyRow, user_cells};
+    ghost use Rattle.bank_schema.specs.Held.Sheet.{users as in_users};
+    ghost use Rattle.bank_schema.specs.HeldRows.{all_of_it};
+    ghost use Rattle.whole_tables.specs.Told.{told_by_key};
+
+    ghost sheet = { in_users };
+
+    ghost cells = { user_cells };
+
+    ghost shows = { all_of_it };
+
+    ghost told = { told_by_key 6 };
+
+    ghost fits = { AnyRow };
+
+    fn read(alloc: Global, row: &Row) -> Result<KeptUser, Fault> {
+        Ok(KeptUser {
+            row: User {
+                user: number_at(row, 0)?,
+                name: name_at(alloc, row, 1)?,
+                officer: truth_at(row, 2)?,
+                suspended: truth_at(row, 3)?,
+                session: number_at(row, 4)?,
+                on: truth_at(row, 5)?,
+            },
+            releases: count_at(row, 6)?,
+        })
+    }
+}
