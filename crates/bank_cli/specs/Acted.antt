@@ -9,10 +9,11 @@ use Rattle.bank_cli.specs.Commands.{IsNamedBy, IsRefusal, bank_app}
 use Rattle.bank_cli.specs.declared.words.Action.{Action}
 use Rattle.bank_cli.specs.declared.words.Action.TheVariants as action
 use Rattle.messages.specs.declared.serving.ServeFault.TheVariants.{Memory}
-use Rattle.sample_service.specs.Ends.{IsFailed, IsSampleEnd, IsShown}
-use Rattle.sample_service.specs.Lines.{line}
+use Rattle.ends.specs.Ends.{IsFailed, IsShown}
+use Rattle.sample_service.specs.Ends.{IsSampleEnd}
+use Rattle.ends.specs.Lines.{line}
 use Rattle.sample_service.specs.Stores.{cached_list_status}
-use Rattle.sample_service.specs.Streams.{IsWritten, Stream, Streams}
+use Rattle.ends.specs.Streams.{IsWritten, Stream, Streams}
 
 -- the action was carried out, and the status and standard error tell how that ended
 abbrev pub IsActed : Action → Streams → Streams → Stream → Stream → ℕ → Type 0

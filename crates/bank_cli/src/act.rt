@@ -1,6 +1,6 @@
 ghost use Rattle.std.specs.Prelude.{map};
 ghost use Rattle.bank_cli.specs.Acted.{IsActed, IsAnswered, IsExplained, IsUnread};
-ghost use Rattle.sample_service.specs.Streams.{stream_at, streams_at};
+ghost use Rattle.ends.specs.Streams.{stream_at, streams_at};
 
 use crate::words::{Action, read_words};
 use clap::Error;

@@ -1,16 +1,16 @@
 //! Serves standard input to standard output over the sample bank in a store of one's choice, so that tests can compare
-//! stores: `rows_over STORE MOMENT`, where STORE is `list` or `cached`, and every message bears the moment.
+//! stores: `rows_over STORE MOMENT`, where STORE is `list`, `cached` or `sql`, and every message bears the
+//! moment.
 #![tactic(auto)]
 
-mod answer;
 #[cfg(test)]
 mod tests;
 mod words;
 
-use crate::answer::answer;
 use crate::words::words_of;
 use money::Tallied;
 use sample_service::{ServeFault, fail, tell};
+use sample_sql::answer_in;
 use std::process::ExitCode;
 use std::{env, io};
 
@@ -25,7 +25,7 @@ fn main(rt: HostRuntime) -> ExitCode {
             fail(&mut errors, ServeFault::Memory)
         }
         Ok(None) | Err(_) => {
-            tell(&mut errors, "words: list or cached, and a moment\n");
+            tell(&mut errors, "words: list, cached or sql, and a moment\n");
             REFUSED_WORDS
         }
     };
@@ -48,5 +48,6 @@ fn run(rt: &HostRuntime) -> io::Result<Option<u8>> {
     let mut input = Tallied::new(rt.stdin());
     let mut output = Tallied::new(rt.stdout());
     let mut errors = Tallied::new(rt.stderr());
-    Ok(Some(answer(alloc, words, &mut input, &mut output, &mut errors)))
+    let (store, moment) = (words.store, words.moment);
+    Ok(Some(answer_in(alloc, store, moment, &mut input, &mut output, &mut errors)))
 }

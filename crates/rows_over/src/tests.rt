@@ -1,9 +1,14 @@
-use crate::words::{StoreName, Words, words_of};
+use crate::words::{Words, words_of};
 use sample_service::{MAX_MOMENT, Moment};
+use sample_sql::StoreName;
 
 #[test]
 fn words_name_a_store_and_a_moment(rt: HostRuntime) {
-    for (name, store) in [("list", StoreName::List), ("cached", StoreName::Cached)] {
+    for (name, store) in [
+        ("list", StoreName::List),
+        ("cached", StoreName::Cached),
+        ("sql", StoreName::Tables),
+    ] {
         let moment = Moment::new(MAX_MOMENT).expect(&rt, "a moment");
         assert_eq!(rt;
             words_of(&[name, "99999999999"]),

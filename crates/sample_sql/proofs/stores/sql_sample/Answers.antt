@@ -1,0 +1,17 @@
+use Rattle.std.proofs.Common.{◌∙◌, refl, subst}
+use Rattle.sqlite.specs.Held.{state}
+use Rattle.sqlite.specs.Steps.{over_memory}
+use Rattle.sqlite.proofs.Callers.{memory_is_clean}
+use Rattle.bank_books.specs.WorldLists.{WorldLists}
+use Rattle.bank_schema.specs.Held.{HoldsBank}
+use Rattle.sample_sql.proofs.stores.sql_sample.Goals as goal
+
+-- memory is always clean, and never shut
+pub returns-in-Ok : goal.returns-in-Ok
+returns-in-Ok c =
+    let clean = memory_is_clean c.in-Ok.store.conn in
+    let kept = c.in-Ok.ensures.kept clean in
+    record {
+      holds = λ _ _ _. subst (λ (w : WorldLists). HoldsBank (state over_memory c.in-Ok.store.conn) w) c.in_ok-world.ensures kept.holds;
+      only = λ w h. kept.only w (h c.in-Ok.ensures.works.0 clean refl) ∙ c.in_ok-world.ensures;
+    }

@@ -1,0 +1,44 @@
+ghost use Rattle.ends.specs.Streams.{stream_at, streams_at};
+ghost use Rattle.sample_sql.specs.Answered.{IsAnswered};
+
+use crate::stores::sql_sample;
+use money::Tallied;
+use sample_service::{Moment, answer_sample, cached_sample, listed_sample};
+use std::alloc::Global;
+use std::io::{Read, Write};
+
+/// A store of the sample bank.
+#[derive(Clone, Copy, Debug, PartialEq, Eq)]
+pub enum StoreName {
+    /// Lists.
+    List,
+    /// Lists behind a cache.
+    Cached,
+    /// SQL tables in memory.
+    Tables,
+}
+
+/// Serves a stream over the sample bank in the store of this name, and answers the status as `answer_sample` does.
+pub fn answer_in<R: Read, W: Write, E: Write>(
+    alloc: Global,
+    store: StoreName,
+    moment: Moment,
+    input: &mut Tallied<R>,
+    output: &mut Tallied<W>,
+    errors: &mut Tallied<E>,
+) -> u8
+    ensures { IsAnswered store moment
+        (streams_at R.remaining W.contents input.old output.old)
+        (streams_at R.remaining W.contents input.new output.new)
+        (stream_at E.contents errors.old) (stream_at E.contents errors.new) result }
+{
+    match store {
+        StoreName::List => {
+            answer_sample(alloc, listed_sample(alloc), moment, input, output, errors)
+        }
+        StoreName::Cached => {
+            answer_sample(alloc, cached_sample(alloc), moment, input, output, errors)
+        }
+        StoreName::Tables => answer_sample(alloc, sql_sample(alloc), moment, input, output, errors),
+    }
+}
