@@ -7,10 +7,16 @@ mod books;
 #[cfg(test)]
 mod cells;
 #[cfg(test)]
+mod files;
+#[cfg(test)]
 mod history;
 #[cfg(test)]
 mod kept;
 #[cfg(test)]
+mod opening;
+#[cfg(test)]
 mod policy;
+#[cfg(test)]
+mod store;
 #[cfg(test)]
 mod tables;
