@@ -1,15 +1,15 @@
 -- That tables which were read whole hold the World that their rows are of.
-use Rattle.std.proofs.Common.{◌≡◌, ℕ, IsTrue, refl, sym, ap, subst, ◌∙◌}
+use Rattle.std.proofs.Common.{ℕ, sym, subst}
 use Rattle.sqlite.specs.Effect.{Database, IsDatabase}
-use Rattle.sqlite.specs.State.{KeepsCommit, State}
+use Rattle.sqlite.specs.State.{State}
 use Rattle.sqlite.specs.Tree.{Trees}
-use Rattle.bank_schema.specs.Held.{HoldsBank, HoldsSheets, HoldsWorld, Sheet, tree_of}
+use Rattle.bank_schema.specs.Held.{HoldsSheets, HoldsWorld, Sheet, tree_of}
 use Rattle.bank_schema.specs.Held.Sheet.{accounts as in_accounts, bank as in_bank, branches as in_branches, certifiers as in_certifiers, entries as in_entries, lines as in_lines, members as in_members, proofs as in_proofs, relations as in_relations, releases as in_releases, sets as in_sets, tellers as in_tellers, triples as in_triples, users as in_users}
 use Rattle.kept_rows.specs.Laws.{AreSheetsOrdered}
 use Rattle.kept_rows.proofs.SheetsTell.{sheets_are_ordered}
 use Rattle.whole_tables.specs.BookRows.{AreBookRows}
 use Rattle.whole_tables.specs.PolicyTables.{ArePolicyTables}
-use Rattle.whole_tables.specs.Whole.{HasBankTables, IsKeptTable}
+use Rattle.whole_tables.specs.Whole.{IsKeptTable}
 use Rattle.whole_tables.specs.declared.book_rows.BookRows.{BookRows}
 use Rattle.whole_tables.specs.declared.policy_tables.PolicyTables.{PolicyTables}
 use Rattle.adopt_sql.specs.Adopted.{Adopts, IsBankFile, IsBankRow, IsLeft}

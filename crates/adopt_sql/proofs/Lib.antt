@@ -1,4 +1,5 @@
 pub mod AdoptLemmas
+pub mod FileLemmas
 pub mod MadeLemmas
 pub mod ReadingLemmas
 pub mod SetLemmas

@@ -1,5 +1,5 @@
 -- Sets and their members, one after another.
-use Rattle.std.proofs.Common.{◌≡◌, ◌≤◌, ◌<◌, ◌+◌, ℕ, List, [], ◌∷◌, ◌++◌, map, take, drop, length, get_or, refl, sym, ap, ap₂, subst, arith, ◌∙◌, append_assoc, append-nil, length-append, length-drop, take-add}
+use Rattle.std.proofs.Common.{◌≡◌, ◌≤◌, ◌<◌, ◌+◌, ℕ, List, [], ◌∷◌, ◌++◌, map, take, drop, length, get_or, sym, ap, ap₂, subst, arith, ◌∙◌, append_assoc, append-nil, length-append, length-drop, take-add}
 use Rattle.std.specs.Prelude.{IfSome, Option, Some}
 use Rattle.std.specs.List.{enumerate_from, flat_map}
 use Rattle.std.proofs.lemmas.List.{map-append, take_all, take_more}

@@ -3,15 +3,15 @@ use Rattle.std.proofs.Common.{◌≡◌, ◌==◌, ℕ, Bool, true, false, List,
 use Rattle.std.proofs.lemmas.Bool.{eqb-true}
 use Rattle.std.specs.Prelude.{if◌then◌else◌, unwrap_or}
 use Rattle.bank_policy.specs.Policy.{PolicyLists}
-use Rattle.bank_books.specs.Books.{Books, ConditionsHold}
-use Rattle.bank_books.specs.Records.{KeptLists, branch_record_of, account_record_of, entry_record_of, kept_of, release_count_of, teller_record_of}
+use Rattle.bank_books.specs.Books.{ConditionsHold}
+use Rattle.bank_books.specs.Records.{KeptLists, kept_of, release_count_of, teller_record_of}
 use Rattle.bank_books.specs.WorldLists.{WorldLists}
 use Rattle.bank_books.specs.declared.records.ReleaseCount.{ReleaseCount}
 use Rattle.book_check.specs.Verdict.{IsVerdict}
 use Rattle.book_growth.proofs.Rows.{map-made, map-map}
 use Rattle.kept_rows.specs.Keepable.{IsKeepable}
-use Rattle.kept_rows.specs.Records.{kept_teller, kept_teller_of, kept_user_of, member_rows}
-use Rattle.kept_rows.specs.Sheets.{Sheets, sheets_of}
+use Rattle.kept_rows.specs.Records.{kept_teller, kept_user_of}
+use Rattle.kept_rows.specs.Sheets.{sheets_of}
 use Rattle.kept_rows.specs.declared.records.KeptTeller.{KeptTeller}
 use Rattle.kept_rows.specs.declared.records.KeptUser.{KeptUser}
 use Rattle.policy_check.specs.PolicyVerdict.{IsPolicyVerdict}

@@ -1,5 +1,5 @@
 -- What is known of a connection to a file, and what its tables hold where it is adopted.
-use Rattle.std.specs.Prelude.{ℕ, ◌≡◌, ◌∷◌, [], IfOk, IfSome, IsTrue, Ok, OnOk, Result}
+use Rattle.std.specs.Prelude.{ℕ, ◌≡◌, ◌∷◌, [], IfOk, IfSome, IsTrue, Ok, Result}
 use Rattle.sqlite.specs.State.{HasCleanDisk, KeepsCommit, State}
 use Rattle.sqlite.specs.Tree.{Trees}
 use Rattle.bank_books.specs.Books.{Books}
@@ -11,8 +11,6 @@ use Rattle.policy_check.specs.PolicyVerdict.{IsPolicyVerdict}
 use Rattle.whole_tables.specs.BookRows.{AreBookRows}
 use Rattle.whole_tables.specs.PolicyTables.{ArePolicyTables}
 use Rattle.whole_tables.specs.Whole.{HasBankTables, IsKeptTable}
-use Rattle.whole_tables.specs.declared.book_rows.BookRows.{BookRows}
-use Rattle.whole_tables.specs.declared.policy_tables.PolicyTables.{PolicyTables}
 use Rattle.adopt_sql.specs.declared.reading.FileRows.{FileRows}
 
 -- A connection to a file whose tables are as they were made for a bank, and as a store keeps tables. What stands in them may be anything.

@@ -12,13 +12,13 @@ use Rattle.messages.specs.declared.serving.ServeFault.TheVariants.{Memory}
 use Rattle.ends.specs.Ends.{IsFailed, IsShown}
 use Rattle.sample_service.specs.Ends.{IsSampleEnd}
 use Rattle.ends.specs.Lines.{line}
-use Rattle.sample_service.specs.Stores.{cached_list_status}
+use Rattle.sample_sql.specs.Stores.{cached_sql_status}
 use Rattle.ends.specs.Streams.{IsWritten, Stream, Streams}
 
 -- the action was carried out, and the status and standard error tell how that ended
 abbrev pub IsActed : Action → Streams → Streams → Stream → Stream → ℕ → Type 0
 IsActed (action.Sample moment) old new errors_old errors_new status =
-    IsSampleEnd cached_list_status moment old new errors_old errors_new status
+    IsSampleEnd cached_sql_status moment old new errors_old errors_new status
 
 -- help, or the version, is asked for
 abbrev pub IsHelp : Error → Type 0

@@ -6,7 +6,8 @@ use crate::words::{Action, read_words};
 use clap::Error;
 use clap::error::ErrorKind;
 use money::Tallied;
-use sample_service::{ServeFault, answer_sample, cached_sample, fail, show, tell};
+use sample_service::{ServeFault, answer_sample, fail, show, tell};
+use sample_sql::cached_sql_sample;
 use std::alloc::Global;
 use std::io;
 use std::io::{Read, Write};
@@ -51,7 +52,7 @@ pub fn act<R: Read, W: Write, E: Write>(
     let alloc = rt.alloc();
     match action {
         Action::Sample { moment } => {
-            answer_sample(alloc, cached_sample(alloc), moment, input, output, errors)
+            answer_sample(alloc, cached_sql_sample(alloc), moment, input, output, errors)
         }
     }
 }
