@@ -1,41 +1,19 @@
 -- What the program comes to, by its words.
-use Rattle.std.specs.Prelude.{◌≡◌, ◌≢◌, ◌⊎◌, ℕ, List, [], codes}
-use Rattle.clap.specs.Words.{Text, fault_of, kind_of, subcommand_of}
+use Rattle.std.specs.Prelude.{◌≡◌, ◌⊎◌, ℕ, List, []}
+use Rattle.clap.specs.Words.{Text, fault_of, subcommand_of}
 use Rattle.clap.specs.declared.error.Error.{Error}
-use Rattle.clap.specs.declared.error.ErrorKind.TheVariants as kind
-use Rattle.std.specs.declared.io.ErrorKind.{ErrorKind}
-use Rattle.std.specs.declared.io.ErrorKind.TheVariants as io_kind
-use Rattle.bank_cli.specs.Commands.{IsNamedBy, IsRefusal, bank_app}
-use Rattle.bank_cli.specs.declared.words.Action.{Action}
-use Rattle.bank_cli.specs.declared.words.Action.TheVariants as action
-use Rattle.messages.specs.declared.serving.ServeFault.TheVariants.{Memory}
-use Rattle.ends.specs.Ends.{IsFailed, IsShown}
+use Rattle.bank_words.specs.Commands.{IsNamedBy, IsRefusal, bank_app}
+use Rattle.bank_words.specs.Explained.{IsExplained}
+use Rattle.bank_words.specs.declared.words.Action.{Action}
+use Rattle.bank_words.specs.declared.words.Action.TheVariants as action
+use Rattle.ends.specs.Streams.{Stream, Streams}
 use Rattle.sample_service.specs.Ends.{IsSampleEnd}
-use Rattle.ends.specs.Lines.{line}
 use Rattle.sample_sql.specs.Stores.{cached_sql_status}
-use Rattle.ends.specs.Streams.{IsWritten, Stream, Streams}
 
 -- the action was carried out, and the status and standard error tell how that ended
 abbrev pub IsActed : Action → Streams → Streams → Stream → Stream → ℕ → Type 0
 IsActed (action.Sample moment) old new errors_old errors_new status =
     IsSampleEnd cached_sql_status moment old new errors_old errors_new status
-
--- help, or the version, is asked for
-abbrev pub IsHelp : Error → Type 0
-IsHelp error = (kind_of error ≡ kind.DisplayHelp) ⊎ (kind_of error ≡ kind.DisplayVersion)
-
--- words were refused on standard error, and the status is 2
-abbrev pub IsRefused : Stream → Stream → ℕ → Type 0
-IsRefused errors_old errors_new status =
-    (text : List ℕ) × IsWritten errors_old errors_new text × (status ≡ 2)
-
--- Why there is no action was told. Help goes to standard output, all else to standard error.
-abbrev pub IsExplained : Error → Stream → Stream → Stream → Stream → ℕ → Type 0
-IsExplained error output_old output_new errors_old errors_new status =
-    ((output_new ≡ output_old) × IsFailed Memory errors_old errors_new status)
-    ⊎ ((IsHelp error × (text : List ℕ) × IsShown output_old output_new errors_old errors_new text status)
-    ⊎ (¬ (IsHelp error) × (kind_of error ≢ kind.OutOfMemory) × (output_new ≡ output_old)
-    × IsRefused errors_old errors_new status))
 
 -- The words name an action, which was carried out; or they name none, and why was told.
 abbrev pub IsAnswered : List Text → Streams → Streams → Stream → Stream → ℕ → Type 0
@@ -44,10 +22,3 @@ IsAnswered words old new errors_old errors_new status =
     × IsActed action old new errors_old errors_new status)
     ⊎ ((error : Error) × IsRefusal words error × (new.input ≡ old.input)
     × IsExplained error old.output new.output errors_old errors_new status)
-
--- why the words could not be read was told: they are no text, or memory was refused for them
-abbrev pub IsUnread : ErrorKind → Stream → Stream → ℕ → Type 0
-IsUnread error_kind errors_old errors_new status =
-    ((error_kind ≡ io_kind.InvalidData) × (status ≡ 2)
-    × IsWritten errors_old errors_new (line (codes "error: a word is no text")))
-    ⊎ ((error_kind ≢ io_kind.InvalidData) × IsFailed Memory errors_old errors_new status)

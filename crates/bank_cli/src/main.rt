@@ -2,11 +2,9 @@
 #![tactic(auto)]
 
 mod act;
-#[cfg(test)]
-mod tests;
-mod words;
 
-use crate::act::{answer, unread};
+use crate::act::answer;
+use bank_words::unread;
 use money::Tallied;
 use std::process::ExitCode;
 use std::{env, io};
@@ -32,5 +30,11 @@ fn run(rt: &HostRuntime) -> io::Result<u8> {
     let mut input = Tallied::new(rt.stdin());
     let mut output = Tallied::new(rt.stdout());
     let mut errors = Tallied::new(rt.stderr());
-    Ok(answer(rt, words.as_slice(), &mut input, &mut output, &mut errors))
+    Ok(answer(
+        alloc,
+        words.as_slice(),
+        &mut input,
+        &mut output,
+        &mut errors,
+    ))
 }

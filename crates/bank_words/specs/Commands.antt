@@ -6,8 +6,8 @@ use Rattle.clap.specs.Words.{App, HasKind, Row, Rule, Text, fault_of, kind_of, n
 use Rattle.clap.specs.declared.builder.ValueParser.TheVariants as parser
 use Rattle.clap.specs.declared.error.Error.{Error}
 use Rattle.clap.specs.declared.error.ErrorKind.TheVariants as kind
-use Rattle.bank_cli.specs.declared.words.Action.{Action}
-use Rattle.bank_cli.specs.declared.words.Action.TheVariants as action
+use Rattle.bank_words.specs.declared.words.Action.{Action}
+use Rattle.bank_words.specs.declared.words.Action.TheVariants as action
 
 -- a required option `--NAME`, whose value is a number in these bounds
 abbrev pub number_rule : Text → ℕ → ℕ → Rule

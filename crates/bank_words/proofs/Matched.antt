@@ -9,8 +9,8 @@ use Rattle.std.specs.Box.{box_value}
 use Rattle.clap.specs.Simple.{subcommand_rows}
 use Rattle.clap.specs.declared.parser.matches.SubCommand.{SubCommand}
 use Rattle.clap.specs.declared.parser.matches.ArgMatches.TheViews.{out-ArgMatches, out-SubCommand}
-use Rattle.bank_cli.specs.Commands.{IsNamedBy, IsNamedIn, bank_app, number_in}
-use Rattle.bank_cli.specs.declared.words.Action.{Action}
+use Rattle.bank_words.specs.Commands.{IsNamedBy, IsNamedIn, bank_app, number_in}
+use Rattle.bank_words.specs.declared.words.Action.{Action}
 use Rattle.clap.proofs.OnLiterals.{clap_on_literals}
 
 number_from : {E : Type 0} (gives : List ℕ → Result ℕ E → Type 0)

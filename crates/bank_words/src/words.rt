@@ -1,7 +1,7 @@
 ghost use Rattle.std.specs.Prelude.{◌≡◌, [], IfOk, IfErr, IfSome, Some, map, false};
 ghost use Rattle.clap.specs.Words.{app_of, fault_of, found_of, rows_of, rule_of, subcommand_of};
 ghost use Rattle.clap.specs.declared.builder.Command.TheViews.{out-Command as fields_of};
-ghost use Rattle.bank_cli.specs.Commands.{IsNamedBy, IsNamedIn, IsRefusal, bank_app, number_in, number_rule, sample_app, top_app};
+ghost use Rattle.bank_words.specs.Commands.{IsNamedBy, IsNamedIn, IsRefusal, bank_app, number_in, number_rule, sample_app, top_app};
 
 use clap::builder::ValueParser;
 use clap::error::ErrorKind;
