@@ -7,3 +7,4 @@ mod DrawerCounted
 pub mod DrawerThere
 pub mod PlacedLines
 mod PlacesMoved
+mod RuleTests
