@@ -16,7 +16,7 @@ use Rattle.bank_books.specs.declared.rows.Teller.{Teller}
 use Rattle.bank_books.specs.declared.signature.Signature.{Signature}
 use Rattle.book_growth.proofs.RuleTests.{passed_by, source_of}
 use Rattle.counter_ops.specs.declared.correct.Correct.{Correct}
-use Rattle.row_reads.specs.BookReads.{entry, undone}
+use Rattle.row_reads.specs.BookReads.{undone}
 use Rattle.row_rules.specs.BranchParts.{cash_book_of, ledger_of}
 use Rattle.row_rules.specs.Rules.{drawer_is_held_by, teller_is_of}
 use Rattle.postings.specs.declared.correct.CorrectRows.{CorrectRows}
