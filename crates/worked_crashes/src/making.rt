@@ -1,0 +1,170 @@
+//! A bank that is made on a disk that fails at some call, and one that is looked for there.
+
+use crate::disks::{
+    Failers, Failing, Held, failing_files, held_by, left_by, let_go, may_have_failed, nothing,
+    open_frail, reopened,
+};
+use crate::tellings::told_anew;
+use adopt_sql::{AdoptFault, adopt_bank};
+use bank_books::World;
+use money::Fault;
+use open_sql::{OpenFault, make_bank};
+use sample_bank::sample_world;
+use sqlite::{Alter, Connection};
+use std::alloc::Global;
+use std::process::Abort;
+
+fn world(rt: &impl Abort, alloc: Global) -> World {
+    sample_world(alloc).expect(rt, "memory")
+}
+
+/// Makes the sample bank in a database, and answers whether that was done: the disk may have failed.
+fn make<S: Alter>(rt: &impl Abort, alloc: Global, conn: &mut Connection<S>) -> bool {
+    assert!(rt; conn.is_autocommit());
+    let outcome = make_bank(alloc, conn, &world(rt, alloc));
+    assert!(rt; outcome.is_ok() || outcome == Err(OpenFault::Fault(Fault::Disk)));
+    outcome.is_ok()
+}
+
+/// Looks for a bank in a database, and answers whether it was found: the disk may have failed.
+fn find<S: Alter>(rt: &impl Abort, alloc: Global, conn: &mut Connection<S>) -> bool {
+    assert!(rt; conn.is_autocommit());
+    let outcome = adopt_bank(alloc, conn);
+    assert!(rt; outcome.is_ok() || outcome == Err(AdoptFault::Fault(Fault::Disk)));
+    outcome.is_ok()
+}
+
+/// What files hold behind the making of the sample bank. It is in the log, and was not copied into the database file.
+fn made_over(rt: &impl Abort, alloc: Global, held: &Held) -> Held {
+    let mut conn = reopened(rt, alloc, held);
+    assert!(rt; make(rt, alloc, &mut conn));
+    held_by(rt, alloc, conn)
+}
+
+/// What new files hold in which the sample bank was made.
+pub fn sample_held(rt: &impl Abort, alloc: Global) -> Held {
+    made_over(rt, alloc, &nothing(alloc))
+}
+
+/// Makes the sample bank in files that fail. Answers whether it was made, and the files.
+fn make_in(rt: &impl Abort, alloc: Global, files: Failers) -> (bool, Failers) {
+    match open_frail(rt, alloc, files) {
+        Ok(mut conn) => {
+            let was_made = make(rt, alloc, &mut conn);
+            (was_made, let_go(conn))
+        }
+        Err(files) => (false, files),
+    }
+}
+
+/// Looks for the bank in files that fail. Answers whether it was found, and the files.
+fn find_in(rt: &impl Abort, alloc: Global, files: Failers) -> (bool, Failers) {
+    match open_frail(rt, alloc, files) {
+        Ok(mut conn) => {
+            let was_found = find(rt, alloc, &mut conn);
+            (was_found, let_go(conn))
+        }
+        Err(files) => (false, files),
+    }
+}
+
+/// Whether the bank that files hold is the sample bank.
+fn is_whole(rt: &impl Abort, alloc: Global, held: &Held, whole: &str) -> bool {
+    match told_anew(rt, alloc, held) {
+        Ok(tale) => tale.as_str() == whole,
+        Err(_) => false,
+    }
+}
+
+/// Asks that files hold the whole bank, or none and then one can be made there, and answers which of these.
+fn is_there(rt: &impl Abort, alloc: Global, held: &Held, whole: &str) -> bool {
+    match told_anew(rt, alloc, held) {
+        Ok(tale) => {
+            assert!(rt; tale.as_str() == whole);
+            true
+        }
+        Err(fault) => {
+            assert!(rt; fault == AdoptFault::NotABank);
+            assert!(rt; is_whole(rt, alloc, &made_over(rt, alloc, held), whole));
+            false
+        }
+    }
+}
+
+/// What the sample bank tells.
+fn whole_tale(rt: &impl Abort, alloc: Global) -> String {
+    match told_anew(rt, alloc, &sample_held(rt, alloc)) {
+        Ok(tale) => tale,
+        Err(fault) => panic!(rt; "{fault}"),
+    }
+}
+
+/// Makes the bank on a disk that fails at its first call, then on one that fails at its second, and so on until one has
+/// not failed. A bank that was told to be made is there. Answers how often no bank was there, and how often one was of
+/// which it was told that the disk had failed.
+fn make_at_each_call(rt: &impl Abort, alloc: Global, which: Failing, whole: &str) -> (u32, u32) {
+    let mut absent = 0u32;
+    let mut untold = 0u32;
+    for calls in 0..10_000u64 {
+        let files = failing_files(rt, alloc, &nothing(alloc), which, calls);
+        let (was_made, mut files) = make_in(rt, alloc, files);
+        let failed = may_have_failed(&mut files);
+        let left = left_by(rt, alloc, files);
+        for held in [&left.written, &left.synced] {
+            let there = is_there(rt, alloc, held, whole);
+            assert!(rt; there || !was_made);
+            absent = absent.saturating_add(u32::from(!there));
+            untold = untold.saturating_add(u32::from(there && !was_made));
+        }
+        if !failed {
+            assert!(rt; was_made);
+            return (absent, untold);
+        }
+    }
+    panic!(rt; "a disk that has not failed");
+}
+
+#[test]
+fn a_bank_is_made_whole_or_not(rt: HostRuntime) {
+    let alloc = rt.alloc();
+    let whole = whole_tale(&rt, alloc);
+    let (absent, untold) = make_at_each_call(&rt, alloc, Failing::Log, whole.as_str());
+    assert!(rt; absent > 0 && untold > 0);
+    let (absent, _) = make_at_each_call(&rt, alloc, Failing::Database, whole.as_str());
+    assert!(rt; absent > 0);
+}
+
+/// Looks for the bank on a disk that fails at its first call, then on one that fails at its second, and so on until one
+/// has not failed. Nothing is changed. Answers how often it was not found.
+fn find_at_each_call(
+    rt: &impl Abort,
+    alloc: Global,
+    held: &Held,
+    which: Failing,
+    whole: &str,
+) -> u32 {
+    let mut refused = 0u32;
+    for calls in 0..10_000u64 {
+        let files = failing_files(rt, alloc, held, which, calls);
+        let (was_found, mut files) = find_in(rt, alloc, files);
+        let failed = may_have_failed(&mut files);
+        let left = left_by(rt, alloc, files);
+        assert!(rt; is_whole(rt, alloc, &left.written, whole));
+        assert!(rt; is_whole(rt, alloc, &left.synced, whole));
+        refused = refused.saturating_add(u32::from(!was_found));
+        if !failed {
+            assert!(rt; was_found);
+            return refused;
+        }
+    }
+    panic!(rt; "a disk that has not failed");
+}
+
+#[test]
+fn a_bank_is_found_or_left_as_it_is(rt: HostRuntime) {
+    let alloc = rt.alloc();
+    let whole = whole_tale(&rt, alloc);
+    let held = sample_held(&rt, alloc);
+    assert!(rt; find_at_each_call(&rt, alloc, &held, Failing::Log, whole.as_str()) > 0);
+    assert!(rt; find_at_each_call(&rt, alloc, &held, Failing::Database, whole.as_str()) > 0);
+}

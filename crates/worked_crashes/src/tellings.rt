@@ -1,0 +1,57 @@
+//! What a bank tells of its books. Two banks are compared by this: the balances, the cash and the counts of entries of
+//! the sample's accounts, tellers and branches, the days of these, and the first release that Tom was given.
+
+use crate::disks::{Held, reopened};
+use adopt_sql::{AdoptFault, adopt};
+use money::Fault;
+use sqlite::{Alter, Connection};
+use std::alloc::Global;
+use std::fmt::Debug;
+use std::process::Abort;
+use store_rows::Store;
+
+/// Tells an answer in a line of its own.
+fn tell<A: Debug + Drop>(
+    rt: &impl Abort,
+    alloc: Global,
+    text: &mut String,
+    answer: Result<A, Fault>,
+) {
+    let answer = answer.expect(rt, "no fault");
+    let line = format!(in alloc; "{answer:?}\n").expect(rt, "memory");
+    assert!(rt; text.push_str(line.as_str()).is_ok());
+}
+
+/// What a bank tells of its books.
+pub fn told<S: Store>(rt: &impl Abort, alloc: Global, bank: &mut S) -> String {
+    let mut text = String::new(alloc);
+    for account in [101, 102, 201] {
+        tell(rt, alloc, &mut text, bank.account(alloc, account));
+    }
+    for teller in [11, 12, 21] {
+        tell(rt, alloc, &mut text, bank.teller(alloc, teller));
+    }
+    for branch in [1, 2] {
+        tell(rt, alloc, &mut text, bank.branch(alloc, branch));
+    }
+    tell(rt, alloc, &mut text, bank.release(alloc, 8, 1));
+    text
+}
+
+/// What the bank in a database tells, where it is adopted.
+fn told_by<S: Alter + Drop>(
+    rt: &impl Abort,
+    alloc: Global,
+    conn: Connection<S>,
+) -> Result<String, AdoptFault> {
+    assert!(rt; conn.is_autocommit());
+    match adopt(alloc, conn) {
+        Ok(mut bank) => Ok(told(rt, alloc, &mut bank)),
+        Err(fault) => Err(fault),
+    }
+}
+
+/// What the bank tells that these files hold, opened anew and adopted.
+pub fn told_anew(rt: &impl Abort, alloc: Global, held: &Held) -> Result<String, AdoptFault> {
+    told_by(rt, alloc, reopened(rt, alloc, held))
+}
