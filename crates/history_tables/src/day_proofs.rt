@@ -15,7 +15,7 @@ use money::Fault;
 use sqlite::{Alter, Error, Transaction, params};
 
 /// What is given with the statement that adds a proof.
-#[derive(Clone, Copy, Debug)]
+#[derive(Clone, Copy)]
 struct ProofCells {
     branch: u32,
     day: u32,

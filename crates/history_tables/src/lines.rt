@@ -15,7 +15,7 @@ use money::Fault;
 use sqlite::{Alter, Error, Transaction, params};
 
 /// What is given with the statement that adds a line.
-#[derive(Clone, Copy, Debug)]
+#[derive(Clone, Copy)]
 struct LineCells {
     branch: u32,
     number: u32,

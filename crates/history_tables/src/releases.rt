@@ -95,7 +95,7 @@ pub fn release_of<S: Alter>(
 }
 
 /// What is given with the statement that adds a release.
-#[derive(Clone, Copy, Debug)]
+#[derive(Clone, Copy)]
 struct ReleaseCells {
     user: u32,
     number: u32,

@@ -85,7 +85,7 @@ pub fn user_of<S: Alter>(
 }
 
 /// What is given with the statement that writes a user, beside his name.
-#[derive(Clone, Copy, Debug)]
+#[derive(Clone, Copy)]
 struct UserCells {
     user: u32,
     officer: u32,

@@ -69,7 +69,7 @@ fn branch_row<S: Alter>(tx: &mut Transaction<'_, S>, branch: u32) -> Result<Bran
 }
 
 /// The rows whose numbers an entry moves.
-#[derive(Clone, Copy, Debug)]
+#[derive(Clone, Copy)]
 pub(crate) struct EntryNames {
     pub(crate) account: AccountRecord,
     pub(crate) teller: KeptTeller,
@@ -125,7 +125,7 @@ pub(crate) fn write_entry<S: Alter>(tx: &mut Transaction<'_, S>, entry: &Entry) 
 }
 
 /// The rows whose numbers a line at a drawer moves.
-#[derive(Clone, Copy, Debug)]
+#[derive(Clone, Copy)]
 struct LineNames {
     teller: KeptTeller,
     branch: BranchRecord,

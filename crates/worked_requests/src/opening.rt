@@ -9,7 +9,7 @@ use std::alloc::Global;
 use std::process::Abort;
 
 /// What a bank made up opens with, in cents.
-#[derive(Clone, Copy, Debug, PartialEq, Eq)]
+#[derive(Clone, Copy)]
 pub(crate) struct Opening {
     /// The balances of accounts 101, 102 and 201. An account may not fall below zero or, where that is less, below
     /// what it opens with.
