@@ -90,30 +90,31 @@ fn connection<D: Disk + Drop>(
     rt: &impl Abort,
     alloc: Global,
     files: Files<D>,
-    checkpoint_frames: usize,
+    options: Options,
 ) -> Result<Connection<FileStore<D>>, Files<D>> {
     if !files.may_be_used() {
         panic!(rt; "files that were synced");
     }
-    let options = Options {
-        checkpoint_frames,
-        ..Options::new(7)
-    };
     match Connection::open_files(alloc, files, options) {
         Ok(conn) => Ok(conn),
         Err((_, left)) => Err(left.into_files()),
     }
 }
 
-/// A connection to files that fail, which copies its log into the database file at each write, or what is left of
-/// them where they failed already.
+/// A connection to files that fail, or what is left of them where they failed already. It copies its log into the
+/// database file before each write, and keeps few pages in memory, so that most reads are calls of the disk.
 pub fn open_frail(rt: &impl Abort, alloc: Global, files: Failers) -> Result<Frail, Failers> {
-    connection(rt, alloc, files, 1)
+    let options = Options {
+        cache_pages: 16,
+        checkpoint_frames: 1,
+        ..Options::new(7)
+    };
+    connection(rt, alloc, files, options)
 }
 
 /// A connection to files that hold this and do not fail.
 pub fn reopened(rt: &impl Abort, alloc: Global, held: &Held) -> Firm {
-    match connection(rt, alloc, firm_files(rt, alloc, held), 1000) {
+    match connection(rt, alloc, firm_files(rt, alloc, held), Options::new(7)) {
         Ok(conn) => conn,
         Err(_) => panic!(rt; "the files open"),
     }
@@ -125,6 +126,17 @@ pub fn held_by(rt: &impl Abort, alloc: Global, conn: Firm) -> Held {
     Held {
         log: copied(rt, alloc, files.log.bytes()),
         db: copied(rt, alloc, files.db.bytes()),
+    }
+}
+
+/// What files hold that were closed: the log was copied into the database file.
+pub fn closed_by(rt: &impl Abort, alloc: Global, conn: Firm) -> Held {
+    match conn.close_files() {
+        Ok(files) => Held {
+            log: copied(rt, alloc, files.log.bytes()),
+            db: copied(rt, alloc, files.db.bytes()),
+        },
+        Err((error, _)) => panic!(rt; "{error}"),
     }
 }
 

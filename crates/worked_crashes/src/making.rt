@@ -1,8 +1,8 @@
 //! A bank that is made on a disk that fails at some call, and one that is looked for there.
 
 use crate::disks::{
-    Failers, Failing, Held, failing_files, held_by, left_by, let_go, may_have_failed, nothing,
-    open_frail, reopened,
+    Failers, Failing, Held, closed_by, failing_files, held_by, left_by, let_go, may_have_failed,
+    nothing, open_frail, reopened,
 };
 use crate::tellings::told_anew;
 use adopt_sql::{AdoptFault, adopt_bank};
@@ -57,14 +57,15 @@ fn make_in(rt: &impl Abort, alloc: Global, files: Failers) -> (bool, Failers) {
     }
 }
 
-/// Looks for the bank in files that fail. Answers whether it was found, and the files.
-fn find_in(rt: &impl Abort, alloc: Global, files: Failers) -> (bool, Failers) {
+/// Looks for the bank in files that fail. Answers whether it was found, or none where the files failed as they were
+/// opened, and the files.
+fn find_in(rt: &impl Abort, alloc: Global, files: Failers) -> (Option<bool>, Failers) {
     match open_frail(rt, alloc, files) {
         Ok(mut conn) => {
             let was_found = find(rt, alloc, &mut conn);
-            (was_found, let_go(conn))
+            (Some(was_found), let_go(conn))
         }
-        Err(files) => (false, files),
+        Err(files) => (None, files),
     }
 }
 
@@ -135,7 +136,7 @@ fn a_bank_is_made_whole_or_not(rt: HostRuntime) {
 }
 
 /// Looks for the bank on a disk that fails at its first call, then on one that fails at its second, and so on until one
-/// has not failed. Nothing is changed. Answers how often it was not found.
+/// has not failed. Nothing is changed. Answers how often the disk failed behind the opening of the files.
 fn find_at_each_call(
     rt: &impl Abort,
     alloc: Global,
@@ -151,9 +152,9 @@ fn find_at_each_call(
         let left = left_by(rt, alloc, files);
         assert!(rt; is_whole(rt, alloc, &left.written, whole));
         assert!(rt; is_whole(rt, alloc, &left.synced, whole));
-        refused = refused.saturating_add(u32::from(!was_found));
+        refused = refused.saturating_add(u32::from(was_found == Some(false)));
         if !failed {
-            assert!(rt; was_found);
+            assert!(rt; was_found == Some(true));
             return refused;
         }
     }
@@ -166,5 +167,6 @@ fn a_bank_is_found_or_left_as_it_is(rt: HostRuntime) {
     let whole = whole_tale(&rt, alloc);
     let held = sample_held(&rt, alloc);
     assert!(rt; find_at_each_call(&rt, alloc, &held, Failing::Log, whole.as_str()) > 0);
-    assert!(rt; find_at_each_call(&rt, alloc, &held, Failing::Database, whole.as_str()) > 0);
+    let closed = closed_by(&rt, alloc, reopened(&rt, alloc, &held));
+    assert!(rt; find_at_each_call(&rt, alloc, &closed, Failing::Database, whole.as_str()) > 0);
 }
