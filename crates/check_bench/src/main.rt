@@ -2,12 +2,10 @@
 //! a script can compare sizes.
 #![tactic(auto)]
 
-mod made_up;
-
-use crate::made_up::made_up_world;
 use bank_books::World;
 use book_check::{BooksFault, check_books};
 use book_sums::Kept;
+use made_up_bank::{Size, made_up_world};
 use money::Fault;
 use std::alloc::Global;
 use std::env;
@@ -29,6 +27,9 @@ const REFUSED_MEANS: u8 = 3;
 
 /// How many branches a bank may have here.
 const MOST_BRANCHES: u32 = 1_000;
+
+/// The entries of each branch.
+const ENTRIES: u32 = 1_000;
 
 /// What the words ask for.
 #[derive(Clone, Copy)]
@@ -64,7 +65,12 @@ fn words(rt: &HostRuntime) -> Option<Task> {
 /// Makes the bank up, checks it, and answers the status; none where memory or the clock is refused.
 fn run(rt: &HostRuntime, task: Task) -> Option<u8> {
     let alloc = rt.alloc();
-    let world = made_up_world(alloc, task.branches).ok()??;
+    let size = Size {
+        branches: task.branches,
+        entries: ENTRIES,
+        triples: 0,
+    };
+    let world = made_up_world(alloc, size).ok()??;
     let kept = Kept::of(alloc, &world).ok()?;
     let start = Instant::now(rt).ok()?;
     let verdict = check(alloc, &world, &kept).ok()?;

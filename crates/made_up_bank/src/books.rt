@@ -1,5 +1,6 @@
+use crate::policy::{USER, made_up_policy};
+use crate::size::Size;
 use bank_books::{Account, Branch, CashLine, Entry, EntryForm, LineForm, Lists, Teller, World};
-use bank_policy::{Name, Policy, User};
 use money::{Cents, Delta, Fault};
 use std::alloc::Global;
 
@@ -9,27 +10,21 @@ const TELLERS: u32 = 10;
 /// The accounts at home at each branch.
 const ACCOUNTS: u32 = 100;
 
-/// The entries of each branch.
-const ENTRIES: u32 = 1_000;
-
 /// What each account opened with, in cents.
 const OPENING: i64 = 1_000_000;
 
 /// The cash that each drawer is put on with, in cents.
 const DRAWER: i64 = 1_000_000;
 
-/// The user who makes all entries and lines.
-const USER: u32 = 1;
-
 /// What the vault of each branch opened with, in cents.
 const VAULT: i64 = 100_000_000;
 
-/// A bank of so many branches, each with ten tellers, a hundred accounts and a thousand entries, which go to accounts of
-/// all branches and name each other in pairs. None where an amount is out of range, which none is.
-pub fn made_up_world(alloc: Global, branches: u32) -> Result<Option<World>, Fault> {
+/// A bank of this size on its first day. Its entries go to accounts of all branches and name each other in pairs, and every
+/// drawer is held by the one user. None where an amount is out of range, which none is.
+pub fn made_up_world(alloc: Global, size: Size) -> Result<Option<World>, Fault> {
     let mut lists = Lists::new(alloc);
     let mut turns = Vec::new(alloc);
-    for branch in 1..=branches {
+    for branch in 1..=size.branches {
         for _ in 0..ACCOUNTS {
             turns.push(0)?;
         }
@@ -37,26 +32,13 @@ pub fn made_up_world(alloc: Global, branches: u32) -> Result<Option<World>, Faul
             return Ok(None);
         }
     }
-    for branch in 1..=branches {
-        if add_history(&mut lists, &mut turns, branch)?.is_none() {
+    for branch in 1..=size.branches {
+        if add_history(&mut lists, &mut turns, branch, size.entries)?.is_none() {
             return Ok(None);
         }
     }
-    Ok(World::from_lists(lists, one_user(alloc)?, 0))
-}
-
-/// A policy with the one user who does everything.
-fn one_user(alloc: Global) -> Result<Policy, Fault> {
-    let mut policy = Policy::new(alloc);
-    policy.add_user(User {
-        user: USER,
-        name: Name::new(alloc, "Ann")?,
-        officer: false,
-        suspended: false,
-        session: 1,
-        on: true,
-    })?;
-    Ok(policy)
+    let policy = made_up_policy(alloc, size.triples)?;
+    Ok(World::from_lists(lists, policy, 0))
 }
 
 /// Adds a branch with its tellers and its accounts.
@@ -105,7 +87,27 @@ fn place(branch: u32, count: u32, index: u32) -> u32 {
 }
 
 /// Adds the lines that put the drawers of a branch on, and its entries with their lines.
-fn add_history(lists: &mut Lists, turns: &mut Vec<u32>, branch: u32) -> Result<Option<()>, Fault> {
+fn add_history(
+    lists: &mut Lists,
+    turns: &mut Vec<u32>,
+    branch: u32,
+    entries: u32,
+) -> Result<Option<()>, Fault> {
+    if add_drawers(lists, branch)?.is_none() {
+        return Ok(None);
+    }
+    for number in 1..=entries {
+        let Some(delta) = Delta::new(i64::from(number % 201) - 100) else {
+            return Ok(None);
+        };
+        let partner = partner(number, entries);
+        add_entry(lists, entry(turns, branch, number, partner, delta))?;
+    }
+    Ok(Some(()))
+}
+
+/// Adds the lines that put the drawers of a branch on.
+fn add_drawers(lists: &mut Lists, branch: u32) -> Result<Option<()>, Fault> {
     let (Some(given), Some(taken)) = (Cents::new(DRAWER), Cents::new(-DRAWER)) else {
         return Ok(None);
     };
@@ -118,23 +120,26 @@ fn add_history(lists: &mut Lists, turns: &mut Vec<u32>, branch: u32) -> Result<O
             .lines
             .push(line(branch, 2 * teller, drawer, given, LineForm::On))?;
     }
-    for number in 1..=ENTRIES {
-        let Some(delta) = Delta::new(i64::from(number % 201) - 100) else {
-            return Ok(None);
-        };
-        let entry = entry(turns, branch, number, delta);
-        let (drawer, cash) = (entry.teller, Cents::from(delta));
-        let number = 2 * TELLERS + number;
-        lists
-            .lines
-            .push(line(branch, number, drawer, cash, LineForm::CashEntry))?;
-        lists.entries.push(entry)?;
-    }
     Ok(Some(()))
 }
 
+/// Adds an entry and the line of its cash.
+fn add_entry(lists: &mut Lists, entry: Entry) -> Result<(), Fault> {
+    let number = entry.number.saturating_add(2 * TELLERS);
+    let cash = Cents::from(entry.delta);
+    lists.lines.push(line(
+        entry.branch,
+        number,
+        entry.teller,
+        cash,
+        LineForm::CashEntry,
+    ))?;
+    lists.entries.push(entry)?;
+    Ok(())
+}
+
 /// The next entry of a branch, on an account of any branch.
-fn entry(turns: &mut Vec<u32>, branch: u32, number: u32, delta: Delta) -> Entry {
+fn entry(turns: &mut Vec<u32>, branch: u32, number: u32, partner: u32, delta: Delta) -> Entry {
     let account = some_account(turns.len() as u64, branch, number);
     let turn = next_turn(turns, account);
     Entry {
@@ -148,17 +153,19 @@ fn entry(turns: &mut Vec<u32>, branch: u32, number: u32, delta: Delta) -> Entry 
         day: 1,
         user: USER,
         form: EntryForm::Post,
-        partner: partner(number),
+        partner,
         undoes: 0,
     }
 }
 
-/// The other entry of a pair: 1 and 2 name each other, 3 and 4, and so on.
-fn partner(number: u32) -> u32 {
+/// The other entry of a pair: 1 and 2 name each other, 3 and 4, and so on. The last of an odd number names none.
+fn partner(number: u32, entries: u32) -> u32 {
     if number % 2 == 0 {
         number.saturating_sub(1)
-    } else {
+    } else if number < entries {
         number.saturating_add(1)
+    } else {
+        0
     }
 }
 
