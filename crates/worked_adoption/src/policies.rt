@@ -1,0 +1,105 @@
+//! Policies that dangle, in which an officer holds something, or in which one may execute what he certifies.
+
+use crate::refusals::refused;
+use adopt_sql::AdoptFault;
+use bank_terms::Procedure;
+use policy_check::PolicyFault;
+
+const DANGLING: AdoptFault = AdoptFault::Policy(PolicyFault::Dangling);
+
+const OFFICER: AdoptFault = AdoptFault::Policy(PolicyFault::OfficerHolds { user: 1 });
+
+/// The user may post, and certifies posts.
+fn posts(user: u32) -> AdoptFault {
+    AdoptFault::Policy(PolicyFault::Separation {
+        user,
+        procedure: Procedure::Post,
+    })
+}
+
+#[test]
+fn nobody_executes_what_he_certifies(rt: HostRuntime) {
+    refused(
+        &rt,
+        rt.alloc(),
+        &[
+            ("INSERT INTO triples VALUES (3, 1, 2, 500)", posts(3)),
+            (
+                "INSERT INTO triples VALUES (3, 1, 2, 500); INSERT INTO triples VALUES (2, 2, 1, 0); INSERT INTO triples VALUES (2, 1, 1, 0)",
+                posts(2),
+            ),
+            (
+                "UPDATE relations SET by_user = 7 WHERE procedure = 1 AND set_no = 1",
+                posts(7),
+            ),
+        ],
+    );
+}
+
+#[test]
+fn an_officer_holds_nothing(rt: HostRuntime) {
+    refused(
+        &rt,
+        rt.alloc(),
+        &[
+            ("INSERT INTO triples VALUES (1, 9, 2, 0)", OFFICER),
+            ("INSERT INTO certifiers VALUES (1, 9)", OFFICER),
+            (
+                "UPDATE relations SET by_user = 1 WHERE procedure = 9 AND set_no = 2",
+                OFFICER,
+            ),
+        ],
+    );
+}
+
+#[test]
+fn rows_of_users_and_sets_do_not_dangle(rt: HostRuntime) {
+    refused(
+        &rt,
+        rt.alloc(),
+        &[
+            ("UPDATE users SET name = '' WHERE user_no = 9", DANGLING),
+            (
+                "INSERT INTO users VALUES (10000, 'Zoe', 0, 0, 1, 1, 0)",
+                DANGLING,
+            ),
+            ("INSERT INTO sets VALUES (6)", DANGLING),
+            ("DELETE FROM sets WHERE set_no = 5", DANGLING),
+            (
+                "UPDATE members SET kind = 9 WHERE set_no = 1 AND place = 1",
+                DANGLING,
+            ),
+            (
+                "UPDATE members SET place = 3 WHERE set_no = 5 AND place = 2",
+                DANGLING,
+            ),
+            (
+                "UPDATE members SET low = 151 WHERE set_no = 5 AND place = 1",
+                DANGLING,
+            ),
+        ],
+    );
+}
+
+#[test]
+fn rows_of_relations_triples_and_certifiers_do_not_dangle(rt: HostRuntime) {
+    refused(
+        &rt,
+        rt.alloc(),
+        &[
+            (
+                "UPDATE relations SET by_user = 99 WHERE procedure = 11",
+                DANGLING,
+            ),
+            ("INSERT INTO relations VALUES (13, 6, 2)", DANGLING),
+            ("INSERT INTO relations VALUES (14, 1, 2)", DANGLING),
+            ("INSERT INTO triples VALUES (99, 1, 1, 0)", DANGLING),
+            (
+                "UPDATE triples SET ceiling = 1000000000 WHERE user_no = 8 AND procedure = 2",
+                DANGLING,
+            ),
+            ("INSERT INTO certifiers VALUES (99, 1)", DANGLING),
+            ("INSERT INTO certifiers VALUES (2, 0)", DANGLING),
+        ],
+    );
+}
