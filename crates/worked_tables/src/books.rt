@@ -1,5 +1,6 @@
 //! Rows of the books.
 
+use crate::compare::{same, same_rows};
 use crate::tables::empty_tables;
 use bank_books::{
     Account, AccountRecord, Branch, BranchRecord, Entry, EntryForm, EntryRecord, Teller,
@@ -101,22 +102,22 @@ fn accounts_are_kept(rt: HostRuntime) {
     let mut tx = conn.transaction();
     let first = account(&rt, 101);
     let second = account(&rt, 205);
-    assert_eq!(rt; add_account(&mut tx, &second), Ok(()));
-    assert_eq!(rt; add_account(&mut tx, &first), Ok(()));
-    assert_eq!(rt; account_of(&mut tx, 101), Ok(Some(first)));
-    assert_eq!(rt; account_of(&mut tx, 102), Ok(None));
-    assert_eq!(rt; least_account(&mut tx, 1, 300), Ok(Some(first)));
-    assert_eq!(rt; least_account(&mut tx, 102, 205), Ok(Some(second)));
-    assert_eq!(rt; least_account(&mut tx, 102, 204), Ok(None));
+    same(&rt, add_account(&mut tx, &second), Ok(()));
+    same(&rt, add_account(&mut tx, &first), Ok(()));
+    same(&rt, account_of(&mut tx, 101), Ok(Some(first)));
+    same(&rt, account_of(&mut tx, 102), Ok(None));
+    same(&rt, least_account(&mut tx, 1, 300), Ok(Some(first)));
+    same(&rt, least_account(&mut tx, 102, 205), Ok(Some(second)));
+    same(&rt, least_account(&mut tx, 102, 204), Ok(None));
     let mut moved = first;
     moved.balance = -500;
     moved.turns = 3;
-    assert_eq!(rt; set_account(&mut tx, &moved), Ok(()));
-    assert_eq!(rt; account_of(&mut tx, 101), Ok(Some(moved)));
-    assert_eq!(rt; account_of(&mut tx, 205), Ok(Some(second)));
-    assert_eq!(rt; add_account(&mut tx, &first), Err(Fault::Disk));
+    same(&rt, set_account(&mut tx, &moved), Ok(()));
+    same(&rt, account_of(&mut tx, 101), Ok(Some(moved)));
+    same(&rt, account_of(&mut tx, 205), Ok(Some(second)));
+    same(&rt, add_account(&mut tx, &first), Err(Fault::Disk));
     moved.balance = 1 << 64;
-    assert_eq!(rt; set_account(&mut tx, &moved), Err(Fault::Size));
+    same(&rt, set_account(&mut tx, &moved), Err(Fault::Size));
 }
 
 #[test]
@@ -127,20 +128,17 @@ fn tellers_are_kept(rt: HostRuntime) {
     let other = teller(&rt, 12, 2);
     let last = teller(&rt, 13, 1);
     let mut first = teller(&rt, 11, 1);
-    assert_eq!(rt; add_teller(&mut tx, &last), Ok(()));
-    assert_eq!(rt; add_teller(&mut tx, &other), Ok(()));
-    assert_eq!(rt; add_teller(&mut tx, &first), Ok(()));
+    same(&rt, add_teller(&mut tx, &last), Ok(()));
+    same(&rt, add_teller(&mut tx, &other), Ok(()));
+    same(&rt, add_teller(&mut tx, &first), Ok(()));
     first.holder = 0;
-    assert_eq!(rt; set_teller(&mut tx, &first), Ok(()));
-    assert_eq!(rt; teller_of(&mut tx, 11), Ok(Some(first)));
-    assert_eq!(rt; teller_of(&mut tx, 14), Ok(None));
-    assert_eq!(rt; next_teller(&mut tx, 1, 0), Ok(Some(first)));
-    assert_eq!(rt; next_teller(&mut tx, 1, 11), Ok(Some(last)));
-    assert_eq!(rt; next_teller(&mut tx, 1, 13), Ok(None));
-    let tellers = roster(rt.alloc(), &mut tx, 1).expect(&rt, "the tellers of a branch");
-    assert_eq!(rt; tellers.len(), 2);
-    assert_eq!(rt; tellers.first().copied(), Some(first));
-    assert_eq!(rt; tellers.last().copied(), Some(last));
+    same(&rt, set_teller(&mut tx, &first), Ok(()));
+    same(&rt, teller_of(&mut tx, 11), Ok(Some(first)));
+    same(&rt, teller_of(&mut tx, 14), Ok(None));
+    same(&rt, next_teller(&mut tx, 1, 0), Ok(Some(first)));
+    same(&rt, next_teller(&mut tx, 1, 11), Ok(Some(last)));
+    same(&rt, next_teller(&mut tx, 1, 13), Ok(None));
+    same_rows(&rt, roster(rt.alloc(), &mut tx, 1), &[first, last]);
 }
 
 #[test]
@@ -149,16 +147,16 @@ fn branches_are_kept(rt: HostRuntime) {
     assert!(rt; conn.is_autocommit());
     let mut tx = conn.transaction();
     let mut row = branch(&rt);
-    assert_eq!(rt; add_branch(&mut tx, &row), Ok(()));
-    assert_eq!(rt; branch_of(&mut tx, 1), Ok(Some(row)));
+    same(&rt, add_branch(&mut tx, &row), Ok(()));
+    same(&rt, branch_of(&mut tx, 1), Ok(Some(row)));
     row.row.day = 4;
     row.differences = 20;
-    assert_eq!(rt; set_branch(&mut tx, &row), Ok(()));
-    assert_eq!(rt; branch_of(&mut tx, 1), Ok(Some(row)));
-    assert_eq!(rt; branch_of(&mut tx, 2), Ok(None));
-    assert_eq!(rt; version_of(&mut tx), Ok(7));
-    assert_eq!(rt; set_version(&mut tx, 999_999_999_999), Ok(()));
-    assert_eq!(rt; version_of(&mut tx), Ok(999_999_999_999));
+    same(&rt, set_branch(&mut tx, &row), Ok(()));
+    same(&rt, branch_of(&mut tx, 1), Ok(Some(row)));
+    same(&rt, branch_of(&mut tx, 2), Ok(None));
+    same(&rt, version_of(&mut tx), Ok(7));
+    same(&rt, set_version(&mut tx, 999_999_999_999), Ok(()));
+    same(&rt, version_of(&mut tx), Ok(999_999_999_999));
 }
 
 #[test]
@@ -170,19 +168,19 @@ fn entries_are_kept(rt: HostRuntime) {
     let mut second = entry(&rt, 2);
     second.row.form = EntryForm::Correction;
     second.row.undoes = 1;
-    assert_eq!(rt; add_entry(&mut tx, &second), Ok(()));
-    assert_eq!(rt; add_entry(&mut tx, &first), Ok(()));
-    assert_eq!(rt; entry_of(&mut tx, 1, 2), Ok(Some(second)));
-    assert_eq!(rt; entry_of(&mut tx, 2, 1), Ok(None));
-    assert_eq!(rt; entry_at(&mut tx, 101, 1), Ok(Some(first)));
-    assert_eq!(rt; entry_at(&mut tx, 101, 3), Ok(None));
-    let listed = entries_from(rt.alloc(), &mut tx, 101, 1, 5).expect(&rt, "entries of an account");
-    assert_eq!(rt; listed.len(), 2);
-    assert_eq!(rt; listed.first().copied(), Some(first));
-    assert_eq!(rt; listed.last().copied(), Some(second));
-    let listed = entries_from(rt.alloc(), &mut tx, 101, 1, 1).expect(&rt, "the first entry");
-    assert_eq!(rt; listed.len(), 1);
-    assert_eq!(rt; is_undone(&mut tx, 1, 1), Ok(true));
-    assert_eq!(rt; is_undone(&mut tx, 1, 2), Ok(false));
-    assert_eq!(rt; add_entry(&mut tx, &first), Err(Fault::Disk));
+    same(&rt, add_entry(&mut tx, &second), Ok(()));
+    same(&rt, add_entry(&mut tx, &first), Ok(()));
+    same(&rt, entry_of(&mut tx, 1, 2), Ok(Some(second)));
+    same(&rt, entry_of(&mut tx, 2, 1), Ok(None));
+    same(&rt, entry_at(&mut tx, 101, 1), Ok(Some(first)));
+    same(&rt, entry_at(&mut tx, 101, 3), Ok(None));
+    same_rows(
+        &rt,
+        entries_from(rt.alloc(), &mut tx, 101, 1, 5),
+        &[first, second],
+    );
+    same_rows(&rt, entries_from(rt.alloc(), &mut tx, 101, 1, 1), &[first]);
+    same(&rt, is_undone(&mut tx, 1, 1), Ok(true));
+    same(&rt, is_undone(&mut tx, 1, 2), Ok(false));
+    same(&rt, add_entry(&mut tx, &first), Err(Fault::Disk));
 }

@@ -1,5 +1,6 @@
 //! Releases, cash lines and proofs of days.
 
+use crate::compare::same;
 use crate::tables::empty_tables;
 use bank_books::{CashLine, LineForm, Proof, Release, ReleaseKey};
 use bank_terms::{OperationRow, Procedure};
@@ -28,10 +29,10 @@ fn history_is_kept(rt: HostRuntime) {
         balance: Cents::new(700).expect(&rt, "an amount of money"),
         cash: Cents::new(5_000).expect(&rt, "an amount of money"),
     };
-    assert_eq!(rt; add_line(&mut tx, &line), Ok(()));
-    assert_eq!(rt; add_line(&mut tx, &line), Err(Fault::Disk));
-    assert_eq!(rt; add_proof(&mut tx, &proof), Ok(()));
-    assert_eq!(rt; add_proof(&mut tx, &proof), Err(Fault::Disk));
+    same(&rt, add_line(&mut tx, &line), Ok(()));
+    same(&rt, add_line(&mut tx, &line), Err(Fault::Disk));
+    same(&rt, add_proof(&mut tx, &proof), Ok(()));
+    same(&rt, add_proof(&mut tx, &proof), Err(Fault::Disk));
 }
 
 #[test]
@@ -51,11 +52,11 @@ fn releases_are_kept(rt: HostRuntime) {
         },
         used: false,
     };
-    assert_eq!(rt; add_release(&mut tx, &release), Ok(()));
-    assert_eq!(rt; release_of(&mut tx, 7, 2), Ok(Some(release)));
+    same(&rt, add_release(&mut tx, &release), Ok(()));
+    same(&rt, release_of(&mut tx, 7, 2), Ok(Some(release)));
     release.used = true;
     let key = ReleaseKey { user: 7, number: 2 };
-    assert_eq!(rt; use_up(&mut tx, &key), Ok(()));
-    assert_eq!(rt; release_of(&mut tx, 7, 2), Ok(Some(release)));
-    assert_eq!(rt; release_of(&mut tx, 9, 2), Ok(None));
+    same(&rt, use_up(&mut tx, &key), Ok(()));
+    same(&rt, release_of(&mut tx, 7, 2), Ok(Some(release)));
+    same(&rt, release_of(&mut tx, 9, 2), Ok(None));
 }

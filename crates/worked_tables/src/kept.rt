@@ -1,5 +1,6 @@
 //! What changes make of rows with kept numbers.
 
+use crate::compare::same;
 use bank_books::{
     Account, AccountRecord, Branch, BranchRecord, CashLine, Entry, EntryForm, LineForm, Release,
     Teller, TellerRecord, World,
@@ -102,18 +103,19 @@ fn line(place: u32, amount: Cents, form: LineForm) -> CashLine {
 fn entry_moves_its_rows(rt: HostRuntime) -> Result<(), Fail> {
     let rows = with_entry(&account(&rt), &teller(&rt), &branch(&rt), &entry(&rt));
     let rows = rows.ok_or("the next entry")?;
-    assert_eq!(rt; rows.account.balance, 3_250);
-    assert_eq!(rt; rows.account.turns, 3);
-    assert_eq!(rt; rows.teller.balance, 250);
-    assert_eq!(rt; rows.branch.balance, 950);
-    assert_eq!(rt; rows.branch.history, -50);
-    assert_eq!(rt; rows.branch.entries, 5);
-    assert_eq!(rt; rows.entry.balance_after, 3_250);
+    same(&rt, rows.account.balance, 3_250);
+    same(&rt, rows.account.turns, 3);
+    same(&rt, rows.teller.balance, 250);
+    same(&rt, rows.branch.balance, 950);
+    same(&rt, rows.branch.history, -50);
+    same(&rt, rows.branch.entries, 5);
+    same(&rt, rows.entry.balance_after, 3_250);
     let mut late = entry(&rt);
     late.number = 6;
-    assert_eq!(rt;
+    same(
+        &rt,
         with_entry(&account(&rt), &teller(&rt), &branch(&rt), &late),
-        None
+        None,
     );
     Ok(())
 }
@@ -129,12 +131,12 @@ fn posting_moves_its_rows_once(rt: HostRuntime) -> Result<(), Fail> {
         &cash,
     );
     let rows = rows.ok_or("the next entry and its line")?;
-    assert_eq!(rt; rows.account.balance, 3_250);
-    assert_eq!(rt; rows.teller.balance, 250);
-    assert_eq!(rt; rows.teller.cash, 4_250);
-    assert_eq!(rt; rows.branch.entries, 5);
-    assert_eq!(rt; rows.branch.lines, 6);
-    assert_eq!(rt; rows.branch.cash_entries, -50);
+    same(&rt, rows.account.balance, 3_250);
+    same(&rt, rows.teller.balance, 250);
+    same(&rt, rows.teller.cash, 4_250);
+    same(&rt, rows.branch.entries, 5);
+    same(&rt, rows.branch.lines, 6);
+    same(&rt, rows.branch.cash_entries, -50);
     let elsewhere = line(12, cents(&rt, 250), LineForm::CashEntry);
     let rows = with_posting(
         &account(&rt),
@@ -143,7 +145,7 @@ fn posting_moves_its_rows_once(rt: HostRuntime) -> Result<(), Fail> {
         &entry(&rt),
         &elsewhere,
     );
-    assert_eq!(rt; rows, None);
+    same(&rt, rows, None);
     Ok(())
 }
 
@@ -151,14 +153,18 @@ fn posting_moves_its_rows_once(rt: HostRuntime) -> Result<(), Fail> {
 fn drawer_is_put_on(rt: HostRuntime) -> Result<(), Fail> {
     let on = line(11, cents(&rt, 1_500), LineForm::On);
     let rows = with_drawer_line(&teller(&rt), &branch(&rt), &on).ok_or("the next line")?;
-    assert_eq!(rt; rows.teller.cash, 5_500);
-    assert_eq!(rt; rows.teller.holder, 7);
-    assert_eq!(rt; rows.branch.drawers, 5_500);
-    assert_eq!(rt; rows.branch.vault, 5_000);
-    assert_eq!(rt; rows.branch.lines, 6);
+    same(&rt, rows.teller.cash, 5_500);
+    same(&rt, rows.teller.holder, 7);
+    same(&rt, rows.branch.drawers, 5_500);
+    same(&rt, rows.branch.vault, 5_000);
+    same(&rt, rows.branch.lines, 6);
     let mut nobody = on;
     nobody.user = 0;
-    assert_eq!(rt; with_drawer_line(&teller(&rt), &branch(&rt), &nobody), None);
+    same(
+        &rt,
+        with_drawer_line(&teller(&rt), &branch(&rt), &nobody),
+        None,
+    );
     Ok(())
 }
 
@@ -166,20 +172,20 @@ fn drawer_is_put_on(rt: HostRuntime) -> Result<(), Fail> {
 fn vault_gives_cash(rt: HostRuntime) -> Result<(), Fail> {
     let taken = line(0, cents(&rt, -1_500), LineForm::On);
     let after = with_vault_line(&branch(&rt), &taken).ok_or("the next line")?;
-    assert_eq!(rt; after.vault, 3_500);
-    assert_eq!(rt; after.drawers, 4_000);
-    assert_eq!(rt; after.lines, 6);
+    same(&rt, after.vault, 3_500);
+    same(&rt, after.drawers, 4_000);
+    same(&rt, after.lines, 6);
     let at_drawer = line(11, cents(&rt, -1_500), LineForm::On);
-    assert_eq!(rt; with_vault_line(&branch(&rt), &at_drawer), None);
+    same(&rt, with_vault_line(&branch(&rt), &at_drawer), None);
     Ok(())
 }
 
 #[test]
 fn account_is_opened(rt: HostRuntime) -> Result<(), Fail> {
     let rows = with_account(&branch(&rt), &account(&rt).row).ok_or("one account more")?;
-    assert_eq!(rt; rows.home.accounts, 4);
-    assert_eq!(rt; rows.account.balance, 3_000);
-    assert_eq!(rt; rows.account.turns, 0);
+    same(&rt, rows.home.accounts, 4);
+    same(&rt, rows.account.balance, 3_000);
+    same(&rt, rows.account.turns, 0);
     Ok(())
 }
 
@@ -197,8 +203,8 @@ fn release_is_counted(rt: HostRuntime) -> Result<(), Fail> {
         },
         used: false,
     };
-    assert_eq!(rt; with_release(2, &release), Some(3));
-    assert_eq!(rt; with_release(3, &release), None);
+    same(&rt, with_release(2, &release), Some(3));
+    same(&rt, with_release(3, &release), None);
     Ok(())
 }
 
@@ -210,11 +216,11 @@ fn holder_is_a_number(rt: HostRuntime) -> Result<(), Fail> {
         cash: 4_000,
         holder: None,
     };
-    assert_eq!(rt; KeptTeller::of(&record), teller(&rt));
-    assert_eq!(rt; teller(&rt).to_record(), record);
+    same(&rt, KeptTeller::of(&record), teller(&rt));
+    same(&rt, teller(&rt).to_record(), record);
     record.holder = Some(7);
-    assert_eq!(rt; KeptTeller::of(&record).holder, 7);
-    assert_eq!(rt; KeptTeller::of(&record).to_record(), record);
+    same(&rt, KeptTeller::of(&record).holder, 7);
+    same(&rt, KeptTeller::of(&record).to_record(), record);
     Ok(())
 }
 

@@ -7,6 +7,8 @@ mod books;
 #[cfg(test)]
 mod cells;
 #[cfg(test)]
+mod compare;
+#[cfg(test)]
 mod files;
 #[cfg(test)]
 mod history;

@@ -1,24 +1,49 @@
 //! The store over these tables beside the store in lists: each read answers the same.
 
-use bank_books::{Entry, EntryForm, Plan, RowWrite};
+use crate::compare::same;
+use bank_books::{Entry, EntryForm, RowWrite};
 use bank_terms::Procedure;
 use money::{Delta, Fault};
 use open_sql::create;
 use sample_bank::sample_world;
-use sqlite::{Connection, MemStore};
+use sqlite::{Alter, Connection, MemStore};
 use std::alloc::Global;
 use std::fmt::Debug;
 use std::process::Abort;
 use store_rows::{BookReads, ListStore, PolicyReads, ReportReads, Stands, Store};
 use store_sql::SqlStore;
 
-/// The sample bank in tables in memory.
-pub fn sample_tables(rt: &impl Abort, alloc: Global) -> SqlStore<MemStore> {
-    let conn = Connection::open_in_memory(alloc).expect(rt, "memory");
+/// The sample bank, made in a database with nothing in it.
+pub fn sample_made<S: Alter + Drop>(
+    rt: &impl Abort,
+    alloc: Global,
+    conn: Connection<S>,
+) -> SqlStore<S> {
+    assert!(rt; conn.is_autocommit());
     match create(alloc, conn, &sample_world(alloc).expect(rt, "memory")) {
         Ok(store) => store,
-        Err(_) => panic!(rt; "the sample bank is made"),
+        Err(fault) => panic!(rt; "{fault}"),
     }
+}
+
+/// The sample bank in tables in memory.
+pub fn sample_tables(rt: &impl Abort, alloc: Global) -> SqlStore<MemStore> {
+    sample_made(
+        rt,
+        alloc,
+        Connection::open_in_memory(alloc).expect(rt, "memory"),
+    )
+}
+
+/// The store over the tables of a connection.
+pub fn store_over<S: Alter>(rt: &impl Abort, conn: Connection<S>) -> SqlStore<S> {
+    assert!(rt; conn.is_autocommit());
+    SqlStore::over(conn)
+}
+
+/// The connection to the tables of a store.
+pub fn connection_of<S: Alter>(store: SqlStore<S>) -> Connection<S> {
+    store.into_connection()
 }
 
 /// The sample bank in lists.
@@ -27,7 +52,7 @@ pub fn sample_lists(rt: &impl Abort, alloc: Global) -> ListStore {
 }
 
 /// Asks for two answers that read alike, neither of them a fault.
-fn same<A: Debug + Drop>(
+fn alike<A: Debug + Drop>(
     rt: &impl Abort,
     alloc: Global,
     tables: Result<A, Fault>,
@@ -44,165 +69,98 @@ fn same<A: Debug + Drop>(
     );
 }
 
+/// Asks two stores the same.
+macro_rules! both {
+    ($rt:expr, $alloc:expr, $tables:expr, $lists:expr, $read:ident($($word:expr),*)) => {
+        alike(
+            $rt,
+            $alloc,
+            $tables.$read($alloc $(, $word)*),
+            $lists.$read($alloc $(, $word)*),
+        )
+    };
+}
+
+/// Asks for the same answers to every read that names this user.
+fn same_user<S: Store, T: Store>(
+    rt: &impl Abort,
+    alloc: Global,
+    tables: &mut S,
+    lists: &mut T,
+    user: u32,
+) {
+    both!(rt, alloc, tables, lists, user(user));
+    both!(rt, alloc, tables, lists, triples(user));
+    both!(rt, alloc, tables, lists, release(user, 1));
+    for procedure in [Procedure::Post, Procedure::Accounts, Procedure::CloseDay] {
+        both!(rt, alloc, tables, lists, triples_of(user, procedure));
+        both!(rt, alloc, tables, lists, certifier(user, procedure));
+    }
+}
+
 /// Asks for the same answers to every read by which the policy is judged.
 fn same_policy<S: Store, T: Store>(rt: &impl Abort, alloc: Global, tables: &mut S, lists: &mut T) {
     for user in 0..11 {
-        same(rt, alloc, tables.user(alloc, user), lists.user(alloc, user));
-        same(
-            rt,
-            alloc,
-            tables.triples(alloc, user),
-            lists.triples(alloc, user),
-        );
-        same(
-            rt,
-            alloc,
-            tables.release(alloc, user, 1),
-            lists.release(alloc, user, 1),
-        );
-        for procedure in [Procedure::Post, Procedure::Accounts, Procedure::CloseDay] {
-            same(
-                rt,
-                alloc,
-                tables.triples_of(alloc, user, procedure),
-                lists.triples_of(alloc, user, procedure),
-            );
-            same(
-                rt,
-                alloc,
-                tables.certifier(alloc, user, procedure),
-                lists.certifier(alloc, user, procedure),
-            );
-        }
+        same_user(rt, alloc, tables, lists, user);
     }
     for number in 0..7 {
-        same(
-            rt,
-            alloc,
-            tables.set(alloc, number),
-            lists.set(alloc, number),
-        );
+        both!(rt, alloc, tables, lists, set(number));
     }
-    same(
-        rt,
-        alloc,
-        tables.relations_of(alloc, Procedure::Post),
-        lists.relations_of(alloc, Procedure::Post),
-    );
-    same(rt, alloc, tables.sets(alloc), lists.sets(alloc));
-    same(rt, alloc, tables.version(alloc), lists.version(alloc));
+    both!(rt, alloc, tables, lists, relations_of(Procedure::Post));
+    both!(rt, alloc, tables, lists, sets());
+    both!(rt, alloc, tables, lists, version());
+}
+
+/// Asks for the same answers to every read that names this branch.
+fn same_branch<S: Store, T: Store>(
+    rt: &impl Abort,
+    alloc: Global,
+    tables: &mut S,
+    lists: &mut T,
+    branch: u32,
+) {
+    both!(rt, alloc, tables, lists, branch(branch));
+    both!(rt, alloc, tables, lists, roster(branch));
+    both!(rt, alloc, tables, lists, entry(branch, 1));
+    both!(rt, alloc, tables, lists, undone(branch, 1));
+    both!(rt, alloc, tables, lists, vault(branch));
 }
 
 /// Asks for the same answers to every read by which the books are judged.
 fn same_books<S: Store, T: Store>(rt: &impl Abort, alloc: Global, tables: &mut S, lists: &mut T) {
     for account in [100, 101, 102, 201, 999] {
-        same(
-            rt,
-            alloc,
-            tables.account(alloc, account),
-            lists.account(alloc, account),
-        );
+        both!(rt, alloc, tables, lists, account(account));
     }
     for teller in [10, 11, 12, 21] {
-        same(
-            rt,
-            alloc,
-            tables.teller(alloc, teller),
-            lists.teller(alloc, teller),
-        );
-        same(
-            rt,
-            alloc,
-            tables.drawer(alloc, teller),
-            lists.drawer(alloc, teller),
-        );
+        both!(rt, alloc, tables, lists, teller(teller));
+        both!(rt, alloc, tables, lists, drawer(teller));
     }
     for branch in 0..4 {
-        same(
-            rt,
-            alloc,
-            tables.branch(alloc, branch),
-            lists.branch(alloc, branch),
-        );
-        same(
-            rt,
-            alloc,
-            tables.roster(alloc, branch),
-            lists.roster(alloc, branch),
-        );
-        same(
-            rt,
-            alloc,
-            tables.entry(alloc, branch, 1),
-            lists.entry(alloc, branch, 1),
-        );
-        same(
-            rt,
-            alloc,
-            tables.undone(alloc, branch, 1),
-            lists.undone(alloc, branch, 1),
-        );
-        same(
-            rt,
-            alloc,
-            tables.vault(alloc, branch),
-            lists.vault(alloc, branch),
-        );
+        same_branch(rt, alloc, tables, lists, branch);
     }
 }
 
-/// Asks for the same answers to every read that reports list.
+/// Asks for the same answers to every read that reports list of accounts and tellers.
 fn same_reports<S: Store, T: Store>(rt: &impl Abort, alloc: Global, tables: &mut S, lists: &mut T) {
     for (start, count) in [(1, 10), (2, 1), (0, 3), (1, 0)] {
-        same(
-            rt,
-            alloc,
-            tables.entries_of(alloc, 101, start, count),
-            lists.entries_of(alloc, 101, start, count),
-        );
-        same(
-            rt,
-            alloc,
-            tables.entry_at(alloc, 101, start),
-            lists.entry_at(alloc, 101, start),
-        );
+        both!(rt, alloc, tables, lists, entries_of(101, start, count));
+        both!(rt, alloc, tables, lists, entry_at(101, start));
     }
     for after in [0, 10, 11, 12, 101, 102, 201] {
-        same(
-            rt,
-            alloc,
-            tables.next_teller(alloc, 1, after),
-            lists.next_teller(alloc, 1, after),
-        );
+        both!(rt, alloc, tables, lists, next_teller(1, after));
         for user in [7, 9, 99] {
-            same(
-                rt,
-                alloc,
-                tables.shown(alloc, user, after, 2),
-                lists.shown(alloc, user, after, 2),
-            );
-            same(
-                rt,
-                alloc,
-                tables.next_shown(alloc, user, after),
-                lists.next_shown(alloc, user, after),
-            );
+            both!(rt, alloc, tables, lists, shown(user, after, 2));
+            both!(rt, alloc, tables, lists, next_shown(user, after));
         }
     }
-    same(
-        rt,
-        alloc,
-        tables.policy_rows(alloc),
-        lists.policy_rows(alloc),
-    );
+}
+
+/// Asks for the same listing of the policy, whole and row by row.
+fn same_listing<S: Store, T: Store>(rt: &impl Abort, alloc: Global, tables: &mut S, lists: &mut T) {
+    both!(rt, alloc, tables, lists, policy_rows());
     let mut after = None;
     for _ in 0..97 {
-        same(
-            rt,
-            alloc,
-            tables.next_policy(alloc, after),
-            lists.next_policy(alloc, after),
-        );
+        both!(rt, alloc, tables, lists, next_policy(after));
         after = match lists.next_policy(alloc, after) {
             Ok(Some(row)) => Some(row.key()),
             _ => None,
@@ -220,12 +178,19 @@ pub fn same_answers<S: Store, T: Store>(
     same_policy(rt, alloc, tables, lists);
     same_books(rt, alloc, tables, lists);
     same_reports(rt, alloc, tables, lists);
+    same_listing(rt, alloc, tables, lists);
     assert!(rt; tables.faults() == 0);
 }
 
+/// Writes the entry of this number to a store.
+pub fn write<S: Store>(rt: &impl Abort, alloc: Global, store: &mut S, number: u32) {
+    let plan = vec![in alloc; entry(rt, number)].expect(rt, "memory");
+    assert!(rt; store.apply(alloc, plan).is_ok());
+}
+
 /// The entry of a post to account 101, the branch's entry of this number.
-pub fn entry(rt: &impl Abort, number: u32) -> Entry {
-    Entry {
+fn entry(rt: &impl Abort, number: u32) -> RowWrite {
+    RowWrite::Entry(Entry {
         branch: 1,
         number,
         account: 101,
@@ -238,7 +203,7 @@ pub fn entry(rt: &impl Abort, number: u32) -> Entry {
         form: EntryForm::Post,
         partner: 0,
         undoes: 0,
-    }
+    })
 }
 
 #[test]
@@ -248,17 +213,8 @@ fn tables_answer_as_lists_do(rt: HostRuntime) {
     let mut lists = sample_lists(&rt, alloc);
     same_answers(&rt, alloc, &mut tables, &mut lists);
     for number in 1..4 {
-        for store in [true, false] {
-            let mut plan: Plan = Vec::new(alloc);
-            plan.push(RowWrite::Entry(entry(&rt, number)))
-                .expect(&rt, "memory");
-            let written = if store {
-                tables.apply(alloc, plan)
-            } else {
-                lists.apply(alloc, plan)
-            };
-            assert!(rt; written.is_ok());
-        }
+        write(&rt, alloc, &mut tables, number);
+        write(&rt, alloc, &mut lists, number);
         same_answers(&rt, alloc, &mut tables, &mut lists);
     }
 }
@@ -267,14 +223,11 @@ fn tables_answer_as_lists_do(rt: HostRuntime) {
 fn a_plan_that_fits_no_row_stops_the_store(rt: HostRuntime) {
     let alloc = rt.alloc();
     let mut tables = sample_tables(&rt, alloc);
-    let mut plan: Plan = Vec::new(alloc);
-    plan.push(RowWrite::Entry(entry(&rt, 1)))
-        .expect(&rt, "memory");
-    plan.push(RowWrite::Entry(entry(&rt, 3)))
-        .expect(&rt, "memory");
-    assert_eq!(rt; tables.apply(alloc, plan), Err(Fault::Disk));
-    assert_eq!(rt; tables.version(alloc), Err(Fault::Stopped));
-    assert_eq!(rt; tables.faults(), 2);
-    let mut again = SqlStore::over(tables.into_connection());
+    let entries = vec![in alloc; entry(&rt, 1), entry(&rt, 3)];
+    let plan = entries.expect(&rt, "memory");
+    same(&rt, tables.apply(alloc, plan), Err(Fault::Disk));
+    same(&rt, tables.version(alloc), Err(Fault::Stopped));
+    same(&rt, tables.faults(), 2);
+    let mut again = store_over(&rt, connection_of(tables));
     same_answers(&rt, alloc, &mut again, &mut sample_lists(&rt, alloc));
 }

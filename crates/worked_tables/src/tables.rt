@@ -1,4 +1,4 @@
-use sqlite::{Connection, MemStore};
+use sqlite::{Connection, MemStore, Transaction};
 use std::alloc::Global;
 use std::process::Abort;
 
@@ -19,6 +19,9 @@ const TABLES: [&str; 14] = [
     "CREATE TABLE proofs (branch INTEGER NOT NULL, day INTEGER NOT NULL, entries INTEGER NOT NULL, balance INTEGER NOT NULL, cash INTEGER NOT NULL, PRIMARY KEY (branch, day)) STRICT",
     "CREATE TABLE releases (user_no INTEGER NOT NULL, number INTEGER NOT NULL, giver INTEGER NOT NULL, branch INTEGER NOT NULL, day INTEGER NOT NULL, form INTEGER NOT NULL, member1 INTEGER NOT NULL, member2 INTEGER NOT NULL, member3 INTEGER NOT NULL, member4 INTEGER NOT NULL, member5 INTEGER NOT NULL, member6 INTEGER NOT NULL, member7 INTEGER NOT NULL, member8 INTEGER NOT NULL, used INTEGER NOT NULL, PRIMARY KEY (user_no, number)) STRICT",
 ];
+
+/// The tables of a file in memory, inside a transaction.
+pub type Tables<'t> = Transaction<'t, MemStore>;
 
 /// A file in memory with all tables, which hold no rows.
 pub fn empty_tables(alloc: Global, rt: &impl Abort) -> Connection<MemStore> {
