@@ -12,7 +12,7 @@ use sqlite::{Alter, Connection, Files};
 use sqlite_disk::Memory;
 use std::alloc::Global;
 use std::process::Abort;
-use store_rows::{Bank, Store};
+use store_rows::{Bank, PolicyReads, Store};
 use store_sql::SqlStore;
 
 /// The bank that is found in a database.
