@@ -1,10 +1,9 @@
 -- What a cache that keeps fresh entries tells, and what it keeps.
-use Rattle.std.proofs.Common.{◌≡◌, ℕ, ◌≤◌, ◌-◌, Bool, true, ◌⊎◌, List, [], ◌∷◌, take, slice_get, Contains, refl, sym, ap, subst, inl, inr, arith, Option, Some, None, option_map, ◌∙◌, Result, Ok, Err, IfOk, OnOk, OnErr, IsSomeAnd}
+use Rattle.std.proofs.Common.{◌≡◌, ◌-◌, List, ◌∷◌, take, refl, sym, ap, subst, inl, inr, arith, Option, Some, None, option_map, ◌∙◌, Result, Ok, Err, IfOk}
 use Rattle.std.specs.Result.{result_ok}
 use Rattle.std.specs.Map.{lookup, lookup_entry, remove_entry}
 use Rattle.std.specs.Option.{option_map_or}
 use Rattle.bank_books.specs.WorldLists.{WorldLists}
-use Rattle.bank_policy.specs.HeldRows.{relations_of, triples_of}
 use Rattle.cached.proofs.Keys.{same, same_key}
 use Rattle.cached.specs.Fresh.{AreFresh, Fits, HasRows, IsFirst, SameRows}
 use Rattle.cached.specs.declared.entry.Kept.{Kept}
@@ -13,7 +12,7 @@ use Rattle.cached.specs.declared.entry.Rows.{Rows}
 use Rattle.cached.specs.declared.entry.Rows.TheVariants.{Triples, Relations}
 use Rattle.lru.proofs.CallerLemmas.{Contains-lookup, Contains-lookup_entry, Contains-promoted, Contains-put_entries}
 use Rattle.lru.proofs.Pairs.{lookup-lookup_entry}
-use Rattle.lru.specs.LruCache.{LruCache, lru_cache, promoted, put_entries}
+use Rattle.lru.specs.LruCache.{LruCache, promoted, put_entries}
 
 -- a copy tells what the rows tell
 pub copy-HasRows : (w : WorldLists) (key : Key) (rows copy : Rows) → SameRows rows copy → HasRows w key rows → HasRows w key copy

@@ -98,4 +98,5 @@ changes_beside old new entries plan mark c = record {
   moved = λ w holds. (c.moved w holds.0, λ clean. after_fresh mark plan w entries (holds.1 (c.answers.honest clean)));
   crash = λ clean w left holds may. c.crash clean w left holds.0 may;
   settled = λ clean done w left holds may. c.settled clean done w left holds.0 may;
+  whole = λ clean w holds before. c.whole clean w holds.0 before;
 }

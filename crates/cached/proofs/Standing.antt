@@ -1,5 +1,5 @@
 -- What calls of the store below are to the store with its cache.
-use Rattle.std.proofs.Common.{◌≡◌, ◌≤◌, ◌+◌, IsTrue, List, Result, Ok, Err, IfOk, Option, ap, subst, sym, ◌∙◌}
+use Rattle.std.proofs.Common.{◌≡◌, ◌≤◌, ◌+◌, IsTrue, List, Result, Ok, IfOk, Option, ap, subst, sym, ◌∙◌}
 use Rattle.bank_books.specs.WorldLists.{WorldLists}
 use Rattle.store_rows.specs.Status.{Keeps, ReadsRow, RoseBy, Status, count_after, counts, counts_at_most, failures_after, mark_of, stops}
 use Rattle.cached.specs.Fresh.{AreFresh}
@@ -24,6 +24,7 @@ reads_then old mid new first r P Q a b = record {
     };
     kept = λ w holds. b.kept.kept w (a.kept.kept w holds);
     crash = λ clean w left. a.kept.crash (b.kept.answers.honest clean) w (b.kept.crash clean w left);
+    whole = λ clean before. b.kept.whole clean (a.kept.whole (b.kept.answers.honest clean) before);
   };
   refused = λ stopped. b.refused (subst (λ s. IsTrue s) (sym a.kept.answers.state) stopped);
   counted = b.counted ∙ ap (count_after (mark_of r)) a.counted;
@@ -42,6 +43,7 @@ keeps_with old new entries after mark k stay = record {
   };
   kept = λ w holds. (k.kept w holds.0, λ clean. stay clean w holds.0 (holds.1 (k.answers.honest clean)));
   crash = λ clean w left. k.crash clean w left;
+  whole = λ clean before. k.whole clean before;
 }
 
 -- A read of the store below that ends as the call does. The call may answer other rows than the read, and other entries may be kept

@@ -1,6 +1,5 @@
 -- What a store with a cache stands for.
-use Rattle.std.specs.Prelude.{◌≡◌, List}
-use Rattle.bank_books.specs.WorldLists.{WorldLists}
+use Rattle.std.specs.Prelude.{List}
 use Rattle.store_rows.specs.Status.{Status}
 use Rattle.cached.specs.Fresh.{AreFresh}
 use Rattle.cached.specs.declared.cached.Cached.{Cached}

@@ -1,17 +1,19 @@
 -- What a crash may leave of a request that was decided and carried out.
-use Rattle.std.proofs.Common.{◌≡◌, inl, inr, Option, None, Some, Err, refl, ap, subst, sym, ◌∙◌}
+use Rattle.std.proofs.Common.{◌≡◌, ◌&&◌, Bool, true, false, is_none, inl, inr, Option, None, Some, Err, refl, ap, subst, sym, ◌∙◌}
 use Rattle.bank_terms.specs.declared.rule.Rule.{Rule}
+use Rattle.money.specs.declared.fault.Fault.{Fault}
 use Rattle.bank_books.specs.WorldLists.{WorldLists}
 use Rattle.policy_ops.specs.declared.policy_op.PolicyOp.{PolicyOp}
 use Rattle.store_rows.specs.Status.{Keeps, Status, Tells}
 use Rattle.decide.specs.Permit.{CarriesOut, IsLeave, IsPermitOf, IsReplied}
 use Rattle.bank_run.specs.Requests.{commands, effect, executes, first, reply_text}
-use Rattle.bank_run.specs.Run.{if_allowed, reply, step, told}
+use Rattle.bank_run.specs.Run.{if_allowed, is_accepted, reply, step, told}
 use Rattle.bank_run.specs.declared.request.Asked.TheVariants as asked
 use Rattle.decide.specs.declared.permit.Permit.{Permit}
 use Rattle.decide.specs.declared.permit.Reply.{Reply}
 use Rattle.bank_run.specs.declared.request.Request.{Request}
 use Rattle.decide.specs.OneRequest.{Settles}
+use Rattle.counter_api.specs.Run.{FindsRoom}
 
 module _ {S : Type 0} where
   -- the effect of what was permitted is the step of what was asked
@@ -36,6 +38,22 @@ denied_stays w r rule = go (first w r)
     go : (o : Option Rule) → told o (reply_text w r) ≡ Err rule → if_allowed o (effect w r) w ≡ w
     go None is = absurd cc
     go (Some denies) is = refl
+
+-- a request that a rule denies is not accepted
+not_accepted : (w : WorldLists) (r : Request) (rule : Rule) (mark : Option Fault) → reply w r ≡ Err rule → is_accepted w (record { request = r; mark = mark }) ≡ true → ⊥
+not_accepted w r rule mark = go (first w r) (is_none mark)
+  where
+    go : (o : Option Rule) (unmarked : Bool) → told o (reply_text w r) ≡ Err rule → (unmarked && is_none o) ≡ true → ⊥
+    go None unmarked is accepted = absurd cc
+    go (Some denies) true is accepted = absurd cc
+    go (Some denies) false is accepted = absurd cc
+
+-- so nothing is asked of one that is denied; of a command no moment is looked at
+pub denied_finds : (old new : Status) (r : Request) (command : PolicyOp) (rule : Rule) (mark : Option Fault) → r.asked ≡ asked.Command command
+    → Tells old new (λ w. reply w (commands command r.who) ≡ Err rule) → Tells old new (FindsRoom r mark)
+denied_finds old new r command rule mark is denied honest w holds accepted =
+    absurd (not_accepted w (commands command r.who) rule mark (denied honest w holds)
+    (subst (λ a. is_accepted w (record { request = record { who = r.who; moment = r.moment; asked = a }; mark = mark }) ≡ true) is accepted))
 
 -- of a command no moment is looked at
 pub settled_as_asked : (old new : Status) (r : Request) (command : PolicyOp) → r.asked ≡ asked.Command command → Settles old new (commands command r.who) None → Settles old new r None

@@ -1,16 +1,17 @@
 -- Messages one after another, by induction.
-use Rattle.std.proofs.Common.{◌≡◌, ◌⊎◌, ℕ, ◌+◌, ◌≤◌, inl, inr, List, [], ◌∷◌, ◌++◌, Option, Some, None, Result, Ok, Err, IfOk, refl, sym, ap, arith, subst, ◌∙◌}
+use Rattle.std.proofs.Common.{◌≡◌, ◌⊎◌, ℕ, ◌+◌, ◌≤◌, ◌&&◌, Bool, true, false, if◌then◌else◌, inl, inr, List, [], ◌∷◌, ◌++◌, Option, Some, None, Result, Ok, Err, IfOk, refl, sym, ap, arith, subst, ◌∙◌}
 use Rattle.std.proofs.lemmas.List.Elements.{All-cons, All-nil}
 use Rattle.money.specs.declared.fault.Fault.{Fault}
 use Rattle.bank_books.specs.WorldLists.{WorldLists}
 use Rattle.heads.specs.declared.fault.MessageFault.{MessageFault}
 use Rattle.store_rows.specs.Status.{RoseBy, Status, counts, counts_at_most}
-use Rattle.bank_run.specs.Run.{Marked, world_after}
+use Rattle.bank_run.specs.LastWord.{finds_room, heard}
+use Rattle.bank_run.specs.Run.{Marked, accepted, is_accepted, world_after}
 use Rattle.bank_run.specs.Sums.{AreProper, IsProper}
 use Rattle.bank_run.proofs.RunSums.{sums_always_agree}
 use Rattle.bank_run.specs.declared.request.Request.{Request}
 use Rattle.counter_api.specs.Response.{ResponseParts}
-use Rattle.counter_api.specs.Run.{AreOrderly, IsHandled, IsPending, IsRun, MarkedMessage, after_message, failed_after, faults_of, framed, marked, marks_of, pending_after, reply_to, requests_of, stated_by, stopped_after}
+use Rattle.counter_api.specs.Run.{AreOrderly, FindsRoom, IsHandled, IsPending, IsRun, MarkedMessage, after_message, failed_after, faults_of, framed, marked, marks_of, pending_after, reply_to, requests_of, stated_by, stopped_after}
 
 rose_then : (m n a b c : ℕ) → RoseBy m a b → RoseBy n b c → RoseBy (m + n) a c
 rose_then m n a b c (inl p) (inl q) = inl (omega arith)
@@ -30,6 +31,20 @@ after_marked w (Err fault) mark rest = refl
 proper_in_front : (stated : Result Request MessageFault) (mark : Option Fault) (rest : List Marked) → (mark ≡ None → IfOk stated IsProper) → AreProper rest → AreProper (marked stated mark rest)
 proper_in_front (Ok r) mark rest here behind = All-cons (λ m. m.mark ≡ None → IsProper m.request) (record { request = r; mark = mark }) rest here behind
 proper_in_front (Err fault) mark rest here behind = behind
+
+-- ---- what is heard
+
+if_found : (is_accepted finds : Bool) → (is_accepted ≡ true → finds ≡ true) → (r : Request) (heard accepted : List Request) → heard ≡ accepted
+    → (if is_accepted && finds then r ∷ heard else heard) ≡ (if is_accepted then r ∷ accepted else accepted)
+if_found true true found r heard accepted same = ap (λ rest. r ∷ rest) same
+if_found true false found r heard accepted same = let none : false ≡ true = found refl in absurd cc
+if_found false finds found r heard accepted same = same
+
+heard_in_front : (w : WorldLists) (stated : Result Request MessageFault) (mark : Option Fault) (rest : List Marked) → IfOk stated (λ r. FindsRoom r mark w)
+    → heard (world_after w (marked stated mark [])) rest ≡ accepted (world_after w (marked stated mark [])) rest → heard w (marked stated mark rest) ≡ accepted w (marked stated mark rest)
+heard_in_front w (Ok r) mark rest found same =
+    if_found (is_accepted w (record { request = r; mark = mark })) (finds_room w r.asked) found r _ _ same
+heard_in_front w (Err fault) mark rest found same = same
 
 -- ---- what a crash may leave
 
@@ -67,7 +82,9 @@ none_ran users s = record {
     failed = refl;
     moved = λ clean w held. held;
     replied = λ clean w held. refl;
+    all_heard = λ clean w held. refl;
     leaves = λ clean w held left may. inr may;
+    whole = λ clean w held before. before;
     agrees = λ w checks. sums_always_agree w [] checks (All-nil (λ m. m.mark ≡ None → IsProper m.request));
   };
   proper = All-nil (λ m. m.mark ≡ None → IsProper m.request);
@@ -91,6 +108,12 @@ one_more users old mid new m ms parts out here behind =
         replied = λ clean w held.
             let honest = behind.run.honest clean in
             ap (λ p. framed m.message p ++ out) (here.replied honest w held) ∙ ap (λ o. reply_to users w m ++ o) (behind.run.replied clean _ (here.moved honest w held));
+        all_heard = λ clean w held.
+            let honest = behind.run.honest clean in
+            heard_in_front w (stated_by users m) m.mark (requests_of users ms) (here.room honest w held) (behind.run.all_heard clean _ (here.moved honest w held));
+        whole = λ clean w held before.
+            let honest = behind.run.honest clean in
+            behind.run.whole clean _ (here.moved honest w held) (here.whole honest w held before);
         leaves = λ clean w held left may.
             let honest = behind.run.honest clean in
             elim (behind.run.leaves clean (after_message users w m) (here.moved honest w held) left may) [

@@ -1,5 +1,5 @@
 -- Messages one after another: the requests that they state, and the replies to them.
-use Rattle.std.specs.Prelude.{ℕ, ◌≡◌, ◌⊎◌, ◌+◌, ◌≤◌, Bool, IsTrue, List, [], ◌∷◌, ◌++◌, Option, Some, None, IsNone, IsSome, Result, Ok, Err, IfOk, ⊤}
+use Rattle.std.specs.Prelude.{ℕ, ◌≡◌, ◌⊎◌, ◌+◌, ◌≤◌, Bool, true, IsTrue, List, [], ◌∷◌, ◌++◌, Option, Some, None, IsNone, IsSome, Result, Ok, Err, IfOk, ⊤}
 use Rattle.money.specs.declared.fault.Fault.{Fault}
 use Rattle.money.specs.declared.fault.Fault.TheVariants.{Memory, Stopped}
 use Rattle.bank_terms.specs.declared.rule.Rule.{Rule}
@@ -8,9 +8,10 @@ use Rattle.heads.specs.Framing.{asks_head, closes}
 use Rattle.heads.specs.declared.fault.MessageFault.{MessageFault}
 use Rattle.messages.specs.Parts.{MessageParts}
 use Rattle.messages.specs.Reply.{reply_bytes}
-use Rattle.store_rows.specs.Status.{Answers, RoseBy, Status, Tells, counts, counts_at_most, failures_after, stops}
+use Rattle.store_rows.specs.Status.{Answers, RoseBy, StaysWhole, Status, Tells, counts, counts_at_most, failures_after, stops}
+use Rattle.bank_run.specs.LastWord.{finds_room, heard}
 use Rattle.bank_run.specs.Meaning.{ReplyText}
-use Rattle.bank_run.specs.Run.{Marked, reply, step, world_after}
+use Rattle.bank_run.specs.Run.{Marked, accepted, is_accepted, reply, step, world_after}
 use Rattle.bank_run.specs.Sums.{IsProper, PassesChecks, SumsAgree}
 use Rattle.bank_run.specs.declared.request.Request.{Request}
 use Rattle.requests.specs.Request.{request_of}
@@ -55,6 +56,11 @@ MayBear stated mark = IfOk stated (λ r. IsNone r.who.user) → (mark ≡ None) 
 abbrev pub RefusesRequest : Bool → Option Fault → Type 0
 RefusesRequest stopped mark = IsTrue stopped → (mark ≡ Some Stopped) ⊎ (mark ≡ Some Memory)
 
+-- A request that is made, where it is a command that no rule denies, finds a version of the policy left: so it is not told of one
+-- that changed nothing.
+abbrev pub FindsRoom : Request → Option Fault → WorldLists → Type 0
+FindsRoom r mark w = is_accepted w (record { request = r; mark = mark }) ≡ true → finds_room w r.asked ≡ true
+
 -- The Worlds that a crash may leave beside the one that stands: those that it could leave before, as long as no request has
 -- changed the World, and the one after a request that was answered by a fault.
 abbrev pub pending_after : (WorldLists → Type 0) → WorldLists → Result Request MessageFault → Option Fault → WorldLists → Type 0
@@ -91,7 +97,9 @@ module _ (users : List ℕ → Option ℕ) where
     pub refused : IfOk (stated_by m) (λ r. IsSome r.who.user → RefusesRequest old.is_stopped m.mark)
     pub moved : Tells old new (λ w. new.holds (after_message w m))
     pub replied : Tells old new (λ w. parts ≡ response_to w (stated_by m) m.mark)
+    pub room : Tells old new (λ w. IfOk (stated_by m) (λ r. FindsRoom r m.mark w))
     pub leaves : Tells old new (λ w. (left : WorldLists) → new.may_leave left → (left ≡ after_message w m) ⊎ pending_after old.may_leave w (stated_by m) m.mark left)
+    pub whole : StaysWhole old new
 
   -- the same of messages, one after another
   abbrev pub IsPending : (WorldLists → Type 0) → WorldLists → List MarkedMessage → WorldLists → Type 0
@@ -136,8 +144,12 @@ pub record IsRun (users : List ℕ → Option ℕ) (old new : Status) (ms : List
   pub failed : new.failure_count ≡ failed_after ms old.failure_count
   pub moved : Tells old new (λ w. new.holds (world_after w (requests_of users ms)))
   pub replied : Tells old new (λ w. out ≡ replies_to users w ms)
+  -- each command that is accepted has its word: none is told of that changed nothing
+  pub all_heard : Tells old new (λ w. heard w (requests_of users ms) ≡ accepted w (requests_of users ms))
   -- A crash leaves the World that stands, or one that is pending: no change that was carried out is undone.
   pub leaves : Tells old new (λ w. (left : WorldLists) → new.may_leave left → (left ≡ world_after w (requests_of users ms)) ⊎ IsPending users old.may_leave w ms left)
+  -- and it leaves Worlds alone, where it did before
+  pub whole : StaysWhole old new
   -- and where the checks passed before, they pass after each request, and the sums agree
   pub agrees : (w : WorldLists) → PassesChecks w → SumsAgree w (requests_of users ms)
 

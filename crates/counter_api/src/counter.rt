@@ -5,10 +5,10 @@ ghost use Rattle.money.specs.Counted.{AppendsBeginning, stream_of};
 ghost use Rattle.money.specs.declared.fault.Fault.TheVariants.{Memory};
 ghost use Rattle.bank_run.specs.Sums.{IsProper};
 ghost use Rattle.messages.specs.Failures.{CountsByCall};
-ghost use Rattle.store_rows.specs.Status.{Answers, mark_of};
+ghost use Rattle.store_rows.specs.Status.{Answers, StaysWhole, Tells, mark_of};
 ghost use Rattle.decide.specs.OneRequest.{LeavesBoth, Moves, Replies, Settles};
 ghost use Rattle.requests.specs.Request.{IsServedAsked};
-ghost use Rattle.counter_api.specs.Run.{IsHandled, IsResponse, RefusesRequest, framed, parts_or_fault};
+ghost use Rattle.counter_api.specs.Run.{FindsRoom, IsHandled, IsResponse, RefusesRequest, framed, parts_or_fault};
 
 use crate::clock::Clock;
 use crate::response::Response;
@@ -43,7 +43,9 @@ fn carried_out<S: Store>(
     ensures answers { Answers (S.status bank.old.store) (S.status bank.new.store) (mark_of result) }
     ensures moved { Moves (S.status bank.old.store) (S.status bank.new.store) request (mark_of result) }
     ensures replied { Replies (S.status bank.old.store) (S.status bank.new.store) request IsResponse result }
+    ensures room { Tells (S.status bank.old.store) (S.status bank.new.store) (FindsRoom request (mark_of result)) }
     ensures crash { LeavesBoth (S.status bank.old.store) (S.status bank.new.store) request }
+    ensures whole { StaysWhole (S.status bank.old.store) (S.status bank.new.store) }
     ensures settled { Settles (S.status bank.old.store) (S.status bank.new.store) request (mark_of result) }
     ensures refused { IsSome request.who.user → RefusesRequest (S.status bank.old.store).is_stopped (mark_of result) }
     ensures stranger { IsNone request.who.user → IsOkUnless result Memory }

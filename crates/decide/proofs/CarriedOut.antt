@@ -12,6 +12,7 @@ module _ {S : Type 0} where
     answers = is.answers;
     moved = λ w leave holds. subst new.holds leave.plan (is.moved w holds);
     crash = λ honest w left leave holds may. subst (λ v. old.may_leave left ⊎ (left ≡ v)) leave.plan (is.crash honest w left holds may);
+    whole = is.whole;
   }
 
   pub replies : (old new : Status) (p : Permit S) (r : Reply S) → IsApplied old new p.plan.items None → reply_body r ≡ p.text.items → new.is_honest → (w : WorldLists) → IsLeave w p → old.holds w

@@ -1,7 +1,6 @@
 -- The rows of a command are those of the policy, where what was read is what the policy says.
 use Rattle.std.proofs.Common.{◌≡◌, ℕ, Bool, List, Option, ap, ◌∙◌}
 use Rattle.bank_policy.specs.HeldRows.{CertifiedSet, HeldTriple, relations_of, standing, triples_of}
-use Rattle.bank_policy.specs.Policy.{PolicyLists}
 use Rattle.bank_policy.specs.declared.policy_write.RelationKey.{RelationKey}
 use Rattle.bank_policy.specs.declared.policy_write.TripleKey.{TripleKey}
 use Rattle.bank_policy.specs.declared.rows.Certifier.{Certifier}

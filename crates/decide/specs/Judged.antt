@@ -1,7 +1,8 @@
 -- What is made of what was judged.
-use Rattle.std.specs.Prelude.{◌≡◌, ℕ, List, [], Result, Ok, Err, IfOk}
+use Rattle.std.specs.Prelude.{◌≡◌, ℕ, true, List, [], Result, Ok, Err, IfOk}
 use Rattle.std.specs.Global.{Vec}
 use Rattle.bank_terms.specs.declared.rule.Rule.{Rule}
+use Rattle.bank_books.specs.Version.{changes_policy}
 use Rattle.bank_books.specs.declared.row_write.RowWrite.{RowWrite}
 use Rattle.money.specs.declared.fault.Fault.{Fault}
 use Rattle.store_rows.specs.Status.{Status, mark_of}
@@ -12,6 +13,10 @@ use Rattle.decide.specs.Permit.{IsApplied}
 abbrev pub plan_of : Result Prepared Rule → List RowWrite
 plan_of (Err rule) = []
 plan_of (Ok p) = p.plan.items
+
+-- what carries it out changes the policy
+abbrev pub ChangesPolicy : Result (Result Prepared Rule) Fault → Type 0
+ChangesPolicy result = IfOk result (λ judged. IfOk judged (λ p. changes_policy p.plan.items ≡ true))
 
 -- what is told of it
 abbrev pub told_of : Result Prepared Rule → Result (Vec ℕ) Rule

@@ -1,7 +1,8 @@
 -- What one request makes of a store, and what is told of it.
-use Rattle.std.specs.Prelude.{◌≡◌, ◌⊎◌, ℕ, Option, None, Result, Ok, Err, IfOk}
+use Rattle.std.specs.Prelude.{◌≡◌, ◌<◌, ◌⊎◌, ℕ, Option, None, Result, Ok, Err, IfOk, OnOk}
 use Rattle.std.specs.Global.{Vec}
 use Rattle.money.specs.declared.fault.Fault.{Fault}
+use Rattle.bank_terms.specs.Limits.{max_version}
 use Rattle.bank_terms.specs.declared.rule.Rule.{Rule}
 use Rattle.bank_books.specs.WorldLists.{WorldLists}
 use Rattle.store_rows.specs.Status.{Status, Tells, after_mark}
@@ -26,6 +27,10 @@ module _ (old new : Status) (r : Request) where
   abbrev pub Settles : Option Fault → Type 0
   Settles mark = mark ≡ None → Tells old new (λ w. ((left : WorldLists) → new.may_leave left → left ≡ step w r)
       ⊎ ((step w r ≡ w) × ((left : WorldLists) → new.may_leave left → old.may_leave left)))
+
+-- A command that is done found a version of the policy to make: it is not told of one that changed nothing.
+abbrev pub FindsVersion : Status → Status → Result (Result (Vec ℕ) Rule) Fault → Type 0
+FindsVersion old new result = Tells old new (λ w. IfOk result (λ told. OnOk told (w.version < max_version)))
 
 -- the reply is this: the bytes of its text, in JSON, or the first rule that denies
 abbrev pub IsToldInJson : Result ReplyText Rule → Result (Vec ℕ) Rule → Type 0

@@ -4,12 +4,13 @@ ghost use Rattle.std.specs.Prelude.{◌≡◌, Ok, Err, IfOk, IsNone, IsSome};
 ghost use Rattle.serde_json.specs.View.{view};
 ghost use Rattle.bank_terms.specs.declared.rule.Rule.TheVariants.{Identity};
 ghost use Rattle.bank_books.specs.WorldLists.{WorldLists};
-ghost use Rattle.store_rows.specs.Status.{Answers, Reads, Refuses, mark_of};
+ghost use Rattle.store_rows.specs.Status.{Answers, Reads, Refuses, StaysWhole, mark_of};
 ghost use Rattle.bank_run.specs.Commands.{done_data, done_text};
 ghost use Rattle.bank_run.specs.Requests.{commands, first, verdict};
 ghost use Rattle.op_plans.specs.Judged.{IsJudged};
+ghost use Rattle.decide.specs.Judged.{ChangesPolicy};
 ghost use Rattle.decide.specs.Loaded.{IsLoadedForCommand};
-ghost use Rattle.decide.specs.OneRequest.{IsToldInJson, LeavesBoth, Moves, Replies, Settles};
+ghost use Rattle.decide.specs.OneRequest.{FindsVersion, IsToldInJson, LeavesBoth, Moves, Replies, Settles};
 
 use crate::by_rows::CommandGrounds;
 use crate::carried_out::carry_out_prepared;
@@ -38,7 +39,9 @@ pub fn decide_policy<S: Store>(
     ensures moved { Moves (S.status bank.old.store) (S.status bank.new.store) (commands command who) (mark_of result) }
     ensures replied { Replies (S.status bank.old.store) (S.status bank.new.store) (commands command who) IsToldInJson result }
     ensures crash { LeavesBoth (S.status bank.old.store) (S.status bank.new.store) (commands command who) }
+    ensures whole { StaysWhole (S.status bank.old.store) (S.status bank.new.store) }
     ensures settled { Settles (S.status bank.old.store) (S.status bank.new.store) (commands command who) (mark_of result) }
+    ensures room { FindsVersion (S.status bank.old.store) (S.status bank.new.store) result }
     ensures refused { IsSome who.user → Refuses (S.status bank.old.store) (mark_of result) }
     ensures stranger { IsNone who.user → result ≡ Ok (Err Identity) }
 {
@@ -57,7 +60,8 @@ fn prepare_command<P: PolicyReads>(
     command: PolicyOp,
 ) -> Result<Result<Prepared, Rule>, Fault>
     requires { IsSome who.user }
-    ensures { Reads (P.status store.old) (P.status store.new) result (IsJudged (verdict (commands command who))) }
+    ensures judged { Reads (P.status store.old) (P.status store.new) result (IsJudged (verdict (commands command who))) }
+    ensures changes { ChangesPolicy result }
 {
     let Some(user) = who.user else {
         unreachable!();

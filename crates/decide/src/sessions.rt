@@ -3,7 +3,7 @@
 ghost use Rattle.std.specs.Prelude.{◌≡◌, ◌+◌, None, Some, Ok, Err, IfErr, IfOk, IsNone, IsSome, OnOk};
 ghost use Rattle.serde_json.specs.View.{view};
 ghost use Rattle.bank_terms.specs.declared.rule.Rule.TheVariants.{Identity};
-ghost use Rattle.store_rows.specs.Status.{Answers, Reads, Refuses, mark_of};
+ghost use Rattle.store_rows.specs.Status.{Answers, Reads, Refuses, StaysWhole, mark_of};
 ghost use Rattle.bank_run.specs.Requests.{ends_session, opens_session, verdict};
 ghost use Rattle.bank_run.specs.Sessions.{ending_data, ending_text, first_against_ending, first_against_opening, latest, opening_data, opening_text};
 ghost use Rattle.op_plans.specs.Judged.{IsJudged};
@@ -34,6 +34,7 @@ pub fn begin<S: Store>(
     ensures moved { Moves (S.status bank.old.store) (S.status bank.new.store) (opens_session user) (mark_of result) }
     ensures replied { Replies (S.status bank.old.store) (S.status bank.new.store) (opens_session user) IsToldInJson result }
     ensures crash { LeavesBoth (S.status bank.old.store) (S.status bank.new.store) (opens_session user) }
+    ensures whole { StaysWhole (S.status bank.old.store) (S.status bank.new.store) }
     ensures settled { Settles (S.status bank.old.store) (S.status bank.new.store) (opens_session user) (mark_of result) }
     ensures refused { IsSome user → Refuses (S.status bank.old.store) (mark_of result) }
     ensures stranger { IsNone user → result ≡ Ok (Err Identity) }
@@ -57,6 +58,7 @@ pub fn end<S: Store>(
     ensures moved { Moves (S.status bank.old.store) (S.status bank.new.store) (ends_session who) (mark_of result) }
     ensures replied { Replies (S.status bank.old.store) (S.status bank.new.store) (ends_session who) IsToldInJson result }
     ensures crash { LeavesBoth (S.status bank.old.store) (S.status bank.new.store) (ends_session who) }
+    ensures whole { StaysWhole (S.status bank.old.store) (S.status bank.new.store) }
     ensures settled { Settles (S.status bank.old.store) (S.status bank.new.store) (ends_session who) (mark_of result) }
     ensures refused { IsSome who.user → Refuses (S.status bank.old.store) (mark_of result) }
     ensures stranger { IsNone who.user → result ≡ Ok (Err Identity) }

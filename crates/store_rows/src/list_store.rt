@@ -34,6 +34,7 @@ impl ListStore {
         ensures holds { (list_status result).holds world }
         ensures only { (w : WorldLists) → (list_status result).holds w → w ≡ world }
         ensures crash { (left : WorldLists) → (list_status result).may_leave left → left ≡ world }
+        ensures whole { (list_status result).leaves_a_world }
         ensures honest { (list_status result).is_honest }
         ensures works { (list_status result).is_stopped ≡ false }
         ensures none { (list_status result).fault_count ≡ 0 }

@@ -1,11 +1,12 @@
-ghost use Rattle.std.specs.Prelude.{◌≡◌};
+ghost use Rattle.std.specs.Prelude.{◌≡◌, IsTrue, OnOk};
 ghost use Rattle.bank_books.specs.Records.{account_record, branch_record, teller_record};
 ghost use Rattle.bank_books.specs.Effects.{applied};
+ghost use Rattle.bank_books.specs.Version.{has_version_for};
 ghost use Rattle.bank_policy.specs.HeldRows.{relations_of, triples_of};
 ghost use Rattle.row_reads.specs.BookReads.{drawer, entries_of, entry, entry_at, next_shown, next_teller, release, roster, shown, undone, vault};
 ghost use Rattle.row_reads.specs.PolicyListing.{next_policy, policy_rows};
 ghost use Rattle.row_reads.specs.PolicyReads.{is_certifier, is_set, set_count, triple_count, user_record};
-ghost use Rattle.store_rows.specs.Status.{Changes, ReadsRow, Refuses, Status, count_after, mark_of};
+ghost use Rattle.store_rows.specs.Status.{Changes, ReadsRow, Refuses, Status, Tells, count_after, mark_of};
 
 use bank_books::{AccountRecord, BranchRecord, Entry, EntryRecord, Plan, Release, TellerRecord};
 use bank_policy::{CertifiedRow, HeldRow};
@@ -175,9 +176,11 @@ pub trait ReportReads: Stands {
 /// A store of one World, however it is kept. A plan is applied whole or not at all.
 pub trait Store: PolicyReads + BookReads + ReportReads {
     /// Carries out the whole plan, or at a fault nothing of it. A store says `Fault::Size` where it has
-    /// no room for the plan, such as for the next version of the policy.
+    /// no room for the plan. A plan that changes the policy is never carried out where the version is
+    /// the greatest: there is no next one for it.
     fn apply(&mut self, alloc: Global, plan: Plan) -> Result<(), Fault>
         ensures changed { Changes (Self.status self.old) (Self.status self.new) (applied plan.items) (mark_of result) }
+        ensures room { Tells (Self.status self.old) (Self.status self.new) (λ w. OnOk result (IsTrue (has_version_for plan.items w.version))) }
         ensures refused { Refuses (Self.status self.old) (mark_of result) }
         ensures counted { (Self.status self.new).fault_count ≡ count_after (mark_of result) (Self.status self.old).fault_count };
 }

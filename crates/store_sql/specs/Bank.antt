@@ -14,6 +14,10 @@ Holds s is_stopped w = is_stopped ≡ false → HasCleanDisk s → IsTrue s.is_o
 abbrev pub MayLeave : State → WorldLists → Type 0
 MayLeave s w = (trees : Trees) × s.may_leave trees × AreOfWorld w trees
 
+-- whatever trees a crash may leave are of some World
+abbrev pub LeavesAWorld : State → Type 0
+LeavesAWorld s = (trees : Trees) → s.may_leave trees → (w : WorldLists) × AreOfWorld w trees
+
 abbrev pub sql_status : State → Bool → ℕ → ℕ → Status
 sql_status s is_stopped faults failures = record {
   holds = Holds s is_stopped;
@@ -22,4 +26,5 @@ sql_status s is_stopped faults failures = record {
   fault_count = faults;
   failure_count = failures;
   may_leave = MayLeave s;
+  leaves_a_world = LeavesAWorld s;
 }

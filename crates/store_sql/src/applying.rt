@@ -2,6 +2,7 @@ ghost use Rattle.std.specs.Prelude.{◌≡◌, false, IsTrue, OnErr, OnOk};
 ghost use Rattle.sqlite.specs.Held.{state};
 ghost use Rattle.sqlite.specs.State.{HasCleanDisk, Survives};
 ghost use Rattle.bank_books.specs.Effects.{applied};
+ghost use Rattle.bank_books.specs.Version.{has_version_for};
 ghost use Rattle.bank_books.specs.WorldLists.{WorldLists};
 ghost use Rattle.bank_schema.specs.Held.{AreOfWorld, HoldsBank};
 ghost use Rattle.bank_schema.specs.Steps.{Moves, StaysOpen};
@@ -37,6 +38,7 @@ pub(crate) fn apply_plan<S: Alter>(
     ensures mode { conn.new.in_transaction ≡ false }
     ensures in_full { HasCleanDisk (state S.Store conn.new) → (w : WorldLists) → HoldsBank (state S.Store conn.old) w → OnOk result (HoldsBank (state S.Store conn.new) (applied plan.now w)) }
     ensures refused { HasCleanDisk (state S.Store conn.new) → (w : WorldLists) → HoldsBank (state S.Store conn.old) w → OnErr result (IsTrue (state S.Store conn.new).is_open → HoldsBank (state S.Store conn.new) w) }
+    ensures room { HasCleanDisk (state S.Store conn.new) → (w : WorldLists) → HoldsBank (state S.Store conn.old) w → OnOk result (IsTrue (has_version_for plan.now w.version)) }
     ensures was_open { HasCleanDisk (state S.Store conn.new) → IsTrue (state S.Store conn.new).is_open → IsTrue (state S.Store conn.old).is_open }
     ensures stays_open { HasCleanDisk (state S.Store conn.new) → OnOk result (IsTrue (state S.Store conn.new).is_open) }
     ensures crash { Survives (state S.Store conn.old) (state S.Store conn.new) (λ trees. IsTrue (state S.Store conn.old).is_open × ((w : WorldLists) → HoldsBank (state S.Store conn.old) w → AreOfWorld (applied plan.now w) trees)) }

@@ -1,8 +1,9 @@
-ghost use Rattle.std.specs.Prelude.{◌≡◌, ◌≢◌, ◌≤◌, ◌+◌, false, IsTrue, Some};
+ghost use Rattle.std.specs.Prelude.{◌≡◌, ◌≢◌, ◌≤◌, ◌+◌, false, IsTrue, OnOk, Some};
 ghost use Rattle.sqlite.specs.Held.{state};
 ghost use Rattle.bank_books.specs.Effects.{applied};
+ghost use Rattle.bank_books.specs.Version.{has_version_for};
 ghost use Rattle.money.specs.declared.fault.Fault.TheVariants.{Stopped};
-ghost use Rattle.store_rows.specs.Status.{Changes, ReadsRow, RoseBy, count_after, counts, failures_after, mark_of, stops};
+ghost use Rattle.store_rows.specs.Status.{Changes, ReadsRow, RoseBy, Tells, count_after, counts, failures_after, mark_of, stops};
 ghost use Rattle.store_sql.specs.Bank.{sql_status};
 
 use crate::applying::apply_plan;
@@ -90,6 +91,7 @@ impl<S: Alter> SqlStore<S> {
     /// Carries out the whole plan in one transaction, or at a fault nothing of it.
     fn write(&mut self, alloc: Global, plan: &[RowWrite]) -> Result<(), Fault>
         ensures changed { Changes (sql_status (state S.Store self.old.conn) self.old.is_stopped self.old.faults self.old.failures) (sql_status (state S.Store self.new.conn) self.new.is_stopped self.new.faults self.new.failures) (applied plan.now) (mark_of result) }
+        ensures room { Tells (sql_status (state S.Store self.old.conn) self.old.is_stopped self.old.faults self.old.failures) (sql_status (state S.Store self.new.conn) self.new.is_stopped self.new.faults self.new.failures) (λ w. OnOk result (IsTrue (has_version_for plan.now w.version))) }
         ensures refused { IsTrue self.old.is_stopped → mark_of result ≡ Some Stopped }
         ensures counted { self.new.faults ≡ count_after (mark_of result) self.old.faults }
     {

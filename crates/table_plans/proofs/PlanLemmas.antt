@@ -1,7 +1,7 @@
 -- Plans as changes one after another, and the version behind them.
-use Rattle.std.proofs.Common.{◌≡◌, ◌<◌, ◌++◌, ◌∷◌, [], List, Bool, true, false, Result, Ok, Err, OnOk, refl, sym, ap, subst, ◌∙◌, if◌then◌else◌, not, ◌||◌, nat_lt, ℕ}
+use Rattle.std.proofs.Common.{◌≡◌, ◌++◌, ◌∷◌, [], List, IsTrue, true, false, Result, Ok, Err, OnOk, refl, sym, ap, subst, ◌∙◌, if◌then◌else◌, not, ◌||◌, nat_lt, ℕ}
 use Rattle.bank_terms.specs.Limits.{max_version}
-use Rattle.bank_books.specs.Effects.{all_written, applied, in_full, written}
+use Rattle.bank_books.specs.Effects.{all_written, applied, written}
 use Rattle.bank_books.specs.Version.{changes_policy, has_version_for, with_version}
 use Rattle.bank_books.specs.WorldLists.{WorldLists}
 use Rattle.bank_books.specs.declared.row_write.RowWrite.{RowWrite}
@@ -29,6 +29,14 @@ version_stays (write.Policy change) w = refl
 versions_stay : (rows : List RowWrite) (w : WorldLists) → (all_written rows w).version ≡ w.version
 versions_stay [] w = refl
 versions_stay (row ∷ rows) w = versions_stay rows (written row w) ∙ version_stays row w
+
+-- a version that is there behind the changes was there before them
+pub room_before : (plan : List RowWrite) (w : WorldLists) → IsTrue (has_version_for plan (all_written plan w).version) → IsTrue (has_version_for plan w.version)
+room_before plan w room = subst (λ v. IsTrue (has_version_for plan v)) (versions_stay plan w) room
+
+-- a plan that leaves the policy as it is needs none
+pub room_unasked : (plan : List RowWrite) (version : ℕ) → changes_policy plan ≡ false → IsTrue (has_version_for plan version)
+room_unasked plan version still = subst (λ b. IsTrue (not b || nat_lt version max_version)) (sym still) refl
 
 -- a plan that leaves the policy as it is
 pub applied_still : (plan : List RowWrite) (w : WorldLists) → changes_policy plan ≡ false → all_written plan w ≡ applied plan w

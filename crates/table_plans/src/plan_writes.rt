@@ -1,10 +1,13 @@
 //! The whole of a plan, written to the tables of a bank.
 
-ghost use Rattle.std.specs.Prelude.{◌≡◌, ◌∷◌, IfSome};
+ghost use Rattle.std.specs.Prelude.{◌≡◌, ◌∷◌, IfSome, IsTrue, OnOk};
 ghost use Rattle.sqlite.specs.Held.{state};
-ghost use Rattle.sqlite.specs.State.{Survives};
+ghost use Rattle.sqlite.specs.State.{HasCleanDisk, Survives};
 ghost use Rattle.bank_books.specs.Effects.{all_written, applied, written};
+ghost use Rattle.bank_books.specs.Version.{has_version_for};
+ghost use Rattle.bank_books.specs.WorldLists.{WorldLists};
 ghost use Rattle.bank_books.specs.declared.row_write.RowWrite.TheVariants as write;
+ghost use Rattle.bank_schema.specs.Held.{HoldsWorld};
 ghost use Rattle.bank_schema.specs.Steps.{Moves};
 
 use crate::book_writes::{
@@ -99,6 +102,7 @@ pub fn write_plan<S: Alter>(
 ) -> Result<(), Fault>
     ensures same_reference { tx.new.conn.ghost_name ≡ tx.old.conn.ghost_name }
     ensures moves { Moves (state S.Store tx.old.conn.now) (state S.Store tx.new.conn.now) (applied plan.now) result }
+    ensures room { HasCleanDisk (state S.Store tx.new.conn.now) → IsTrue (state S.Store tx.old.conn.now).in_transaction → (w : WorldLists) → HoldsWorld (state S.Store tx.old.conn.now).now w → OnOk result (IsTrue (has_version_for plan.now w.version)) }
     ensures survives { Survives (state S.Store tx.old.conn.now) (state S.Store tx.new.conn.now) (λ _. ⊥) }
 {
     write_changes(alloc, tx, plan)?;

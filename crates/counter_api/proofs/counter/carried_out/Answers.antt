@@ -9,7 +9,7 @@ use Rattle.bank_run.specs.declared.request.Request.{Request}
 use Rattle.decide.specs.OneRequest.{Settles}
 use Rattle.bank_run.specs.Requests.{commands}
 use Rattle.bank_run.specs.Run.{step}
-use Rattle.counter_api.proofs.CarriedOut.{denied_stays, settled_as_asked, settles}
+use Rattle.counter_api.proofs.CarriedOut.{denied_finds, denied_stays, settled_as_asked, settles}
 use Rattle.counter_api.proofs.counter.carried_out.Goals as goal
 
 -- where the lender ends as the second, what holds of that holds of it
@@ -50,3 +50,8 @@ returns-in-Ok-Ok-decide_policy-clause-settled g c =
 pub returns-in_ok-denied-in-Ok-Err-decide_policy-clause-settled : goal.returns-in_ok-denied-in-Ok-Err-decide_policy-clause-settled
 returns-in_ok-denied-in-Ok-Err-decide_policy-clause-settled g c =
     settled_as_asked (g.S.Stands.status c.args.bank.now.store) (g.S.Stands.status c.decide_policy.new.bank.store) c.args.request c.in-Command.command c.in-Command.is c.in-Ok-Err-decide_policy.ensures.settled
+
+pub returns-in_ok-denied-in-Ok-Err-decide_policy-clause-room : goal.returns-in_ok-denied-in-Ok-Err-decide_policy-clause-room
+returns-in_ok-denied-in-Ok-Err-decide_policy-clause-room g c =
+    denied_finds (g.S.Stands.status c.args.bank.now.store) (g.S.Stands.status c.decide_policy.new.bank.store) c.args.request c.in-Command.command c.in-Ok-Err-decide_policy.rule None c.in-Command.is
+    (λ honest w holds. rw c.in-Ok-Err-decide_policy.field-0-is at (c.in-Ok-Err-decide_policy.ensures.replied honest w holds))

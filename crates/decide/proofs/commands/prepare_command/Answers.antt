@@ -5,8 +5,8 @@ use Rattle.bank_run.specs.PolicyRules.{is_identified}
 use Rattle.decide.proofs.CommandVerdict.{by_rows}
 use Rattle.decide.proofs.commands.prepare_command.Goals as goal
 
-pub returns-in-Err : goal.returns-in-Err
-returns-in-Err g c = record {
+pub returns-in-Err-clause-judged : goal.returns-in-Err-clause-judged
+returns-in-Err-clause-judged g c = record {
   told = λ honest w holds.
       let is : c.in_ok-standing.standing ≡ standing w.policy c.in-Some.user = search rules in
       let known : is_identified c.in_ok-standing.standing c.args.who.session ≡ true = search rules in

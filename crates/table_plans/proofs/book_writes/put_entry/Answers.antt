@@ -1,4 +1,3 @@
-use Rattle.std.proofs.Common.{◌≡◌, ◌∙◌, sym, subst}
 use Rattle.sqlite.specs.Held.{state}
 use Rattle.bank_schema.proofs.StepLemmas.{early, kept_then, none_ok}
 use Rattle.table_plans.proofs.book_writes.put_entry.Goals as goal

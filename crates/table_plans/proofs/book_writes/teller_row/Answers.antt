@@ -1,5 +1,4 @@
-use Rattle.std.proofs.Common.{◌≡◌, ◌∙◌, sym}
-use Rattle.sqlite.specs.Held.{state}
+use Rattle.std.proofs.Common.{◌∙◌, sym}
 use Rattle.bank_schema.proofs.StepLemmas.{none_ok}
 use Rattle.table_plans.proofs.book_writes.teller_row.Goals as goal
 

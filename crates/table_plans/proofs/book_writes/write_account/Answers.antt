@@ -1,4 +1,4 @@
-use Rattle.std.proofs.Common.{◌≡◌, subst}
+use Rattle.std.proofs.Common.{subst}
 use Rattle.sqlite.specs.Held.{state}
 use Rattle.bank_schema.proofs.StepLemmas.{early, kept_then, none_ok}
 use Rattle.bank_schema.proofs.WorldLemmas.{tables_of}

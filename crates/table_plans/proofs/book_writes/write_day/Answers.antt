@@ -1,4 +1,4 @@
-use Rattle.std.proofs.Common.{◌≡◌, ◌∙◌, ap, refl, subst, sym}
+use Rattle.std.proofs.Common.{ap, subst}
 use Rattle.sqlite.specs.Held.{state}
 use Rattle.bank_books.specs.Effects.{on_day}
 use Rattle.bank_books.specs.declared.records.BranchRecord.{BranchRecord}

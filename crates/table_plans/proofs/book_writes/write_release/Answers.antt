@@ -1,4 +1,4 @@
-use Rattle.std.proofs.Common.{◌≡◌, ◌∙◌, ap, refl, subst, sym}
+use Rattle.std.proofs.Common.{refl, subst}
 use Rattle.sqlite.specs.Held.{state}
 use Rattle.keyed_rows.specs.Ordered.{add_row}
 use Rattle.bank_books.specs.Keys.{release_key}

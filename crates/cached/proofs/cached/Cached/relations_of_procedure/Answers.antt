@@ -1,4 +1,4 @@
-use Rattle.std.proofs.Common.{rules, ◌≡◌, ◌∙◌, refl}
+use Rattle.std.proofs.Common.{rules, ◌∙◌, refl}
 use Rattle.cached.proofs.Standing.{reads_then, reads_with}
 use Rattle.cached.proofs.cached.Cached.relations_of_procedure.Goals as goal
 

@@ -1,4 +1,4 @@
-use Rattle.std.proofs.Common.{rules, ◌≡◌, ◌∙◌}
+use Rattle.std.proofs.Common.{rules, ◌∙◌}
 use Rattle.cached.proofs.Standing.{reads_then, reads_with}
 use Rattle.cached.proofs.cached.Cached.triples_of_user.Goals as goal
 

@@ -1,4 +1,4 @@
-use Rattle.std.proofs.Common.{◌≡◌, ◌∙◌, ap, rules, subst, sym}
+use Rattle.std.proofs.Common.{◌∙◌, ap, subst, sym}
 use Rattle.std.specs.Option.{option_copied}
 use Rattle.cached.proofs.Entries.{copied, copy-HasRows, found-fresh, promoted-first, promoted-fresh}
 use Rattle.cached.proofs.Keys.{same}

@@ -1,5 +1,5 @@
-use Rattle.std.proofs.Common.{◌≡◌, sym, subst}
-use Rattle.cached.specs.Fresh.{AreFresh, IsFirst}
+use Rattle.std.proofs.Common.{sym, subst}
+use Rattle.cached.specs.Fresh.{AreFresh}
 use Rattle.cached.proofs.Entries.{put-first, put-fresh}
 use Rattle.cached.proofs.policy_cache.PolicyCache.remember.Goals as goal
 

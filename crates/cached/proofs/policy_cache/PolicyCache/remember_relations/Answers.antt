@@ -1,4 +1,4 @@
-use Rattle.std.proofs.Common.{◌≡◌, ◌∙◌}
+use Rattle.std.proofs.Common.{◌∙◌}
 use Rattle.cached.proofs.policy_cache.PolicyCache.remember_relations.Goals as goal
 
 pub returns-clause-fresh : goal.returns-clause-fresh

@@ -1,4 +1,4 @@
-use Rattle.std.proofs.Common.{◌≡◌, ◌∙◌, sym, ap, subst, inl, inr, arith, refl}
+use Rattle.std.proofs.Common.{◌∙◌, sym, ap, subst, inl, inr, arith, refl}
 use Rattle.sqlite.specs.Effect.{Database}
 use Rattle.sqlite.specs.Held.{state}
 use Rattle.bank_books.specs.Effects.{applied}
@@ -22,7 +22,17 @@ returns-in-Ok-clause-changed g c =
           let bank = c.in-Ok.ensures.in_full honest w (holds c.if-self.false (before honest) (c.apply_plan.ensures.was_open honest is_open)) in
           let last = g.met.S.Store.settled c.apply_plan.new.conn.store may.0 is_open may.1 in
           same_world left (applied c.args.plan.now w) may.0 may.2 (subst (AreOfWorld (applied c.args.plan.now w)) (sym (last ∙ ap (λ (d : Database). d.trees) bank.settled)) bank.now.world);
+      whole = λ honest w holds leaves trees may. elim (c.apply_plan.ensures.crash.crash honest trees may) [
+        | inl old ↦ leaves trees old
+        | inr new ↦ (applied c.args.plan.now w, new.1 w (holds c.if-self.false (before honest) new.0))
+      ];
     }
+
+pub returns-in-Ok-clause-room : goal.returns-in-Ok-clause-room
+returns-in-Ok-clause-room g c honest w holds =
+    let before = early (state g.S.Store c.args.self.now.conn) (state g.S.Store c.apply_plan.new.conn) _ c.apply_plan.ensures.crash in
+    let is_open = c.in-Ok.ensures.stays_open honest in
+    c.in-Ok.ensures.room honest w (holds c.if-self.false (before honest) (c.apply_plan.ensures.was_open honest is_open))
 
 pub returns-in-Err-clause-changed : goal.returns-in-Err-clause-changed
 returns-in-Err-clause-changed g c =
@@ -35,4 +45,8 @@ returns-in-Err-clause-changed g c =
         | inr new ↦ inr (same_world left (applied c.args.plan.now w) may.0 may.2 (new.1 w (holds c.if-self.false (before honest) new.0)))
       ];
       settled = λ honest e w left holds may. absurd cc;
+      whole = λ honest w holds leaves trees may. elim (c.apply_plan.ensures.crash.crash honest trees may) [
+        | inl old ↦ leaves trees old
+        | inr new ↦ (applied c.args.plan.now w, new.1 w (holds c.if-self.false (before honest) new.0))
+      ];
     })
