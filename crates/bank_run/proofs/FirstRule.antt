@@ -99,4 +99,4 @@ pub none_denies : (w : WorldLists) (q : Request) (r : Rule) → first w q ≡ No
 none_denies w q r is = (is_first_rule w q).none is r
 
 pub first_by_place : FirstByPlace
-first_by_place = (one_place, is_first_rule)
+first_by_place = (one_place, refl, is_first_rule)

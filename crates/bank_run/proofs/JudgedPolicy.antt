@@ -14,9 +14,11 @@ use Rattle.bank_policy.proofs.Tested.{certified_tested, certified_told, held_by_
 use Rattle.bank_books.specs.WorldLists.{WorldLists}
 use Rattle.counter_ops.specs.Op.{procedure_of}
 use Rattle.touched.specs.Touched.{amount, touched}
-use Rattle.bank_run.specs.Laws.{AllowedExactlyWhenHeld, InLimit, InLimitOrReleased, IsIdentified, PolicyIsJudged, Released}
+use Rattle.bank_run.specs.Laws.{AllowedExactlyWhenHeld, IdentityIsJudged, InLimit, InLimitOrReleased, IsIdentified, MayOpen, PolicyIsJudged, Released}
+use Rattle.bank_run.specs.NamedRelease.{is_active}
 use Rattle.bank_run.specs.PolicyRules.{asker, grounds, is_identified, is_in_limit, is_released, leave_of, policy_denies, rules_of_policy}
 use Rattle.bank_run.specs.Requests.{denies, executes}
+use Rattle.bank_run.specs.Sessions.{standing_of_asker}
 use Rattle.bank_run.specs.declared.execution.Execution.{Execution}
 use Rattle.bank_run.specs.declared.leave.Leave.TheVariants as leave
 use Rattle.bank_run.proofs.AllowedRequest.{allowed_by_books}
@@ -68,6 +70,30 @@ tested_user w who known =
 
 identified_passed : (w : WorldLists) (q : Execution) → (denies rule.Identity w (executes q) ≡ false → IsIdentified w q.who) × (IsIdentified w q.who → denies rule.Identity w (executes q) ≡ false)
 identified_passed w q = passed (is_identified (grounds w q).standing q.who.session) (told_user w q.who.user q.who.session q.who.release) (tested_user w q.who)
+
+known_passed : (w : WorldLists) (who : Who) → (not (is_identified (standing_of_asker who w) who.session) ≡ false → IsIdentified w who) × (IsIdentified w who → not (is_identified (standing_of_asker who w) who.session) ≡ false)
+known_passed w who = passed (is_identified (standing_of_asker who w) who.session) (told_user w who.user who.session who.release) (tested_user w who)
+
+told_active : (w : WorldLists) (user : ℕ) (o : Option Standing) → standing w.policy user ≡ o → is_active o ≡ true → MayOpen w (Some user)
+told_active w user None at is = absurd cc
+told_active w user (Some row) at is = record { user = user; row = row; named = refl; there = at; active = not-true row.suspended is }
+
+told_opening : (w : WorldLists) (user : Option ℕ) → is_active (option_and_then (λ u. standing w.policy u) user) ≡ true → MayOpen w user
+told_opening w None is = absurd cc
+told_opening w (Some user) is = told_active w user (standing w.policy user) refl is
+
+tested_opening : (w : WorldLists) (user : Option ℕ) → MayOpen w user → is_active (option_and_then (λ u. standing w.policy u) user) ≡ true
+tested_opening w user may =
+    ap (λ o. is_active (option_and_then (λ u. standing w.policy u) o)) may.named
+    ∙ ap is_active may.there
+    ∙ ap not may.active
+
+pub identity_is_judged : IdentityIsJudged
+identity_is_judged w = record {
+  command = λ command who. known_passed w who;
+  ending = λ who. known_passed w who;
+  opening = λ user. passed (is_active (option_and_then (λ u. standing w.policy u) user)) (told_opening w user) (tested_opening w user);
+}
 
 -- ---- the relations and the triples
 

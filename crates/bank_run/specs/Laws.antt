@@ -1,6 +1,6 @@
 -- What holds of every decision: the rule that is named is the first that denies, the tests of the policy ask what Clark and
 -- Wilson's rules E1 and E2 ask, a release counts once, an account that is opened and a release that is given keep the books, and a session changes nothing else.
-use Rattle.std.specs.Prelude.{ℕ, ◌≡◌, ◌≢◌, ◌↔◌, ◌⊎◌, ◌==◌, ◌≤◌, ◌++◌, true, false, Option, Some, None, List, ◌∷◌, All, count_by}
+use Rattle.std.specs.Prelude.{ℕ, ◌≡◌, ◌≢◌, ◌↔◌, ◌⊎◌, ◌==◌, ◌≤◌, ◌++◌, true, false, Option, Some, None, List, [], ◌∷◌, map, All, count_by}
 use Rattle.std.specs.List.{AllZip}
 use Rattle.bank_policy.specs.Execution.{Certified, Held}
 use Rattle.bank_policy.specs.HeldRows.{standing}
@@ -23,6 +23,7 @@ use Rattle.counter_ops.specs.Rows.{row_of}
 use Rattle.counter_ops.specs.declared.new_account.NewAccount.{NewAccount}
 use Rattle.counter_ops.specs.declared.op.Op.{Op}
 use Rattle.counter_ops.specs.declared.release.Release.{Release as Given}
+use Rattle.policy_ops.specs.declared.policy_op.PolicyOp.{PolicyOp}
 use Rattle.row_reads.specs.BookReads.{release}
 use Rattle.row_rules.specs.Signed.{IsSigned}
 use Rattle.touched.specs.Touched.{amount, touched}
@@ -30,7 +31,7 @@ use Rattle.bank_run.specs.NewAccount.{first_against_new_account, new_account_eff
 use Rattle.bank_run.specs.Release.{first_against_release, release_effect, release_rows}
 use Rattle.bank_run.specs.PolicyRules.{asker}
 use Rattle.bank_run.specs.Meaning.{by_books}
-use Rattle.bank_run.specs.Requests.{denies, effect, ends_session, executes, first, opens_session, rules}
+use Rattle.bank_run.specs.Requests.{commands, denies, effect, ends_session, executes, first, opens_session, rules}
 use Rattle.bank_run.specs.Executions.{books_meaning}
 use Rattle.bank_run.specs.declared.execution.Execution.{Execution}
 use Rattle.bank_run.specs.declared.request.Request.{Request}
@@ -47,8 +48,12 @@ pub record IsFirstRule (w : WorldLists) (q : Request) : Type 0 where
 abbrev pub HasOnePlace : Rule → Type 0
 HasOnePlace r = count_by (λ other. number_of other == number_of r) rules ≡ 1
 
+-- today the places go by the numbers
+abbrev pub numbers : List ℕ
+numbers = 1 ∷ 2 ∷ 3 ∷ 4 ∷ 5 ∷ 6 ∷ 7 ∷ 8 ∷ 9 ∷ 10 ∷ 11 ∷ 12 ∷ 13 ∷ 14 ∷ 15 ∷ 16 ∷ 17 ∷ 18 ∷ 19 ∷ 20 ∷ 21 ∷ []
+
 abbrev pub FirstByPlace : Type 0
-FirstByPlace = ((r : Rule) → HasOnePlace r) × ((w : WorldLists) (q : Request) → IsFirstRule w q)
+FirstByPlace = ((r : Rule) → HasOnePlace r) × (map number_of rules ≡ numbers) × ((w : WorldLists) (q : Request) → IsFirstRule w q)
 
 -- some one triple of the user holds all that is touched, up to the amount at least
 abbrev pub InLimit : WorldLists → ℕ → Op → Type 0
@@ -64,6 +69,23 @@ pub record IsIdentified (w : WorldLists) (who : Who) : Type 0 where
   pub on : row.on ≡ true
   pub present : row.session ≡ who.session
   pub given : who.session ≢ 0
+
+-- who asks to open a session is there and not suspended; no session of his is looked at
+pub record MayOpen (w : WorldLists) (asked : Option ℕ) : Type 0 where
+  pub user : ℕ
+  pub row : Standing
+  pub named : asked ≡ Some user
+  pub there : standing w.policy user ≡ Some row
+  pub active : row.suspended ≡ false
+
+-- The rule on identity asks of a command and of the ending of a session whether who asks is known, and of an opening whether he may open one.
+pub record IsIdentityJudged (w : WorldLists) : Type 0 where
+  pub command : (command : PolicyOp) (who : Who) → (denies rule.Identity w (commands command who) ≡ false ↔ IsIdentified w who)
+  pub ending : (who : Who) → (denies rule.Identity w (ends_session who) ≡ false ↔ IsIdentified w who)
+  pub opening : (user : Option ℕ) → (denies rule.Identity w (opens_session user) ≡ false ↔ MayOpen w user)
+
+abbrev pub IdentityIsJudged : Type 0
+IdentityIsJudged = (w : WorldLists) → IsIdentityJudged w
 
 -- The release of this number of a user counts for an operation: it is there and unused, names exactly that operation, and bears the present day of its branch; who
 -- gave it is another, is there and not suspended, and some one triple of his for releases holds all that is touched, up to the amount at least.

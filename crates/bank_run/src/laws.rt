@@ -1,11 +1,11 @@
 //! What holds of every decision, of releases, of a new account, of sessions, and along every list of requests. The functions do nothing; their contracts are the laws.
 
 ghost use Rattle.bank_run.specs.LastWord.{LastWord};
-ghost use Rattle.bank_run.specs.Laws.{AllowedExactlyWhenHeld, FirstByPlace, NewAccountKeepsBooks, PolicyIsJudged, ReleaseKeepsBooks, ReleasesAreUsedOnce, SessionsChangeNoMore};
+ghost use Rattle.bank_run.specs.Laws.{AllowedExactlyWhenHeld, FirstByPlace, IdentityIsJudged, NewAccountKeepsBooks, PolicyIsJudged, ReleaseKeepsBooks, ReleasesAreUsedOnce, SessionsChangeNoMore};
 ghost use Rattle.bank_run.specs.Sums.{NoOneExecutesWhatHeCertifies, SumsAlwaysAgree};
 
-/// The rule that a denial names is the first that denies, by its place in the list of rules, in which each stands once; and
-/// where none is named, none denies.
+/// The rule that a denial names is the first that denies, by its place in the list of rules, in which each stands once, and
+/// which today goes by their numbers; and where none is named, none denies.
 pub fn first_by_place()
     ensures { FirstByPlace }
 {}
@@ -14,6 +14,12 @@ pub fn first_by_place()
 /// and one up to the amount holds all that is touched, or a release that is named counts.
 pub fn policy_is_judged()
     ensures { PolicyIsJudged }
+{}
+
+/// The rule on identity does not deny a command or the ending of a session exactly where who asks is known by his open session,
+/// and the opening of one exactly where he is there and not suspended.
+pub fn identity_is_judged()
+    ensures { IdentityIsJudged }
 {}
 
 /// An operation is allowed exactly when its user is known, some one triple of his holds all that it
