@@ -1,6 +1,7 @@
 -- What serving a stream over the sample bank comes to, in any store.
 use Rattle.std.specs.Prelude.{◌≡◌, ◌⊎◌, ℕ, Result, Ok, Err}
 use Rattle.bank_books.specs.WorldLists.{WorldLists}
+use Rattle.bank_run.specs.Sums.{PassesChecks}
 use Rattle.counter_api.specs.Exit.{IsServed}
 use Rattle.messages.specs.declared.serving.ServeFault.{ServeFault}
 use Rattle.messages.specs.declared.serving.ServeFault.TheVariants.{Cut, Memory, Read, Report, Write}
@@ -27,8 +28,9 @@ FailuresByExit old new (Err Report) = FailsNever old.input new.input × (FailsNe
 FailuresByExit old new (Err Memory) = FailsNever old.input new.input × FailsNever old.output new.output
 
 module _ {S : Type 0} (status : S → Status) where
-  -- the store stands for the opening books of the sample bank, and for no others
+  -- The store stands for the opening books of the sample bank, and for no others. They pass both checks.
   pub record IsOpening (store : S) : Type 0 where
+    pub passes : PassesChecks sample_opening
     pub holds : (status store).holds sample_opening
     pub only : (w : WorldLists) → (status store).holds w → w ≡ sample_opening
 

@@ -1,18 +1,43 @@
-ghost use Rattle.std.specs.Prelude.{IfOk};
+ghost use Rattle.std.specs.Prelude.{IfOk, OnOk};
+ghost use Rattle.bank_run.specs.Sums.{PassesChecks};
 ghost use Rattle.store_rows.specs.ListStore.{list_status};
 ghost use Rattle.sample_service.specs.Serving.{IsOpening};
 ghost use Rattle.sample_service.specs.Stores.{cached_list_status};
 
+use bank_books::World;
+use book_check::check_books;
+use book_sums::Kept;
 use cached::Cached;
+use policy_check::check_policy;
 use sample_bank::sample_world;
 use std::alloc::{AllocError, Global};
 use store_rows::ListStore;
 
-/// The sample bank as its books are opened, in lists. Only memory keeps it from one.
+/// The sample bank as its books are opened, in lists. They pass both checks, which are made; so only memory keeps
+/// it from one.
 pub fn listed_sample(alloc: Global) -> Result<ListStore, AllocError>
     ensures { IfOk result (IsOpening list_status) }
 {
-    Ok(ListStore::new(sample_world(alloc)?))
+    let world = sample_world(alloc)?;
+    require_checks(alloc, &world)?;
+    Ok(ListStore::new(world))
+}
+
+/// Makes both checks of a World, and goes through where it passes them.
+fn require_checks(alloc: Global, world: &World) -> Result<(), AllocError>
+    ensures { OnOk result (PassesChecks world.now) }
+{
+    let Ok(kept) = Kept::of(alloc, world) else {
+        return Err(AllocError);
+    };
+    match check_books(alloc, world, &kept) {
+        Ok(Ok(())) => {}
+        _ => return Err(AllocError),
+    }
+    match check_policy(world.policy()) {
+        Ok(()) => Ok(()),
+        Err(_) => Err(AllocError),
+    }
 }
 
 /// The same behind a cache of the rows of its policy. Only memory keeps it from one.

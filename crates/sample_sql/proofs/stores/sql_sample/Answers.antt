@@ -3,6 +3,7 @@ use Rattle.sqlite.specs.Held.{state}
 use Rattle.sqlite.specs.Steps.{over_memory}
 use Rattle.sqlite.proofs.Callers.{memory_is_clean}
 use Rattle.bank_books.specs.WorldLists.{WorldLists}
+use Rattle.bank_run.specs.Sums.{PassesChecks}
 use Rattle.bank_schema.specs.Held.{HoldsBank}
 use Rattle.sample_sql.proofs.stores.sql_sample.Goals as goal
 
@@ -12,6 +13,7 @@ returns-in-Ok c =
     let clean = memory_is_clean c.in-Ok.store.conn in
     let kept = c.in-Ok.ensures.kept clean in
     record {
+      passes = subst PassesChecks c.in_ok-world.ensures (record { books = c.in-Ok.ensures.bank.books; sound = c.in-Ok.ensures.bank.policy.0; separated = c.in-Ok.ensures.bank.policy.1 });
       holds = λ _ _ _. subst (λ (w : WorldLists). HoldsBank (state over_memory c.in-Ok.store.conn) w) c.in_ok-world.ensures kept.holds;
       only = λ w h. kept.only w (h c.in-Ok.ensures.works.0 clean refl) ∙ c.in_ok-world.ensures;
     }
