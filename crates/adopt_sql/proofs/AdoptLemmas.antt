@@ -1,12 +1,13 @@
 -- That tables which were read whole hold the World that their rows are of.
-use Rattle.std.proofs.Common.{ℕ, sym, subst}
+use Rattle.std.proofs.Common.{◌≡◌, ◌∙◌, ℕ, ap, sym, subst}
 use Rattle.sqlite.specs.Effect.{Database, IsDatabase}
 use Rattle.sqlite.specs.State.{State}
 use Rattle.sqlite.specs.Tree.{Trees}
-use Rattle.bank_schema.specs.Held.{HoldsSheets, HoldsWorld, Sheet, tree_of}
+use Rattle.bank_schema.specs.Held.{AreOfWorld, HoldsSheets, HoldsWorld, Sheet, tree_of}
 use Rattle.bank_schema.specs.Held.Sheet.{accounts as in_accounts, bank as in_bank, branches as in_branches, certifiers as in_certifiers, entries as in_entries, lines as in_lines, members as in_members, proofs as in_proofs, relations as in_relations, releases as in_releases, sets as in_sets, tellers as in_tellers, triples as in_triples, users as in_users}
 use Rattle.kept_rows.specs.Laws.{AreSheetsOrdered}
 use Rattle.kept_rows.proofs.SheetsTell.{sheets_are_ordered}
+use Rattle.store_sql.proofs.WorldLemmas.{same_world}
 use Rattle.whole_tables.specs.BookRows.{AreBookRows}
 use Rattle.whole_tables.specs.PolicyTables.{ArePolicyTables}
 use Rattle.whole_tables.specs.Whole.{IsKeptTable}
@@ -34,8 +35,8 @@ module _ (db : Trees) (books : BookRows) (tables : PolicyTables) (version : ℕ)
   held_sheets in_releases = record { same = b.users.releases.same; ordered = o.releases; fit = b.users.releases.fit; shaped = (kept in_releases).shaped }
 
 pub adopted : (old new : State) (books : BookRows) (tables : PolicyTables) (version : ℕ) → IsBankFile old → IsDatabase old.now → IsBankRow old.now.trees version → AreBookRows old.now.trees books
-    → ArePolicyTables old.now.trees tables → IsBankOf (sheets_read books tables version) → IsLeft old new → Adopts old new
-adopted old new books tables version file sound row are_books are_tables bank left =
+    → ArePolicyTables old.now.trees tables → IsBankOf (sheets_read books tables version) → IsLeft old new → ((trees : Trees) → new.may_leave trees → trees ≡ old.committed.trees) → Adopts old new
+adopted old new books tables version file sound row are_books are_tables bank left settled =
     let ordered = subst AreSheetsOrdered bank.sheets (sheets_are_ordered bank.world bank.keepable) in
     let rows = subst (HoldsSheets old.now.trees) (sym bank.sheets) (held_sheets old.now.trees books tables version row are_books are_tables file.kept ordered) in
     let held : HoldsWorld old.now bank.world = record { schema = file.schema; sound = sound; world = record { rows = rows; keepable = bank.keepable } } in
@@ -44,5 +45,7 @@ adopted old new books tables version file sound row are_books are_tables bank le
       books = bank.books;
       policy = bank.policy;
       held = held;
+      only = λ other has. same_world other bank.world old.now.trees has.world held.world;
+      durable = λ trees may. subst (AreOfWorld bank.world) (sym (settled trees may ∙ ap (λ (d : Database). d.trees) file.settled)) held.world;
       holds = λ is_open. record { now = subst (λ (d : Database). HoldsWorld d bank.world) (sym (left.now is_open)) held; settled = left.settled is_open };
     }

@@ -1,13 +1,14 @@
 -- What is known of a connection to a file, and what its tables hold where it is adopted.
-use Rattle.std.specs.Prelude.{ℕ, ◌≡◌, ◌∷◌, [], IfOk, IfSome, IsTrue, Ok, Result}
+use Rattle.std.specs.Prelude.{ℕ, ℤ, pos, ◌≡◌, ◌∷◌, [], IfOk, IfSome, IsTrue, Ok, Result}
 use Rattle.sqlite.specs.State.{HasCleanDisk, KeepsCommit, State}
 use Rattle.sqlite.specs.Tree.{Trees}
 use Rattle.bank_books.specs.Books.{Books}
 use Rattle.bank_books.specs.WorldLists.{WorldLists}
 use Rattle.bank_schema.specs.Cells.{bank_cells}
-use Rattle.bank_schema.specs.Held.{HoldsBank, HoldsWorld, Sheet, tree_of}
+use Rattle.bank_schema.specs.Held.{AreOfWorld, HoldsBank, HoldsWorld, Sheet, tree_of}
 use Rattle.bank_schema.specs.Schema.{bank_schema}
 use Rattle.policy_check.specs.PolicyVerdict.{IsPolicyVerdict}
+use Rattle.whole_tables.specs.BankRow.{bank_row_cells}
 use Rattle.whole_tables.specs.BookRows.{AreBookRows}
 use Rattle.whole_tables.specs.PolicyTables.{ArePolicyTables}
 use Rattle.whole_tables.specs.Whole.{HasBankTables, IsKeptTable}
@@ -18,6 +19,10 @@ pub record IsBankFile (s : State) : Type 0 where
   pub schema : s.now.schema ≡ bank_schema
   pub kept : (t : Sheet) → IsKeptTable (s.now.trees (tree_of t))
   pub settled : s.committed ≡ s.now
+
+-- The one row of the bank, of the first version of the tables, with this number for the version of its policy.
+abbrev pub IsBankNumber : Trees → ℤ → Type 0
+IsBankNumber db policy = db 0 ≡ bank_row_cells (record { id = pos 1; version = pos 1; policy = policy }) ∷ []
 
 -- the one row of the bank
 abbrev pub IsBankRow : Trees → ℕ → Type 0
@@ -33,13 +38,15 @@ pub record AreFileRows (db : Trees) (rows : FileRows) : Type 0 where
 abbrev pub ReadsLast : {X E : Type 0} → State → State → (Trees → X → Type 0) → Result X E → Type 0
 ReadsLast old new says result = HasCleanDisk new → HasBankTables old → IfOk result (says old.now.trees) × KeepsCommit old new
 
--- The tables hold a World whose books hold and whose policy is sound, and hold it still.
+-- The tables hold a World whose books hold and whose policy is sound, and no other, and hold it still; and a crash leaves it alone.
 pub record Adopts (old new : State) : Type 0 where
   pub world : WorldLists
   pub books : Books world
   pub policy : IsPolicyVerdict world.policy (Ok tt)
   pub held : HoldsWorld old.now world
+  pub only : (other : WorldLists) → HoldsWorld old.now other → other ≡ world
   pub holds : IsTrue new.is_open → HoldsBank new world
+  pub durable : (trees : Trees) → new.may_leave trees → AreOfWorld world trees
 
 -- nothing was changed
 pub record IsLeft (old new : State) : Type 0 where

@@ -13,10 +13,12 @@ pub enum AdoptFault {
     /// that it has.
     #[error("not a bank")]
     NotABank,
-    /// The books do not hold, or a row of them is out of its limits.
+    /// The books do not hold, or a row of them, the version of the policy, or what a user's row says beside
+    /// his number and name is out of its limits.
     #[error("books: {0}")]
     Books(BooksFault),
-    /// The books hold, and the policy is refused, or a row of it is out of its limits.
+    /// The books hold, and the policy is refused, or a row of it is out of its limits; or a user's number or
+    /// name is, so that the books, each row of which is within its limits, can't be judged.
     #[error("policy: {0}")]
     Policy(PolicyFault),
     /// The tables are those of another version.
@@ -34,5 +36,6 @@ pub(crate) fn books_unread(fault: ReadFault) -> AdoptFault {
         ReadFault::Missing(_) => AdoptFault::NotABank,
         ReadFault::OutOfLimits(Table::Bank) => AdoptFault::NotABank,
         ReadFault::OutOfLimits(_) => AdoptFault::Books(BooksFault::Range),
+        ReadFault::UserOutOfLimits => AdoptFault::Policy(PolicyFault::Dangling),
     }
 }

@@ -6,7 +6,7 @@ ghost use Rattle.bank_schema.specs.Steps.{StaysOpen};
 ghost use Rattle.whole_tables.specs.PolicyTables.{ArePolicyTables};
 ghost use Rattle.whole_tables.specs.BookRows.{AreBookRows};
 ghost use Rattle.whole_tables.specs.Whole.{Reads};
-ghost use Rattle.adopt_sql.specs.Adopted.{AreFileRows, IsBankFile, IsBankRow, IsLeft, ReadsLast};
+ghost use Rattle.adopt_sql.specs.Adopted.{AreFileRows, IsBankFile, IsBankNumber, IsBankRow, IsLeft, ReadsLast};
 
 use crate::adopt_fault::{AdoptFault, books_unread};
 use book_check::BooksFault;
@@ -14,6 +14,7 @@ use sqlite::{Alter, Connection, Transaction};
 use std::alloc::Global;
 use whole_tables::{
     BankRow, BookRows, PolicyTables, ReadFault, all_bank, all_book_rows, all_policy_tables,
+    ask_tables,
 };
 
 /// The rows of all tables of a bank.
@@ -27,9 +28,9 @@ pub(crate) struct FileRows {
     pub policy: Option<PolicyTables>,
 }
 
-/// The version of the policy, where the table of the bank has its one row, of the first version of the tables.
-fn told_version(rows: &[BankRow]) -> Result<u64, AdoptFault>
-    ensures { IfOk result (λ version. rows.now ≡ record { id = pos 1; version = pos 1; policy = pos version } ∷ []) }
+/// The row of the bank, where its table has that one row, of the first version of the tables.
+fn told_row(rows: &[BankRow]) -> Result<BankRow, AdoptFault>
+    ensures { IfOk result (λ row. rows.now ≡ record { id = pos 1; version = pos 1; policy = row.policy } ∷ []) }
 {
     if rows.len() != 1 || rows[0].id != 1 {
         return Err(AdoptFault::NotABank);
@@ -37,20 +38,42 @@ fn told_version(rows: &[BankRow]) -> Result<u64, AdoptFault>
     if rows[0].version != 1 {
         return Err(AdoptFault::Version);
     }
-    match u64::try_from(rows[0].policy) {
+    Ok(rows[0])
+}
+
+fn bank_row<S: Alter>(alloc: Global, tx: &mut Transaction<'_, S>) -> Result<BankRow, AdoptFault>
+    ensures same_reference { tx.new.conn.ghost_name ≡ tx.old.conn.ghost_name }
+    ensures whole { Reads (state S.Store tx.old.conn.now) (state S.Store tx.new.conn.now) (λ trees row. IsBankNumber trees row.policy) result }
+    ensures open { StaysOpen (state S.Store tx.old.conn.now) (state S.Store tx.new.conn.now) result }
+    ensures survives { Survives (state S.Store tx.old.conn.now) (state S.Store tx.new.conn.now) (λ _. ⊥) }
+{
+    match all_bank(alloc, tx) {
+        Ok(rows) => told_row(&rows),
+        Err(fault) => Err(books_unread(fault)),
+    }
+}
+
+/// The version of the policy. A number below 0 is out of the limits of the books.
+fn version_in(row: &BankRow) -> Result<u64, AdoptFault>
+    ensures { IfOk result (λ version. row.now.policy ≡ pos version) }
+{
+    match u64::try_from(row.policy) {
         Ok(version) => Ok(version),
         Err(_) => Err(AdoptFault::Books(BooksFault::Range)),
     }
 }
 
+/// The version of the policy. It is not judged before each of the other tables was asked for its rows: the row
+/// of the bank is told first, then that a table is not there, then what is out of its limits.
 fn bank_version<S: Alter>(alloc: Global, tx: &mut Transaction<'_, S>) -> Result<u64, AdoptFault>
     ensures same_reference { tx.new.conn.ghost_name ≡ tx.old.conn.ghost_name }
     ensures whole { Reads (state S.Store tx.old.conn.now) (state S.Store tx.new.conn.now) IsBankRow result }
-    ensures open { StaysOpen (state S.Store tx.old.conn.now) (state S.Store tx.new.conn.now) result }
+    ensures open { HasCleanDisk (state S.Store tx.new.conn.now) → OnOk result (IsTrue (state S.Store tx.old.conn.now).is_open) }
     ensures survives { Survives (state S.Store tx.old.conn.now) (state S.Store tx.new.conn.now) (λ _. ⊥) }
 {
-    match all_bank(alloc, tx) {
-        Ok(rows) => told_version(&rows),
+    let row = bank_row(alloc, tx)?;
+    match ask_tables(tx) {
+        Ok(()) => version_in(&row),
         Err(fault) => Err(books_unread(fault)),
     }
 }
@@ -82,7 +105,7 @@ fn policy_tables<S: Alter>(
     }
 }
 
-/// The rows of all tables: the row of the bank first, then those of the books, then those of the policy.
+/// The rows of all tables: once each table was asked, those of the books are read, then those of the policy.
 fn rows_inside<S: Alter>(alloc: Global, tx: &mut Transaction<'_, S>) -> Result<FileRows, AdoptFault>
     ensures same_reference { tx.new.conn.ghost_name ≡ tx.old.conn.ghost_name }
     ensures whole { ReadsLast (state S.Store tx.old.conn.now) (state S.Store tx.new.conn.now) AreFileRows result }
@@ -108,6 +131,7 @@ pub(crate) fn read_file<S: Alter>(
     ensures mode { conn.new.in_transaction ≡ false }
     ensures whole { HasCleanDisk (state S.Store conn.new) → IsBankFile (state S.Store conn.old) → IfOk result (AreFileRows (state S.Store conn.old).now.trees) }
     ensures left { HasCleanDisk (state S.Store conn.new) → IsBankFile (state S.Store conn.old) → IsLeft (state S.Store conn.old) (state S.Store conn.new) }
+    ensures open { HasCleanDisk (state S.Store conn.new) → OnOk result (IsTrue (state S.Store conn.old).is_open) }
     ensures sound { HasCleanDisk (state S.Store conn.new) → OnOk result (IsDatabase (state S.Store conn.old).now) }
     ensures survives { Survives (state S.Store conn.old) (state S.Store conn.new) (λ _. ⊥) }
 {

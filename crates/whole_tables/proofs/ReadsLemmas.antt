@@ -1,9 +1,10 @@
 -- Reads of whole tables, one after another.
-use Rattle.std.proofs.Common.{◌≡◌, Ok, Err, IsErr, IfOk, IsTrue, OnOk, Result, refl, sym, ap, ◌∙◌, subst, arith}
+use Rattle.std.proofs.Common.{Ok, Err, IsErr, IsTrue, Result, refl, sym, ap, ◌∙◌, subst}
+use Rattle.std.specs.Prelude.{⊤}
 use Rattle.sqlite.specs.Effect.{Database, IsDatabase}
 use Rattle.sqlite.specs.State.{HasCleanDisk, IsUnchanged, KeepsCommit, State, Survives}
 use Rattle.sqlite.specs.Tree.{Trees}
-use Rattle.bank_schema.specs.Held.{Sheet, tree_of}
+use Rattle.bank_schema.specs.Held.{tree_of}
 use Rattle.bank_schema.proofs.StepLemmas.{early, kept_then}
 use Rattle.whole_tables.specs.Whole.{HasBankTables, IsKeptTable, Reads}
 
@@ -20,6 +21,14 @@ unchanged_then a b c p q = (
   record { was_open = p.0.was_open; is_open = q.0.is_open; now_is = q.0.now_is ∙ p.0.now_is; committed_is = q.0.committed_is ∙ p.0.committed_is; mode = q.0.mode ∙ p.0.mode },
   record { changes = q.1.changes ∙ p.1.changes; last_rowid = q.1.last_rowid ∙ p.1.last_rowid },
   q.2 ∙ p.2,
+)
+
+-- nothing was read yet, on a connection that is open
+pub done_itself : (s : State) → IsTrue s.is_open → Done s s (λ _. ⊤)
+done_itself s is_open clean has = (
+  tt,
+  (record { was_open = is_open; is_open = is_open; now_is = refl; committed_is = refl; mode = refl }, record { changes = refl; last_rowid = refl }, refl),
+  record { was_open = λ h. h; committed = λ _. refl },
 )
 
 -- the tables are those of a bank still

@@ -1,7 +1,5 @@
 -- What a query for a whole table shows: a row for each row of the table.
-use Rattle.std.proofs.Common.{◌≡◌, ◌<◌, ◌+◌, ℕ, pos, negsuc, List, [], ◌∷◌, map, filter, length, drop, Bool, true, false, Contains, Option, Some, None, Ok, Err, Result, IsPermutation, IfOk, IsTrue, OnOk, inl, inr, ◌&&◌, ◌⊎◌, refl, ap, ap₂, sym, subst, arith, ◌∙◌}
-use Rattle.std.specs.Prelude.{Vec}
-use Rattle.std.specs.declared.alloc.Global.{Global}
+use Rattle.std.proofs.Common.{◌≡◌, ◌<◌, ◌+◌, ℕ, List, [], ◌∷◌, map, filter, length, drop, Bool, true, false, Contains, Some, Ok, Err, Result, IsPermutation, inl, inr, ◌&&◌, ◌⊎◌, refl, ap, ap₂, sym, subst, arith, ◌∙◌}
 use Rattle.std.specs.List.{AllByRecursion}
 use Rattle.std.proofs.lemmas.List.Sorted.{IsPermutation-map, IsPermutation-sym}
 use Rattle.sqlite.specs.declared.types.Value.TheVariants.{Null}
@@ -10,7 +8,7 @@ use Rattle.sqlite.specs.Listing.{understood, reads_listing}
 use Rattle.sqlite.specs.Order.{Row}
 use Rattle.sqlite.specs.Program.{overlay}
 use Rattle.sqlite.specs.Query.{Query, output, Output}
-use Rattle.sqlite.specs.State.{State, Shown, HasCleanDisk, IsUnchanged, KeepsCommit}
+use Rattle.sqlite.specs.State.{State, Shown}
 use Rattle.sqlite.specs.Term.{Term}
 use Rattle.sqlite.specs.Tree.{Trees}
 use Rattle.sqlite.proofs.Callers.{IsPlain, command_of}
@@ -19,7 +17,7 @@ use Rattle.sqlite_resolve.specs.declared.compiled.Compiled.{Compiled}
 use Rattle.sqlite_resolve.specs.declared.error.CompileError.{CompileError}
 use Rattle.sqlite_rules.specs.Lists.{Has}
 use Rattle.sqlite_rules.proofs.ListLemmas.{all_has, contains_had}
-use Rattle.sqlite_schema.specs.Rules.{Keeps, Obeys, passes as passes_rule, are_present, are_typed}
+use Rattle.sqlite_schema.specs.Rules.{Obeys, passes as passes_rule, are_present, are_typed}
 use Rattle.sqlite_schema.specs.declared.schema.Constraint.TheVariants.{Datatype, NotNull}
 use Rattle.sqlite_schema.specs.declared.schema.Table.{Table}
 use Rattle.sqlite_sql.specs.Program.{IsProgramAnswer}
@@ -32,7 +30,7 @@ use Rattle.bank_schema.proofs.ReadLemmas.{answered, no_limit, no_offset}
 use Rattle.bank_schema.proofs.ScanLemmas.{passes, scan, scanned}
 use Rattle.bank_schema.proofs.StepLemmas.{shown_open}
 use Rattle.whole_tables.specs.Told.{columns_from, told_by_columns, told_by_key}
-use Rattle.whole_tables.specs.Whole.{AreAll, HasBankTables, IsKeptTable, IsQueryFor, Reads, TellsWhole}
+use Rattle.whole_tables.specs.Whole.{AreAll, HasBankTables, IsQueryFor, TellsWhole}
 use Rattle.whole_tables.proofs.WidthLemmas.{columns_behind, columns_by_key, ends_needed, no_narrower, no_wider}
 
 -- ---- the rules of one table
@@ -124,13 +122,6 @@ module _ {X : Type 0} (shows told : Row → Row) (cells : X → Row) (fits : X �
         same = subst (λ l. IsPermutation l (map shows (old.now.trees (tree_of t)))) same (tells.whole old.now.trees rows (subst (λ z. Obeys z old.now.trees) has.schema sound.obeys) (has.kept t) answer);
         fit = fit;
       }
-
-  -- a read of what a query shows
-  pub reads_all : {E : Type 0} (old new : State) (rows : List Row) (result : Result (Vec X Global) E) → Shown text [] old new rows → IsUnchanged old new → KeepsCommit old new
-      → IfOk result (λ list. map told rows ≡ map cells list.items) → IfOk result (λ list. (x : X) → Contains list.items x → fits x)
-      → HasBankTables old → IfOk result (λ list. AreAll shows cells fits t old.now.trees list.items) × OnOk result (IsUnchanged old new) × KeepsCommit old new
-  reads_all old new rows (Ok list) h same kept is fit has = (are_all old new rows list.items has h is fit, same, kept)
-  reads_all old new rows (Err e) h same kept is fit has = (tt, tt, kept)
 
 -- the query is plain on a connection to the tables of a bank
 pub plain_there : (text : List ℕ) (s : State) → IsPlain (understood bank_schema text) → HasBankTables s → IsPlain (understood s.now.schema text)

@@ -16,6 +16,9 @@ use money::Fault;
 use sqlite::{Alter, Row, Transaction};
 use std::alloc::Global;
 
+pub(crate) const QUERY: &str =
+    "SELECT account, home, opening, floor, balance, turns FROM accounts ORDER BY account";
+
 /// All accounts with the numbers that are kept beside them, by number.
 pub fn all_accounts<S: Alter>(
     alloc: Global,
@@ -26,12 +29,7 @@ pub fn all_accounts<S: Alter>(
     ensures open { StaysOpen (state S.Store tx.old.conn.now) (state S.Store tx.new.conn.now) result }
     ensures survives { Survives (state S.Store tx.old.conn.now) (state S.Store tx.new.conn.now) (λ _. ⊥) }
 {
-    whole_table(
-        alloc,
-        tx,
-        "SELECT account, home, opening, floor, balance, turns FROM accounts ORDER BY account",
-        Table::Accounts,
-    )
+    whole_table(alloc, tx, QUERY, Table::Accounts)
 }
 
 impl TableRow for AccountRecord {

@@ -26,6 +26,8 @@ pub struct BankRow {
     pub policy: i64,
 }
 
+pub(crate) const QUERY: &str = "SELECT id, version, policy FROM bank ORDER BY id";
+
 /// All rows of the table of the bank: one, in the file of a bank.
 pub fn all_bank<S: Alter>(
     alloc: Global,
@@ -36,12 +38,7 @@ pub fn all_bank<S: Alter>(
     ensures open { StaysOpen (state S.Store tx.old.conn.now) (state S.Store tx.new.conn.now) result }
     ensures survives { Survives (state S.Store tx.old.conn.now) (state S.Store tx.new.conn.now) (λ _. ⊥) }
 {
-    whole_table(
-        alloc,
-        tx,
-        "SELECT id, version, policy FROM bank ORDER BY id",
-        Table::Bank,
-    )
+    whole_table(alloc, tx, QUERY, Table::Bank)
 }
 
 impl TableRow for BankRow {

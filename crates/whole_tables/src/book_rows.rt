@@ -4,15 +4,11 @@ ghost use Rattle.sqlite.specs.State.{Survives};
 ghost use Rattle.whole_tables.specs.BookRows.{AreBookRows, AreHistoryRows, AreLedgerRows, AreUserRows};
 ghost use Rattle.whole_tables.specs.Whole.{Reads};
 
-use crate::accounts::all_accounts;
-use crate::branches::all_branches;
-use crate::day_proofs::all_proofs;
-use crate::entries::all_entries;
 use crate::fault::ReadFault;
-use crate::lines::all_lines;
-use crate::releases::all_releases;
-use crate::tellers::all_tellers;
-use crate::users::all_users;
+use crate::{
+    all_accounts, all_branches, all_entries, all_lines, all_proofs, all_releases, all_tellers,
+    all_users,
+};
 use bank_books::{AccountRecord, BranchRecord, CashLine, EntryRecord, Proof, Release};
 use kept_rows::{KeptTeller, KeptUser};
 use sqlite::{Alter, Transaction};

@@ -18,6 +18,9 @@ use money::Fault;
 use sqlite::{Alter, Row, Transaction};
 use std::alloc::Global;
 
+pub(crate) const QUERY: &str =
+    "SELECT branch, opening, cash, day, balance, vault, entries, lines, accounts, history, drawers, cash_entries, differences FROM branches ORDER BY branch";
+
 /// All branches with the numbers that are kept beside them, by number.
 pub fn all_branches<S: Alter>(
     alloc: Global,
@@ -28,12 +31,7 @@ pub fn all_branches<S: Alter>(
     ensures open { StaysOpen (state S.Store tx.old.conn.now) (state S.Store tx.new.conn.now) result }
     ensures survives { Survives (state S.Store tx.old.conn.now) (state S.Store tx.new.conn.now) (λ _. ⊥) }
 {
-    whole_table(
-        alloc,
-        tx,
-        "SELECT branch, opening, cash, day, balance, vault, entries, lines, accounts, history, drawers, cash_entries, differences FROM branches ORDER BY branch",
-        Table::Branches,
-    )
+    whole_table(alloc, tx, QUERY, Table::Branches)
 }
 
 impl TableRow for BranchRecord {

@@ -15,6 +15,9 @@ use money::Fault;
 use sqlite::{Alter, Row, Transaction};
 use std::alloc::Global;
 
+pub(crate) const QUERY: &str =
+    "SELECT user_no, procedure FROM certifiers ORDER BY user_no, procedure";
+
 /// All certifiers, by user, then procedure.
 pub fn all_certifiers<S: Alter>(
     alloc: Global,
@@ -25,12 +28,7 @@ pub fn all_certifiers<S: Alter>(
     ensures open { StaysOpen (state S.Store tx.old.conn.now) (state S.Store tx.new.conn.now) result }
     ensures survives { Survives (state S.Store tx.old.conn.now) (state S.Store tx.new.conn.now) (λ _. ⊥) }
 {
-    whole_table(
-        alloc,
-        tx,
-        "SELECT user_no, procedure FROM certifiers ORDER BY user_no, procedure",
-        Table::Certifiers,
-    )
+    whole_table(alloc, tx, QUERY, Table::Certifiers)
 }
 
 impl TableRow for Certifier {

@@ -15,6 +15,9 @@ use money::Fault;
 use sqlite::{Alter, Row, Transaction};
 use std::alloc::Global;
 
+pub(crate) const QUERY: &str =
+    "SELECT branch, day, entries, balance, cash FROM proofs ORDER BY branch, day";
+
 /// All proofs of ended days, by branch, then day.
 pub fn all_proofs<S: Alter>(
     alloc: Global,
@@ -25,12 +28,7 @@ pub fn all_proofs<S: Alter>(
     ensures open { StaysOpen (state S.Store tx.old.conn.now) (state S.Store tx.new.conn.now) result }
     ensures survives { Survives (state S.Store tx.old.conn.now) (state S.Store tx.new.conn.now) (λ _. ⊥) }
 {
-    whole_table(
-        alloc,
-        tx,
-        "SELECT branch, day, entries, balance, cash FROM proofs ORDER BY branch, day",
-        Table::Proofs,
-    )
+    whole_table(alloc, tx, QUERY, Table::Proofs)
 }
 
 impl TableRow for Proof {

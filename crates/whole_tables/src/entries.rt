@@ -16,6 +16,9 @@ use money::Fault;
 use sqlite::{Alter, Row, Transaction};
 use std::alloc::Global;
 
+pub(crate) const QUERY: &str =
+    "SELECT branch, number, account, turn, teller, delta, moment, day, user_no, form, partner, undoes, balance_after FROM entries ORDER BY branch, number";
+
 /// All entries with the balances after them, by branch, then number.
 pub fn all_entries<S: Alter>(
     alloc: Global,
@@ -26,12 +29,7 @@ pub fn all_entries<S: Alter>(
     ensures open { StaysOpen (state S.Store tx.old.conn.now) (state S.Store tx.new.conn.now) result }
     ensures survives { Survives (state S.Store tx.old.conn.now) (state S.Store tx.new.conn.now) (λ _. ⊥) }
 {
-    whole_table(
-        alloc,
-        tx,
-        "SELECT branch, number, account, turn, teller, delta, moment, day, user_no, form, partner, undoes, balance_after FROM entries ORDER BY branch, number",
-        Table::Entries,
-    )
+    whole_table(alloc, tx, QUERY, Table::Entries)
 }
 
 impl TableRow for EntryRecord {

@@ -52,6 +52,10 @@ pub enum ReadFault {
     /// A value of a row of the table is none that its column may have.
     #[error("a value is out of its limits")]
     OutOfLimits(Table),
+    /// A user's number or name is none that a user may have, and all else in the table of the users is
+    /// within its limits.
+    #[error("a user is out of the limits")]
+    UserOutOfLimits,
 }
 
 impl From<AllocError> for ReadFault {
@@ -94,5 +98,13 @@ pub(crate) fn read_fault(error: Error, table: Table) -> ReadFault
             | ErrorCode::Closed,
         ) => ReadFault::Fault(fault_of(error)),
         _ => ReadFault::Missing(table),
+    }
+}
+
+/// Why a table is refused of which a value was not read: memory, or else the value is out of its limits.
+pub(crate) fn value_fault(fault: Fault, table: Table) -> ReadFault {
+    match fault {
+        Fault::Memory => ReadFault::Fault(Fault::Memory),
+        _ => ReadFault::OutOfLimits(table),
     }
 }

@@ -2,6 +2,7 @@
 #![tactic(auto)]
 
 mod accounts;
+mod asking;
 mod bank;
 mod book_rows;
 mod branches;
@@ -22,6 +23,7 @@ mod users;
 mod values;
 
 pub use accounts::all_accounts;
+pub use asking::ask_tables;
 pub use bank::{BankRow, all_bank};
 pub use book_rows::{BookRows, HistoryRows, LedgerRows, UserRows, all_book_rows};
 pub use branches::all_branches;

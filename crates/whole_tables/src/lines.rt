@@ -16,6 +16,9 @@ use money::Fault;
 use sqlite::{Alter, Row, Transaction};
 use std::alloc::Global;
 
+pub(crate) const QUERY: &str =
+    "SELECT branch, number, place, amount, form, moment, day, user_no FROM lines ORDER BY branch, number";
+
 /// All lines of cash books, by branch, then number.
 pub fn all_lines<S: Alter>(
     alloc: Global,
@@ -26,12 +29,7 @@ pub fn all_lines<S: Alter>(
     ensures open { StaysOpen (state S.Store tx.old.conn.now) (state S.Store tx.new.conn.now) result }
     ensures survives { Survives (state S.Store tx.old.conn.now) (state S.Store tx.new.conn.now) (λ _. ⊥) }
 {
-    whole_table(
-        alloc,
-        tx,
-        "SELECT branch, number, place, amount, form, moment, day, user_no FROM lines ORDER BY branch, number",
-        Table::Lines,
-    )
+    whole_table(alloc, tx, QUERY, Table::Lines)
 }
 
 impl TableRow for CashLine {

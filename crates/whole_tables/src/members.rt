@@ -16,6 +16,9 @@ use money::Fault;
 use sqlite::{Alter, Row, Transaction};
 use std::alloc::Global;
 
+pub(crate) const QUERY: &str =
+    "SELECT set_no, place, kind, low, high FROM members ORDER BY set_no, place";
+
 /// All members of sets, by set, then place.
 pub fn all_members<S: Alter>(
     alloc: Global,
@@ -26,12 +29,7 @@ pub fn all_members<S: Alter>(
     ensures open { StaysOpen (state S.Store tx.old.conn.now) (state S.Store tx.new.conn.now) result }
     ensures survives { Survives (state S.Store tx.old.conn.now) (state S.Store tx.new.conn.now) (λ _. ⊥) }
 {
-    whole_table(
-        alloc,
-        tx,
-        "SELECT set_no, place, kind, low, high FROM members ORDER BY set_no, place",
-        Table::Members,
-    )
+    whole_table(alloc, tx, QUERY, Table::Members)
 }
 
 impl TableRow for MemberRow {

@@ -4,12 +4,8 @@ ghost use Rattle.sqlite.specs.State.{Survives};
 ghost use Rattle.whole_tables.specs.PolicyTables.{AreGrantRows, ArePolicyTables, AreSetRows};
 ghost use Rattle.whole_tables.specs.Whole.{Reads};
 
-use crate::certifiers::all_certifiers;
 use crate::fault::ReadFault;
-use crate::members::all_members;
-use crate::relations::all_relations;
-use crate::sets::all_sets;
-use crate::triples::all_triples;
+use crate::{all_certifiers, all_members, all_relations, all_sets, all_triples};
 use bank_policy::{Certifier, Relation, Triple};
 use kept_rows::MemberRow;
 use sqlite::{Alter, Transaction};

@@ -15,6 +15,9 @@ use money::Fault;
 use sqlite::{Alter, Row, Transaction};
 use std::alloc::Global;
 
+pub(crate) const QUERY: &str =
+    "SELECT procedure, set_no, by_user FROM relations ORDER BY procedure, set_no";
+
 /// All certified relations, by procedure, then set.
 pub fn all_relations<S: Alter>(
     alloc: Global,
@@ -25,12 +28,7 @@ pub fn all_relations<S: Alter>(
     ensures open { StaysOpen (state S.Store tx.old.conn.now) (state S.Store tx.new.conn.now) result }
     ensures survives { Survives (state S.Store tx.old.conn.now) (state S.Store tx.new.conn.now) (λ _. ⊥) }
 {
-    whole_table(
-        alloc,
-        tx,
-        "SELECT procedure, set_no, by_user FROM relations ORDER BY procedure, set_no",
-        Table::Relations,
-    )
+    whole_table(alloc, tx, QUERY, Table::Relations)
 }
 
 impl TableRow for Relation {

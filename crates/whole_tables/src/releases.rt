@@ -17,6 +17,9 @@ use money::Fault;
 use sqlite::{Alter, Row, Transaction};
 use std::alloc::Global;
 
+pub(crate) const QUERY: &str =
+    "SELECT user_no, number, giver, branch, day, form, member1, member2, member3, member4, member5, member6, member7, member8, used FROM releases ORDER BY user_no, number";
+
 /// All releases, by user, then number.
 pub fn all_releases<S: Alter>(
     alloc: Global,
@@ -27,12 +30,7 @@ pub fn all_releases<S: Alter>(
     ensures open { StaysOpen (state S.Store tx.old.conn.now) (state S.Store tx.new.conn.now) result }
     ensures survives { Survives (state S.Store tx.old.conn.now) (state S.Store tx.new.conn.now) (λ _. ⊥) }
 {
-    whole_table(
-        alloc,
-        tx,
-        "SELECT user_no, number, giver, branch, day, form, member1, member2, member3, member4, member5, member6, member7, member8, used FROM releases ORDER BY user_no, number",
-        Table::Releases,
-    )
+    whole_table(alloc, tx, QUERY, Table::Releases)
 }
 
 impl TableRow for Release {

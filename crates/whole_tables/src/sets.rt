@@ -14,6 +14,8 @@ use money::Fault;
 use sqlite::{Alter, Row, Transaction};
 use std::alloc::Global;
 
+pub(crate) const QUERY: &str = "SELECT set_no FROM sets ORDER BY set_no";
+
 /// The numbers of all sets, in order.
 pub fn all_sets<S: Alter>(alloc: Global, tx: &mut Transaction<'_, S>) -> Result<Vec<u32>, ReadFault>
     ensures same_reference { tx.new.conn.ghost_name ≡ tx.old.conn.ghost_name }
@@ -21,12 +23,7 @@ pub fn all_sets<S: Alter>(alloc: Global, tx: &mut Transaction<'_, S>) -> Result<
     ensures open { StaysOpen (state S.Store tx.old.conn.now) (state S.Store tx.new.conn.now) result }
     ensures survives { Survives (state S.Store tx.old.conn.now) (state S.Store tx.new.conn.now) (λ _. ⊥) }
 {
-    whole_table(
-        alloc,
-        tx,
-        "SELECT set_no FROM sets ORDER BY set_no",
-        Table::Sets,
-    )
+    whole_table(alloc, tx, QUERY, Table::Sets)
 }
 
 impl TableRow for u32 {

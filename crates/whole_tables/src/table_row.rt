@@ -6,7 +6,7 @@ ghost use Rattle.sqlite.specs.State.{HasCleanDisk, IsUnchanged, KeepsCommit, Sho
 ghost use Rattle.bank_schema.specs.Steps.{StaysOpen};
 ghost use Rattle.whole_tables.specs.Whole.{AreAll, Reads, TellsWhole};
 
-use crate::fault::{ReadFault, Table, read_fault};
+use crate::fault::{ReadFault, Table, read_fault, value_fault};
 use money::Fault;
 use sqlite::{Alter, Row, Transaction};
 use std::alloc::Global;
@@ -33,6 +33,11 @@ pub trait TableRow: Sized {
     fn read(alloc: Global, row: &Row) -> Result<Self, Fault>
         ensures same { IfOk result (λ x. told row.now ≡ cells x) }
         ensures fit { IfOk result fits };
+
+    /// Why a table of these rows is refused, one of which was not read for this fault.
+    fn refusal(fault: Fault, _rows: &[Row], table: Table) -> ReadFault {
+        value_fault(fault, table)
+    }
 }
 
 /// All rows of a table, by the query for it.
@@ -49,11 +54,14 @@ pub(crate) fn whole_table<S: Alter, T: TableRow + Drop>(
     ensures survives { Survives (state S.Store tx.old.conn.now) (state S.Store tx.new.conn.now) (λ _. ⊥) }
 {
     let rows = shown_rows(tx, sql, table)?;
-    read_rows(alloc, &rows, table)
+    match read_rows(alloc, &rows) {
+        Ok(told) => Ok(told),
+        Err(fault) => Err(T::refusal(fault, &rows, table)),
+    }
 }
 
 /// The rows that a query shows.
-fn shown_rows<S: Alter>(
+pub(crate) fn shown_rows<S: Alter>(
     tx: &mut Transaction<'_, S>,
     sql: &str,
     table: Table,
@@ -71,29 +79,13 @@ fn shown_rows<S: Alter>(
 }
 
 /// What all of these rows tell.
-fn read_rows<T: TableRow + Drop>(
-    alloc: Global,
-    rows: &[Row],
-    table: Table,
-) -> Result<Vec<T>, ReadFault>
+fn read_rows<T: TableRow + Drop>(alloc: Global, rows: &[Row]) -> Result<Vec<T>, Fault>
     ensures same { IfOk result (λ list. map T.told rows.now ≡ map T.cells list.items) }
     ensures fit { IfOk result (λ list. (x : T) → Contains list.items x → T.fits x) }
 {
     let mut list = Vec::new(alloc);
     for row in rows {
-        list.push(read_row(alloc, row, table)?)?;
+        list.push(T::read(alloc, row)?)?;
     }
     Ok(list)
-}
-
-/// What a row tells.
-fn read_row<T: TableRow>(alloc: Global, row: &Row, table: Table) -> Result<T, ReadFault>
-    ensures same { IfOk result (λ x. T.told row.now ≡ T.cells x) }
-    ensures fit { IfOk result T.fits }
-{
-    match T::read(alloc, row) {
-        Ok(read) => Ok(read),
-        Err(Fault::Memory) => Err(ReadFault::Fault(Fault::Memory)),
-        Err(_) => Err(ReadFault::OutOfLimits(table)),
-    }
 }

@@ -17,6 +17,9 @@ use money::Fault;
 use sqlite::{Alter, Row, Transaction};
 use std::alloc::Global;
 
+pub(crate) const QUERY: &str =
+    "SELECT teller, branch, opening, balance, cash, holder FROM tellers ORDER BY teller";
+
 /// All tellers with the numbers that are kept beside them, by number.
 pub fn all_tellers<S: Alter>(
     alloc: Global,
@@ -27,12 +30,7 @@ pub fn all_tellers<S: Alter>(
     ensures open { StaysOpen (state S.Store tx.old.conn.now) (state S.Store tx.new.conn.now) result }
     ensures survives { Survives (state S.Store tx.old.conn.now) (state S.Store tx.new.conn.now) (λ _. ⊥) }
 {
-    whole_table(
-        alloc,
-        tx,
-        "SELECT teller, branch, opening, balance, cash, holder FROM tellers ORDER BY teller",
-        Table::Tellers,
-    )
+    whole_table(alloc, tx, QUERY, Table::Tellers)
 }
 
 impl TableRow for KeptTeller {

@@ -15,6 +15,9 @@ use money::Fault;
 use sqlite::{Alter, Row, Transaction};
 use std::alloc::Global;
 
+pub(crate) const QUERY: &str =
+    "SELECT user_no, procedure, set_no, ceiling FROM triples ORDER BY user_no, procedure, set_no";
+
 /// All triples, by user, then procedure, then set.
 pub fn all_triples<S: Alter>(
     alloc: Global,
@@ -25,12 +28,7 @@ pub fn all_triples<S: Alter>(
     ensures open { StaysOpen (state S.Store tx.old.conn.now) (state S.Store tx.new.conn.now) result }
     ensures survives { Survives (state S.Store tx.old.conn.now) (state S.Store tx.new.conn.now) (λ _. ⊥) }
 {
-    whole_table(
-        alloc,
-        tx,
-        "SELECT user_no, procedure, set_no, ceiling FROM triples ORDER BY user_no, procedure, set_no",
-        Table::Triples,
-    )
+    whole_table(alloc, tx, QUERY, Table::Triples)
 }
 
 impl TableRow for Triple {

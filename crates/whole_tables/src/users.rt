@@ -7,7 +7,7 @@ ghost use Rattle.bank_schema.specs.HeldRows.{all_of_it};
 ghost use Rattle.bank_schema.specs.Steps.{StaysOpen};
 ghost use Rattle.whole_tables.specs.Whole.{AreAll, Reads};
 
-use crate::fault::{ReadFault, Table};
+use crate::fault::{ReadFault, Table, value_fault};
 use crate::table_row::{TableRow, whole_table};
 use crate::values::name_at;
 use bank_policy::User;
@@ -16,6 +16,9 @@ use kept_rows::KeptUser;
 use money::Fault;
 use sqlite::{Alter, Row, Transaction};
 use std::alloc::Global;
+
+pub(crate) const QUERY: &str =
+    "SELECT user_no, name, officer, suspended, session, is_on, releases FROM users ORDER BY user_no";
 
 /// All users with how many releases each was given, by number.
 pub fn all_users<S: Alter>(
@@ -27,12 +30,7 @@ pub fn all_users<S: Alter>(
     ensures open { StaysOpen (state S.Store tx.old.conn.now) (state S.Store tx.new.conn.now) result }
     ensures survives { Survives (state S.Store tx.old.conn.now) (state S.Store tx.new.conn.now) (λ _. ⊥) }
 {
-    whole_table(
-        alloc,
-        tx,
-        "SELECT user_no, name, officer, suspended, session, is_on, releases FROM users ORDER BY user_no",
-        Table::Users,
-    )
+    whole_table(alloc, tx, QUERY, Table::Users)
 }
 
 impl TableRow for KeptUser {
@@ -64,4 +62,26 @@ impl TableRow for KeptUser {
             releases: count_at(row, 6)?,
         })
     }
+
+    fn refusal(fault: Fault, rows: &[Row], table: Table) -> ReadFault {
+        if fault == Fault::Memory {
+            return ReadFault::Fault(fault);
+        }
+        for row in rows {
+            if let Err(fault) = marks_read(row) {
+                return value_fault(fault, table);
+            }
+        }
+        ReadFault::UserOutOfLimits
+    }
+}
+
+/// Reads all of a user but the number and the name.
+fn marks_read(row: &Row) -> Result<(), Fault> {
+    truth_at(row, 2)?;
+    truth_at(row, 3)?;
+    number_at(row, 4)?;
+    truth_at(row, 5)?;
+    count_at(row, 6)?;
+    Ok(())
 }

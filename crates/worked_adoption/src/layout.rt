@@ -97,3 +97,29 @@ fn the_version_is_told_before_the_tables_the_books_and_the_policy(rt: HostRuntim
         ],
     );
 }
+
+#[test]
+fn a_table_that_is_not_there_is_told_before_any_value(rt: HostRuntime) {
+    refused(
+        &rt,
+        rt.alloc(),
+        &[
+            (
+                "UPDATE bank SET policy = -1; DROP TABLE lines",
+                AdoptFault::NotABank,
+            ),
+            (
+                "UPDATE entries SET form = 4; DROP TABLE releases",
+                AdoptFault::NotABank,
+            ),
+            (
+                "UPDATE members SET kind = 9; DROP TABLE triples",
+                AdoptFault::NotABank,
+            ),
+            (
+                "UPDATE bank SET policy = -1; UPDATE members SET kind = 9",
+                AdoptFault::Books(BooksFault::Range),
+            ),
+        ],
+    );
+}

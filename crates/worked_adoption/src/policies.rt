@@ -3,9 +3,12 @@
 use crate::refusals::refused;
 use adopt_sql::AdoptFault;
 use bank_terms::Procedure;
+use book_check::BooksFault;
 use policy_check::PolicyFault;
 
 const DANGLING: AdoptFault = AdoptFault::Policy(PolicyFault::Dangling);
+
+const RANGE: AdoptFault = AdoptFault::Books(BooksFault::Range);
 
 const OFFICER: AdoptFault = AdoptFault::Policy(PolicyFault::OfficerHolds { user: 1 });
 
@@ -101,5 +104,48 @@ fn rows_of_relations_triples_and_certifiers_do_not_dangle(rt: HostRuntime) {
             ("INSERT INTO certifiers VALUES (99, 1)", DANGLING),
             ("INSERT INTO certifiers VALUES (2, 0)", DANGLING),
         ],
+    );
+}
+
+#[test]
+fn numbers_and_names_of_users_are_told_behind_all_rows_of_the_books(rt: HostRuntime) {
+    refused(
+        &rt,
+        rt.alloc(),
+        &[
+            ("UPDATE users SET user_no = -1 WHERE user_no = 9", DANGLING),
+            (
+                "UPDATE users SET user_no = 4294967296 WHERE user_no = 9",
+                DANGLING,
+            ),
+            (
+                "UPDATE users SET name = CAST(x'ff' AS TEXT) WHERE user_no = 9",
+                DANGLING,
+            ),
+            (
+                "UPDATE users SET user_no = -1 WHERE user_no = 9; DROP TABLE certifiers",
+                AdoptFault::NotABank,
+            ),
+            (
+                "UPDATE users SET user_no = -1 WHERE user_no = 9; UPDATE users SET officer = 2 WHERE user_no = 8",
+                RANGE,
+            ),
+            (
+                "UPDATE users SET user_no = -1 WHERE user_no = 9; UPDATE lines SET form = 6",
+                RANGE,
+            ),
+        ],
+    );
+}
+
+#[test]
+fn nobody_is_a_user_twice(rt: HostRuntime) {
+    refused(
+        &rt,
+        rt.alloc(),
+        &[(
+            "CREATE TABLE copies (user_no INTEGER NOT NULL, name TEXT NOT NULL, officer INTEGER NOT NULL, suspended INTEGER NOT NULL, session INTEGER NOT NULL, is_on INTEGER NOT NULL, releases INTEGER NOT NULL) STRICT; INSERT INTO copies SELECT * FROM users; DROP TABLE users; CREATE TABLE users (user_no INTEGER NOT NULL, name TEXT NOT NULL, officer INTEGER NOT NULL, suspended INTEGER NOT NULL, session INTEGER NOT NULL, is_on INTEGER NOT NULL, releases INTEGER NOT NULL) STRICT; INSERT INTO users SELECT * FROM copies; INSERT INTO users SELECT * FROM copies WHERE user_no = 9; DROP TABLE copies",
+            DANGLING,
+        )],
     );
 }

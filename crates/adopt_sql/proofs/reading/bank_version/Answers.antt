@@ -1,11 +1,19 @@
-use Rattle.std.proofs.Common.{subst}
-use Rattle.std.specs.Prelude.{IfOk}
 use Rattle.sqlite.specs.Held.{state}
-use Rattle.adopt_sql.proofs.ReadingLemmas.{IsOnly, reads_version}
+use Rattle.adopt_sql.specs.Adopted.{IsBankNumber}
+use Rattle.adopt_sql.proofs.ReadingLemmas.{asked_gave, asked_then, reads_version}
 use Rattle.adopt_sql.proofs.reading.bank_version.Goals as goal
 
 pub returns-in-Ok-clause-whole : goal.returns-in-Ok-clause-whole
-returns-in-Ok-clause-whole g c clean has =
-    let it = c.in-Ok.ensures.whole clean has in
-    reads_version (state g.S.Store c.args.tx.now.conn.now) (state g.S.Store c.all_bank.new.tx.conn.now) c.in-Ok.rows.items c.told_version.result
-    (subst (λ rows. IfOk c.told_version.result (IsOnly rows)) c.deref.ensures.value c.told_version.ensures) it.0 it.1 it.2
+returns-in-Ok-clause-whole g c =
+    let s0 = state g.S.Store c.args.tx.now.conn.now in
+    let s1 = state g.S.Store c.bank_row.new.tx.conn.now in
+    let s2 = state g.S.Store c.ask_tables.new.tx.conn.now in
+    reads_version s0 s2 c.in_ok-row.row.policy c.version_in.result c.version_in.ensures
+    (asked_then s0 s1 s2 (λ db. IsBankNumber db c.in_ok-row.row.policy) c.ask_tables.ensures.survives c.in_ok-row.ensures.whole c.in-Ok.ensures.whole)
+
+pub returns-in-Err-clause-whole : goal.returns-in-Err-clause-whole
+returns-in-Err-clause-whole g c clean has =
+    let s0 = state g.S.Store c.args.tx.now.conn.now in
+    let s1 = state g.S.Store c.bank_row.new.tx.conn.now in
+    let s2 = state g.S.Store c.ask_tables.new.tx.conn.now in
+    (tt, tt, asked_gave s0 s1 s2 (λ db. IsBankNumber db c.in_ok-row.row.policy) c.ask_tables.ensures.survives c.in_ok-row.ensures.whole (λ is_open clean has. (c.in-Err.ensures.whole is_open clean has).2) clean has)

@@ -44,4 +44,4 @@ returns-clause-open g c clean =
     let s1 = state g.S.Store c.bank_version.new.tx.conn.now in
     let s2 = state g.S.Store c.book_rows.new.tx.conn.now in
     let s3 = state g.S.Store c.policy_tables.new.tx.conn.now in
-    (c.in_ok-version.ensures.open (early s1 s2 _ c.book_rows.ensures.survives (early s2 s3 _ c.policy_tables.ensures.survives clean))).0
+    c.in_ok-version.ensures.open (early s1 s2 _ c.book_rows.ensures.survives (early s2 s3 _ c.policy_tables.ensures.survives clean))

@@ -1,14 +1,20 @@
 use Rattle.std.proofs.Common.{[], subst, sym}
 use Rattle.sqlite.specs.Held.{state}
 use Rattle.sqlite.specs.State.{Shown}
-use Rattle.bank_schema.proofs.StepLemmas.{none_ok}
-use Rattle.whole_tables.proofs.WholeLemmas.{plain_there, reads_all}
+use Rattle.whole_tables.proofs.WholeLemmas.{are_all, plain_there}
 use Rattle.whole_tables.proofs.table_row.whole_table.Goals as goal
+
+pub returns-in-Ok-clause-whole : goal.returns-in-Ok-clause-whole
+returns-in-Ok-clause-whole g c clean has =
+    let old = state g.S.Store c.args.tx.now.conn.now in
+    let new = state g.S.Store c.shown_rows.new.tx.conn.now in
+    let still = c.in_ok-rows.ensures.still clean (plain_there c.args.sql.now old c.requires.plain has) in (
+      are_all g.T.TableRow.shows g.T.TableRow.told g.T.TableRow.cells g.T.TableRow.fits g.T.TableRow.sheet c.args.sql.now c.requires old new _ c.in-Ok.told.items has
+          (subst (λ rows. Shown c.args.sql.now [] old new rows) (sym c.deref.ensures.value) (c.in_ok-rows.ensures.shown clean)) c.in-Ok.ensures.same c.in-Ok.ensures.fit,
+      still.0,
+      still.1,
+    )
 
 pub returns-clause-whole : goal.returns-clause-whole
 returns-clause-whole g c clean has =
-    let old = state g.S.Store c.args.tx.now.conn.now in
-    let new = state g.S.Store c.shown_rows.new.tx.conn.now in
-    let still = c.in_ok-rows.ensures.still clean (plain_there c.args.sql.now old c.requires.plain has) in
-    reads_all g.T.TableRow.shows g.T.TableRow.told g.T.TableRow.cells g.T.TableRow.fits g.T.TableRow.sheet c.args.sql.now c.requires old new _ c.read_rows.result
-    (subst (λ rows. Shown c.args.sql.now [] old new rows) (sym c.deref.ensures.value) (c.in_ok-rows.ensures.shown clean)) still.0 still.1 c.read_rows.ensures.same c.read_rows.ensures.fit has
+    (tt, tt, (c.in_ok-rows.ensures.still clean (plain_there c.args.sql.now (state g.S.Store c.args.tx.now.conn.now) c.requires.plain has)).1)
