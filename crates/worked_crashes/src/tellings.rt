@@ -1,5 +1,6 @@
 //! What a bank tells of its books. Two banks are compared by this: the balances, the cash and the counts of entries of
-//! the sample's accounts, tellers and branches, the days of these, and the first release that Tom was given.
+//! the sample's accounts, tellers and branches, the days of these, who holds which drawer, the first entries of branch 1
+//! and which of them are undone, who has a session open, and the first release that Tom was given.
 
 use crate::disks::{Held, reopened};
 use adopt_sql::{AdoptFault, adopt};
@@ -33,6 +34,16 @@ pub fn told<S: Store>(rt: &impl Abort, alloc: Global, bank: &mut S) -> String {
     }
     for branch in [1, 2] {
         tell(rt, alloc, &mut text, bank.branch(alloc, branch));
+    }
+    for teller in [11, 12] {
+        tell(rt, alloc, &mut text, bank.drawer(alloc, teller));
+    }
+    for number in [1, 2, 3] {
+        tell(rt, alloc, &mut text, bank.entry(alloc, 1, number));
+        tell(rt, alloc, &mut text, bank.undone(alloc, 1, number));
+    }
+    for user in [7, 8, 9] {
+        tell(rt, alloc, &mut text, bank.user(alloc, user));
     }
     tell(rt, alloc, &mut text, bank.release(alloc, 8, 1));
     text

@@ -1,4 +1,4 @@
-use bank_terms::{Cdi, Kind};
+use bank_terms::Kind;
 use counter_ops::{
     Accounts, CloseDay, Correct, DrawerOn, MoveCash, NewAccount, Op, Post, Releasable, Release,
     Statement, Transfer,
@@ -23,10 +23,6 @@ const MOVE_CASH: MoveCash = MoveCash {
     amount: 5_000,
 };
 
-fn item(kind: Kind, key: u32) -> Cdi {
-    Cdi { kind, key }
-}
-
 /// A withdrawal of 25.00 at teller 11 of branch 1.
 fn withdrawal() -> Result<Post, Fail> {
     Ok(Post {
@@ -49,9 +45,11 @@ fn correction(other: u32) -> Result<Correct, Fail> {
     })
 }
 
-/// The operation touches these items and comes to this amount.
-fn comes_to(rt: &impl Abort, op: Op, cents: u32, items: &[Cdi]) {
-    assert_eq!(rt; touches(&op).as_slice(), items);
+/// The operation touches the items of these kinds and keys, in this order, and comes to this amount.
+fn comes_to(rt: &impl Abort, op: Op, cents: u32, items: &[(Kind, u32)]) {
+    let touched = touches(&op);
+    let named = touched.as_slice().iter().map(|item| (item.kind, item.key));
+    assert!(rt; named.eq(items.iter().copied()));
     assert_eq!(rt; amount(&op), cents);
 }
 
@@ -62,11 +60,11 @@ fn items_and_amounts_of_postings(rt: HostRuntime) -> Result<(), Fail> {
         Op::Post(withdrawal()?),
         2_500,
         &[
-            item(Kind::Account, 101),
-            item(Kind::Teller, 11),
-            item(Kind::Branch, 1),
-            item(Kind::History, 1),
-            item(Kind::Drawer, 11),
+            (Kind::Account, 101),
+            (Kind::Teller, 11),
+            (Kind::Branch, 1),
+            (Kind::History, 1),
+            (Kind::Drawer, 11),
         ],
     );
     comes_to(
@@ -74,12 +72,12 @@ fn items_and_amounts_of_postings(rt: HostRuntime) -> Result<(), Fail> {
         Op::Transfer(TRANSFER),
         20_000,
         &[
-            item(Kind::Account, 101),
-            item(Kind::Account, 201),
-            item(Kind::Teller, 11),
-            item(Kind::Branch, 1),
-            item(Kind::History, 1),
-            item(Kind::Drawer, 11),
+            (Kind::Account, 101),
+            (Kind::Account, 201),
+            (Kind::Teller, 11),
+            (Kind::Branch, 1),
+            (Kind::History, 1),
+            (Kind::Drawer, 11),
         ],
     );
     Ok(())
@@ -92,11 +90,11 @@ fn items_and_amounts_of_corrections_and_releases(rt: HostRuntime) -> Result<(), 
         Op::Correct(correction(0)?),
         2_500,
         &[
-            item(Kind::Account, 101),
-            item(Kind::Teller, 12),
-            item(Kind::Branch, 1),
-            item(Kind::History, 1),
-            item(Kind::Drawer, 12),
+            (Kind::Account, 101),
+            (Kind::Teller, 12),
+            (Kind::Branch, 1),
+            (Kind::History, 1),
+            (Kind::Drawer, 12),
         ],
     );
     comes_to(
@@ -104,12 +102,12 @@ fn items_and_amounts_of_corrections_and_releases(rt: HostRuntime) -> Result<(), 
         Op::Correct(correction(201)?),
         2_500,
         &[
-            item(Kind::Account, 101),
-            item(Kind::Account, 201),
-            item(Kind::Teller, 12),
-            item(Kind::Branch, 1),
-            item(Kind::History, 1),
-            item(Kind::Drawer, 12),
+            (Kind::Account, 101),
+            (Kind::Account, 201),
+            (Kind::Teller, 12),
+            (Kind::Branch, 1),
+            (Kind::History, 1),
+            (Kind::Drawer, 12),
         ],
     );
     comes_to(
@@ -120,12 +118,12 @@ fn items_and_amounts_of_corrections_and_releases(rt: HostRuntime) -> Result<(), 
         }),
         20_000,
         &[
-            item(Kind::Account, 101),
-            item(Kind::Account, 201),
-            item(Kind::Teller, 11),
-            item(Kind::Branch, 1),
-            item(Kind::History, 1),
-            item(Kind::Drawer, 11),
+            (Kind::Account, 101),
+            (Kind::Account, 201),
+            (Kind::Teller, 11),
+            (Kind::Branch, 1),
+            (Kind::History, 1),
+            (Kind::Drawer, 11),
         ],
     );
     Ok(())
@@ -138,11 +136,11 @@ fn items_and_amounts_of_moves_of_cash(rt: HostRuntime) -> Result<(), Fail> {
         Op::MoveCash(MOVE_CASH),
         5_000,
         &[
-            item(Kind::Branch, 1),
-            item(Kind::Teller, 11),
-            item(Kind::Drawer, 11),
-            item(Kind::Teller, 12),
-            item(Kind::Drawer, 12),
+            (Kind::Branch, 1),
+            (Kind::Teller, 11),
+            (Kind::Drawer, 11),
+            (Kind::Teller, 12),
+            (Kind::Drawer, 12),
         ],
     );
     comes_to(
@@ -153,10 +151,10 @@ fn items_and_amounts_of_moves_of_cash(rt: HostRuntime) -> Result<(), Fail> {
         }),
         5_000,
         &[
-            item(Kind::Branch, 1),
-            item(Kind::Teller, 11),
-            item(Kind::Drawer, 11),
-            item(Kind::Vault, 1),
+            (Kind::Branch, 1),
+            (Kind::Teller, 11),
+            (Kind::Drawer, 11),
+            (Kind::Vault, 1),
         ],
     );
     comes_to(
@@ -167,10 +165,10 @@ fn items_and_amounts_of_moves_of_cash(rt: HostRuntime) -> Result<(), Fail> {
         }),
         5_000,
         &[
-            item(Kind::Branch, 1),
-            item(Kind::Teller, 12),
-            item(Kind::Drawer, 12),
-            item(Kind::Vault, 1),
+            (Kind::Branch, 1),
+            (Kind::Teller, 12),
+            (Kind::Drawer, 12),
+            (Kind::Vault, 1),
         ],
     );
     comes_to(
@@ -182,10 +180,10 @@ fn items_and_amounts_of_moves_of_cash(rt: HostRuntime) -> Result<(), Fail> {
         }),
         40_000,
         &[
-            item(Kind::Teller, 11),
-            item(Kind::Branch, 1),
-            item(Kind::Drawer, 11),
-            item(Kind::Vault, 1),
+            (Kind::Teller, 11),
+            (Kind::Branch, 1),
+            (Kind::Drawer, 11),
+            (Kind::Vault, 1),
         ],
     );
     Ok(())
@@ -201,7 +199,7 @@ fn items_and_amounts_of_other_operations(rt: HostRuntime) -> Result<(), Fail> {
             floor: -1,
         }),
         1,
-        &[item(Kind::Account, 103), item(Kind::Branch, 1)],
+        &[(Kind::Account, 103), (Kind::Branch, 1)],
     );
     comes_to(
         &rt,
@@ -220,17 +218,13 @@ fn items_and_amounts_of_other_operations(rt: HostRuntime) -> Result<(), Fail> {
             count: 10,
         }),
         0,
-        &[item(Kind::Account, 102)],
+        &[(Kind::Account, 102)],
     );
     comes_to(
         &rt,
         Op::CloseDay(CloseDay { branch: 2 }),
         0,
-        &[
-            item(Kind::Branch, 2),
-            item(Kind::History, 2),
-            item(Kind::Vault, 2),
-        ],
+        &[(Kind::Branch, 2), (Kind::History, 2), (Kind::Vault, 2)],
     );
     Ok(())
 }
