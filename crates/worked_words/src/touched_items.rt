@@ -16,6 +16,16 @@ const TRANSFER: Transfer = Transfer {
     amount: 20_000,
 };
 
+/// What `TRANSFER` touches, and a release of it, too.
+const TRANSFERRED: [(Kind, u32); 6] = [
+    (Kind::Account, 101),
+    (Kind::Account, 201),
+    (Kind::Teller, 11),
+    (Kind::Branch, 1),
+    (Kind::History, 1),
+    (Kind::Drawer, 11),
+];
+
 const MOVE_CASH: MoveCash = MoveCash {
     source: 11,
     target: 12,
@@ -67,19 +77,7 @@ fn items_and_amounts_of_postings(rt: HostRuntime) -> Result<(), Fail> {
             (Kind::Drawer, 11),
         ],
     );
-    comes_to(
-        &rt,
-        Op::Transfer(TRANSFER),
-        20_000,
-        &[
-            (Kind::Account, 101),
-            (Kind::Account, 201),
-            (Kind::Teller, 11),
-            (Kind::Branch, 1),
-            (Kind::History, 1),
-            (Kind::Drawer, 11),
-        ],
-    );
+    comes_to(&rt, Op::Transfer(TRANSFER), 20_000, &TRANSFERRED);
     Ok(())
 }
 
@@ -117,14 +115,7 @@ fn items_and_amounts_of_corrections_and_releases(rt: HostRuntime) -> Result<(), 
             operation: Releasable::Transfer(TRANSFER),
         }),
         20_000,
-        &[
-            (Kind::Account, 101),
-            (Kind::Account, 201),
-            (Kind::Teller, 11),
-            (Kind::Branch, 1),
-            (Kind::History, 1),
-            (Kind::Drawer, 11),
-        ],
+        &TRANSFERRED,
     );
     Ok(())
 }
