@@ -1,21 +1,19 @@
 -- Reads of which the last leaves nothing to be read.
-use Rattle.std.proofs.Common.{◌≡◌, ℕ, ℤ, pos, List, [], ◌∷◌, map, IsPermutation, Ok, Err, IsErr, IfOk, IsTrue, OnOk, Result, refl, sym, ap, ◌∙◌, subst}
+use Rattle.std.proofs.Common.{◌≡◌, ℕ, ℤ, pos, [], ◌∷◌, Ok, Err, IsErr, IfErr, IfOk, IsTrue, OnOk, Option, Some, Result, sym, ap, ap₂, ◌∙◌, subst}
 use Rattle.std.specs.Prelude.{⊤}
 use Rattle.sqlite.specs.Effect.{Database, IsDatabase}
-use Rattle.sqlite.specs.Order.{Row}
 use Rattle.sqlite.specs.State.{HasCleanDisk, IsLive, IsRolledBack, IsUnchanged, KeepsCommit, State, Survives}
-use Rattle.sqlite.proofs.Callers.{one_permutation}
 use Rattle.sqlite.specs.Tree.{Trees}
 use Rattle.bank_schema.proofs.StepLemmas.{early, kept_then}
-use Rattle.bank_schema.specs.Cells.{AnyRow}
 use Rattle.bank_schema.specs.Held.{tree_of}
-use Rattle.bank_schema.specs.Held.Sheet.{bank as in_bank}
-use Rattle.bank_schema.specs.HeldRows.{all_of_it}
-use Rattle.whole_tables.specs.BankRow.{bank_row_cells}
-use Rattle.whole_tables.specs.Whole.{AreAll, HasBankTables, IsKeptTable, Reads}
+use Rattle.whole_tables.specs.BankRow.{IsBankTable, bank_row_cells}
+use Rattle.whole_tables.specs.Whole.{HasBankTables, IsKeptTable, Reads}
 use Rattle.whole_tables.specs.declared.bank.BankRow.{BankRow}
 use Rattle.whole_tables.proofs.ReadsLemmas.{Done, Gave, done_then, gave_then, still_bank}
 use Rattle.adopt_sql.specs.Adopted.{IsBankFile, IsBankNumber, IsBankRow, IsLeft, ReadsLast}
+use Rattle.adopt_sql.specs.Refused.{IsBeyondBankRow, IsRefused}
+use Rattle.adopt_sql.specs.declared.adopt_fault.AdoptFault.{AdoptFault}
+use Rattle.adopt_sql.specs.declared.adopt_fault.AdoptFault.TheVariants.{NotABank, Version}
 
 abbrev pub Ends : State → State → (Trees → Type 0) → Type 0
 Ends old new says = HasCleanDisk new → HasBankTables old → says old.now.trees × KeepsCommit old new
@@ -50,21 +48,24 @@ is_left old begun read new file same committed kept back = record {
 
 -- ---- the row of the bank
 
-themselves : (rows : List Row) → map all_of_it rows ≡ rows
-themselves [] = refl
-themselves (row ∷ rows) = ap (λ rest. row ∷ rest) (themselves rows)
+first_row : (db : Trees) (found : Option BankRow) (row : BankRow) → (found ≡ Some row) × (row.id ≡ pos 1) × (row.version ≡ pos 1) → IsBankTable db found → IsBankNumber db row.policy
+first_row db found row is table =
+    subst (IsBankTable db) is.0 table ∙ ap₂ (λ id version. bank_row_cells (record { id = id; version = version; policy = row.policy }) ∷ []) is.1 is.2
 
-abbrev pub IsOnly : List BankRow → ℤ → Type 0
-IsOnly rows policy = rows ≡ record { id = pos 1; version = pos 1; policy = policy } ∷ []
+pub reads_row : {E : Type 0} (old new : State) (found : Option BankRow) (r : Result BankRow E) → IfOk r (λ row. (found ≡ Some row) × (row.id ≡ pos 1) × (row.version ≡ pos 1))
+    → IsBankTable old.now.trees found × IsUnchanged old new × KeepsCommit old new → IfOk r (λ row. IsBankNumber old.now.trees row.policy) × OnOk r (IsUnchanged old new) × KeepsCommit old new
+reads_row old new found (Ok row) is it = (first_row old.now.trees found row is it.0, it.1, it.2)
+reads_row old new found (Err e) is it = (tt, tt, it.2)
 
-only_row : (db : Trees) (rows : List BankRow) (policy : ℤ) → IsOnly rows policy → AreAll all_of_it bank_row_cells AnyRow in_bank db rows → IsBankNumber db policy
-only_row db rows policy is all =
-    sym (themselves (db 0)) ∙ one_permutation (bank_row_cells (record { id = pos 1; version = pos 1; policy = policy })) (map all_of_it (db 0)) (subst (λ rs. IsPermutation (map bank_row_cells rs) (map all_of_it (db 0))) is all.same)
+-- a fault that says nothing of the row is lawful whatever the row is
+pub beyond_row : (db : Trees) (fault : AdoptFault) → IsBeyondBankRow fault → IsRefused db fault
+beyond_row db NotABank none = absurd none
+beyond_row db Version none = absurd none
+beyond_row db _ beyond = tt
 
-pub reads_row : {E : Type 0} (old new : State) (rows : List BankRow) (r : Result BankRow E) → IfOk r (λ row. IsOnly rows row.policy) → AreAll all_of_it bank_row_cells AnyRow in_bank old.now.trees rows → IsUnchanged old new
-    → KeepsCommit old new → IfOk r (λ row. IsBankNumber old.now.trees row.policy) × OnOk r (IsUnchanged old new) × KeepsCommit old new
-reads_row old new rows (Ok row) is all same kept = (only_row old.now.trees rows row.policy is all, same, kept)
-reads_row old new rows (Err e) is all same kept = (tt, tt, kept)
+pub beyond_rows : {X : Type 0} (db : Trees) (r : Result X AdoptFault) → IfErr r IsBeyondBankRow → IfErr r (IsRefused db)
+beyond_rows db (Ok x) beyond = tt
+beyond_rows db (Err fault) beyond = beyond_row db fault beyond
 
 -- the tables that are asked then, on a connection that the read of the row found open
 module _ (a b c : State) (P : Trees → Type 0) (survives : Survives b c (λ _. ⊥)) (first : Done a b P) where
@@ -78,6 +79,12 @@ module _ (a b c : State) (P : Trees → Type 0) (survives : Survives b c (λ _. 
   asked_gave second clean has =
       let was_open = (first (early b c _ survives clean) has).1.0.is_open in
       gave_then a b c P survives first (second was_open) clean has
+
+  -- and what holds of them on the tables of a bank
+  pub asked_there : (Q : Type 0) → (IsTrue b.is_open → HasCleanDisk c → HasBankTables b → Q) → HasCleanDisk c → HasBankTables a → Q
+  asked_there Q second clean has =
+      let it = first (early b c _ survives clean) has in
+      second it.1.0.is_open clean (still_bank a b it.1 has)
 
 pub reads_version : {E : Type 0} (old new : State) (policy : ℤ) (r : Result ℕ E) → IfOk r (λ version. policy ≡ pos version) → Done old new (λ db. IsBankNumber db policy) → Reads old new IsBankRow r
 reads_version old new policy (Ok version) is done clean has =

@@ -1,2 +1,3 @@
 pub mod Adopted
+pub mod Refused
 pub mod Told

@@ -1,4 +1,6 @@
 ghost use Rattle.std.specs.Prelude.{◌≡◌};
+ghost use Rattle.adopt_sql.specs.Refused.{IsBeyondBankRow};
+ghost use Rattle.whole_tables.specs.Faults.{IsOfDatabase};
 
 use book_check::BooksFault;
 use money::Fault;
@@ -29,12 +31,23 @@ pub enum AdoptFault {
     Fault(Fault),
 }
 
-/// Why a bank is not adopted of whose books a table was not read.
-pub(crate) fn books_unread(fault: ReadFault) -> AdoptFault {
+/// Why a bank is not adopted of which its own row was not read, or another table was not there.
+pub(crate) fn table_unread(fault: ReadFault) -> AdoptFault
+    ensures { IsOfDatabase fault → IsBeyondBankRow result }
+{
     match fault {
         ReadFault::Fault(fault) => AdoptFault::Fault(fault),
-        ReadFault::Missing(_) => AdoptFault::NotABank,
-        ReadFault::OutOfLimits(Table::Bank) => AdoptFault::NotABank,
+        _ => AdoptFault::NotABank,
+    }
+}
+
+/// Why a bank is not adopted of whose books a table was not read, that was there when it was asked for.
+pub(crate) fn books_unread(fault: ReadFault) -> AdoptFault
+    ensures { IsBeyondBankRow result }
+{
+    match fault {
+        ReadFault::Fault(fault) => AdoptFault::Fault(fault),
+        ReadFault::Missing(_) => AdoptFault::Fault(Fault::Disk),
         ReadFault::OutOfLimits(_) => AdoptFault::Books(BooksFault::Range),
         ReadFault::UserOutOfLimits => AdoptFault::Policy(PolicyFault::Dangling),
     }

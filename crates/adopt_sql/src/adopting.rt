@@ -1,7 +1,8 @@
-ghost use Rattle.std.specs.Prelude.{◌≡◌, false, OnOk};
+ghost use Rattle.std.specs.Prelude.{◌≡◌, false, IfErr, OnOk};
 ghost use Rattle.sqlite.specs.Held.{state};
 ghost use Rattle.sqlite.specs.State.{HasCleanDisk, Survives};
 ghost use Rattle.adopt_sql.specs.Adopted.{Adopts, IsBankFile, IsLeft};
+ghost use Rattle.adopt_sql.specs.Refused.{IsRefused};
 
 use crate::adopt_fault::AdoptFault;
 use crate::judging::{judge, with_no_policy};
@@ -18,6 +19,7 @@ pub fn adopt_bank<S: Alter>(alloc: Global, conn: &mut Connection<S>) -> Result<(
     requires { conn.old.in_transaction ≡ false }
     ensures mode { conn.new.in_transaction ≡ false }
     ensures adopts { HasCleanDisk (state S.Store conn.new) → IsBankFile (state S.Store conn.old) → OnOk result (Adopts (state S.Store conn.old) (state S.Store conn.new)) }
+    ensures refused { HasCleanDisk (state S.Store conn.new) → IsBankFile (state S.Store conn.old) → IfErr result (IsRefused (state S.Store conn.old).now.trees) }
     ensures left { HasCleanDisk (state S.Store conn.new) → IsBankFile (state S.Store conn.old) → IsLeft (state S.Store conn.old) (state S.Store conn.new) }
     ensures survives { Survives (state S.Store conn.old) (state S.Store conn.new) (λ _. ⊥) }
 {

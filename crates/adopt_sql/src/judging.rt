@@ -1,7 +1,8 @@
-ghost use Rattle.std.specs.Prelude.{◌≡◌, IfOk, Ok, OnOk};
+ghost use Rattle.std.specs.Prelude.{◌≡◌, IfErr, IfOk, Ok, OnOk};
 ghost use Rattle.book_check.specs.Verdict.{IsVerdict};
 ghost use Rattle.policy_check.specs.PolicyVerdict.{IsPolicyVerdict};
 ghost use Rattle.kept_rows.specs.Keepable.{IsKeepable};
+ghost use Rattle.adopt_sql.specs.Refused.{IsBeyondBankRow};
 ghost use Rattle.adopt_sql.specs.Told.{IsBankOf, kept_read, sheets_read, world_read};
 
 use crate::adopt_fault::AdoptFault;
@@ -22,7 +23,8 @@ pub(crate) fn judge(
     tables: PolicyTables,
     version: u64,
 ) -> Result<(), AdoptFault>
-    ensures { OnOk result (IsBankOf (sheets_read books tables version)) }
+    ensures bank { OnOk result (IsBankOf (sheets_read books tables version)) }
+    ensures beyond { IfErr result IsBeyondBankRow }
 {
     let found = match whole_policy(alloc, &books.users.users, tables) {
         Ok(found) => found,
@@ -38,7 +40,9 @@ pub(crate) fn judge(
 }
 
 /// Why a bank is not adopted of whose policy the tables tell none: its books are judged before.
-pub(crate) fn with_no_policy(alloc: Global, books: BookRows, version: u64) -> AdoptFault {
+pub(crate) fn with_no_policy(alloc: Global, books: BookRows, version: u64) -> AdoptFault
+    ensures { IsBeyondBankRow result }
+{
     match users_alone(alloc, &books.users.users) {
         Ok(Some(policy)) => match judged_books(alloc, books, policy, version) {
             Ok(_) => AdoptFault::Policy(PolicyFault::Dangling),
@@ -60,6 +64,7 @@ fn judged_books(
     ensures verdict { IfOk result (λ bank. IsVerdict bank.world bank.kept (Ok tt)) }
     ensures world { IfOk result (λ bank. bank.world ≡ world_read books policy version) }
     ensures kept { IfOk result (λ bank. bank.kept ≡ kept_read books) }
+    ensures beyond { IfErr result IsBeyondBankRow }
 {
     let bank = match bank_rows(alloc, books, policy, version) {
         Ok(Some(bank)) => bank,
@@ -78,6 +83,7 @@ fn judge_policy(bank: &BankRows) -> Result<(), AdoptFault>
     requires { IsVerdict bank.now.world bank.now.kept (Ok tt) }
     ensures policy { OnOk result (IsPolicyVerdict bank.now.world.policy (Ok tt)) }
     ensures keepable { OnOk result (IsKeepable bank.now.world) }
+    ensures beyond { IfErr result IsBeyondBankRow }
 {
     if let Err(fault) = check_policy(bank.world.policy()) {
         return Err(AdoptFault::Policy(fault));

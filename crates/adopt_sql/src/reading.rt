@@ -1,20 +1,23 @@
-ghost use Rattle.std.specs.Prelude.{◌≡◌, ◌∷◌, [], false, pos, IfOk, IfSome, IsTrue, OnOk};
+ghost use Rattle.std.specs.Prelude.{◌≡◌, Some, false, pos, IfErr, IfOk, IfSome, IsTrue, OnOk};
 ghost use Rattle.sqlite.specs.Effect.{IsDatabase};
 ghost use Rattle.sqlite.specs.Held.{state};
 ghost use Rattle.sqlite.specs.State.{HasCleanDisk, Survives};
+ghost use Rattle.sqlite.specs.Tree.{Trees};
 ghost use Rattle.bank_schema.specs.Steps.{StaysOpen};
 ghost use Rattle.whole_tables.specs.PolicyTables.{ArePolicyTables};
 ghost use Rattle.whole_tables.specs.BookRows.{AreBookRows};
+ghost use Rattle.whole_tables.specs.BankRow.{IsBankTable};
 ghost use Rattle.whole_tables.specs.Whole.{Reads};
 ghost use Rattle.adopt_sql.specs.Adopted.{AreFileRows, IsBankFile, IsBankNumber, IsBankRow, IsLeft, ReadsLast};
+ghost use Rattle.adopt_sql.specs.Refused.{IsBeyondBankRow, IsRefused, RefusesFor};
 
-use crate::adopt_fault::{AdoptFault, books_unread};
+use crate::adopt_fault::{AdoptFault, books_unread, table_unread};
 use book_check::BooksFault;
 use sqlite::{Alter, Connection, Transaction};
 use std::alloc::Global;
 use whole_tables::{
-    BankRow, BookRows, PolicyTables, ReadFault, all_bank, all_book_rows, all_policy_tables,
-    ask_tables,
+    BankRow, BookRows, PolicyTables, ReadFault, all_book_rows, all_policy_tables, ask_tables,
+    bank_row,
 };
 
 /// The rows of all tables of a bank.
@@ -28,34 +31,40 @@ pub(crate) struct FileRows {
     pub policy: Option<PolicyTables>,
 }
 
-/// The row of the bank, where its table has that one row, of the first version of the tables.
-fn told_row(rows: &[BankRow]) -> Result<BankRow, AdoptFault>
-    ensures { IfOk result (λ row. rows.now ≡ record { id = pos 1; version = pos 1; policy = row.policy } ∷ []) }
+/// The row of the bank, where this is what its table has, and it is of the first version of the tables.
+fn first_version(found: Option<BankRow>) -> Result<BankRow, AdoptFault>
+    ensures row { IfOk result (λ row. (found ≡ Some row) × (row.id ≡ pos 1) × (row.version ≡ pos 1)) }
+    ensures refused { (db : Trees) → IsBankTable db found → IfErr result (IsRefused db) }
 {
-    if rows.len() != 1 || rows[0].id != 1 {
-        return Err(AdoptFault::NotABank);
+    match found {
+        Some(row) if row.id == 1 => {
+            if row.version == 1 {
+                Ok(row)
+            } else {
+                Err(AdoptFault::Version)
+            }
+        }
+        _ => Err(AdoptFault::NotABank),
     }
-    if rows[0].version != 1 {
-        return Err(AdoptFault::Version);
-    }
-    Ok(rows[0])
 }
 
-fn bank_row<S: Alter>(alloc: Global, tx: &mut Transaction<'_, S>) -> Result<BankRow, AdoptFault>
+fn told_row<S: Alter>(tx: &mut Transaction<'_, S>) -> Result<BankRow, AdoptFault>
     ensures same_reference { tx.new.conn.ghost_name ≡ tx.old.conn.ghost_name }
     ensures whole { Reads (state S.Store tx.old.conn.now) (state S.Store tx.new.conn.now) (λ trees row. IsBankNumber trees row.policy) result }
+    ensures refused { RefusesFor (state S.Store tx.old.conn.now) (state S.Store tx.new.conn.now) result }
     ensures open { StaysOpen (state S.Store tx.old.conn.now) (state S.Store tx.new.conn.now) result }
     ensures survives { Survives (state S.Store tx.old.conn.now) (state S.Store tx.new.conn.now) (λ _. ⊥) }
 {
-    match all_bank(alloc, tx) {
-        Ok(rows) => told_row(&rows),
-        Err(fault) => Err(books_unread(fault)),
+    match bank_row(tx) {
+        Ok(found) => first_version(found),
+        Err(fault) => Err(table_unread(fault)),
     }
 }
 
 /// The version of the policy. A number below 0 is out of the limits of the books.
 fn version_in(row: &BankRow) -> Result<u64, AdoptFault>
-    ensures { IfOk result (λ version. row.now.policy ≡ pos version) }
+    ensures number { IfOk result (λ version. row.now.policy ≡ pos version) }
+    ensures beyond { IfErr result IsBeyondBankRow }
 {
     match u64::try_from(row.policy) {
         Ok(version) => Ok(version),
@@ -65,22 +74,24 @@ fn version_in(row: &BankRow) -> Result<u64, AdoptFault>
 
 /// The version of the policy. It is not judged before each of the other tables was asked for its rows: the row
 /// of the bank is told first, then that a table is not there, then what is out of its limits.
-fn bank_version<S: Alter>(alloc: Global, tx: &mut Transaction<'_, S>) -> Result<u64, AdoptFault>
+fn bank_version<S: Alter>(tx: &mut Transaction<'_, S>) -> Result<u64, AdoptFault>
     ensures same_reference { tx.new.conn.ghost_name ≡ tx.old.conn.ghost_name }
     ensures whole { Reads (state S.Store tx.old.conn.now) (state S.Store tx.new.conn.now) IsBankRow result }
+    ensures refused { RefusesFor (state S.Store tx.old.conn.now) (state S.Store tx.new.conn.now) result }
     ensures open { HasCleanDisk (state S.Store tx.new.conn.now) → OnOk result (IsTrue (state S.Store tx.old.conn.now).is_open) }
     ensures survives { Survives (state S.Store tx.old.conn.now) (state S.Store tx.new.conn.now) (λ _. ⊥) }
 {
-    let row = bank_row(alloc, tx)?;
+    let row = told_row(tx)?;
     match ask_tables(tx) {
         Ok(()) => version_in(&row),
-        Err(fault) => Err(books_unread(fault)),
+        Err(fault) => Err(table_unread(fault)),
     }
 }
 
 fn book_rows<S: Alter>(alloc: Global, tx: &mut Transaction<'_, S>) -> Result<BookRows, AdoptFault>
     ensures same_reference { tx.new.conn.ghost_name ≡ tx.old.conn.ghost_name }
     ensures whole { Reads (state S.Store tx.old.conn.now) (state S.Store tx.new.conn.now) AreBookRows result }
+    ensures beyond { IfErr result IsBeyondBankRow }
     ensures survives { Survives (state S.Store tx.old.conn.now) (state S.Store tx.new.conn.now) (λ _. ⊥) }
 {
     match all_book_rows(alloc, tx) {
@@ -96,6 +107,7 @@ fn policy_tables<S: Alter>(
 ) -> Result<Option<PolicyTables>, AdoptFault>
     ensures same_reference { tx.new.conn.ghost_name ≡ tx.old.conn.ghost_name }
     ensures whole { ReadsLast (state S.Store tx.old.conn.now) (state S.Store tx.new.conn.now) (λ trees found. IfSome found (ArePolicyTables trees)) result }
+    ensures beyond { IfErr result IsBeyondBankRow }
     ensures survives { Survives (state S.Store tx.old.conn.now) (state S.Store tx.new.conn.now) (λ _. ⊥) }
 {
     match all_policy_tables(alloc, tx) {
@@ -109,10 +121,11 @@ fn policy_tables<S: Alter>(
 fn rows_inside<S: Alter>(alloc: Global, tx: &mut Transaction<'_, S>) -> Result<FileRows, AdoptFault>
     ensures same_reference { tx.new.conn.ghost_name ≡ tx.old.conn.ghost_name }
     ensures whole { ReadsLast (state S.Store tx.old.conn.now) (state S.Store tx.new.conn.now) AreFileRows result }
+    ensures refused { RefusesFor (state S.Store tx.old.conn.now) (state S.Store tx.new.conn.now) result }
     ensures open { HasCleanDisk (state S.Store tx.new.conn.now) → OnOk result (IsTrue (state S.Store tx.old.conn.now).is_open) }
     ensures survives { Survives (state S.Store tx.old.conn.now) (state S.Store tx.new.conn.now) (λ _. ⊥) }
 {
-    let version = bank_version(alloc, tx)?;
+    let version = bank_version(tx)?;
     let books = book_rows(alloc, tx)?;
     let policy = policy_tables(alloc, tx)?;
     Ok(FileRows {
@@ -130,6 +143,7 @@ pub(crate) fn read_file<S: Alter>(
     requires { conn.old.in_transaction ≡ false }
     ensures mode { conn.new.in_transaction ≡ false }
     ensures whole { HasCleanDisk (state S.Store conn.new) → IsBankFile (state S.Store conn.old) → IfOk result (AreFileRows (state S.Store conn.old).now.trees) }
+    ensures refused { HasCleanDisk (state S.Store conn.new) → IsBankFile (state S.Store conn.old) → IfErr result (IsRefused (state S.Store conn.old).now.trees) }
     ensures left { HasCleanDisk (state S.Store conn.new) → IsBankFile (state S.Store conn.old) → IsLeft (state S.Store conn.old) (state S.Store conn.new) }
     ensures open { HasCleanDisk (state S.Store conn.new) → OnOk result (IsTrue (state S.Store conn.old).is_open) }
     ensures sound { HasCleanDisk (state S.Store conn.new) → OnOk result (IsDatabase (state S.Store conn.old).now) }

@@ -1,19 +1,17 @@
 -- The queries for branches, tellers, accounts and entries, whole.
-use Rattle.std.proofs.Common.{◌≡◌, List, [], ◌∷◌, codes, false, inl, inr, refl}
-use Rattle.sqlite.specs.Command.TheVariants.{Select}
-use Rattle.sqlite.specs.Listing.{understood, reads_listing}
+use Rattle.std.proofs.Common.{List, [], ◌∷◌, codes, inl, inr, refl}
+use Rattle.sqlite.specs.Listing.{understood}
 use Rattle.sqlite.specs.Term.{Term, col}
-use Rattle.sqlite.proofs.Callers.{IsPlain, command_of}
 use Rattle.sqlite_tied.specs.Compute.{everything}
 use Rattle.sqlite_value.specs.declared.keys.Key.{Key}
 use Rattle.bank_schema.specs.Held.Sheet.{branches as in_branches, tellers as in_tellers, accounts as in_accounts, entries as in_entries}
 use Rattle.bank_schema.specs.HeldRows.{all_but_rowid, all_of_it}
-use Rattle.bank_schema.specs.Schema.{bank_schema, accounts_table, branches_table, entries_table, tellers_table}
+use Rattle.bank_schema.specs.Schema.{accounts_table, branches_table, entries_table, tellers_table}
 use Rattle.bank_schema.proofs.ReadLemmas.{rising_key}
 use Rattle.whole_tables.specs.Texts.{all_branches_text, all_tellers_text, all_accounts_text, all_entries_text}
 use Rattle.whole_tables.specs.Told.{told_by_columns, told_by_key}
 use Rattle.whole_tables.specs.Whole.{TellsWhole}
-use Rattle.whole_tables.proofs.WholeLemmas.{by_columns_whole, by_rowid_whole, whole_scan}
+use Rattle.whole_tables.proofs.WholeLemmas.{IsScanOf, by_columns_whole, by_rowid_whole}
 
 -- ---- branches
 
@@ -23,14 +21,13 @@ branches_columns = col 1 0 ∷ col 1 2 ∷ col 1 3 ∷ col 1 4 ∷ col 1 5 ∷ c
 abbrev branches_order : List (Term × Key)
 branches_order = (col 1 0, rising_key) ∷ []
 
-branches_is : (command_of (understood bank_schema all_branches_text) ≡ Select (record { lets = []; body = whole_scan 11 branches_columns branches_order }) (codes "branch" ∷ codes "opening" ∷ codes "cash" ∷ codes "day" ∷ codes "balance" ∷ codes "vault" ∷ codes "entries" ∷ codes "lines" ∷ codes "accounts" ∷ codes "history" ∷ codes "drawers" ∷ codes "cash_entries" ∷ codes "differences" ∷ []))
-    × (reads_listing bank_schema all_branches_text ≡ false) × IsPlain (understood bank_schema all_branches_text)
+branches_is : IsScanOf all_branches_text 11 branches_columns branches_order (codes "branch" ∷ codes "opening" ∷ codes "cash" ∷ codes "day" ∷ codes "balance" ∷ codes "vault" ∷ codes "entries" ∷ codes "lines" ∷ codes "accounts" ∷ codes "history" ∷ codes "drawers" ∷ codes "cash_entries" ∷ codes "differences" ∷ [])
 unfolding understood everything
-branches_is = (refl, refl, (refl, refl))
+branches_is = (refl, refl, (refl, refl), (refl, refl), refl)
 
 pub tells_branches : TellsWhole all_of_it (told_by_key 12) in_branches all_branches_text
 tells_branches =
-    by_rowid_whole in_branches branches_table all_branches_text branches_columns branches_order _ 12 branches_is.0 branches_is.1 branches_is.2
+    by_rowid_whole in_branches branches_table all_branches_text branches_columns branches_order _ 12 branches_is
     (inr (inr (inr (inr (inr (inr (inr (inl refl)))))))) refl (λ db. refl) refl refl (inr refl) (λ r. refl)
 
 -- ---- tellers
@@ -41,14 +38,13 @@ tellers_columns = col 1 0 ∷ col 1 2 ∷ col 1 3 ∷ col 1 4 ∷ col 1 5 ∷ co
 abbrev tellers_order : List (Term × Key)
 tellers_order = (col 1 0, rising_key) ∷ []
 
-tellers_is : (command_of (understood bank_schema all_tellers_text) ≡ Select (record { lets = []; body = whole_scan 12 tellers_columns tellers_order }) (codes "teller" ∷ codes "branch" ∷ codes "opening" ∷ codes "balance" ∷ codes "cash" ∷ codes "holder" ∷ []))
-    × (reads_listing bank_schema all_tellers_text ≡ false) × IsPlain (understood bank_schema all_tellers_text)
+tellers_is : IsScanOf all_tellers_text 12 tellers_columns tellers_order (codes "teller" ∷ codes "branch" ∷ codes "opening" ∷ codes "balance" ∷ codes "cash" ∷ codes "holder" ∷ [])
 unfolding understood everything
-tellers_is = (refl, refl, (refl, refl))
+tellers_is = (refl, refl, (refl, refl), (refl, refl), refl)
 
 pub tells_tellers : TellsWhole all_of_it (told_by_key 5) in_tellers all_tellers_text
 tells_tellers =
-    by_rowid_whole in_tellers tellers_table all_tellers_text tellers_columns tellers_order _ 5 tellers_is.0 tellers_is.1 tellers_is.2
+    by_rowid_whole in_tellers tellers_table all_tellers_text tellers_columns tellers_order _ 5 tellers_is
     (inr (inr (inr (inr (inr (inr (inr (inr (inl refl))))))))) refl (λ db. refl) refl refl (inr refl) (λ r. refl)
 
 -- ---- accounts
@@ -59,14 +55,13 @@ accounts_columns = col 1 0 ∷ col 1 2 ∷ col 1 3 ∷ col 1 4 ∷ col 1 5 ∷ c
 abbrev accounts_order : List (Term × Key)
 accounts_order = (col 1 0, rising_key) ∷ []
 
-accounts_is : (command_of (understood bank_schema all_accounts_text) ≡ Select (record { lets = []; body = whole_scan 13 accounts_columns accounts_order }) (codes "account" ∷ codes "home" ∷ codes "opening" ∷ codes "floor" ∷ codes "balance" ∷ codes "turns" ∷ []))
-    × (reads_listing bank_schema all_accounts_text ≡ false) × IsPlain (understood bank_schema all_accounts_text)
+accounts_is : IsScanOf all_accounts_text 13 accounts_columns accounts_order (codes "account" ∷ codes "home" ∷ codes "opening" ∷ codes "floor" ∷ codes "balance" ∷ codes "turns" ∷ [])
 unfolding understood everything
-accounts_is = (refl, refl, (refl, refl))
+accounts_is = (refl, refl, (refl, refl), (refl, refl), refl)
 
 pub tells_accounts : TellsWhole all_of_it (told_by_key 5) in_accounts all_accounts_text
 tells_accounts =
-    by_rowid_whole in_accounts accounts_table all_accounts_text accounts_columns accounts_order _ 5 accounts_is.0 accounts_is.1 accounts_is.2
+    by_rowid_whole in_accounts accounts_table all_accounts_text accounts_columns accounts_order _ 5 accounts_is
     (inr (inr (inr (inr (inr (inr (inr (inr (inr (inl refl)))))))))) refl (λ db. refl) refl refl (inr refl) (λ r. refl)
 
 -- ---- entries
@@ -77,12 +72,11 @@ entries_columns = col 1 1 ∷ col 1 2 ∷ col 1 3 ∷ col 1 4 ∷ col 1 5 ∷ co
 abbrev entries_order : List (Term × Key)
 entries_order = (col 1 1, rising_key) ∷ (col 1 2, rising_key) ∷ []
 
-entries_is : (command_of (understood bank_schema all_entries_text) ≡ Select (record { lets = []; body = whole_scan 14 entries_columns entries_order }) (codes "branch" ∷ codes "number" ∷ codes "account" ∷ codes "turn" ∷ codes "teller" ∷ codes "delta" ∷ codes "moment" ∷ codes "day" ∷ codes "user_no" ∷ codes "form" ∷ codes "partner" ∷ codes "undoes" ∷ codes "balance_after" ∷ []))
-    × (reads_listing bank_schema all_entries_text ≡ false) × IsPlain (understood bank_schema all_entries_text)
+entries_is : IsScanOf all_entries_text 14 entries_columns entries_order (codes "branch" ∷ codes "number" ∷ codes "account" ∷ codes "turn" ∷ codes "teller" ∷ codes "delta" ∷ codes "moment" ∷ codes "day" ∷ codes "user_no" ∷ codes "form" ∷ codes "partner" ∷ codes "undoes" ∷ codes "balance_after" ∷ [])
 unfolding understood everything
-entries_is = (refl, refl, (refl, refl))
+entries_is = (refl, refl, (refl, refl), (refl, refl), refl)
 
 pub tells_entries : TellsWhole all_but_rowid (told_by_columns 13) in_entries all_entries_text
 tells_entries =
-    by_columns_whole in_entries entries_table all_entries_text entries_columns entries_order _ 13 entries_is.0 entries_is.1 entries_is.2
+    by_columns_whole in_entries entries_table all_entries_text entries_columns entries_order _ 13 entries_is
     (inr (inr (inr (inr (inr (inr (inr (inr (inr (inr (inl refl))))))))))) refl (λ db. refl) refl refl (λ r. refl)

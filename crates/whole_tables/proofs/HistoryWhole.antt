@@ -1,19 +1,17 @@
 -- The queries for lines, proofs and releases, whole.
-use Rattle.std.proofs.Common.{◌≡◌, List, [], ◌∷◌, codes, false, inl, inr, refl}
-use Rattle.sqlite.specs.Command.TheVariants.{Select}
-use Rattle.sqlite.specs.Listing.{understood, reads_listing}
+use Rattle.std.proofs.Common.{List, [], ◌∷◌, codes, inl, inr, refl}
+use Rattle.sqlite.specs.Listing.{understood}
 use Rattle.sqlite.specs.Term.{Term, col}
-use Rattle.sqlite.proofs.Callers.{IsPlain, command_of}
 use Rattle.sqlite_tied.specs.Compute.{everything}
 use Rattle.sqlite_value.specs.declared.keys.Key.{Key}
 use Rattle.bank_schema.specs.Held.Sheet.{lines as in_lines, proofs as in_proofs, releases as in_releases}
 use Rattle.bank_schema.specs.HeldRows.{all_but_rowid}
-use Rattle.bank_schema.specs.Schema.{bank_schema, lines_table, proofs_table, releases_table}
+use Rattle.bank_schema.specs.Schema.{lines_table, proofs_table, releases_table}
 use Rattle.bank_schema.proofs.ReadLemmas.{rising_key}
 use Rattle.whole_tables.specs.Texts.{all_lines_text, all_proofs_text, all_releases_text}
 use Rattle.whole_tables.specs.Told.{told_by_columns}
 use Rattle.whole_tables.specs.Whole.{TellsWhole}
-use Rattle.whole_tables.proofs.WholeLemmas.{by_columns_whole, whole_scan}
+use Rattle.whole_tables.proofs.WholeLemmas.{IsScanOf, by_columns_whole}
 
 -- ---- lines
 
@@ -23,14 +21,13 @@ lines_columns = col 1 1 ∷ col 1 2 ∷ col 1 3 ∷ col 1 4 ∷ col 1 5 ∷ col 
 abbrev lines_order : List (Term × Key)
 lines_order = (col 1 1, rising_key) ∷ (col 1 2, rising_key) ∷ []
 
-lines_is : (command_of (understood bank_schema all_lines_text) ≡ Select (record { lets = []; body = whole_scan 17 lines_columns lines_order }) (codes "branch" ∷ codes "number" ∷ codes "place" ∷ codes "amount" ∷ codes "form" ∷ codes "moment" ∷ codes "day" ∷ codes "user_no" ∷ []))
-    × (reads_listing bank_schema all_lines_text ≡ false) × IsPlain (understood bank_schema all_lines_text)
+lines_is : IsScanOf all_lines_text 17 lines_columns lines_order (codes "branch" ∷ codes "number" ∷ codes "place" ∷ codes "amount" ∷ codes "form" ∷ codes "moment" ∷ codes "day" ∷ codes "user_no" ∷ [])
 unfolding understood everything
-lines_is = (refl, refl, (refl, refl))
+lines_is = (refl, refl, (refl, refl), (refl, refl), refl)
 
 pub tells_lines : TellsWhole all_but_rowid (told_by_columns 8) in_lines all_lines_text
 tells_lines =
-    by_columns_whole in_lines lines_table all_lines_text lines_columns lines_order _ 8 lines_is.0 lines_is.1 lines_is.2
+    by_columns_whole in_lines lines_table all_lines_text lines_columns lines_order _ 8 lines_is
     (inr (inr (inr (inr (inr (inr (inr (inr (inr (inr (inr (inl refl)))))))))))) refl (λ db. refl) refl refl (λ r. refl)
 
 -- ---- proofs
@@ -41,14 +38,13 @@ proofs_columns = col 1 1 ∷ col 1 2 ∷ col 1 3 ∷ col 1 4 ∷ col 1 5 ∷ []
 abbrev proofs_order : List (Term × Key)
 proofs_order = (col 1 1, rising_key) ∷ (col 1 2, rising_key) ∷ []
 
-proofs_is : (command_of (understood bank_schema all_proofs_text) ≡ Select (record { lets = []; body = whole_scan 19 proofs_columns proofs_order }) (codes "branch" ∷ codes "day" ∷ codes "entries" ∷ codes "balance" ∷ codes "cash" ∷ []))
-    × (reads_listing bank_schema all_proofs_text ≡ false) × IsPlain (understood bank_schema all_proofs_text)
+proofs_is : IsScanOf all_proofs_text 19 proofs_columns proofs_order (codes "branch" ∷ codes "day" ∷ codes "entries" ∷ codes "balance" ∷ codes "cash" ∷ [])
 unfolding understood everything
-proofs_is = (refl, refl, (refl, refl))
+proofs_is = (refl, refl, (refl, refl), (refl, refl), refl)
 
 pub tells_proofs : TellsWhole all_but_rowid (told_by_columns 5) in_proofs all_proofs_text
 tells_proofs =
-    by_columns_whole in_proofs proofs_table all_proofs_text proofs_columns proofs_order _ 5 proofs_is.0 proofs_is.1 proofs_is.2
+    by_columns_whole in_proofs proofs_table all_proofs_text proofs_columns proofs_order _ 5 proofs_is
     (inr (inr (inr (inr (inr (inr (inr (inr (inr (inr (inr (inr (inl refl))))))))))))) refl (λ db. refl) refl refl (λ r. refl)
 
 -- ---- releases
@@ -59,12 +55,11 @@ releases_columns = col 1 1 ∷ col 1 2 ∷ col 1 3 ∷ col 1 4 ∷ col 1 5 ∷ c
 abbrev releases_order : List (Term × Key)
 releases_order = (col 1 1, rising_key) ∷ (col 1 2, rising_key) ∷ []
 
-releases_is : (command_of (understood bank_schema all_releases_text) ≡ Select (record { lets = []; body = whole_scan 21 releases_columns releases_order }) (codes "user_no" ∷ codes "number" ∷ codes "giver" ∷ codes "branch" ∷ codes "day" ∷ codes "form" ∷ codes "member1" ∷ codes "member2" ∷ codes "member3" ∷ codes "member4" ∷ codes "member5" ∷ codes "member6" ∷ codes "member7" ∷ codes "member8" ∷ codes "used" ∷ []))
-    × (reads_listing bank_schema all_releases_text ≡ false) × IsPlain (understood bank_schema all_releases_text)
+releases_is : IsScanOf all_releases_text 21 releases_columns releases_order (codes "user_no" ∷ codes "number" ∷ codes "giver" ∷ codes "branch" ∷ codes "day" ∷ codes "form" ∷ codes "member1" ∷ codes "member2" ∷ codes "member3" ∷ codes "member4" ∷ codes "member5" ∷ codes "member6" ∷ codes "member7" ∷ codes "member8" ∷ codes "used" ∷ [])
 unfolding understood everything
-releases_is = (refl, refl, (refl, refl))
+releases_is = (refl, refl, (refl, refl), (refl, refl), refl)
 
 pub tells_releases : TellsWhole all_but_rowid (told_by_columns 15) in_releases all_releases_text
 tells_releases =
-    by_columns_whole in_releases releases_table all_releases_text releases_columns releases_order _ 15 releases_is.0 releases_is.1 releases_is.2
+    by_columns_whole in_releases releases_table all_releases_text releases_columns releases_order _ 15 releases_is
     (inr (inr (inr (inr (inr (inr (inr (inr (inr (inr (inr (inr (inr (inl refl)))))))))))))) refl (λ db. refl) refl refl (λ r. refl)

@@ -1,8 +1,10 @@
+pub mod BankRowLemmas
 pub mod BankWhole
 pub mod BookWhole
 pub mod DecodeLemmas
 pub mod HistoryWhole
 pub mod PolicyWhole
 pub mod ReadsLemmas
+pub mod RefusalLemmas
 pub mod WholeLemmas
 pub mod WidthLemmas

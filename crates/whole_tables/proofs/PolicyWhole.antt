@@ -1,19 +1,17 @@
 -- The queries for the tables of the policy, whole.
-use Rattle.std.proofs.Common.{◌≡◌, List, [], ◌∷◌, codes, false, inl, inr, refl}
-use Rattle.sqlite.specs.Command.TheVariants.{Select}
-use Rattle.sqlite.specs.Listing.{understood, reads_listing}
+use Rattle.std.proofs.Common.{List, [], ◌∷◌, codes, inl, inr, refl}
+use Rattle.sqlite.specs.Listing.{understood}
 use Rattle.sqlite.specs.Term.{Term, col}
-use Rattle.sqlite.proofs.Callers.{IsPlain, command_of}
 use Rattle.sqlite_tied.specs.Compute.{everything}
 use Rattle.sqlite_value.specs.declared.keys.Key.{Key}
 use Rattle.bank_schema.specs.Held.Sheet.{users as in_users, sets as in_sets, members as in_members, relations as in_relations, triples as in_triples, certifiers as in_certifiers}
 use Rattle.bank_schema.specs.HeldRows.{all_but_rowid, all_of_it}
-use Rattle.bank_schema.specs.Schema.{bank_schema, certifiers_table, members_table, relations_table, sets_table, triples_table, users_table}
+use Rattle.bank_schema.specs.Schema.{certifiers_table, members_table, relations_table, sets_table, triples_table, users_table}
 use Rattle.bank_schema.proofs.ReadLemmas.{rising_key}
 use Rattle.whole_tables.specs.Texts.{all_users_text, all_sets_text, all_members_text, all_relations_text, all_triples_text, all_certifiers_text}
 use Rattle.whole_tables.specs.Told.{told_by_columns, told_by_key}
 use Rattle.whole_tables.specs.Whole.{TellsWhole}
-use Rattle.whole_tables.proofs.WholeLemmas.{by_columns_whole, by_rowid_whole, whole_scan}
+use Rattle.whole_tables.proofs.WholeLemmas.{IsScanOf, by_columns_whole, by_rowid_whole}
 
 -- ---- users
 
@@ -23,14 +21,13 @@ users_columns = col 1 0 ∷ col 1 2 ∷ col 1 3 ∷ col 1 4 ∷ col 1 5 ∷ col 
 abbrev users_order : List (Term × Key)
 users_order = (col 1 0, rising_key) ∷ []
 
-users_is : (command_of (understood bank_schema all_users_text) ≡ Select (record { lets = []; body = whole_scan 1 users_columns users_order }) (codes "user_no" ∷ codes "name" ∷ codes "officer" ∷ codes "suspended" ∷ codes "session" ∷ codes "is_on" ∷ codes "releases" ∷ []))
-    × (reads_listing bank_schema all_users_text ≡ false) × IsPlain (understood bank_schema all_users_text)
+users_is : IsScanOf all_users_text 1 users_columns users_order (codes "user_no" ∷ codes "name" ∷ codes "officer" ∷ codes "suspended" ∷ codes "session" ∷ codes "is_on" ∷ codes "releases" ∷ [])
 unfolding understood everything
-users_is = (refl, refl, (refl, refl))
+users_is = (refl, refl, (refl, refl), (refl, refl), refl)
 
 pub tells_users : TellsWhole all_of_it (told_by_key 6) in_users all_users_text
 tells_users =
-    by_rowid_whole in_users users_table all_users_text users_columns users_order _ 6 users_is.0 users_is.1 users_is.2
+    by_rowid_whole in_users users_table all_users_text users_columns users_order _ 6 users_is
     (inr (inl refl)) refl (λ db. refl) refl refl (inr refl) (λ r. refl)
 
 -- ---- sets
@@ -41,14 +38,13 @@ sets_columns = col 1 0 ∷ []
 abbrev sets_order : List (Term × Key)
 sets_order = (col 1 0, rising_key) ∷ []
 
-sets_is : (command_of (understood bank_schema all_sets_text) ≡ Select (record { lets = []; body = whole_scan 2 sets_columns sets_order }) (codes "set_no" ∷ []))
-    × (reads_listing bank_schema all_sets_text ≡ false) × IsPlain (understood bank_schema all_sets_text)
+sets_is : IsScanOf all_sets_text 2 sets_columns sets_order (codes "set_no" ∷ [])
 unfolding understood everything
-sets_is = (refl, refl, (refl, refl))
+sets_is = (refl, refl, (refl, refl), (refl, refl), refl)
 
 pub tells_sets : TellsWhole all_of_it (told_by_key 0) in_sets all_sets_text
 tells_sets =
-    by_rowid_whole in_sets sets_table all_sets_text sets_columns sets_order _ 0 sets_is.0 sets_is.1 sets_is.2
+    by_rowid_whole in_sets sets_table all_sets_text sets_columns sets_order _ 0 sets_is
     (inr (inr (inl refl))) refl (λ db. refl) refl refl (inl refl) (λ r. refl)
 
 -- ---- members
@@ -59,14 +55,13 @@ members_columns = col 1 1 ∷ col 1 2 ∷ col 1 3 ∷ col 1 4 ∷ col 1 5 ∷ []
 abbrev members_order : List (Term × Key)
 members_order = (col 1 1, rising_key) ∷ (col 1 2, rising_key) ∷ []
 
-members_is : (command_of (understood bank_schema all_members_text) ≡ Select (record { lets = []; body = whole_scan 3 members_columns members_order }) (codes "set_no" ∷ codes "place" ∷ codes "kind" ∷ codes "low" ∷ codes "high" ∷ []))
-    × (reads_listing bank_schema all_members_text ≡ false) × IsPlain (understood bank_schema all_members_text)
+members_is : IsScanOf all_members_text 3 members_columns members_order (codes "set_no" ∷ codes "place" ∷ codes "kind" ∷ codes "low" ∷ codes "high" ∷ [])
 unfolding understood everything
-members_is = (refl, refl, (refl, refl))
+members_is = (refl, refl, (refl, refl), (refl, refl), refl)
 
 pub tells_members : TellsWhole all_but_rowid (told_by_columns 5) in_members all_members_text
 tells_members =
-    by_columns_whole in_members members_table all_members_text members_columns members_order _ 5 members_is.0 members_is.1 members_is.2
+    by_columns_whole in_members members_table all_members_text members_columns members_order _ 5 members_is
     (inr (inr (inr (inl refl)))) refl (λ db. refl) refl refl (λ r. refl)
 
 -- ---- relations
@@ -77,14 +72,13 @@ relations_columns = col 1 1 ∷ col 1 2 ∷ col 1 3 ∷ []
 abbrev relations_order : List (Term × Key)
 relations_order = (col 1 1, rising_key) ∷ (col 1 2, rising_key) ∷ []
 
-relations_is : (command_of (understood bank_schema all_relations_text) ≡ Select (record { lets = []; body = whole_scan 5 relations_columns relations_order }) (codes "procedure" ∷ codes "set_no" ∷ codes "by_user" ∷ []))
-    × (reads_listing bank_schema all_relations_text ≡ false) × IsPlain (understood bank_schema all_relations_text)
+relations_is : IsScanOf all_relations_text 5 relations_columns relations_order (codes "procedure" ∷ codes "set_no" ∷ codes "by_user" ∷ [])
 unfolding understood everything
-relations_is = (refl, refl, (refl, refl))
+relations_is = (refl, refl, (refl, refl), (refl, refl), refl)
 
 pub tells_relations : TellsWhole all_but_rowid (told_by_columns 3) in_relations all_relations_text
 tells_relations =
-    by_columns_whole in_relations relations_table all_relations_text relations_columns relations_order _ 3 relations_is.0 relations_is.1 relations_is.2
+    by_columns_whole in_relations relations_table all_relations_text relations_columns relations_order _ 3 relations_is
     (inr (inr (inr (inr (inl refl))))) refl (λ db. refl) refl refl (λ r. refl)
 
 -- ---- triples
@@ -95,14 +89,13 @@ triples_columns = col 1 1 ∷ col 1 2 ∷ col 1 3 ∷ col 1 4 ∷ []
 abbrev triples_order : List (Term × Key)
 triples_order = (col 1 1, rising_key) ∷ (col 1 2, rising_key) ∷ (col 1 3, rising_key) ∷ []
 
-triples_is : (command_of (understood bank_schema all_triples_text) ≡ Select (record { lets = []; body = whole_scan 7 triples_columns triples_order }) (codes "user_no" ∷ codes "procedure" ∷ codes "set_no" ∷ codes "ceiling" ∷ []))
-    × (reads_listing bank_schema all_triples_text ≡ false) × IsPlain (understood bank_schema all_triples_text)
+triples_is : IsScanOf all_triples_text 7 triples_columns triples_order (codes "user_no" ∷ codes "procedure" ∷ codes "set_no" ∷ codes "ceiling" ∷ [])
 unfolding understood everything
-triples_is = (refl, refl, (refl, refl))
+triples_is = (refl, refl, (refl, refl), (refl, refl), refl)
 
 pub tells_triples : TellsWhole all_but_rowid (told_by_columns 4) in_triples all_triples_text
 tells_triples =
-    by_columns_whole in_triples triples_table all_triples_text triples_columns triples_order _ 4 triples_is.0 triples_is.1 triples_is.2
+    by_columns_whole in_triples triples_table all_triples_text triples_columns triples_order _ 4 triples_is
     (inr (inr (inr (inr (inr (inl refl)))))) refl (λ db. refl) refl refl (λ r. refl)
 
 -- ---- certifiers
@@ -113,12 +106,11 @@ certifiers_columns = col 1 1 ∷ col 1 2 ∷ []
 abbrev certifiers_order : List (Term × Key)
 certifiers_order = (col 1 1, rising_key) ∷ (col 1 2, rising_key) ∷ []
 
-certifiers_is : (command_of (understood bank_schema all_certifiers_text) ≡ Select (record { lets = []; body = whole_scan 9 certifiers_columns certifiers_order }) (codes "user_no" ∷ codes "procedure" ∷ []))
-    × (reads_listing bank_schema all_certifiers_text ≡ false) × IsPlain (understood bank_schema all_certifiers_text)
+certifiers_is : IsScanOf all_certifiers_text 9 certifiers_columns certifiers_order (codes "user_no" ∷ codes "procedure" ∷ [])
 unfolding understood everything
-certifiers_is = (refl, refl, (refl, refl))
+certifiers_is = (refl, refl, (refl, refl), (refl, refl), refl)
 
 pub tells_certifiers : TellsWhole all_but_rowid (told_by_columns 2) in_certifiers all_certifiers_text
 tells_certifiers =
-    by_columns_whole in_certifiers certifiers_table all_certifiers_text certifiers_columns certifiers_order _ 2 certifiers_is.0 certifiers_is.1 certifiers_is.2
+    by_columns_whole in_certifiers certifiers_table all_certifiers_text certifiers_columns certifiers_order _ 2 certifiers_is
     (inr (inr (inr (inr (inr (inr (inl refl))))))) refl (λ db. refl) refl refl (λ r. refl)

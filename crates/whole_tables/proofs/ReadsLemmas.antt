@@ -1,5 +1,5 @@
 -- Reads of whole tables, one after another.
-use Rattle.std.proofs.Common.{Ok, Err, IsErr, IsTrue, Result, refl, sym, ap, ◌∙◌, subst}
+use Rattle.std.proofs.Common.{◌≡◌, Ok, Err, IfErr, IsErr, IsErrAnd, IsTrue, Result, refl, sym, ap, ◌∙◌, subst}
 use Rattle.std.specs.Prelude.{⊤}
 use Rattle.sqlite.specs.Effect.{Database, IsDatabase}
 use Rattle.sqlite.specs.State.{HasCleanDisk, IsUnchanged, KeepsCommit, State, Survives}
@@ -57,3 +57,8 @@ gave_whole old new says (Err e) is gave = λ clean has. (tt, tt, gave clean has)
 
 pub done_whole : (old new : State) (P Q : Trees → Type 0) → ((db : Trees) → P db → Q db) → Done old new P → Done old new Q
 done_whole old new P Q from done clean has = let it = done clean has in (from _ it.0, it.1, it.2)
+
+-- a fault that is handed on is what it was
+pub handed_on : {X E : Type 0} (r : Result X E) (fault : E) (P : E → Type 0) → IsErrAnd r (λ e. e ≡ fault) → P fault → IfErr r P
+handed_on (Ok x) fault P same holds = tt
+handed_on (Err e) fault P same holds = subst P (sym same) holds

@@ -20,7 +20,8 @@ use Rattle.sqlite_rules.proofs.ListLemmas.{all_has, contains_had}
 use Rattle.sqlite_schema.specs.Rules.{Obeys, passes as passes_rule, are_present, are_typed}
 use Rattle.sqlite_schema.specs.declared.schema.Constraint.TheVariants.{Datatype, NotNull}
 use Rattle.sqlite_schema.specs.declared.schema.Table.{Table}
-use Rattle.sqlite_sql.specs.Program.{IsProgramAnswer}
+use Rattle.sqlite_sql.specs.Program.{IsProgramAnswer, ProgramOverflows}
+use Rattle.sqlite_typing.specs.Types.{accepts_program}
 use Rattle.sqlite_value.specs.declared.keys.Key.{Key}
 use Rattle.sqlite_value.specs.Order.{column}
 use Rattle.bank_schema.specs.Held.{Sheet, tree_of}
@@ -30,7 +31,7 @@ use Rattle.bank_schema.proofs.ReadLemmas.{answered, no_limit, no_offset}
 use Rattle.bank_schema.proofs.ScanLemmas.{passes, scan, scanned}
 use Rattle.bank_schema.proofs.StepLemmas.{shown_open}
 use Rattle.whole_tables.specs.Told.{columns_from, told_by_columns, told_by_key}
-use Rattle.whole_tables.specs.Whole.{AreAll, HasBankTables, IsQueryFor, TellsWhole}
+use Rattle.whole_tables.specs.Whole.{AreAll, HasBankTables, IsAlone, IsAnswered, IsQueryFor, TellsWhole}
 use Rattle.whole_tables.proofs.WidthLemmas.{columns_behind, columns_by_key, ends_needed, no_narrower, no_wider}
 
 -- ---- the rules of one table
@@ -98,30 +99,56 @@ tells_key table row more keyed wide long fits =
     let is = width table row fits.0 long in
     columns_by_key row more table.columns (omega (arith, is, wide)) (subst (λ k. are_typed k 0 table.columns (drop 1 row) ≡ true) keyed fits.0) (omega (arith, wide))
 
--- ---- the clauses of a read
+-- ---- the text of a query for a whole table
+
+-- what is computed of it
+abbrev pub IsScanOf : List ℕ → ℕ → List Term → List (Term × Key) → List (List ℕ) → Type 0
+IsScanOf text tree columns order names =
+    (command_of (understood bank_schema text) ≡ Select (record { lets = []; body = whole_scan tree columns order }) names) × (reads_listing bank_schema text ≡ false)
+    × IsPlain (understood bank_schema text) × IsAlone (length text) (understood bank_schema text) × (accepts_program bank_schema [] (whole_scan tree columns order) [] ≡ true)
 
 known : (query : Query) (names : List (List ℕ)) (r : Result Compiled CompileError) → IsQueryFor query names r → command_of r ≡ Select (record { lets = []; body = query }) names
 known query names (Ok c) is = is
 known query names (Err e) is = absurd is
 
-pub query_for : (text : List ℕ) (query : Query) (names : List (List ℕ)) → command_of (understood bank_schema text) ≡ Select (record { lets = []; body = query }) names → IsPlain (understood bank_schema text)
-    → IsQueryFor query names (understood bank_schema text)
-query_for text query names is plain = go (understood bank_schema text) is plain
-  where
-    go : (r : Result Compiled CompileError) → command_of r ≡ Select (record { lets = []; body = query }) names → IsPlain r → IsQueryFor query names r
-    go (Ok c) is plain = is
-    go (Err e) is plain = absurd plain
+query_for : (query : Query) (names : List (List ℕ)) (r : Result Compiled CompileError) → command_of r ≡ Select (record { lets = []; body = query }) names → IsPlain r → IsQueryFor query names r
+query_for query names (Ok c) is plain = is
+query_for query names (Err e) is plain = absurd plain
+
+adds_nothing : (tree : ℕ) (columns : List Term) (order : List (Term × Key)) (db : Trees) → ProgramOverflows db [] [] [] (whole_scan tree columns order) → ⊥
+adds_nothing tree columns order db (inl none) = none
+adds_nothing tree columns order db (inr any) = any.4
+
+abbrev answers : (text : List ℕ) (tree : ℕ) (columns : List Term) (order : List (Term × Key)) (names : List (List ℕ)) → IsScanOf text tree columns order names → IsAnswered text
+answers text tree columns order names is = record {
+  query = whole_scan tree columns order;
+  names = names;
+  is = query_for (whole_scan tree columns order) names (understood bank_schema text) is.0 is.2;
+  unlisted = is.1;
+  plain = is.2;
+  alone = is.3;
+  typed = is.4;
+  adds_nothing = adds_nothing tree columns order;
+}
+
+-- ---- the clauses of a read
+
+-- what the rows of an answer tell are the rows of the table
+pub all_answered : (shows told : Row → Row) (t : Sheet) (text : List ℕ) → TellsWhole shows told t text → (old new : State) (rows : List Row) → HasBankTables old → Shown text [] old new rows
+    → IsPermutation (map told rows) (map shows (old.now.trees (tree_of t)))
+all_answered shows told t text tells old new rows has h =
+    let asks = tells.asks in
+    let answer = answered text asks.names asks.query [] (known asks.query asks.names (understood bank_schema text) asks.is) asks.unlisted asks.plain old new rows has.schema h in
+    let sound = has.sound (shown_open text [] old new rows h) in
+    tells.whole old.now.trees rows (subst (λ z. Obeys z old.now.trees) has.schema sound.obeys) (has.kept t) answer
 
 module _ {X : Type 0} (shows told : Row → Row) (cells : X → Row) (fits : X → Type 0) (t : Sheet) (text : List ℕ) (tells : TellsWhole shows told t text) where
   pub are_all : (old new : State) (rows : List Row) (xs : List X) → HasBankTables old → Shown text [] old new rows → map told rows ≡ map cells xs → ((x : X) → Contains xs x → fits x)
       → AreAll shows cells fits t old.now.trees xs
-  are_all old new rows xs has h same fit =
-      let answer = answered text tells.names tells.query [] (known tells.query tells.names (understood bank_schema text) tells.is) tells.unlisted tells.plain old new rows has.schema h in
-      let sound = has.sound (shown_open text [] old new rows h) in
-      record {
-        same = subst (λ l. IsPermutation l (map shows (old.now.trees (tree_of t)))) same (tells.whole old.now.trees rows (subst (λ z. Obeys z old.now.trees) has.schema sound.obeys) (has.kept t) answer);
-        fit = fit;
-      }
+  are_all old new rows xs has h same fit = record {
+    same = subst (λ l. IsPermutation l (map shows (old.now.trees (tree_of t)))) same (all_answered shows told t text tells old new rows has h);
+    fit = fit;
+  }
 
 -- the query is plain on a connection to the tables of a bank
 pub plain_there : (text : List ℕ) (s : State) → IsPlain (understood bank_schema text) → HasBankTables s → IsPlain (understood s.now.schema text)
@@ -130,8 +157,7 @@ plain_there text s plain has = subst (λ z. IsPlain (understood z text)) (sym ha
 -- ---- the queries for whole tables
 
 module _ (t : Sheet) (table : Table) (text : List ℕ) (columns : List Term) (order : List (Term × Key)) (names : List (List ℕ)) (count : ℕ)
-    (is : command_of (understood bank_schema text) ≡ Select (record { lets = []; body = whole_scan (tree_of t) columns order }) names) (unlisted : reads_listing bank_schema text ≡ false)
-    (plain : IsPlain (understood bank_schema text)) (listed : Has bank_schema.tables table) (place : table.tree ≡ tree_of t) (over : (db : Trees) → overlay db [] (tree_of t) ≡ db (tree_of t)) where
+    (is : IsScanOf text (tree_of t) columns order names) (listed : Has bank_schema.tables table) (place : table.tree ≡ tree_of t) (over : (db : Trees) → overlay db [] (tree_of t) ≡ db (tree_of t)) where
   there : (db : Trees) (row : Row) → Has (db (tree_of t)) row → Has (db table.tree) row
   there db row h = subst (λ n. Has (db n) row) (sym place) h
 
@@ -140,11 +166,7 @@ module _ (t : Sheet) (table : Table) (text : List ℕ) (columns : List Term) (or
       → ((r : Row) → told_by_key count (output (whole_scan (tree_of t) columns order) ([] ∷ r ∷ [])).1 ≡ column r 0 ∷ Null ∷ columns_from 2 count r)
       → TellsWhole all_of_it (told_by_key count) t text
   by_rowid_whole keyed wide need told = record {
-    query = whole_scan (tree_of t) columns order;
-    names = names;
-    is = query_for text _ names is plain;
-    unlisted = unlisted;
-    plain = plain;
+    asks = answers text (tree_of t) columns order names is;
     whole = λ db answer obeys kept h. all_told (tree_of t) over columns order all_of_it (told_by_key count) db answer
         (λ r here.
         let fits = of_table db table obeys listed r (there db r here) in
@@ -161,11 +183,7 @@ module _ (t : Sheet) (table : Table) (text : List ℕ) (columns : List Term) (or
       → ((r : Row) → told_by_columns count (output (whole_scan (tree_of t) columns order) ([] ∷ r ∷ [])).1 ≡ columns_from 1 count r)
       → TellsWhole all_but_rowid (told_by_columns count) t text
   by_columns_whole wide need told = record {
-    query = whole_scan (tree_of t) columns order;
-    names = names;
-    is = query_for text _ names is plain;
-    unlisted = unlisted;
-    plain = plain;
+    asks = answers text (tree_of t) columns order names is;
     whole = λ db answer obeys kept h. all_told (tree_of t) over columns order all_but_rowid (told_by_columns count) db answer
         (λ r here. told r ∙ ap (λ n. columns_from 1 n r) (sym wide) ∙ tells_columns table r need (of_table db table obeys listed r (there db r here)))
         h;

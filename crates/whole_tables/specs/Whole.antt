@@ -1,5 +1,5 @@
 -- What a read of whole tables tells of them, and what it leaves.
-use Rattle.std.specs.Prelude.{ℕ, ◌≡◌, ◌<◌, List, [], length, map, Contains, false, IfOk, IsTrue, OnOk, Ok, Err, Result}
+use Rattle.std.specs.Prelude.{ℕ, ◌≡◌, ◌<◌, List, [], length, map, Contains, false, true, IfErr, IfOk, IsTrue, OnOk, Ok, Err, Result}
 use Rattle.std.specs.List.Sorted.{IsPermutation}
 use Rattle.sqlite.specs.Command.TheVariants.{Select}
 use Rattle.sqlite.specs.Effect.{IsDatabase}
@@ -12,11 +12,14 @@ use Rattle.sqlite.specs.Tree.{Trees}
 use Rattle.sqlite_resolve.specs.declared.compiled.Compiled.{Compiled}
 use Rattle.sqlite_resolve.specs.declared.error.CompileError.{CompileError}
 use Rattle.sqlite_schema.specs.Rules.{Obeys}
-use Rattle.sqlite_sql.specs.Program.{IsProgramAnswer}
+use Rattle.sqlite_sql.specs.Program.{IsProgramAnswer, ProgramOverflows}
+use Rattle.sqlite_typing.specs.Types.{accepts_program}
 use Rattle.sqlite_trees.specs.View.{IsShaped}
 use Rattle.sqlite_trees.specs.declared.store.Shape.TheVariants.{Table}
 use Rattle.bank_schema.specs.Held.{Sheet, tree_of}
 use Rattle.bank_schema.specs.Schema.{bank_schema}
+use Rattle.whole_tables.specs.Faults.{IsOfDatabase}
+use Rattle.whole_tables.specs.declared.fault.ReadFault.{ReadFault}
 
 -- Rows as a store keeps those of a table: their rowids are whole numbers and rise, and each has a column beside its rowid.
 pub record IsKeptTable (tree : List Row) : Type 0 where
@@ -38,19 +41,36 @@ pub record AreAll {X : Type 0} (shows : Row → Row) (cells : X → Row) (Fits :
 abbrev pub Reads : {X E : Type 0} → State → State → (Trees → X → Type 0) → Result X E → Type 0
 Reads old new says result = HasCleanDisk new → HasBankTables old → IfOk result (says old.now.trees) × OnOk result (IsUnchanged old new) × KeepsCommit old new
 
+-- A read that is refused is refused for the database itself, or for a limit on the steps of its connection: no table is missing.
+abbrev pub IsThere : {X : Type 0} → State → State → Result X ReadFault → Type 0
+IsThere old new result = HasCleanDisk new → HasBankTables old → IfErr result IsOfDatabase
+
 -- ---- queries for whole tables
 
 abbrev pub IsQueryFor : Query → List (List ℕ) → Result Compiled CompileError → Type 0
 IsQueryFor query names (Ok c) = c.command ≡ Select (record { lets = []; body = query }) names
 IsQueryFor query names (Err e) = ⊥
 
--- The text is a query of which each answer tells the rows of a table, each once: `shows` gives what of a row counts, and `told` what a
--- row of the answer tells of it.
-pub record TellsWhole (shows told : Row → Row) (t : Sheet) (text : List ℕ) : Type 0 where
+-- one statement, so long, without parameters
+abbrev pub IsAlone : ℕ → Result Compiled CompileError → Type 0
+IsAlone size (Ok c) = (c.tail ≡ size) × (c.names ≡ [])
+IsAlone size (Err e) = ⊥
+
+-- The text is one query of the tables of a bank, without parameters, whose types are right and which adds nothing up. So only the database
+-- itself, or a limit on the steps of its connection, keeps it from an answer.
+pub record IsAnswered (text : List ℕ) : Type 0 where
   pub query : Query
   pub names : List (List ℕ)
   pub is : IsQueryFor query names (understood bank_schema text)
   pub unlisted : reads_listing bank_schema text ≡ false
   pub plain : IsPlain (understood bank_schema text)
-  pub whole : (db : Trees) (answer : List Row) → Obeys bank_schema db → IsKeptTable (db (tree_of t)) → IsProgramAnswer [] query db [] answer
+  pub alone : IsAlone (length text) (understood bank_schema text)
+  pub typed : accepts_program bank_schema [] query [] ≡ true
+  pub adds_nothing : (db : Trees) → ProgramOverflows db [] [] [] query → ⊥
+
+-- The text is a query of which each answer tells the rows of a table, each once: `shows` gives what of a row counts, and `told` what a
+-- row of the answer tells of it.
+pub record TellsWhole (shows told : Row → Row) (t : Sheet) (text : List ℕ) : Type 0 where
+  pub asks : IsAnswered text
+  pub whole : (db : Trees) (answer : List Row) → Obeys bank_schema db → IsKeptTable (db (tree_of t)) → IsProgramAnswer [] asks.query db [] answer
       → IsPermutation (map told answer) (map shows (db (tree_of t)))

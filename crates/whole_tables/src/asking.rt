@@ -1,10 +1,7 @@
 ghost use Rattle.std.specs.Prelude.{◌≡◌, IsTrue, ⊤};
-ghost use Rattle.sqlite.specs.Given.{IsPlain};
 ghost use Rattle.sqlite.specs.Held.{state};
-ghost use Rattle.sqlite.specs.Listing.{understood};
 ghost use Rattle.sqlite.specs.State.{Survives};
-ghost use Rattle.bank_schema.specs.Schema.{bank_schema};
-ghost use Rattle.whole_tables.specs.Whole.{Reads};
+ghost use Rattle.whole_tables.specs.Whole.{IsAnswered, IsThere, Reads};
 
 use crate::fault::ReadFault;
 use crate::fault::Table::{
@@ -22,7 +19,7 @@ const OTHERS: [Table; 13] = [
 
 /// The query by which the whole table is read.
 fn query_for(table: Table) -> &'static str
-    ensures { IsPlain (understood bank_schema result.now) }
+    ensures { IsAnswered result.now }
 {
     match table {
         Bank => crate::bank::QUERY,
@@ -46,6 +43,7 @@ fn query_for(table: Table) -> &'static str
 fn ask_table<S: Alter>(tx: &mut Transaction<'_, S>, table: Table) -> Result<(), ReadFault>
     ensures same_reference { tx.new.conn.ghost_name ≡ tx.old.conn.ghost_name }
     ensures whole { Reads (state S.Store tx.old.conn.now) (state S.Store tx.new.conn.now) (λ _ _. ⊤) result }
+    ensures there { IsThere (state S.Store tx.old.conn.now) (state S.Store tx.new.conn.now) result }
     ensures survives { Survives (state S.Store tx.old.conn.now) (state S.Store tx.new.conn.now) (λ _. ⊥) }
 {
     shown_rows(tx, query_for(table), table)?;
@@ -57,6 +55,7 @@ fn ask_table<S: Alter>(tx: &mut Transaction<'_, S>, table: Table) -> Result<(), 
 pub fn ask_tables<S: Alter>(tx: &mut Transaction<'_, S>) -> Result<(), ReadFault>
     ensures same_reference { tx.new.conn.ghost_name ≡ tx.old.conn.ghost_name }
     ensures whole { IsTrue (state S.Store tx.old.conn.now).is_open → Reads (state S.Store tx.old.conn.now) (state S.Store tx.new.conn.now) (λ _ _. ⊤) result }
+    ensures there { IsTrue (state S.Store tx.old.conn.now).is_open → IsThere (state S.Store tx.old.conn.now) (state S.Store tx.new.conn.now) result }
     ensures survives { Survives (state S.Store tx.old.conn.now) (state S.Store tx.new.conn.now) (λ _. ⊥) }
 {
     for table in OTHERS {

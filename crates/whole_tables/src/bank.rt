@@ -1,19 +1,20 @@
-ghost use Rattle.std.specs.Prelude.{◌≡◌};
+ghost use Rattle.std.specs.Prelude.{ℤ, ◌≡◌, ◌≢◌, IfErr, IfOk};
+ghost use Rattle.money.specs.declared.fault.Fault.TheVariants.{Memory};
 ghost use Rattle.sqlite.specs.Held.{state};
 ghost use Rattle.sqlite.specs.State.{Survives};
-ghost use Rattle.bank_schema.specs.Cells.{AnyRow};
-ghost use Rattle.whole_tables.specs.BankRow.{bank_row_cells};
-ghost use Rattle.bank_schema.specs.Held.Sheet.{bank as in_bank};
-ghost use Rattle.bank_schema.specs.HeldRows.{all_of_it};
+ghost use Rattle.sqlite.specs.declared.types.Value.TheVariants.{Int};
+ghost use Rattle.sqlite_value.specs.Order.{column};
 ghost use Rattle.bank_schema.specs.Steps.{StaysOpen};
-ghost use Rattle.whole_tables.specs.Whole.{AreAll, Reads};
+ghost use Rattle.whole_tables.specs.BankRow.{IsBankTable, IsToldBy, bank_row_cells};
+ghost use Rattle.whole_tables.specs.Faults.{IsOfDatabase};
+ghost use Rattle.whole_tables.specs.Told.{told_by_key};
+ghost use Rattle.whole_tables.specs.Whole.{IsThere, Reads};
 
 use crate::fault::{ReadFault, Table};
-use crate::table_row::{TableRow, whole_table};
-use bank_schema::whole_at;
+use crate::table_row::shown_rows;
+use bank_schema::fault_of;
 use money::Fault;
 use sqlite::{Alter, Row, Transaction};
-use std::alloc::Global;
 
 /// The row of a bank, whatever numbers it bears.
 #[derive(Clone, Copy, Debug, PartialEq, Eq)]
@@ -28,41 +29,52 @@ pub struct BankRow {
 
 pub(crate) const QUERY: &str = "SELECT id, version, policy FROM bank ORDER BY id";
 
-/// All rows of the table of the bank: one, in the file of a bank.
-pub fn all_bank<S: Alter>(
-    alloc: Global,
-    tx: &mut Transaction<'_, S>,
-) -> Result<Vec<BankRow>, ReadFault>
+/// The one row of the table of the bank, or none where the table has not one row of whole numbers.
+pub fn bank_row<S: Alter>(tx: &mut Transaction<'_, S>) -> Result<Option<BankRow>, ReadFault>
     ensures same_reference { tx.new.conn.ghost_name ≡ tx.old.conn.ghost_name }
-    ensures whole { Reads (state S.Store tx.old.conn.now) (state S.Store tx.new.conn.now) (λ trees rows. AreAll all_of_it bank_row_cells AnyRow in_bank trees rows.items) result }
+    ensures whole { Reads (state S.Store tx.old.conn.now) (state S.Store tx.new.conn.now) IsBankTable result }
+    ensures there { IsThere (state S.Store tx.old.conn.now) (state S.Store tx.new.conn.now) result }
     ensures open { StaysOpen (state S.Store tx.old.conn.now) (state S.Store tx.new.conn.now) result }
     ensures survives { Survives (state S.Store tx.old.conn.now) (state S.Store tx.new.conn.now) (λ _. ⊥) }
 {
-    whole_table(alloc, tx, QUERY, Table::Bank)
+    let rows = shown_rows(tx, QUERY, Table::Bank)?;
+    only_row(&rows)
 }
 
-impl TableRow for BankRow {
-    ghost use Rattle.bank_schema.specs.Cells.{AnyRow};
-    ghost use Rattle.whole_tables.specs.BankRow.{bank_row_cells};
-    ghost use Rattle.bank_schema.specs.Held.Sheet.{bank as in_bank};
-    ghost use Rattle.bank_schema.specs.HeldRows.{all_of_it};
-    ghost use Rattle.whole_tables.specs.Told.{told_by_key};
+/// What these rows tell, where it is one row of whole numbers.
+fn only_row(rows: &[Row]) -> Result<Option<BankRow>, ReadFault>
+    ensures told { IfOk result (IsToldBy rows.now) }
+    ensures there { IfErr result IsOfDatabase }
+{
+    if rows.len() != 1 {
+        return Ok(None);
+    }
+    match read_row(&rows[0]) {
+        Ok(row) => Ok(Some(row)),
+        Err(Fault::Memory) => Err(ReadFault::Fault(Fault::Memory)),
+        Err(_) => Ok(None),
+    }
+}
 
-    ghost sheet = { in_bank };
+/// The row that a row of the answer tells.
+fn read_row(row: &Row) -> Result<BankRow, Fault>
+    ensures same { IfOk result (λ b. told_by_key 2 row.now ≡ bank_row_cells b) }
+    ensures unread { IfErr result (λ fault. fault ≢ Memory → (b : BankRow) → told_by_key 2 row.now ≢ bank_row_cells b) }
+{
+    Ok(BankRow {
+        id: whole_number_at(row, 0)?,
+        version: whole_number_at(row, 1)?,
+        policy: whole_number_at(row, 2)?,
+    })
+}
 
-    ghost cells = { bank_row_cells };
-
-    ghost shows = { all_of_it };
-
-    ghost told = { told_by_key 2 };
-
-    ghost fits = { AnyRow };
-
-    fn read(_alloc: Global, row: &Row) -> Result<BankRow, Fault> {
-        Ok(BankRow {
-            id: whole_at(row, 0)?,
-            version: whole_at(row, 1)?,
-            policy: whole_at(row, 2)?,
-        })
+/// A whole number in a row. Memory or any other value keeps it from being read.
+fn whole_number_at(row: &Row, at: usize) -> Result<i64, Fault>
+    ensures told { IfOk result (λ n. column row.now at ≡ Int n) }
+    ensures unread { IfErr result (λ fault. fault ≢ Memory → (n : ℤ) → column row.now at ≢ Int n) }
+{
+    match row.get::<i64>(at) {
+        Ok(n) => Ok(n),
+        Err(error) => Err(fault_of(error)),
     }
 }

@@ -82,8 +82,8 @@ impl<T: Drop> From<AllocFailed<T>> for ReadFault {
     }
 }
 
-/// Why a query for a table was refused: memory, a size or the disk, or else the table is not there, or
-/// not with these columns.
+/// Why a query for a table was refused: memory, a size, the disk or a limit on the connection's steps, or
+/// else the table is not there, or not with these columns.
 pub(crate) fn read_fault(error: Error, table: Table) -> ReadFault
     ensures { result ≡ read_fault_named error table }
 {
@@ -95,7 +95,8 @@ pub(crate) fn read_fault(error: Error, table: Table) -> ReadFault
             | ErrorCode::DatabaseCorrupt
             | ErrorCode::NotADatabase
             | ErrorCode::DiskFull
-            | ErrorCode::Closed,
+            | ErrorCode::Closed
+            | ErrorCode::OperationInterrupted,
         ) => ReadFault::Fault(fault_of(error)),
         _ => ReadFault::Missing(table),
     }

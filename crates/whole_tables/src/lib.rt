@@ -24,7 +24,7 @@ mod values;
 
 pub use accounts::all_accounts;
 pub use asking::ask_tables;
-pub use bank::{BankRow, all_bank};
+pub use bank::{BankRow, bank_row};
 pub use book_rows::{BookRows, HistoryRows, LedgerRows, UserRows, all_book_rows};
 pub use branches::all_branches;
 pub use certifiers::all_certifiers;

@@ -17,4 +17,4 @@ returns-in-Some-clause-adopts g c clean file =
     ok_weaker c.judge.result (IsBankOf (sheets_read rows.books tables rows.version)) (Adopts old new)
     (λ bank. adopted old new rows.books tables rows.version file (c.in_ok-rows.ensures.sound clean) read.version read.books (some_is rows.policy tables (ArePolicyTables old.now.trees) read.policy c.in-Some.is) bank (c.in_ok-rows.ensures.left clean file)
     (λ trees may. g.met.S.Store.settled c.args.conn.now.store trees (c.in_ok-rows.ensures.open clean) (survived old new c.read_file.ensures.survives clean trees may)))
-    c.judge.ensures
+    c.judge.ensures.bank

@@ -6,8 +6,8 @@ use Rattle.adopt_sql.specs.Told.{IsBankOf, IsPolicyOf, sheets_read}
 use Rattle.adopt_sql.proofs.ToldLemmas.{both_ok, is_bank}
 use Rattle.adopt_sql.proofs.judging.judge.Goals as goal
 
-pub returns-in_ok-bank-in-Some : goal.returns-in_ok-bank-in-Some
-returns-in_ok-bank-in-Some c =
+pub returns-in_ok-bank-in-Some-clause-bank : goal.returns-in_ok-bank-in-Some-clause-bank
+returns-in_ok-bank-in-Some-clause-bank c =
     let bank = c.in_ok-bank-in-Some.bank in
     both_ok c.judge_policy.result (IsPolicyVerdict bank.world.policy (Ok tt)) (IsKeepable bank.world) (IsBankOf (sheets_read c.args.books c.args.tables c.args.version))
     c.judge_policy.ensures.policy c.judge_policy.ensures.keepable

@@ -9,10 +9,10 @@ returns-in_err-shown_rows-clause-whole g c =
     let old = state g.S.Store c.args.tx.now.conn.now in
     let new = state g.S.Store c.shown_rows.new.tx.conn.now in
     gave_whole old new (λ _ _. ⊤) c.from_residual.result c.from_residual.ensures.0
-    (λ clean has. (c.in_err-shown_rows.ensures.still clean (plain_there c.query_for.result.now old c.query_for.ensures has)).1)
+    (λ clean has. (c.in_err-shown_rows.ensures.still clean (plain_there c.query_for.result.now old c.query_for.ensures.plain has)).1)
 
 pub returns-clause-whole : goal.returns-clause-whole
 returns-clause-whole g c clean has =
     let old = state g.S.Store c.args.tx.now.conn.now in
-    let still = c.in_ok-shown_rows.ensures.still clean (plain_there c.query_for.result.now old c.query_for.ensures has) in
+    let still = c.in_ok-shown_rows.ensures.still clean (plain_there c.query_for.result.now old c.query_for.ensures.plain has) in
     (tt, still.0, still.1)

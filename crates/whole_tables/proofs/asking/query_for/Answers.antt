@@ -5,43 +5,43 @@ use Rattle.whole_tables.proofs.PolicyWhole.{tells_certifiers, tells_members, tel
 use Rattle.whole_tables.proofs.asking.query_for.Goals as goal
 
 pub returns-in-Bank : goal.returns-in-Bank
-returns-in-Bank c = tells_bank.plain
+returns-in-Bank c = tells_bank.asks
 
 pub returns-in-Users : goal.returns-in-Users
-returns-in-Users c = tells_users.plain
+returns-in-Users c = tells_users.asks
 
 pub returns-in-Sets : goal.returns-in-Sets
-returns-in-Sets c = tells_sets.plain
+returns-in-Sets c = tells_sets.asks
 
 pub returns-in-Members : goal.returns-in-Members
-returns-in-Members c = tells_members.plain
+returns-in-Members c = tells_members.asks
 
 pub returns-in-Relations : goal.returns-in-Relations
-returns-in-Relations c = tells_relations.plain
+returns-in-Relations c = tells_relations.asks
 
 pub returns-in-Triples : goal.returns-in-Triples
-returns-in-Triples c = tells_triples.plain
+returns-in-Triples c = tells_triples.asks
 
 pub returns-in-Certifiers : goal.returns-in-Certifiers
-returns-in-Certifiers c = tells_certifiers.plain
+returns-in-Certifiers c = tells_certifiers.asks
 
 pub returns-in-Branches : goal.returns-in-Branches
-returns-in-Branches c = tells_branches.plain
+returns-in-Branches c = tells_branches.asks
 
 pub returns-in-Tellers : goal.returns-in-Tellers
-returns-in-Tellers c = tells_tellers.plain
+returns-in-Tellers c = tells_tellers.asks
 
 pub returns-in-Accounts : goal.returns-in-Accounts
-returns-in-Accounts c = tells_accounts.plain
+returns-in-Accounts c = tells_accounts.asks
 
 pub returns-in-Entries : goal.returns-in-Entries
-returns-in-Entries c = tells_entries.plain
+returns-in-Entries c = tells_entries.asks
 
 pub returns-in-Lines : goal.returns-in-Lines
-returns-in-Lines c = tells_lines.plain
+returns-in-Lines c = tells_lines.asks
 
 pub returns-in-Proofs : goal.returns-in-Proofs
-returns-in-Proofs c = tells_proofs.plain
+returns-in-Proofs c = tells_proofs.asks
 
 pub returns-in-Releases : goal.returns-in-Releases
-returns-in-Releases c = tells_releases.plain
+returns-in-Releases c = tells_releases.asks

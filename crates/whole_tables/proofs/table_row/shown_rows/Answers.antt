@@ -1,6 +1,8 @@
-use Rattle.std.proofs.Common.{Err, Ok, []}
+use Rattle.std.proofs.Common.{Err, Ok, [], subst, sym}
 use Rattle.sqlite.specs.Held.{state}
 use Rattle.bank_schema.proofs.StepLemmas.{query_kept, query_open, shown_same}
+use Rattle.whole_tables.specs.Faults.{IsOfDatabase}
+use Rattle.whole_tables.proofs.RefusalLemmas.{of_database}
 use Rattle.whole_tables.proofs.table_row.shown_rows.Goals as goal
 
 pub returns-in-Ok-clause-still : goal.returns-in-Ok-clause-still
@@ -22,3 +24,8 @@ returns-in-Err-clause-still g c clean plain =
 pub returns-in-Err-clause-open : goal.returns-in-Err-clause-open
 returns-in-Err-clause-open g c clean =
     query_open c.args.sql.now [] (state g.S.Store c.args.tx.now.conn.now) (state g.S.Store c.query_all.new.self.conn.now) (Err c.in-Err.error) (c.in-Err.ensures.ok clean) (c.in-Err.ensures.err clean)
+
+pub returns-in-Err-clause-there : goal.returns-in-Err-clause-there
+returns-in-Err-clause-there g c clean has asks =
+    subst IsOfDatabase (sym c.read_fault.ensures)
+    (of_database c.args.sql.now asks c.args.table (state g.S.Store c.args.tx.now.conn.now) (state g.S.Store c.query_all.new.self.conn.now) c.in-Err.error has (c.in-Err.ensures.err clean))

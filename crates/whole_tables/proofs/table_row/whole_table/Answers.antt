@@ -8,7 +8,7 @@ pub returns-in-Ok-clause-whole : goal.returns-in-Ok-clause-whole
 returns-in-Ok-clause-whole g c clean has =
     let old = state g.S.Store c.args.tx.now.conn.now in
     let new = state g.S.Store c.shown_rows.new.tx.conn.now in
-    let still = c.in_ok-rows.ensures.still clean (plain_there c.args.sql.now old c.requires.plain has) in (
+    let still = c.in_ok-rows.ensures.still clean (plain_there c.args.sql.now old c.requires.asks.plain has) in (
       are_all g.T.TableRow.shows g.T.TableRow.told g.T.TableRow.cells g.T.TableRow.fits g.T.TableRow.sheet c.args.sql.now c.requires old new _ c.in-Ok.told.items has
           (subst (λ rows. Shown c.args.sql.now [] old new rows) (sym c.deref.ensures.value) (c.in_ok-rows.ensures.shown clean)) c.in-Ok.ensures.same c.in-Ok.ensures.fit,
       still.0,
@@ -17,4 +17,4 @@ returns-in-Ok-clause-whole g c clean has =
 
 pub returns-clause-whole : goal.returns-clause-whole
 returns-clause-whole g c clean has =
-    (tt, tt, (c.in_ok-rows.ensures.still clean (plain_there c.args.sql.now (state g.S.Store c.args.tx.now.conn.now) c.requires.plain has)).1)
+    (tt, tt, (c.in_ok-rows.ensures.still clean (plain_there c.args.sql.now (state g.S.Store c.args.tx.now.conn.now) c.requires.asks.plain has)).1)

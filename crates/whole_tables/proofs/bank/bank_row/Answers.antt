@@ -1,0 +1,34 @@
+use Rattle.std.proofs.Common.{subst}
+use Rattle.std.specs.Prelude.{IfOk}
+use Rattle.sqlite.specs.Held.{state}
+use Rattle.bank_schema.specs.Held.Sheet.{bank as in_bank}
+use Rattle.bank_schema.specs.HeldRows.{all_of_it}
+use Rattle.whole_tables.specs.BankRow.{IsBankTable, IsToldBy}
+use Rattle.whole_tables.specs.Faults.{IsOfDatabase}
+use Rattle.whole_tables.specs.Texts.{all_bank_text}
+use Rattle.whole_tables.specs.Told.{told_by_key}
+use Rattle.whole_tables.proofs.BankRowLemmas.{tells_table}
+use Rattle.whole_tables.proofs.BankWhole.{tells_bank}
+use Rattle.whole_tables.proofs.ReadsLemmas.{gave_whole, handed_on}
+use Rattle.whole_tables.proofs.WholeLemmas.{all_answered, plain_there}
+use Rattle.whole_tables.proofs.bank.bank_row.Goals as goal
+
+pub returns-in_err-rows-clause-whole : goal.returns-in_err-rows-clause-whole
+returns-in_err-rows-clause-whole g c =
+    let old = state g.S.Store c.args.tx.now.conn.now in
+    let new = state g.S.Store c.shown_rows.new.tx.conn.now in
+    gave_whole old new IsBankTable c.from_residual.result c.from_residual.ensures.0
+    (λ clean has. (c.in_err-rows.ensures.still clean (plain_there all_bank_text old tells_bank.asks.plain has)).1)
+
+pub returns-clause-whole : goal.returns-clause-whole
+returns-clause-whole g c clean has =
+    let old = state g.S.Store c.args.tx.now.conn.now in
+    let new = state g.S.Store c.shown_rows.new.tx.conn.now in
+    tells_table old new c.in_ok-rows.rows.items c.only_row.result
+    (subst (λ rows. IfOk c.only_row.result (IsToldBy rows)) c.deref.ensures.value c.only_row.ensures.told)
+    (all_answered all_of_it (told_by_key 2) in_bank all_bank_text tells_bank old new c.in_ok-rows.rows.items has (c.in_ok-rows.ensures.shown clean))
+    (c.in_ok-rows.ensures.still clean (plain_there all_bank_text old tells_bank.asks.plain has))
+
+pub returns-in_err-rows-clause-there : goal.returns-in_err-rows-clause-there
+returns-in_err-rows-clause-there g c clean has =
+    handed_on c.from_residual.result c.in_err-rows.field-0.0 IsOfDatabase c.from_residual.ensures.1 (c.in_err-rows.ensures.there clean has.schema tells_bank.asks)
