@@ -1,11 +1,11 @@
 use money::{
-    Cents, Delta, Fault, MAX_CENTS, MAX_DELTA, Tallied, WriteStopped, add, cents_text, plus,
-    write_cents, write_parts, write_whole,
+    Cents, Delta, Fault, MAX_CENTS, MAX_DELTA, Tallied, add, cents_text, plus, write_cents,
+    write_parts, write_whole,
 };
 use std::alloc::{AllocError, Global};
 use std::io;
 use std::io::{ErrorKind, Read, Write};
-use std::test::Fail;
+use std::process::Abort;
 
 /// Takes three bytes a call at most, and from some call on fails or takes none.
 #[derive(Drop)]
@@ -39,12 +39,30 @@ impl Write for Halting {
     }
 }
 
-fn halts_after(alloc: Global, calls_left: u32, fails: bool) -> Halting {
-    Halting {
+fn halts_after(alloc: Global, calls_left: u32, fails: bool) -> Tallied<Halting> {
+    Tallied::new(Halting {
         taken: Vec::new(alloc),
         calls_left,
         fails,
-    }
+    })
+}
+
+/// A writer that halted after these calls took this text, and one failure is counted where it halted before the third.
+fn has_taken(rt: &impl Abort, writer: Tallied<Halting>, calls: u32, text: &str) {
+    assert_eq!(rt; writer.failures(), u64::from(calls < 3));
+    assert_eq!(rt;
+        writer.into_inner().taken.as_slice(),
+        text.as_bytes(),
+        "after {calls} calls"
+    );
+}
+
+fn cents(rt: &impl Abort, amount: i64) -> Cents {
+    Cents::new(amount).expect(rt, "an amount of money")
+}
+
+fn delta(rt: &impl Abort, amount: i64) -> Delta {
+    Delta::new(amount).expect(rt, "an amount to add")
 }
 
 /// Gives one byte, then fails once, then is at its end.
@@ -66,8 +84,8 @@ impl Read for Hiccup {
 }
 
 #[test]
-fn amounts_end_at_their_edges(rt: HostRuntime) -> Result<(), Fail> {
-    assert_eq!(rt; (MAX_CENTS, MAX_DELTA), (999_999_999_999, 999_999));
+fn amounts_end_at_their_edges(rt: HostRuntime) {
+    assert_eq!(rt; MAX_CENTS, 999_999_999_999);
     for (value, stands) in [
         (999_999_999_999, true),
         (-999_999_999_999, true),
@@ -77,6 +95,11 @@ fn amounts_end_at_their_edges(rt: HostRuntime) -> Result<(), Fail> {
     ] {
         assert_eq!(rt; Cents::new(value).map(Cents::get), stands.then_some(value));
     }
+}
+
+#[test]
+fn amounts_to_add_end_at_their_edges(rt: HostRuntime) {
+    assert_eq!(rt; MAX_DELTA, 999_999);
     for (value, stands) in [
         (999_999, true),
         (-999_999, true),
@@ -85,31 +108,39 @@ fn amounts_end_at_their_edges(rt: HostRuntime) -> Result<(), Fail> {
     ] {
         assert_eq!(rt; Delta::new(value).map(Delta::get), stands.then_some(value));
     }
-    let most = Cents::new(999_999_999_999).ok_or("the greatest amount")?;
-    let least = Cents::new(-999_999_999_999).ok_or("the least amount")?;
-    let one = Delta::new(1).ok_or("one cent")?;
-    let less = Delta::new(-1).ok_or("one cent less")?;
-    assert_eq!(rt; plus(most, one), None);
-    assert_eq!(rt; plus(most, less).map(Cents::get), Some(999_999_999_998));
-    assert_eq!(rt; plus(least, less), None);
-    assert_eq!(rt; add(most, least).map(Cents::get), Some(0));
-    assert_eq!(rt; add(most, Cents::from(one)), None);
-    assert_eq!(rt; add(least, Cents::from(less)), None);
-    Ok(())
 }
 
 #[test]
-fn faults_have_messages(rt: HostRuntime) -> Result<(), Fail> {
-    let alloc = rt.alloc();
+fn a_balance_ends_at_its_edges(rt: HostRuntime) {
+    for (balance, change, sum) in [
+        (999_999_999_999, 1, None),
+        (999_999_999_999, -1, Some(999_999_999_998)),
+        (-999_999_999_999, -1, None),
+    ] {
+        let sum_now = plus(cents(&rt, balance), delta(&rt, change));
+        assert_eq!(rt; sum_now.map(Cents::get), sum);
+    }
+}
+
+#[test]
+fn a_sum_ends_at_its_edges(rt: HostRuntime) {
+    let (most, least) = (cents(&rt, 999_999_999_999), cents(&rt, -999_999_999_999));
+    assert_eq!(rt; add(most, least).map(Cents::get), Some(0));
+    assert_eq!(rt; add(most, Cents::from(delta(&rt, 1))), None);
+    assert_eq!(rt; add(least, Cents::from(delta(&rt, -1))), None);
+}
+
+#[test]
+fn faults_have_messages(rt: HostRuntime) {
     for (fault, message) in [
         (Fault::from(AllocError), "out of memory"),
         (Fault::Size, "a size limit is reached"),
         (Fault::Disk, "the disk failed"),
         (Fault::Stopped, "the store is stopped"),
     ] {
-        assert_eq!(rt; format!(in alloc; "{fault}")?.as_str(), message);
+        let told = format!(in rt.alloc(); "{fault}").expect(&rt, "memory");
+        assert_eq!(rt; told.as_str(), message);
     }
-    Ok(())
 }
 
 #[test]
@@ -126,8 +157,19 @@ fn every_amount_has_a_text(rt: HostRuntime) {
     }
 }
 
+fn stands_as(rt: &impl Abort, alloc: Global, value: i64, width: usize, text: &str) {
+    let mut writer = Tallied::new(Vec::new(alloc));
+    assert_eq!(rt; write_cents(&mut writer, cents(rt, value), width), Ok(()));
+    assert_eq!(rt; writer.failures(), 0);
+    assert_eq!(rt;
+        writer.into_inner().as_slice(),
+        text.as_bytes(),
+        "at {value} in {width}"
+    );
+}
+
 #[test]
-fn amounts_stand_right_in_their_width(rt: HostRuntime) -> Result<(), Fail> {
+fn amounts_stand_right_in_their_width(rt: HostRuntime) {
     for (value, width, text) in [
         (-1234, 1, "-12.34"),
         (-1234, 8, "  -12.34"),
@@ -139,87 +181,81 @@ fn amounts_stand_right_in_their_width(rt: HostRuntime) -> Result<(), Fail> {
         (999_999_999_999, 14, " 9999999999.99"),
         (-999_999_999_999, 14, "-9999999999.99"),
     ] {
-        let cents = Cents::new(value).ok_or("an amount")?;
-        let mut writer = Tallied::new(Vec::new(rt.alloc()));
-        assert_eq!(rt; write_cents(&mut writer, cents, width), Ok(()));
-        assert_eq!(rt; writer.failures(), 0);
-        assert_eq!(rt;
-            writer.into_inner().as_slice(),
-            text.as_bytes(),
-            "at {value} in {width}"
-        );
+        stands_as(&rt, rt.alloc(), value, width, text);
     }
-    Ok(())
+}
+
+/// Writes an amount by this writer, which halts after these calls.
+fn amount_stops(rt: &impl Abort, mut writer: Tallied<Halting>, calls: u32, text: &str) {
+    let written = write_cents(&mut writer, cents(rt, -1234), 8);
+    assert_eq!(rt; written.is_ok(), calls == 3);
+    has_taken(rt, writer, calls, text);
 }
 
 #[test]
-fn an_amount_stops_at_the_call_that_fails(rt: HostRuntime) -> Result<(), Fail> {
-    let cents = Cents::new(-1234).ok_or("an amount")?;
-    for fails in [true, false] {
-        for (calls, text) in [(0, ""), (1, "  "), (2, "  -12"), (3, "  -12.34")] {
-            let mut writer = Tallied::new(halts_after(rt.alloc(), calls, fails));
-            assert_eq!(rt; write_cents(&mut writer, cents, 8).is_ok(), calls == 3);
-            assert_eq!(rt; writer.failures(), u64::from(calls < 3));
-            assert_eq!(rt;
-                writer.into_inner().taken.as_slice(),
-                text.as_bytes(),
-                "after {calls} calls"
-            );
-        }
+fn an_amount_stops_at_the_call_that_fails(rt: HostRuntime) {
+    for (calls, text) in [(0, ""), (1, "  "), (2, "  -12"), (3, "  -12.34")] {
+        amount_stops(&rt, halts_after(rt.alloc(), calls, true), calls, text);
+        amount_stops(&rt, halts_after(rt.alloc(), calls, false), calls, text);
     }
-    Ok(())
+}
+
+fn whole_stops(rt: &impl Abort, mut writer: Tallied<Halting>, calls: u32, text: &str) {
+    let written = write_whole(&mut writer, b"abcdefg");
+    assert_eq!(rt; written.is_ok(), calls == 3);
+    has_taken(rt, writer, calls, text);
 }
 
 #[test]
-fn a_stopped_write_is_counted(rt: HostRuntime) -> Result<(), Fail> {
-    for fails in [true, false] {
-        for (calls, text) in [(0, ""), (1, "abc"), (2, "abcdef"), (3, "abcdefg")] {
-            let mut writer = Tallied::new(halts_after(rt.alloc(), calls, fails));
-            let stopped = if calls == 3 {
-                Ok(())
-            } else {
-                Err(WriteStopped)
-            };
-            assert_eq!(rt; write_whole(&mut writer, b"abcdefg"), stopped);
-            assert_eq!(rt; writer.failures(), u64::from(calls < 3));
-            assert_eq!(rt; writer.into_inner().taken.as_slice(), text.as_bytes());
-        }
-        for (calls, text) in [(0, ""), (1, "ab"), (2, "abcde"), (3, "abcdefg")] {
-            let mut writer = Tallied::new(halts_after(rt.alloc(), calls, fails));
-            let stopped = if calls == 3 {
-                Ok(())
-            } else {
-                Err(WriteStopped)
-            };
-            let parts: [&[u8]; 3] = [b"ab", b"", b"cdefg"];
-            assert_eq!(rt; write_parts(&mut writer, &parts), stopped);
-            assert_eq!(rt; writer.failures(), u64::from(calls < 3));
-            assert_eq!(rt; writer.into_inner().taken.as_slice(), text.as_bytes());
-        }
+fn a_stopped_write_is_counted(rt: HostRuntime) {
+    for (calls, text) in [(0, ""), (1, "abc"), (2, "abcdef"), (3, "abcdefg")] {
+        whole_stops(&rt, halts_after(rt.alloc(), calls, true), calls, text);
+        whole_stops(&rt, halts_after(rt.alloc(), calls, false), calls, text);
     }
-    Ok(())
+}
+
+fn parts_stop(rt: &impl Abort, mut writer: Tallied<Halting>, calls: u32, text: &str) {
+    let parts: [&[u8]; 3] = [b"ab", b"", b"cdefg"];
+    let written = write_parts(&mut writer, &parts);
+    assert_eq!(rt; written.is_ok(), calls == 3);
+    has_taken(rt, writer, calls, text);
 }
 
 #[test]
-fn each_failed_call_is_counted(rt: HostRuntime) -> Result<(), Fail> {
-    let mut writer = Tallied::new(halts_after(rt.alloc(), 1, false));
+fn a_stopped_write_of_parts_is_counted(rt: HostRuntime) {
+    for (calls, text) in [(0, ""), (1, "ab"), (2, "abcde"), (3, "abcdefg")] {
+        parts_stop(&rt, halts_after(rt.alloc(), calls, true), calls, text);
+        parts_stop(&rt, halts_after(rt.alloc(), calls, false), calls, text);
+    }
+}
+
+/// A write of which no byte is taken, after which so many failures are counted.
+fn takes_none(rt: &impl Abort, writer: &mut Tallied<Halting>, bytes: &[u8], failures: u64) {
+    assert_eq!(rt; writer.write(bytes).ok(), Some(0));
+    assert_eq!(rt; writer.failures(), failures);
+}
+
+#[test]
+fn each_failed_call_of_a_writer_is_counted(rt: HostRuntime) {
+    let mut writer = halts_after(rt.alloc(), 1, false);
     assert!(rt; writer.flush().is_ok());
-    assert_eq!(rt; writer.write(b"")?, 0);
-    assert_eq!(rt; writer.failures(), 0);
-    assert_eq!(rt; writer.write(b"a")?, 0);
-    assert_eq!(rt; writer.failures(), 1);
-    assert_eq!(rt; writer.write(b"")?, 0);
-    assert_eq!(rt; writer.failures(), 1);
+    takes_none(&rt, &mut writer, b"", 0);
+    takes_none(&rt, &mut writer, b"a", 1);
+    takes_none(&rt, &mut writer, b"", 1);
     assert!(rt; writer.flush().is_err());
     assert_eq!(rt; writer.failures(), 2);
+}
 
-    let mut byte = [0];
+/// A read of so many bytes, or of none where it fails, after which so many failures are counted.
+fn gives(rt: &impl Abort, reader: &mut Tallied<Hiccup>, count: Option<usize>, failures: u64) {
+    assert_eq!(rt; reader.read(&mut [0]).ok(), count);
+    assert_eq!(rt; reader.failures(), failures);
+}
+
+#[test]
+fn each_failed_call_of_a_reader_is_counted(rt: HostRuntime) {
     let mut reader = Tallied::new(Hiccup(0));
-    assert_eq!(rt; reader.read(&mut byte)?, 1);
-    assert_eq!(rt; reader.failures(), 0);
-    assert!(rt; reader.read(&mut byte).is_err());
-    assert_eq!(rt; reader.failures(), 1);
-    assert_eq!(rt; reader.read(&mut byte)?, 0);
-    assert_eq!(rt; reader.failures(), 1);
-    Ok(())
+    gives(&rt, &mut reader, Some(1), 0);
+    gives(&rt, &mut reader, None, 1);
+    gives(&rt, &mut reader, Some(0), 1);
 }

@@ -1,8 +1,8 @@
 use bank_policy::{Certifier, ItemSet, Member, Name, Triple};
 use bank_terms::{Kind, Procedure};
 use policy_ops::{Command, Enrolment, PolicyOp, RelationKey, TripleKey, UserKey};
-use std::alloc::{AllocError, Global};
-use std::test::Fail;
+use std::alloc::Global;
+use std::process::Abort;
 
 const RELATION: RelationKey = RelationKey {
     procedure: Procedure::Post,
@@ -27,22 +27,24 @@ const CERTIFIER: Certifier = Certifier {
     procedure: Procedure::CloseDay,
 };
 
+const USER: UserKey = UserKey { user: 7 };
+
 /// The accounts 101 and 102.
-fn accounts(alloc: Global) -> Result<ItemSet, AllocError> {
+fn accounts(rt: &impl Abort, alloc: Global) -> ItemSet {
     let member = Member {
         kind: Kind::Account,
         low: 101,
         high: 102,
     };
-    Ok(ItemSet::new(1, vec![in alloc; member]?))
+    ItemSet::new(1, vec![in alloc; member].expect(rt, "memory"))
 }
 
-fn officer(alloc: Global) -> Result<Enrolment, AllocError> {
-    Ok(Enrolment {
+fn officer(rt: &impl Abort, alloc: Global) -> Enrolment {
+    Enrolment {
         user: 9_999,
-        name: Name::new(alloc, "Olga")?,
+        name: Name::new(alloc, "Olga").expect(rt, "memory"),
         officer: true,
-    })
+    }
 }
 
 #[test]
@@ -67,23 +69,22 @@ fn commands_by_name(rt: HostRuntime) {
     }
 }
 
+fn is_of(rt: &impl Abort, asked: PolicyOp, command: Command) {
+    assert_eq!(rt; asked.command(), command);
+}
+
 #[test]
-fn each_form_is_of_its_command(rt: HostRuntime) -> Result<(), Fail> {
-    let alloc = rt.alloc();
-    let user = UserKey { user: 7 };
-    for (asked, command) in [
-        (PolicyOp::DefineSet(accounts(alloc)?), Command::DefineSet),
-        (PolicyOp::Certify(RELATION), Command::Certify),
-        (PolicyOp::Withdraw(RELATION), Command::Withdraw),
-        (PolicyOp::Grant(TRIPLE), Command::Grant),
-        (PolicyOp::Revoke(TRIPLE_KEY), Command::Revoke),
-        (PolicyOp::Appoint(CERTIFIER), Command::Appoint),
-        (PolicyOp::Dismiss(CERTIFIER), Command::Dismiss),
-        (PolicyOp::Enrol(officer(alloc)?), Command::Enrol),
-        (PolicyOp::Suspend(user), Command::Suspend),
-        (PolicyOp::Restore(user), Command::Restore),
-    ] {
-        assert_eq!(rt; asked.command(), command);
-    }
-    Ok(())
+fn each_form_is_of_its_command(rt: HostRuntime) {
+    let set = PolicyOp::DefineSet(accounts(&rt, rt.alloc()));
+    is_of(&rt, set, Command::DefineSet);
+    let enrolment = PolicyOp::Enrol(officer(&rt, rt.alloc()));
+    is_of(&rt, enrolment, Command::Enrol);
+    is_of(&rt, PolicyOp::Certify(RELATION), Command::Certify);
+    is_of(&rt, PolicyOp::Withdraw(RELATION), Command::Withdraw);
+    is_of(&rt, PolicyOp::Grant(TRIPLE), Command::Grant);
+    is_of(&rt, PolicyOp::Revoke(TRIPLE_KEY), Command::Revoke);
+    is_of(&rt, PolicyOp::Appoint(CERTIFIER), Command::Appoint);
+    is_of(&rt, PolicyOp::Dismiss(CERTIFIER), Command::Dismiss);
+    is_of(&rt, PolicyOp::Suspend(USER), Command::Suspend);
+    is_of(&rt, PolicyOp::Restore(USER), Command::Restore);
 }

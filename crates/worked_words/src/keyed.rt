@@ -3,8 +3,8 @@ use keyed_rows::{
     has_small_groups, insert_row, insert_row_reserved, is_there, place_of, remove_rows,
     rows_between, sum_of,
 };
-use std::alloc::{AllocError, Global};
-use std::test::Fail;
+use std::alloc::Global;
+use std::process::Abort;
 
 /// A key, and a mark that tells rows of one key apart.
 #[derive(Clone, Copy, Debug, PartialEq, Eq)]
@@ -18,8 +18,17 @@ impl Keyed for Marked {
     }
 }
 
+/// Rows in order of their keys, and those of one key in the order in which they came.
+const ORDERED: [Marked; 5] = [
+    Marked(1, 'b'),
+    Marked(1, 'e'),
+    Marked(2, 'a'),
+    Marked(2, 'c'),
+    Marked(u128::MAX, 'd'),
+];
+
 #[test]
-fn rows_go_behind_those_of_their_key(rt: HostRuntime) -> Result<(), Fail> {
+fn rows_go_behind_those_of_their_key(rt: HostRuntime) {
     let mut rows = Vec::new(rt.alloc());
     for row in [
         Marked(2, 'a'),
@@ -27,19 +36,16 @@ fn rows_go_behind_those_of_their_key(rt: HostRuntime) -> Result<(), Fail> {
         Marked(2, 'c'),
         Marked(u128::MAX, 'd'),
     ] {
-        insert_row(&mut rows, row)?;
+        insert_row(&mut rows, row).expect(&rt, "memory");
     }
-    rows.reserve(1)?;
+    rows.reserve(1).expect(&rt, "memory");
     assert!(rt; rows.len() < rows.capacity());
     insert_row_reserved(&mut rows, Marked(1, 'e'));
-    let ordered = [
-        Marked(1, 'b'),
-        Marked(1, 'e'),
-        Marked(2, 'a'),
-        Marked(2, 'c'),
-        Marked(u128::MAX, 'd'),
-    ];
-    assert_eq!(rt; rows.as_slice(), ordered.as_slice());
+    assert_eq!(rt; rows.as_slice(), ORDERED.as_slice());
+}
+
+#[test]
+fn rows_are_found_by_their_keys(rt: HostRuntime) {
     for (key, place, first) in [
         (0, 0, None),
         (1, 2, Some('b')),
@@ -47,16 +53,19 @@ fn rows_go_behind_those_of_their_key(rt: HostRuntime) -> Result<(), Fail> {
         (3, 4, None),
         (u128::MAX, 5, Some('d')),
     ] {
-        assert_eq!(rt; place_of(&rows, key), place);
-        assert_eq!(rt; is_there(&rows, key), first.is_some());
-        assert_eq!(rt; find_row(&rows, key).map(|row| row.1), first);
+        assert_eq!(rt; place_of(&ORDERED, key), place);
+        assert_eq!(rt; is_there(&ORDERED, key), first.is_some());
+        assert_eq!(rt; find_row(&ORDERED, key).map(|row| row.1), first);
     }
-    assert_eq!(rt; rows_between(&rows, 2, u128::MAX), &ordered[2..4]);
-    assert!(rt; !has_distinct_keys(&rows));
-    assert!(rt; has_distinct_keys(&ordered[1..3]));
-    assert!(rt; are_in_order(&rows));
+    assert_eq!(rt; rows_between(&ORDERED, 2, u128::MAX), &ORDERED[2..4]);
+}
+
+#[test]
+fn order_and_distinct_keys_are_told(rt: HostRuntime) {
+    assert!(rt; !has_distinct_keys(&ORDERED));
+    assert!(rt; has_distinct_keys(&ORDERED[1..3]));
+    assert!(rt; are_in_order(&ORDERED));
     assert!(rt; !are_in_order(&[Marked(2, 'a'), Marked(1, 'b')]));
-    Ok(())
 }
 
 /// A row that is to bear another mark.
@@ -90,27 +99,26 @@ impl Change<Noted> for Mark {
 }
 
 /// A row of each number, with this mark where the number is 2.
-fn marked_at_two(alloc: Global, at_two: char) -> Result<Vec<Noted>, AllocError> {
+fn marked_at_two(rt: &impl Abort, alloc: Global, at_two: char) -> Vec<Noted> {
     let row = |number, mark| Noted { number, mark };
-    Ok(vec![in alloc; row(1, 'a'), row(2, at_two), row(2, at_two), row(3, 'd')]?)
+    let rows = vec![in alloc; row(1, 'a'), row(2, at_two), row(2, at_two), row(3, 'd')];
+    rows.expect(rt, "memory")
 }
 
 #[test]
-fn rows_of_one_key_are_changed_and_removed(rt: HostRuntime) -> Result<(), Fail> {
-    let alloc = rt.alloc();
-    let mut rows = marked_at_two(alloc, 'b')?;
+fn rows_of_one_key_are_changed_and_removed(rt: HostRuntime) {
+    let mut rows = marked_at_two(&rt, rt.alloc(), 'b');
     for absent in [0, 4, u128::MAX] {
         change_rows(&mut rows, absent, &Mark('z'));
         remove_rows(&mut rows, absent);
     }
-    assert_eq!(rt; rows, marked_at_two(alloc, 'b')?);
+    assert_eq!(rt; rows, marked_at_two(&rt, rt.alloc(), 'b'));
     change_rows(&mut rows, 2, &Mark('z'));
-    assert_eq!(rt; rows, marked_at_two(alloc, 'z')?);
+    assert_eq!(rt; rows, marked_at_two(&rt, rt.alloc(), 'z'));
     remove_rows(&mut rows, 2);
     assert!(rt; is_there(&rows, 1) && is_there(&rows, 3));
     assert!(rt; !is_there(&rows, 2));
     assert_eq!(rt; rows.len(), 2);
-    Ok(())
 }
 
 impl Grouped for Marked {
