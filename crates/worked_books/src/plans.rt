@@ -72,12 +72,18 @@ fn triple_row(user: u32, procedure: Procedure, set: u32) -> Triple {
     }
 }
 
-/// Users 6 to 8 with a session each, and relations, triples and certifiers whose keys are neighbours.
-fn neighbours_policy(alloc: Global) -> Result<Policy, AllocError> {
-    let mut policy = Policy::new(alloc);
+fn add_users(alloc: Global, policy: &mut Policy) -> Result<(), AllocError> {
     for user in [6, 7, 8] {
         policy.add_user(user_row(alloc, user)?)?;
+        policy.add_certifier(Certifier {
+            user,
+            procedure: Procedure::Post,
+        })?;
     }
+    Ok(())
+}
+
+fn add_sets(alloc: Global, policy: &mut Policy) -> Result<(), AllocError> {
     for set in [1, 2, 3] {
         policy.add_set(ItemSet::new(set, Vec::new(alloc)))?;
         policy.add_relation(relation_row(Procedure::Post, set))?;
@@ -85,27 +91,33 @@ fn neighbours_policy(alloc: Global) -> Result<Policy, AllocError> {
     }
     policy.add_relation(relation_row(Procedure::Transfer, 2))?;
     policy.add_triple(triple_row(8, Procedure::Transfer, 2))?;
-    policy.add_triple(triple_row(8, Procedure::Post, 2))?;
-    for user in [6, 7, 8] {
-        policy.add_certifier(Certifier {
-            user,
-            procedure: Procedure::Post,
-        })?;
-    }
+    policy.add_triple(triple_row(8, Procedure::Post, 2))
+}
+
+/// Users 6 to 8 with a session each, and relations, triples and certifiers whose keys are neighbours.
+fn neighbours_policy(alloc: Global) -> Result<Policy, AllocError> {
+    let mut policy = Policy::new(alloc);
+    add_users(alloc, &mut policy)?;
+    add_sets(alloc, &mut policy)?;
     Ok(policy)
 }
 
-/// Branches 1 to 3 on day 1, releases of users 6 to 8, and a policy that so many plans have changed.
-fn neighbours(rt: &impl Abort, alloc: Global, version: u64) -> Result<World, Fail> {
-    let mut lists = Lists::new(alloc);
+fn add_books(rt: &impl Abort, lists: &mut Lists) -> Result<(), AllocError> {
     for branch in [1, 2, 3] {
         lists.branches.push(branch_row(rt, branch))?;
     }
     for (user, number) in [(6, 2), (7, 1), (7, 2), (7, 3), (8, 2)] {
         lists.releases.push(release_row(user, number))?;
     }
+    Ok(())
+}
+
+/// Branches 1 to 3 on day 1, releases of users 6 to 8, and a policy that so many plans have changed.
+fn neighbours(rt: &impl Abort, alloc: Global, version: u64) -> Result<World, AllocError> {
+    let mut lists = Lists::new(alloc);
+    add_books(rt, &mut lists)?;
     let world = World::from_lists(lists, neighbours_policy(alloc)?, version);
-    Ok(world.ok_or("rows in order")?)
+    Ok(world.expect(rt, "rows in order"))
 }
 
 /// Has a bank apply a plan that its version has room for.
@@ -114,211 +126,187 @@ fn apply(rt: &impl Abort, alloc: Global, world: &mut World, plan: Plan) -> Resul
     world.apply(alloc, plan)
 }
 
-/// The bank after this one change.
-fn changed(rt: &impl Abort, alloc: Global, row: RowWrite) -> Result<World, Fail> {
-    let mut world = neighbours(rt, alloc, 0)?;
-    apply(rt, alloc, &mut world, vec![in alloc; row]?)?;
-    Ok(world)
+/// The neighbours after this plan.
+fn after(rt: &impl Abort, alloc: Global, plan: Plan) -> World {
+    let mut world = neighbours(rt, alloc, 0).expect(rt, "memory");
+    apply(rt, alloc, &mut world, plan).expect(rt, "memory");
+    world
 }
 
-/// The day of each branch.
-fn days(alloc: Global, world: &World) -> Result<Vec<u32>, AllocError> {
-    let mut days = Vec::new(alloc);
-    for row in world.branches() {
-        days.push(row.day)?;
-    }
-    Ok(days)
+/// The neighbours after this one change.
+fn changed(rt: &impl Abort, alloc: Global, row: RowWrite) -> World {
+    after(rt, alloc, vec![in alloc; row].expect(rt, "memory"))
+}
+
+/// The days of the branches.
+fn has_days(rt: &impl Abort, world: &World, days: [u32; 3]) {
+    let told = world.branches().iter().map(|row| row.day);
+    assert!(rt; told.eq(days));
 }
 
 /// Each release: its user and number, and 1 where it is used up.
-fn releases(alloc: Global, world: &World) -> Result<Vec<[u32; 3]>, AllocError> {
-    let mut releases = Vec::new(alloc);
-    for row in world.releases() {
-        releases.push([row.user, row.number, row.used as u32])?;
-    }
-    Ok(releases)
+fn has_releases(rt: &impl Abort, world: &World, releases: &[[u32; 3]]) {
+    let told = world
+        .releases()
+        .iter()
+        .map(|row| [row.user, row.number, row.used as u32]);
+    assert!(rt; told.eq(releases.iter().copied()));
 }
 
 /// Each user: number, session, and 1 where that is open.
-fn users(alloc: Global, world: &World) -> Result<Vec<[u32; 3]>, AllocError> {
-    let mut users = Vec::new(alloc);
-    for row in world.policy().users() {
-        users.push([row.user, row.session, row.on as u32])?;
-    }
-    Ok(users)
+fn has_users(rt: &impl Abort, world: &World, users: &[[u32; 3]]) {
+    let told = world
+        .policy()
+        .users()
+        .iter()
+        .map(|row| [row.user, row.session, row.on as u32]);
+    assert!(rt; told.eq(users.iter().copied()));
 }
 
 /// Each relation: its procedure's number, and its set.
-fn relations(alloc: Global, world: &World) -> Result<Vec<[u32; 2]>, AllocError> {
-    let mut relations = Vec::new(alloc);
-    for row in world.policy().relations() {
-        relations.push([row.procedure.number() as u32, row.set])?;
-    }
-    Ok(relations)
+fn has_relations(rt: &impl Abort, world: &World, relations: &[[u32; 2]]) {
+    let told = world
+        .policy()
+        .relations()
+        .iter()
+        .map(|row| [row.procedure.number() as u32, row.set]);
+    assert!(rt; told.eq(relations.iter().copied()));
 }
 
 /// Each triple: its user, its procedure's number, and its set.
-fn triples(alloc: Global, world: &World) -> Result<Vec<[u32; 3]>, AllocError> {
-    let mut triples = Vec::new(alloc);
-    for row in world.policy().triples() {
-        triples.push([row.user, row.procedure.number() as u32, row.set])?;
-    }
-    Ok(triples)
+fn has_triples(rt: &impl Abort, world: &World, triples: &[[u32; 3]]) {
+    let told = world
+        .policy()
+        .triples()
+        .iter()
+        .map(|row| [row.user, row.procedure.number() as u32, row.set]);
+    assert!(rt; told.eq(triples.iter().copied()));
 }
 
 /// The user of each certifier.
-fn certifiers(alloc: Global, world: &World) -> Result<Vec<u32>, AllocError> {
-    let mut certifiers = Vec::new(alloc);
-    for row in world.policy().certifiers() {
-        certifiers.push(row.user)?;
-    }
-    Ok(certifiers)
+fn has_certifiers(rt: &impl Abort, world: &World, certifiers: &[u32]) {
+    let told = world.policy().certifiers().iter().map(|row| row.user);
+    assert!(rt; told.eq(certifiers.iter().copied()));
 }
 
-/// The rows of the neighbours' books and policy as they stand before any change.
-fn stand_as_before(rt: &impl Abort, alloc: Global, world: &World) -> Result<(), AllocError> {
-    assert!(rt; days(alloc, world)?.as_slice() == [1, 1, 1].as_slice());
-    assert!(rt;
-        releases(alloc, world)?.as_slice()
-            == [[6, 2, 0], [7, 1, 0], [7, 2, 0], [7, 3, 0], [8, 2, 0]].as_slice()
+/// The rows of the neighbours' books and policy stand as before any change.
+fn stand_as_before(rt: &impl Abort, world: &World) {
+    has_days(rt, world, [1, 1, 1]);
+    has_releases(
+        rt,
+        world,
+        &[[6, 2, 0], [7, 1, 0], [7, 2, 0], [7, 3, 0], [8, 2, 0]],
     );
-    assert!(rt; users(alloc, world)?.as_slice() == [[6, 3, 1], [7, 3, 1], [8, 3, 1]].as_slice());
-    policy_stands_as_before(rt, alloc, world)
-}
-
-fn policy_stands_as_before(
-    rt: &impl Abort,
-    alloc: Global,
-    world: &World,
-) -> Result<(), AllocError> {
-    assert!(rt; relations(alloc, world)?.as_slice() == [[1, 1], [1, 2], [1, 3], [2, 2]].as_slice());
-    assert!(rt;
-        triples(alloc, world)?.as_slice()
-            == [[7, 1, 1], [7, 1, 2], [7, 1, 3], [8, 1, 2], [8, 2, 2]].as_slice()
+    has_users(rt, world, &[[6, 3, 1], [7, 3, 1], [8, 3, 1]]);
+    has_relations(rt, world, &[[1, 1], [1, 2], [1, 3], [2, 2]]);
+    has_triples(
+        rt,
+        world,
+        &[[7, 1, 1], [7, 1, 2], [7, 1, 3], [8, 1, 2], [8, 2, 2]],
     );
-    assert!(rt; certifiers(alloc, world)?.as_slice() == [6, 7, 8].as_slice());
-    Ok(())
+    has_certifiers(rt, world, &[6, 7, 8]);
 }
 
 #[test]
-fn the_day_of_one_branch_begins(rt: HostRuntime) -> Result<(), Fail> {
-    let alloc = rt.alloc();
-    let world = changed(&rt, alloc, RowWrite::Day(BranchDay { branch: 2, day: 9 }))?;
-    assert!(rt; days(alloc, &world)?.as_slice() == [1, 9, 1].as_slice());
+fn the_day_of_one_branch_begins(rt: HostRuntime) {
+    let day = RowWrite::Day(BranchDay { branch: 2, day: 9 });
+    let world = changed(&rt, rt.alloc(), day);
+    has_days(&rt, &world, [1, 9, 1]);
     assert_eq!(rt; world.version(), 0);
-    Ok(())
 }
 
 #[test]
-fn one_release_is_used_up(rt: HostRuntime) -> Result<(), Fail> {
-    let alloc = rt.alloc();
+fn one_release_is_used_up(rt: HostRuntime) {
     let key = ReleaseKey { user: 7, number: 2 };
-    let world = changed(&rt, alloc, RowWrite::Used(key))?;
-    assert!(rt;
-        releases(alloc, &world)?.as_slice()
-            == [[6, 2, 0], [7, 1, 0], [7, 2, 1], [7, 3, 0], [8, 2, 0]].as_slice()
+    let world = changed(&rt, rt.alloc(), RowWrite::Used(key));
+    has_releases(
+        &rt,
+        &world,
+        &[[6, 2, 0], [7, 1, 0], [7, 2, 1], [7, 3, 0], [8, 2, 0]],
     );
     assert_eq!(rt; world.version(), 0);
-    Ok(())
 }
 
 #[test]
-fn one_user_has_another_session(rt: HostRuntime) -> Result<(), Fail> {
-    let alloc = rt.alloc();
+fn one_user_has_another_session(rt: HostRuntime) {
     let session = Session {
         user: 7,
         session: 4,
         on: false,
     };
-    let world = changed(&rt, alloc, RowWrite::Session(session))?;
-    assert!(rt; users(alloc, &world)?.as_slice() == [[6, 3, 1], [7, 4, 0], [8, 3, 1]].as_slice());
+    let world = changed(&rt, rt.alloc(), RowWrite::Session(session));
+    has_users(&rt, &world, &[[6, 3, 1], [7, 4, 0], [8, 3, 1]]);
     assert_eq!(rt; world.version(), 0);
-    Ok(())
+}
+
+/// User 7 is suspended or restored, and has no session on after it.
+fn suspends(rt: &impl Abort, alloc: Global, suspended: bool) {
+    let to = Suspension { user: 7, suspended };
+    let world = changed(rt, alloc, RowWrite::Policy(PolicyWrite::Suspended(to)));
+    has_users(rt, &world, &[[6, 3, 1], [7, 3, 0], [8, 3, 1]]);
+    let row = world.policy().users().get(1);
+    assert!(rt; row.is_some_and(|user| user.suspended == suspended));
+    assert_eq!(rt; world.version(), 1);
 }
 
 #[test]
-fn one_user_is_suspended_or_restored_without_a_session(rt: HostRuntime) -> Result<(), Fail> {
-    let alloc = rt.alloc();
-    for suspended in [true, false] {
-        let to = Suspension { user: 7, suspended };
-        let world = changed(&rt, alloc, RowWrite::Policy(PolicyWrite::Suspended(to)))?;
-        assert!(rt;
-            users(alloc, &world)?.as_slice() == [[6, 3, 1], [7, 3, 0], [8, 3, 1]].as_slice()
-        );
-        let row = world.policy().users().get(1);
-        assert!(rt; row.is_some_and(|user| user.suspended == suspended));
-        assert_eq!(rt; world.version(), 1);
-    }
-    Ok(())
+fn one_user_is_suspended_or_restored_without_a_session(rt: HostRuntime) {
+    suspends(&rt, rt.alloc(), true);
+    suspends(&rt, rt.alloc(), false);
 }
 
 #[test]
-fn a_withdrawn_relation_takes_its_triples(rt: HostRuntime) -> Result<(), Fail> {
-    let alloc = rt.alloc();
-    let key = RelationKey {
+fn a_withdrawn_relation_takes_its_triples(rt: HostRuntime) {
+    let change = PolicyWrite::NoRelation(RelationKey {
         procedure: Procedure::Post,
         set: 2,
-    };
-    let world = changed(&rt, alloc, RowWrite::Policy(PolicyWrite::NoRelation(key)))?;
-    assert!(rt; relations(alloc, &world)?.as_slice() == [[1, 1], [1, 3], [2, 2]].as_slice());
-    assert!(rt; triples(alloc, &world)?.as_slice() == [[7, 1, 1], [7, 1, 3], [8, 2, 2]].as_slice());
-    Ok(())
+    });
+    let world = changed(&rt, rt.alloc(), RowWrite::Policy(change));
+    has_relations(&rt, &world, &[[1, 1], [1, 3], [2, 2]]);
+    has_triples(&rt, &world, &[[7, 1, 1], [7, 1, 3], [8, 2, 2]]);
 }
 
 #[test]
-fn one_triple_is_taken_back(rt: HostRuntime) -> Result<(), Fail> {
-    let alloc = rt.alloc();
-    let key = TripleKey {
+fn one_triple_is_taken_back(rt: HostRuntime) {
+    let change = PolicyWrite::NoTriple(TripleKey {
         user: 8,
         procedure: Procedure::Post,
         set: 2,
-    };
-    let world = changed(&rt, alloc, RowWrite::Policy(PolicyWrite::NoTriple(key)))?;
-    assert!(rt;
-        triples(alloc, &world)?.as_slice()
-            == [[7, 1, 1], [7, 1, 2], [7, 1, 3], [8, 2, 2]].as_slice()
-    );
-    Ok(())
+    });
+    let world = changed(&rt, rt.alloc(), RowWrite::Policy(change));
+    has_triples(&rt, &world, &[[7, 1, 1], [7, 1, 2], [7, 1, 3], [8, 2, 2]]);
 }
 
 #[test]
-fn one_certifier_is_dismissed(rt: HostRuntime) -> Result<(), Fail> {
-    let alloc = rt.alloc();
-    let certifier = Certifier {
+fn one_certifier_is_dismissed(rt: HostRuntime) {
+    let change = PolicyWrite::NoCertifier(Certifier {
         user: 7,
         procedure: Procedure::Post,
-    };
-    let change = PolicyWrite::NoCertifier(certifier);
-    let world = changed(&rt, alloc, RowWrite::Policy(change))?;
-    assert!(rt; certifiers(alloc, &world)?.as_slice() == [6, 8].as_slice());
-    Ok(())
+    });
+    let world = changed(&rt, rt.alloc(), RowWrite::Policy(change));
+    has_certifiers(&rt, &world, &[6, 8]);
 }
 
 #[test]
-fn rows_that_are_absent_are_passed_over(rt: HostRuntime) -> Result<(), Fail> {
-    let alloc = rt.alloc();
-    let mut world = neighbours(&rt, alloc, 0)?;
+fn rows_that_are_absent_are_passed_over(rt: HostRuntime) {
     let session = Session {
         user: 9,
         session: 4,
         on: false,
     };
-    let plan = vec![in alloc;
+    let plan = vec![in rt.alloc();
         RowWrite::Day(BranchDay { branch: 4, day: 9 }),
         RowWrite::Used(ReleaseKey { user: 7, number: 4 }),
         RowWrite::Used(ReleaseKey { user: 5, number: 1 }),
         RowWrite::Session(session),
-    ]?;
-    apply(&rt, alloc, &mut world, plan)?;
-    stand_as_before(&rt, alloc, &world)?;
+    ];
+    let world = after(&rt, rt.alloc(), plan.expect(&rt, "memory"));
+    stand_as_before(&rt, &world);
     assert_eq!(rt; world.version(), 0);
-    Ok(())
 }
 
-#[test]
-fn changes_of_a_policy_without_the_row_raise_its_version(rt: HostRuntime) -> Result<(), Fail> {
-    let alloc = rt.alloc();
-    let mut world = neighbours(&rt, alloc, 0)?;
+/// A change of each kind that takes away a row of the policy, or changes one, which is absent.
+fn changes_without_their_rows(rt: &impl Abort, alloc: Global) -> Plan {
     let procedure = Procedure::Correct;
     let (user, set) = (7, 2);
     let suspension = Suspension {
@@ -334,11 +322,16 @@ fn changes_of_a_policy_without_the_row_raise_its_version(rt: HostRuntime) -> Res
         })),
         RowWrite::Policy(PolicyWrite::NoCertifier(Certifier { user, procedure })),
         RowWrite::Policy(PolicyWrite::Suspended(suspension)),
-    ]?;
-    apply(&rt, alloc, &mut world, plan)?;
-    stand_as_before(&rt, alloc, &world)?;
+    ];
+    plan.expect(rt, "memory")
+}
+
+#[test]
+fn changes_of_a_policy_without_the_row_raise_its_version(rt: HostRuntime) {
+    let plan = changes_without_their_rows(&rt, rt.alloc());
+    let world = after(&rt, rt.alloc(), plan);
+    stand_as_before(&rt, &world);
     assert_eq!(rt; world.version(), 1);
-    Ok(())
 }
 
 /// The first entry of branch 1.
@@ -374,7 +367,7 @@ fn added_line(rt: &impl Abort) -> CashLine {
 }
 
 /// A row of each kind that is added to the books.
-fn rows_for_the_books(rt: &impl Abort, alloc: Global) -> Result<Plan, AllocError> {
+fn rows_for_the_books(rt: &impl Abort, alloc: Global) -> Plan {
     let account = Account {
         account: 101,
         home: 1,
@@ -388,13 +381,14 @@ fn rows_for_the_books(rt: &impl Abort, alloc: Global) -> Result<Plan, AllocError
         balance: cents(rt, 5),
         cash: cents(rt, 5),
     };
-    Ok(vec![in alloc;
+    let plan = vec![in alloc;
         RowWrite::Account(account),
         RowWrite::Entry(added_entry(rt)),
         RowWrite::Line(added_line(rt)),
         RowWrite::Proof(proof),
         RowWrite::Release(release_row(6, 3)),
-    ]?)
+    ];
+    plan.expect(rt, "memory")
 }
 
 /// A row of each kind that is added to the policy.
@@ -413,55 +407,48 @@ fn rows_for_the_policy(alloc: Global) -> Result<Plan, AllocError> {
 }
 
 #[test]
-fn rows_are_added_to_the_books(rt: HostRuntime) -> Result<(), Fail> {
-    let alloc = rt.alloc();
-    let mut world = neighbours(&rt, alloc, 0)?;
-    apply(&rt, alloc, &mut world, rows_for_the_books(&rt, alloc)?)?;
+fn rows_are_added_to_the_books(rt: HostRuntime) {
+    let world = after(&rt, rt.alloc(), rows_for_the_books(&rt, rt.alloc()));
     assert_eq!(rt; world.accounts().len(), 1);
     assert!(rt; world.entries() == [added_entry(&rt)].as_slice());
     assert!(rt; world.lines() == [added_line(&rt)].as_slice());
     assert_eq!(rt; world.proofs().len(), 1);
-    assert!(rt;
-        releases(alloc, &world)?.as_slice()
-            == [
-                [6, 2, 0],
-                [6, 3, 0],
-                [7, 1, 0],
-                [7, 2, 0],
-                [7, 3, 0],
-                [8, 2, 0]
-            ]
-            .as_slice()
+    has_releases(
+        &rt,
+        &world,
+        &[
+            [6, 2, 0],
+            [6, 3, 0],
+            [7, 1, 0],
+            [7, 2, 0],
+            [7, 3, 0],
+            [8, 2, 0],
+        ],
     );
     assert_eq!(rt; world.version(), 0);
-    Ok(())
 }
 
 #[test]
-fn rows_are_added_to_the_policy(rt: HostRuntime) -> Result<(), Fail> {
-    let alloc = rt.alloc();
-    let mut world = neighbours(&rt, alloc, 0)?;
-    apply(&rt, alloc, &mut world, rows_for_the_policy(alloc)?)?;
-    assert_eq!(rt; world.policy().users().len(), 4);
-    assert_eq!(rt; world.policy().sets().len(), 4);
-    assert!(rt;
-        relations(alloc, &world)?.as_slice() == [[1, 1], [1, 2], [1, 3], [1, 4], [2, 2]].as_slice()
+fn rows_are_added_to_the_policy(rt: HostRuntime) {
+    let plan = rows_for_the_policy(rt.alloc()).expect(&rt, "memory");
+    let world = after(&rt, rt.alloc(), plan);
+    let policy = world.policy();
+    assert_eq!(rt; (policy.users().len(), policy.sets().len()), (4, 4));
+    has_relations(&rt, &world, &[[1, 1], [1, 2], [1, 3], [1, 4], [2, 2]]);
+    has_triples(
+        &rt,
+        &world,
+        &[
+            [7, 1, 1],
+            [7, 1, 2],
+            [7, 1, 3],
+            [7, 1, 4],
+            [8, 1, 2],
+            [8, 2, 2],
+        ],
     );
-    assert!(rt;
-        triples(alloc, &world)?.as_slice()
-            == [
-                [7, 1, 1],
-                [7, 1, 2],
-                [7, 1, 3],
-                [7, 1, 4],
-                [8, 1, 2],
-                [8, 2, 2]
-            ]
-            .as_slice()
-    );
-    assert!(rt; certifiers(alloc, &world)?.as_slice() == [5, 6, 7, 8].as_slice());
+    has_certifiers(&rt, &world, &[5, 6, 7, 8]);
     assert_eq!(rt; world.version(), 1);
-    Ok(())
 }
 
 /// The next day of a branch, and then a change of each kind that adds to the policy.
@@ -471,30 +458,45 @@ fn day_and_policy(alloc: Global) -> Result<Plan, AllocError> {
     Ok(plan)
 }
 
-#[test]
-fn a_plan_that_the_version_refuses_changes_nothing(rt: HostRuntime) -> Result<(), Fail> {
-    let alloc = rt.alloc();
-    let mut store = ListStore::new(neighbours(&rt, alloc, MAX_VERSION)?);
-    assert_eq!(rt;
-        store.apply(alloc, day_and_policy(alloc)?),
-        Err(Fault::Size)
-    );
-    assert_eq!(rt; store.faults(), 1);
-    assert_eq!(rt; store.version(alloc)?, MAX_VERSION);
-    assert_eq!(rt; store.sets(alloc)?, 3);
-    assert_eq!(rt; store.triples(alloc, 7)?, 3);
-    store.apply(alloc, vec![in alloc; RowWrite::Release(release_row(6, 3))]?)?;
-    assert_eq!(rt; store.release(alloc, 6, 3)?, Some(release_row(6, 3)));
-    Ok(())
+/// The neighbours in a store, after so many changes of their policy.
+fn store_of(rt: &impl Abort, alloc: Global, version: u64) -> ListStore {
+    ListStore::new(neighbours(rt, alloc, version).expect(rt, "memory"))
+}
+
+/// A store of the greatest version, which has refused a plan that would raise it.
+fn store_that_refused(rt: &impl Abort, alloc: Global) -> ListStore {
+    let mut store = store_of(rt, alloc, MAX_VERSION);
+    let plan = day_and_policy(alloc).expect(rt, "memory");
+    assert_eq!(rt; store.apply(alloc, plan), Err(Fault::Size));
+    store
 }
 
 #[test]
-fn the_greatest_version_is_reached(rt: HostRuntime) -> Result<(), Fail> {
+fn a_plan_that_the_version_refuses_changes_nothing(rt: HostRuntime) {
     let alloc = rt.alloc();
-    let mut store = ListStore::new(neighbours(&rt, alloc, MAX_VERSION - 1)?);
-    store.apply(alloc, rows_for_the_policy(alloc)?)?;
-    assert_eq!(rt; store.version(alloc)?, MAX_VERSION);
-    Ok(())
+    let mut store = store_that_refused(&rt, alloc);
+    assert_eq!(rt; store.faults(), 1);
+    assert_eq!(rt; store.version(alloc), Ok(MAX_VERSION));
+    assert_eq!(rt; store.sets(alloc), Ok(3));
+    assert_eq!(rt; store.triples(alloc, 7), Ok(3));
+}
+
+#[test]
+fn the_greatest_version_refuses_no_plan_of_the_books(rt: HostRuntime) {
+    let alloc = rt.alloc();
+    let mut store = store_that_refused(&rt, alloc);
+    let plan = vec![in alloc; RowWrite::Release(release_row(6, 3))].expect(&rt, "memory");
+    assert_eq!(rt; store.apply(alloc, plan), Ok(()));
+    assert_eq!(rt; store.release(alloc, 6, 3), Ok(Some(release_row(6, 3))));
+}
+
+#[test]
+fn the_greatest_version_is_reached(rt: HostRuntime) {
+    let alloc = rt.alloc();
+    let mut store = store_of(&rt, alloc, MAX_VERSION - 1);
+    let plan = rows_for_the_policy(alloc).expect(&rt, "memory");
+    assert_eq!(rt; store.apply(alloc, plan), Ok(()));
+    assert_eq!(rt; store.version(alloc), Ok(MAX_VERSION));
 }
 
 /// With each allocation refused in turn, one of them refuses the plan's own room.
@@ -504,7 +506,7 @@ fn a_plan_that_memory_refuses_changes_nothing(rt: HostRuntime) -> Result<(), Fai
     let mut world = neighbours(&rt, alloc, 0)?;
     let plan = day_and_policy(alloc)?;
     if apply(&rt, alloc, &mut world, plan).is_err() {
-        stand_as_before(&rt, alloc, &world)?;
+        stand_as_before(&rt, &world);
         assert_eq!(rt; world.version(), 0);
     }
     Ok(())

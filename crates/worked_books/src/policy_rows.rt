@@ -8,72 +8,94 @@ use std::alloc::Global;
 use std::process::Abort;
 
 #[test]
-fn procedures_and_rules_have_their_numbers_and_names(rt: HostRuntime) {
+fn procedures_have_their_numbers_and_names(rt: HostRuntime) {
     for (name, number) in [
         ("post", 1),
         ("drawer-on", 4),
         ("balance", 9),
         ("close-day", 13),
     ] {
-        match Procedure::named(name) {
-            Some(procedure) => {
-                assert!(rt; procedure.number() == number, "{name}");
-                assert!(rt; procedure.name() == name, "{name}");
-            }
-            None => panic!(rt; "{name}"),
-        }
+        let procedure = Procedure::named(name).expect(&rt, "a procedure");
+        assert!(rt; procedure.number() == number, "{name}");
+        assert!(rt; procedure.name() == name, "{name}");
     }
     assert!(rt; Procedure::named("Post").is_none() && Procedure::named("").is_none());
+}
+
+#[test]
+fn rules_have_their_numbers_and_names(rt: HostRuntime) {
     assert!(rt; Rule::Identity.number() == 1 && Rule::PolicyState.number() == 21);
     assert!(rt; Rule::NotCertified.name() == "not certified" && Rule::Range.name() == "range");
     assert!(rt; Rule::Drawer.is_forbidden() && !Rule::Entry.is_forbidden());
 }
 
-#[test]
-fn policy_rows_stand_in_order(rt: HostRuntime) {
-    let alloc = rt.alloc();
-    let mut policy = Policy::new(alloc);
-    for user in [9u32, 2, 7] {
-        let row = User {
-            user,
-            name: Name::new(alloc, "Sue").expect(&rt, "memory"),
-            officer: false,
-            suspended: false,
-            session: 0,
-            on: false,
-        };
-        policy.add_user(row).expect(&rt, "memory");
-    }
+fn add_user(rt: &impl Abort, alloc: Global, policy: &mut Policy, user: u32) {
+    let row = User {
+        user,
+        name: Name::new(alloc, "Sue").expect(rt, "memory"),
+        officer: false,
+        suspended: false,
+        session: 0,
+        on: false,
+    };
+    policy.add_user(row).expect(rt, "memory");
+}
+
+fn add_set(rt: &impl Abort, alloc: Global, policy: &mut Policy) {
     let member = Member {
         kind: Kind::Account,
         low: 101,
         high: 150,
     };
-    let members = vec![in alloc; member].expect(&rt, "memory");
+    let members = vec![in alloc; member].expect(rt, "memory");
     policy
         .add_set(ItemSet::new(5, members))
-        .expect(&rt, "memory");
-    for procedure in [Procedure::Transfer, Procedure::Post] {
-        policy
-            .add_relation(Relation {
-                procedure,
-                set: 5,
-                by: 2,
-            })
-            .expect(&rt, "memory");
-        policy
-            .add_triple(Triple {
-                user: 7,
-                procedure,
-                set: 5,
-                limit: 10,
-            })
-            .expect(&rt, "memory");
-        policy
-            .add_certifier(Certifier { user: 2, procedure })
-            .expect(&rt, "memory");
+        .expect(rt, "memory");
+}
+
+/// A relation, a triple and a certifier of the procedure.
+fn add_procedure(rt: &impl Abort, policy: &mut Policy, procedure: Procedure) {
+    policy
+        .add_relation(Relation {
+            procedure,
+            set: 5,
+            by: 2,
+        })
+        .expect(rt, "memory");
+    policy
+        .add_triple(Triple {
+            user: 7,
+            procedure,
+            set: 5,
+            limit: 10,
+        })
+        .expect(rt, "memory");
+    policy
+        .add_certifier(Certifier { user: 2, procedure })
+        .expect(rt, "memory");
+}
+
+#[test]
+fn users_stand_in_order(rt: HostRuntime) {
+    let mut policy = Policy::new(rt.alloc());
+    for user in [9, 2, 7] {
+        add_user(&rt, rt.alloc(), &mut policy, user);
     }
     assert!(rt; policy.users().iter().map(|u| u.user).eq([2u32, 7, 9]));
+    assert!(rt;
+        policy
+            .users()
+            .first()
+            .is_some_and(|u| u.name.as_str() == "Sue")
+    );
+}
+
+#[test]
+fn rows_of_procedures_stand_in_order(rt: HostRuntime) {
+    let mut policy = Policy::new(rt.alloc());
+    add_set(&rt, rt.alloc(), &mut policy);
+    add_procedure(&rt, &mut policy, Procedure::Transfer);
+    add_procedure(&rt, &mut policy, Procedure::Post);
     assert!(rt;
         policy
             .sets()
@@ -93,12 +115,6 @@ fn policy_rows_stand_in_order(rt: HostRuntime) {
             .is_some_and(|t| t.procedure == Procedure::Post)
     );
     assert!(rt; policy.certifiers().len() == 2);
-    assert!(rt;
-        policy
-            .users()
-            .first()
-            .is_some_and(|u| u.name.as_str() == "Sue")
-    );
 }
 
 fn item(kind: Kind, key: u32) -> Cdi {
@@ -137,31 +153,49 @@ fn held(
     )
 }
 
+/// Two accounts, and their branch.
+const TOUCHED: [Cdi; 3] = [
+    Cdi {
+        kind: Kind::Account,
+        key: 101,
+    },
+    Cdi {
+        kind: Kind::Account,
+        key: 102,
+    },
+    Cdi {
+        kind: Kind::Branch,
+        key: 1,
+    },
+];
+
+/// Two triples that hold one account each: their union would do, and neither does.
 #[test]
 fn one_triple_has_to_hold_every_item(rt: HostRuntime) {
-    let alloc = rt.alloc();
-    let touched = [
-        item(Kind::Account, 101),
-        item(Kind::Account, 102),
-        item(Kind::Branch, 1),
-    ];
-    // Two triples that hold one account each: their union would do, and neither does.
     let halves = [
-        held(&rt, alloc, 7, 3, 50_000, (101, 101)),
-        held(&rt, alloc, 7, 4, 50_000, (102, 102)),
+        held(&rt, rt.alloc(), 7, 3, 50_000, (101, 101)),
+        held(&rt, rt.alloc(), 7, 4, 50_000, (102, 102)),
     ];
-    assert!(rt; best_limit(&halves, &touched).is_none());
+    assert!(rt; best_limit(&halves, &TOUCHED).is_none());
     assert!(rt; best_limit(&halves, &[item(Kind::Account, 102)]) == Some(50_000));
-    // Two triples that hold all: the greater limit counts, and not the first.
+}
+
+/// Two triples that hold all: the greater limit counts, and not the first.
+#[test]
+fn the_greatest_limit_counts(rt: HostRuntime) {
     let wholes = [
-        held(&rt, alloc, 8, 1, 1_000, (1, 999_999)),
-        held(&rt, alloc, 8, 2, 50_000, (101, 102)),
+        held(&rt, rt.alloc(), 8, 1, 1_000, (1, 999_999)),
+        held(&rt, rt.alloc(), 8, 2, 50_000, (101, 102)),
     ];
-    assert!(rt; best_limit(&wholes, &touched) == Some(50_000));
+    assert!(rt; best_limit(&wholes, &TOUCHED) == Some(50_000));
     assert!(rt; best_limit(&wholes, &[item(Kind::Account, 201)]) == Some(1_000));
     assert!(rt; best_limit(&wholes, &[item(Kind::Teller, 11)]).is_none());
-    assert!(rt; best_limit(&[], &touched).is_none());
-    assert!(rt; covers(&[], &[]) && !covers(&[], &touched));
+}
+
+#[test]
+fn no_triple_holds_nothing_alone(rt: HostRuntime) {
+    assert!(rt; best_limit(&[], &TOUCHED).is_none());
+    assert!(rt; covers(&[], &[]) && !covers(&[], &TOUCHED));
 }
 
 /// The items that a post touches.
