@@ -1,3 +1,5 @@
+use crate::plans::plans;
+use crate::rows::cents;
 use bank_books::{Branch, BranchRecord, Signature, Teller, TellerRecord};
 use bank_terms::Rule;
 use counter_ops::{CloseDay, DrawerOff, DrawerOn, MoveCash};
@@ -6,13 +8,7 @@ use drawers::{
     plan_drawer_off, plan_drawer_on, plan_move, rule_against_close_day, rule_against_drawer_off,
     rule_against_drawer_on, rule_against_move_cash,
 };
-use money::Cents;
 use std::process::Abort;
-use std::test::Fail;
-
-fn cents(rt: &impl Abort, amount: i64) -> Cents {
-    Cents::new(amount).expect(rt, "an amount of money")
-}
 
 fn signature(user: u32) -> Signature {
     Signature { user, moment: 9 }
@@ -54,55 +50,45 @@ fn teller(rt: &impl Abort, teller: u32, cash: i128, holder: Option<u32>) -> Tell
 }
 
 #[test]
-fn drawer_is_put_on(rt: HostRuntime) -> Result<(), Fail> {
+fn drawer_is_put_on(rt: HostRuntime) {
     let rows = DrawerRows::of(Some(teller(&rt, 12, 0, None)), Some(branch(&rt)));
     let mut form = DrawerOn {
         teller: 12,
         branch: 1,
         cash: 300,
     };
-    let planned = plan_drawer_on(rt.alloc(), &rows, &form, signature(7))?
-        .ok()
-        .ok_or("no rule denies it")?;
     let left = PutOn {
         cash: cents(&rt, 300),
         teller: 12,
         vault: cents(&rt, 4_700),
     };
-    assert_eq!(rt; planned.left, left);
-    assert_eq!(rt; planned.plan.len(), 2);
+    let planned = plan_drawer_on(rt.alloc(), &rows, &form, signature(7));
+    plans(&rt, planned, 2, left);
     form.cash = 5_001;
     assert_eq!(rt; rule_against_drawer_on(&rows, &form), Some(Rule::Cash));
-    Ok(())
 }
 
 #[test]
-fn drawer_is_put_off(rt: HostRuntime) -> Result<(), Fail> {
+fn drawer_is_put_off(rt: HostRuntime) {
     let rows = DrawerRows::of(Some(teller(&rt, 11, 400, Some(7))), Some(branch(&rt)));
     let form = DrawerOff {
         teller: 11,
         branch: 1,
         counted: cents(&rt, 395),
     };
-    let planned = plan_drawer_off(rt.alloc(), &rows, &form, signature(7))?
-        .ok()
-        .ok_or("no rule denies it")?;
     let left = PutOff {
         difference: cents(&rt, -5),
         teller: 11,
         vault: cents(&rt, 5_395),
     };
-    assert_eq!(rt; planned.left, left);
-    assert_eq!(rt; planned.plan.len(), 3);
-    assert_eq!(rt;
-        rule_against_drawer_off(&rows, &form, signature(8)),
-        Some(Rule::Drawer)
-    );
-    Ok(())
+    let planned = plan_drawer_off(rt.alloc(), &rows, &form, signature(7));
+    plans(&rt, planned, 3, left);
+    let first = rule_against_drawer_off(&rows, &form, signature(8));
+    assert_eq!(rt; first, Some(Rule::Drawer));
 }
 
 #[test]
-fn cash_is_moved(rt: HostRuntime) -> Result<(), Fail> {
+fn cash_is_moved(rt: HostRuntime) {
     let form = MoveCash {
         source: 0,
         target: 11,
@@ -111,40 +97,35 @@ fn cash_is_moved(rt: HostRuntime) -> Result<(), Fail> {
     };
     let held = teller(&rt, 11, 400, Some(7));
     let rows = MoveRows::of(None, Some(held), Some(branch(&rt)), &form);
-    let planned = plan_move(rt.alloc(), &rows, &form, signature(7))?
-        .ok()
-        .ok_or("no rule denies it")?;
     let left = Moved {
         moved: 100,
         source: cents(&rt, 4_900),
         target: cents(&rt, 500),
     };
-    assert_eq!(rt; planned.left, left);
-    assert_eq!(rt; planned.plan.len(), 2);
-    assert_eq!(rt;
-        rule_against_move_cash(&rows, &form, signature(8)),
-        Some(Rule::Drawer)
-    );
-    Ok(())
+    let planned = plan_move(rt.alloc(), &rows, &form, signature(7));
+    plans(&rt, planned, 2, left);
+    let first = rule_against_move_cash(&rows, &form, signature(8));
+    assert_eq!(rt; first, Some(Rule::Drawer));
 }
 
 #[test]
-fn day_is_closed(rt: HostRuntime) -> Result<(), Fail> {
+fn day_is_closed(rt: HostRuntime) {
     let free = teller(&rt, 12, 0, None);
-    let held = teller(&rt, 11, 400, Some(7));
     let rows = ClosingRows::of(Some(branch(&rt)), &[free]);
-    let planned = plan_close_day(rt.alloc(), &rows, &CloseDay { branch: 1 })?
-        .ok()
-        .ok_or("no rule denies it")?;
     let left = Closed {
         balance: cents(&rt, 900),
         cash: cents(&rt, 5_000),
         closed: 3,
         entries: 6,
     };
-    assert_eq!(rt; planned.left, left);
-    assert_eq!(rt; planned.plan.len(), 2);
+    let planned = plan_close_day(rt.alloc(), &rows, &CloseDay { branch: 1 });
+    plans(&rt, planned, 2, left);
+}
+
+#[test]
+fn day_of_a_held_drawer_is_not_closed(rt: HostRuntime) {
+    let free = teller(&rt, 12, 0, None);
+    let held = teller(&rt, 11, 400, Some(7));
     let rows = ClosingRows::of(Some(branch(&rt)), &[free, held]);
     assert_eq!(rt; rule_against_close_day(&rows), Some(Rule::Day));
-    Ok(())
 }

@@ -45,6 +45,12 @@ fn a_move_writes_two_lines(rt: HostRuntime) {
     lines_end_with(&rt, &world, 6, &lines);
 }
 
+/// Asks for this first rule against a move of Tess's.
+fn first_is(rt: &impl Abort, rows: &MoveRows, form: &MoveCash, rule: Option<Rule>) {
+    let first = rule_against_move_cash(rows, form, BY_TESS);
+    assert_eq!(rt; first, rule);
+}
+
 #[test]
 fn a_move_needs_two_line_numbers(rt: HostRuntime) {
     for (lines, first) in [(999_999_997, None), (999_999_998, Some(Rule::Full))] {
@@ -54,15 +60,8 @@ fn a_move_needs_two_line_numbers(rt: HostRuntime) {
             cash_book: Some(CashBook { lines, ..CASH_BOOK }),
             vault: Some(0),
         };
-        let given = rule_against_move_cash(&rows, &TO_VAULT, BY_TESS);
-        assert_eq!(rt; given, first, "{lines}");
+        first_is(&rt, &rows, &TO_VAULT, first);
     }
-}
-
-/// Asks for this first rule against the move from the vault.
-fn first_is(rt: &impl Abort, rows: &MoveRows, rule: Option<Rule>) {
-    let first = rule_against_move_cash(rows, &FROM_VAULT, BY_TESS);
-    assert_eq!(rt; first, rule);
 }
 
 /// Rows against which every rule speaks, and which are mended one after another.
@@ -77,17 +76,17 @@ fn rules_of_a_move_stand_in_order(rt: HostRuntime) {
         }),
         vault: Some(4_999),
     };
-    first_is(&rt, &rows, Some(Rule::Unknown));
+    first_is(&rt, &rows, &FROM_VAULT, Some(Rule::Unknown));
     rows.target = Some(teller_of(&rt, 2, 0));
-    first_is(&rt, &rows, Some(Rule::Branch));
+    first_is(&rt, &rows, &FROM_VAULT, Some(Rule::Branch));
     rows.target = Some(teller_of(&rt, 1, 0));
-    first_is(&rt, &rows, Some(Rule::Drawer));
+    first_is(&rt, &rows, &FROM_VAULT, Some(Rule::Drawer));
     rows.target = Some(teller_with(&rt, 0));
-    first_is(&rt, &rows, Some(Rule::Cash));
+    first_is(&rt, &rows, &FROM_VAULT, Some(Rule::Cash));
     rows.vault = Some(5_000);
-    first_is(&rt, &rows, Some(Rule::Range));
+    first_is(&rt, &rows, &FROM_VAULT, Some(Rule::Range));
     rows.cash_book = Some(FULL_CASH_BOOK);
-    first_is(&rt, &rows, Some(Rule::Full));
+    first_is(&rt, &rows, &FROM_VAULT, Some(Rule::Full));
     rows.cash_book = Some(CASH_BOOK);
-    first_is(&rt, &rows, None);
+    first_is(&rt, &rows, &FROM_VAULT, None);
 }

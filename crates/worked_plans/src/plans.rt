@@ -6,6 +6,7 @@ use bank_terms::Rule;
 use money::Fault;
 use row_rules::Planned;
 use std::alloc::Global;
+use std::fmt::Debug;
 use std::process::Abort;
 
 /// A line of branch 1 on its first day.
@@ -29,16 +30,33 @@ pub(crate) fn line(
     }
 }
 
+/// What is planned where no rule denies it.
+pub(crate) fn undenied<T: Drop>(rt: &impl Abort, answer: Result<Result<T, Rule>, Fault>) -> T {
+    match answer {
+        Ok(Ok(planned)) => planned,
+        Ok(Err(rule)) => panic!(rt; "{}", rule.name()),
+        Err(fault) => panic!(rt; "{fault}"),
+    }
+}
+
 /// The plan of an operation that no rule of the books denies.
 pub(crate) fn plan_of<T: Drop>(
     rt: &impl Abort,
     answer: Result<Result<Planned<T>, Rule>, Fault>,
 ) -> Plan {
-    match answer {
-        Ok(Ok(planned)) => planned.plan,
-        Ok(Err(rule)) => panic!(rt; "{}", rule.name()),
-        Err(fault) => panic!(rt; "{fault}"),
-    }
+    undenied(rt, answer).plan
+}
+
+/// Asks for a plan of so many changes, which leaves this.
+pub(crate) fn plans<T: Debug + Drop + PartialEq>(
+    rt: &impl Abort,
+    answer: Result<Result<Planned<T>, Rule>, Fault>,
+    count: usize,
+    left: T,
+) {
+    let planned = undenied(rt, answer);
+    assert_eq!(rt; planned.plan.len(), count);
+    assert_eq!(rt; planned.left, left);
 }
 
 /// Has a bank apply a plan.

@@ -1,9 +1,10 @@
+use crate::plans::undenied;
 use bank_policy::{CertifiedRow, Certifier, HeldRow, Relation, Standing, Triple};
 use bank_terms::{Procedure, Rule};
 use certify::{CommandRows, plan_policy, rule_against_command};
 use policy_ops::{PolicyOp, RelationKey, TripleKey, UserKey};
-use std::alloc::{AllocError, Global};
-use std::test::Fail;
+use std::alloc::Global;
+use std::process::Abort;
 
 /// An officer.
 const OLGA: u32 = 1;
@@ -39,83 +40,87 @@ fn triple(user: u32, set: u32) -> Triple {
 }
 
 /// The relations of posts.
-fn relations(alloc: Global) -> Result<Vec<CertifiedRow>, AllocError> {
+fn relations(rt: &impl Abort, alloc: Global) -> Vec<CertifiedRow> {
     let relation = Relation {
         procedure: Procedure::Post,
         set: 1,
         by: CARL,
     };
-    Ok(vec![in alloc; CertifiedRow::new(relation, Vec::new(alloc))]?)
+    let row = CertifiedRow::new(relation, Vec::new(alloc));
+    vec![in alloc; row].expect(rt, "memory")
 }
 
 /// The triples of Tess for posts.
-fn triples(alloc: Global) -> Result<Vec<HeldRow>, AllocError> {
-    Ok(vec![in alloc; HeldRow::new(triple(TESS, 1), Vec::new(alloc))]?)
+fn triples(rt: &impl Abort, alloc: Global) -> Vec<HeldRow> {
+    let row = HeldRow::new(triple(TESS, 1), Vec::new(alloc));
+    vec![in alloc; row].expect(rt, "memory")
 }
 
-#[test]
-fn sets_and_relations(rt: HostRuntime) -> Result<(), Fail> {
-    let alloc = rt.alloc();
-    let relations = relations(alloc)?;
-    assert!(rt; CommandRows::of_define_set(true, true, 1).is_there);
-    let command = PolicyOp::Certify(RELATION);
-    let rows = CommandRows::of_certify(true, true, &relations, &RELATION);
-    assert_eq!(rt;
-        rule_against_command(&rows, CARL, &command),
-        Some(Rule::PolicyState)
-    );
-    let rows = CommandRows::of_withdraw(true, &relations, &RELATION);
-    let plan = plan_policy(alloc, &rows, CARL, PolicyOp::Withdraw(RELATION))??;
+/// Asks for a plan of one change.
+fn changes_one_row(rt: &impl Abort, alloc: Global, rows: &CommandRows, by: u32, command: PolicyOp) {
+    let plan = undenied(rt, plan_policy(alloc, rows, by, command));
     assert_eq!(rt; plan.len(), 1);
-    Ok(())
+}
+
+/// Asks for this first rule against a command.
+fn first_is(rt: &impl Abort, rows: &CommandRows, by: u32, command: PolicyOp, rule: Rule) {
+    assert_eq!(rt; rule_against_command(rows, by, &command), Some(rule));
 }
 
 #[test]
-fn triples_of_users(rt: HostRuntime) -> Result<(), Fail> {
+fn sets_and_relations(rt: HostRuntime) {
+    assert!(rt; CommandRows::of_define_set(true, true, 1).is_there);
     let alloc = rt.alloc();
-    let (relations, triples) = (relations(alloc)?, triples(alloc)?);
+    let relations = relations(&rt, alloc);
+    let rows = CommandRows::of_certify(true, true, &relations, &RELATION);
+    let command = PolicyOp::Certify(RELATION);
+    first_is(&rt, &rows, CARL, command, Rule::PolicyState);
+    let rows = CommandRows::of_withdraw(true, &relations, &RELATION);
+    changes_one_row(&rt, alloc, &rows, CARL, PolicyOp::Withdraw(RELATION));
+}
+
+#[test]
+fn a_certifier_gets_no_triple(rt: HostRuntime) {
     let user = Some(standing(false));
+    let relations = relations(&rt, rt.alloc());
     let to_carl = triple(CARL, 1);
     let rows = CommandRows::of_grant(true, user, false, &relations, &[], 0, &to_carl);
     let command = PolicyOp::Grant(to_carl);
-    assert_eq!(rt;
-        rule_against_command(&rows, CARL, &command),
-        Some(Rule::Separation)
-    );
+    first_is(&rt, &rows, CARL, command, Rule::Separation);
+}
+
+#[test]
+fn a_triple_is_revoked(rt: HostRuntime) {
+    let alloc = rt.alloc();
     let key = TripleKey {
         user: TESS,
         procedure: Procedure::Post,
         set: 1,
     };
-    let rows = CommandRows::of_revoke(true, &triples, &key);
-    let plan = plan_policy(alloc, &rows, CARL, PolicyOp::Revoke(key))??;
-    assert_eq!(rt; plan.len(), 1);
-    Ok(())
+    let rows = CommandRows::of_revoke(true, &triples(&rt, alloc), &key);
+    changes_one_row(&rt, alloc, &rows, CARL, PolicyOp::Revoke(key));
 }
 
 #[test]
-fn commands_of_officers(rt: HostRuntime) -> Result<(), Fail> {
-    let alloc = rt.alloc();
+fn who_has_a_triple_is_no_certifier(rt: HostRuntime) {
     let (asks, user) = (Some(standing(true)), Some(standing(false)));
     let certifier = Certifier {
         user: TESS,
         procedure: Procedure::Post,
     };
-    let rows = CommandRows::of_appoint(asks, user, &triples(alloc)?, false);
+    let rows = CommandRows::of_appoint(asks, user, &triples(&rt, rt.alloc()), false);
     let command = PolicyOp::Appoint(certifier);
-    assert_eq!(rt;
-        rule_against_command(&rows, OLGA, &command),
-        Some(Rule::Separation)
-    );
+    first_is(&rt, &rows, OLGA, command, Rule::Separation);
     let rows = CommandRows::of_dismiss(asks, false);
     let command = PolicyOp::Dismiss(certifier);
-    assert_eq!(rt;
-        rule_against_command(&rows, OLGA, &command),
-        Some(Rule::PolicyUnknown)
-    );
+    first_is(&rt, &rows, OLGA, command, Rule::PolicyUnknown);
+}
+
+#[test]
+fn users_are_enrolled_and_suspended(rt: HostRuntime) {
+    let (asks, user) = (Some(standing(true)), Some(standing(false)));
     assert!(rt; CommandRows::of_enrol(asks, user).is_there);
     let rows = CommandRows::of_suspension(asks, user);
     let command = PolicyOp::Suspend(UserKey { user: TESS });
-    assert_eq!(rt; plan_policy(alloc, &rows, OLGA, command)??.len(), 1);
-    Ok(())
+    changes_one_row(&rt, rt.alloc(), &rows, OLGA, command);
 }

@@ -1,15 +1,15 @@
+use crate::plans::plans;
+use crate::rows::{cents, delta};
 use bank_books::{
     Account, AccountRecord, Branch, BranchRecord, Entry, EntryForm, Signature, Teller, TellerRecord,
 };
 use bank_terms::Rule;
 use counter_ops::{Correct, Post, Transfer};
-use money::{Cents, Delta};
 use postings::{
     CorrectRows, Corrected, PostRows, Posted, TransferRows, Transferred, plan_correct, plan_post,
     plan_transfer, rule_against_correct, rule_against_post, rule_against_transfer,
 };
 use std::process::Abort;
-use std::test::Fail;
 
 /// The user who holds the drawer of teller 11.
 const TESS: Signature = Signature {
@@ -30,14 +30,6 @@ const TRANSFER: Transfer = Transfer {
     branch: 1,
     amount: 1_000,
 };
-
-fn cents(rt: &impl Abort, amount: i64) -> Cents {
-    Cents::new(amount).expect(rt, "an amount of money")
-}
-
-fn delta(rt: &impl Abort, amount: i64) -> Delta {
-    Delta::new(amount).expect(rt, "an amount to add")
-}
 
 /// An account with 30.00 and two turns.
 fn account(rt: &impl Abort, account: u32) -> AccountRecord {
@@ -107,7 +99,7 @@ fn withdrawal(rt: &impl Abort) -> Entry {
 }
 
 #[test]
-fn a_withdrawal(rt: HostRuntime) -> Result<(), Fail> {
+fn a_withdrawal(rt: HostRuntime) {
     let rows = PostRows::of(
         Some(account(&rt, 101)),
         Some(teller(&rt)),
@@ -119,28 +111,23 @@ fn a_withdrawal(rt: HostRuntime) -> Result<(), Fail> {
         delta: delta(&rt, -2_500),
         teller: 11,
     };
-    let planned = plan_post(rt.alloc(), &rows, &post, TESS)??;
     let left = Posted {
         balance: cents(&rt, 500),
         branch: 1,
         entry: 5,
     };
-    assert_eq!(rt; planned.plan.len(), 2);
-    assert_eq!(rt; planned.left, left);
+    plans(&rt, plan_post(rt.alloc(), &rows, &post, TESS), 2, left);
     assert_eq!(rt; rule_against_post(&rows, &post, NELL), Some(Rule::Drawer));
-    Ok(())
 }
 
 #[test]
-fn a_transfer(rt: HostRuntime) -> Result<(), Fail> {
-    let (source, target) = (account(&rt, 101), account(&rt, 201));
+fn a_transfer(rt: HostRuntime) {
     let rows = TransferRows::of(
-        Some(source),
-        Some(target),
+        Some(account(&rt, 101)),
+        Some(account(&rt, 201)),
         Some(teller(&rt)),
         Some(branch(&rt)),
     );
-    let planned = plan_transfer(rt.alloc(), &rows, &TRANSFER, TESS)??;
     let left = Transferred {
         branch: 1,
         first: 5,
@@ -148,25 +135,20 @@ fn a_transfer(rt: HostRuntime) -> Result<(), Fail> {
         source: cents(&rt, 2_000),
         target: cents(&rt, 4_000),
     };
-    assert_eq!(rt; planned.plan.len(), 2);
-    assert_eq!(rt; planned.left, left);
-    assert_eq!(rt;
-        rule_against_transfer(&rows, &TRANSFER, NELL),
-        Some(Rule::Drawer)
-    );
-    Ok(())
+    let planned = plan_transfer(rt.alloc(), &rows, &TRANSFER, TESS);
+    plans(&rt, planned, 2, left);
+    let first = rule_against_transfer(&rows, &TRANSFER, NELL);
+    assert_eq!(rt; first, Some(Rule::Drawer));
 }
 
 #[test]
-fn a_correction(rt: HostRuntime) -> Result<(), Fail> {
-    let (account, teller, branch) = (account(&rt, 101), teller(&rt), branch(&rt));
-    let entry = Some(withdrawal(&rt));
+fn a_correction(rt: HostRuntime) {
     let rows = CorrectRows::of(
-        Some(account),
+        Some(account(&rt, 101)),
         None,
-        Some(teller),
-        Some(branch),
-        entry,
+        Some(teller(&rt)),
+        Some(branch(&rt)),
+        Some(withdrawal(&rt)),
         None,
         false,
     );
@@ -178,17 +160,13 @@ fn a_correction(rt: HostRuntime) -> Result<(), Fail> {
         teller: 11,
         delta: delta(&rt, -2_500),
     };
-    let planned = plan_correct(rt.alloc(), &rows, &correct, TESS)??;
-    let left = Posted {
+    let left = Corrected::OfPost(Posted {
         balance: cents(&rt, 5_500),
         branch: 1,
         entry: 5,
-    };
-    assert_eq!(rt; planned.plan.len(), 2);
-    assert_eq!(rt; planned.left, Corrected::OfPost(left));
-    assert_eq!(rt;
-        rule_against_correct(&rows, &correct, NELL),
-        Some(Rule::Drawer)
-    );
-    Ok(())
+    });
+    let planned = plan_correct(rt.alloc(), &rows, &correct, TESS);
+    plans(&rt, planned, 2, left);
+    let first = rule_against_correct(&rows, &correct, NELL);
+    assert_eq!(rt; first, Some(Rule::Drawer));
 }

@@ -47,20 +47,20 @@ pub(crate) const FULL_CASH_BOOK: CashBook = CashBook {
 };
 
 /// How many turns, entries and lines there are, and the rule where one of them has no number left for one more.
-pub(crate) const ONE_OF_EACH: [(u64, u64, u64, Option<Rule>); 4] = [
-    (999_999_998, 999_999_998, 999_999_998, None),
-    (999_999_999, 0, 0, Some(Rule::Full)),
-    (0, 999_999_999, 0, Some(Rule::Full)),
-    (0, 0, 999_999_999, Some(Rule::Full)),
+pub(crate) const ONE_OF_EACH: [([u64; 3], Option<Rule>); 4] = [
+    ([999_999_998, 999_999_998, 999_999_998], None),
+    ([999_999_999, 0, 0], Some(Rule::Full)),
+    ([0, 999_999_999, 0], Some(Rule::Full)),
+    ([0, 0, 999_999_999], Some(Rule::Full)),
 ];
 
 /// How many turns two accounts have and how many entries there are, and the rule where an account has no turn left or the
 /// history has not two numbers left.
-pub(crate) const TWO_ENTRIES: [(u64, u64, u64, Option<Rule>); 4] = [
-    (999_999_998, 999_999_998, 999_999_997, None),
-    (999_999_999, 0, 0, Some(Rule::Full)),
-    (0, 999_999_999, 0, Some(Rule::Full)),
-    (0, 0, 999_999_998, Some(Rule::Full)),
+pub(crate) const TWO_ENTRIES: [([u64; 3], Option<Rule>); 4] = [
+    ([999_999_998, 999_999_998, 999_999_997], None),
+    ([999_999_999, 0, 0], Some(Rule::Full)),
+    ([0, 999_999_999, 0], Some(Rule::Full)),
+    ([0, 0, 999_999_998], Some(Rule::Full)),
 ];
 
 pub(crate) fn cents(rt: &impl Abort, value: i64) -> Cents
@@ -75,8 +75,13 @@ pub(crate) fn delta(rt: &impl Abort, value: i64) -> Delta
     Delta::new(value).expect(rt, "what an entry may add")
 }
 
-/// An account of branch 1 with this balance, which may not fall below zero.
-pub(crate) fn account_with(rt: &impl Abort, account: u32, balance: i64) -> AccountRecord {
+/// An account of branch 1 with this balance and so many turns, which may not fall below zero.
+pub(crate) fn account_with(
+    rt: &impl Abort,
+    account: u32,
+    balance: i64,
+    turns: u64,
+) -> AccountRecord {
     AccountRecord {
         row: Account {
             account,
@@ -85,7 +90,7 @@ pub(crate) fn account_with(rt: &impl Abort, account: u32, balance: i64) -> Accou
             floor: cents(rt, 0),
         },
         balance: i128::from(balance),
-        turns: 0,
+        turns,
     }
 }
 

@@ -1,7 +1,6 @@
 //! Transfers whose rows are made up: what numbers are left, and the order of their rules.
 
 use crate::rows::{BY_TESS, LEDGER, MOST, TWO_ENTRIES, account_with, teller_of, teller_with};
-use bank_books::AccountRecord;
 use bank_terms::Rule;
 use counter_ops::Transfer;
 use postings::{TransferRows, rule_against_transfer};
@@ -17,29 +16,14 @@ const AT_TELLER_11: Transfer = Transfer {
     amount: 100,
 };
 
-/// The rows of a transfer that no rule denies: both accounts have 1.00, and these numbers of turns.
-fn sound_rows(rt: &impl Abort, source: u64, target: u64) -> TransferRows {
-    let account = |account: u32, turns: u64| AccountRecord {
-        turns,
-        ..account_with(rt, account, 100)
-    };
+/// The rows of a transfer between accounts that have 1.00. There are so many turns of each, and so many entries.
+fn counted_rows(rt: &impl Abort, counts: [u64; 3]) -> TransferRows {
+    let [source, target, entries] = counts;
     TransferRows {
-        source: Some(account(101, source)),
-        target: Some(account(102, target)),
+        source: Some(account_with(rt, 101, 100, source)),
+        target: Some(account_with(rt, 102, 100, target)),
         teller: Some(teller_with(rt, 0)),
-        ledger: Some(LEDGER),
-    }
-}
-
-#[test]
-fn a_transfer_needs_two_entry_numbers(rt: HostRuntime) {
-    for (source, target, entries, first) in TWO_ENTRIES {
-        let rows = TransferRows {
-            ledger: Some(Ledger { entries, ..LEDGER }),
-            ..sound_rows(&rt, source, target)
-        };
-        let given = rule_against_transfer(&rows, &AT_TELLER_11, BY_TESS);
-        assert_eq!(rt; given, first, "{source} {target} {entries}");
+        ledger: Some(Ledger { entries, ..LEDGER }),
     }
 }
 
@@ -49,11 +33,18 @@ fn first_is(rt: &impl Abort, rows: &TransferRows, rule: Option<Rule>) {
     assert_eq!(rt; first, rule);
 }
 
+#[test]
+fn a_transfer_needs_two_entry_numbers(rt: HostRuntime) {
+    for (counts, first) in TWO_ENTRIES {
+        first_is(&rt, &counted_rows(&rt, counts), first);
+    }
+}
+
 /// Rows against which every rule speaks, and which are mended one after another.
 #[test]
 fn rules_of_a_transfer_stand_in_order(rt: HostRuntime) {
     let mut rows = TransferRows {
-        source: Some(account_with(&rt, 101, 99)),
+        source: Some(account_with(&rt, 101, 99, 0)),
         target: None,
         teller: Some(teller_of(&rt, 2, 0)),
         ledger: Some(Ledger {
@@ -62,15 +53,15 @@ fn rules_of_a_transfer_stand_in_order(rt: HostRuntime) {
         }),
     };
     first_is(&rt, &rows, Some(Rule::Unknown));
-    rows.target = Some(account_with(&rt, 102, MOST));
+    rows.target = Some(account_with(&rt, 102, MOST, 0));
     first_is(&rt, &rows, Some(Rule::Branch));
     rows.teller = Some(teller_of(&rt, 1, 0));
     first_is(&rt, &rows, Some(Rule::Drawer));
     rows.teller = Some(teller_with(&rt, 0));
     first_is(&rt, &rows, Some(Rule::Floor));
-    rows.source = Some(account_with(&rt, 101, 100));
+    rows.source = Some(account_with(&rt, 101, 100, 0));
     first_is(&rt, &rows, Some(Rule::Range));
-    rows.target = Some(account_with(&rt, 102, MOST - 100));
+    rows.target = Some(account_with(&rt, 102, MOST - 100, 0));
     first_is(&rt, &rows, Some(Rule::Full));
     rows.ledger = Some(LEDGER);
     first_is(&rt, &rows, None);

@@ -77,16 +77,24 @@ fn a_drawer_put_off_writes_three_lines(rt: HostRuntime) {
     lines_end_with(&rt, &world, 7, &lines);
 }
 
-/// The rows of a drawer of Tess's that holds 1.00, which no rule denies her to put off.
-fn held_rows(rt: &impl Abort) -> DrawerRows {
+/// The rows of a drawer of Tess's that holds 1.00. The cash book has so many lines, and its differences come to this.
+fn held_rows(rt: &impl Abort, lines: u64, differences: i128) -> DrawerRows {
     DrawerRows {
         teller: Some(teller_with(rt, 100)),
         cash_book: Some(CashBook {
+            lines,
             drawers: 100,
+            differences,
             ..CASH_BOOK
         }),
         vault: Some(0),
     }
+}
+
+/// Asks for this first rule against drawer 11 as Tess puts it off, with so many cents counted.
+fn first_off_is(rt: &impl Abort, rows: &DrawerRows, counted: i64, rule: Option<Rule>) {
+    let first = rule_against_drawer_off(rows, &off(rt, 11, counted), BY_TESS);
+    assert_eq!(rt; first, rule);
 }
 
 #[test]
@@ -98,17 +106,14 @@ fn the_differences_stay_in_range(rt: HostRuntime) {
         (99, 1 - most, None),
         (98, 1 - most, Some(Rule::Range)),
     ] {
-        let rows = DrawerRows {
-            cash_book: Some(CashBook {
-                differences,
-                ..CASH_BOOK
-            }),
-            ..held_rows(&rt)
-        };
-        let form = off(&rt, 11, counted);
-        let given = rule_against_drawer_off(&rows, &form, BY_TESS);
-        assert_eq!(rt; given, first, "{counted} {differences}");
+        first_off_is(&rt, &held_rows(&rt, 0, differences), counted, first);
     }
+}
+
+/// Asks for this first rule against drawer 11 as it is put on.
+fn first_on_is(rt: &impl Abort, rows: &DrawerRows, rule: Option<Rule>) {
+    let first = rule_against_drawer_on(rows, &ON_11);
+    assert_eq!(rt; first, rule);
 }
 
 #[test]
@@ -119,27 +124,15 @@ fn a_drawer_put_on_needs_two_line_numbers(rt: HostRuntime) {
             cash_book: Some(CashBook { lines, ..CASH_BOOK }),
             vault: Some(40_000),
         };
-        assert_eq!(rt; rule_against_drawer_on(&rows, &ON_11), first, "{lines}");
+        first_on_is(&rt, &rows, first);
     }
 }
 
 #[test]
 fn a_drawer_put_off_needs_three_line_numbers(rt: HostRuntime) {
-    let form = off(&rt, 11, 100);
     for (lines, first) in [(999_999_996, None), (999_999_997, Some(Rule::Full))] {
-        let rows = DrawerRows {
-            cash_book: Some(CashBook { lines, ..CASH_BOOK }),
-            ..held_rows(&rt)
-        };
-        let given = rule_against_drawer_off(&rows, &form, BY_TESS);
-        assert_eq!(rt; given, first, "{lines}");
+        first_off_is(&rt, &held_rows(&rt, lines, 0), 100, first);
     }
-}
-
-/// Asks for this first rule against drawer 11 as it is put on.
-fn first_on_is(rt: &impl Abort, rows: &DrawerRows, rule: Option<Rule>) {
-    let first = rule_against_drawer_on(rows, &ON_11);
-    assert_eq!(rt; first, rule);
 }
 
 /// Rows against which every rule speaks, and which are mended one after another.
@@ -168,12 +161,6 @@ fn rules_of_a_drawer_put_on_stand_in_order(rt: HostRuntime) {
     first_on_is(&rt, &rows, None);
 }
 
-/// Asks for this first rule against drawer 11 as it is put off, with 1.00 in it.
-fn first_off_is(rt: &impl Abort, rows: &DrawerRows, rule: Option<Rule>) {
-    let first = rule_against_drawer_off(rows, &off(rt, 11, 100), BY_TESS);
-    assert_eq!(rt; first, rule);
-}
-
 /// The same. No count brings a place below zero, so the rule of cash does not speak.
 #[test]
 fn rules_of_a_drawer_put_off_stand_in_order(rt: HostRuntime) {
@@ -182,15 +169,15 @@ fn rules_of_a_drawer_put_off_stand_in_order(rt: HostRuntime) {
         cash_book: Some(FULL_CASH_BOOK),
         vault: None,
     };
-    first_off_is(&rt, &rows, Some(Rule::Unknown));
+    first_off_is(&rt, &rows, 100, Some(Rule::Unknown));
     rows.vault = Some(i128::from(MOST));
-    first_off_is(&rt, &rows, Some(Rule::Branch));
+    first_off_is(&rt, &rows, 100, Some(Rule::Branch));
     rows.teller = Some(teller_of(&rt, 1, 100));
-    first_off_is(&rt, &rows, Some(Rule::Drawer));
+    first_off_is(&rt, &rows, 100, Some(Rule::Drawer));
     rows.teller = Some(teller_with(&rt, 100));
-    first_off_is(&rt, &rows, Some(Rule::Range));
+    first_off_is(&rt, &rows, 100, Some(Rule::Range));
     rows.vault = Some(i128::from(MOST - 100));
-    first_off_is(&rt, &rows, Some(Rule::Full));
+    first_off_is(&rt, &rows, 100, Some(Rule::Full));
     rows.cash_book = Some(CASH_BOOK);
-    first_off_is(&rt, &rows, None);
+    first_off_is(&rt, &rows, 100, None);
 }
