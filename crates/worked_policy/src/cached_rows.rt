@@ -1,95 +1,154 @@
 //! What a cache tells while the policy changes below it, and how many entries it keeps.
 
 use bank_books::{Plan, RowWrite, World};
-use bank_policy::{ItemSet, Member, Policy, PolicyWrite, Relation, RelationKey, Triple, TripleKey};
+use bank_policy::{
+    CertifiedRow, HeldRow, ItemSet, Member, Policy, PolicyWrite, Relation, RelationKey, Triple,
+    TripleKey,
+};
 use bank_terms::{Kind, Procedure};
 use cached::{Cached, MAX_ENTRIES};
-use std::alloc::{AllocError, Global};
-use std::test::Fail;
+use std::alloc::Global;
+use std::process::Abort;
 use store_rows::{ListStore, PolicyReads, Store};
 
-/// A plan of one change of the policy.
-fn one_change(alloc: Global, change: PolicyWrite) -> Result<Plan, AllocError> {
-    Ok(vec![in alloc; RowWrite::Policy(change)]?)
-}
-
 /// A set of all accounts, a relation of the procedure to post on it, and a triple of user 7.
-fn first_policy(alloc: Global) -> Result<Plan, AllocError> {
+fn first_policy(rt: &impl Abort, alloc: Global) -> Plan {
     let members = vec![in alloc;
         Member {
             kind: Kind::Account,
             low: 1,
             high: 999,
         },
-    ]?;
-    Ok(vec![in alloc;
-        RowWrite::Policy(PolicyWrite::Set(ItemSet::new(1, members))),
-        RowWrite::Policy(PolicyWrite::Relation(Relation {
-            procedure: Procedure::Post,
-            set: 1,
-            by: 2,
-        })),
-        RowWrite::Policy(PolicyWrite::Triple(Triple {
-            user: 7,
-            procedure: Procedure::Post,
-            set: 1,
-            limit: 50_000,
-        })),
-    ]?)
-}
-
-fn empty_store(alloc: Global) -> ListStore {
-    ListStore::new(World::new(alloc, Policy::new(alloc)))
-}
-
-#[test]
-fn rows_follow_the_policy(rt: HostRuntime) -> Result<(), Fail> {
-    let alloc = rt.alloc();
-    let mut store = Cached::new(alloc, empty_store(alloc))
-        .ok()
-        .expect(&rt, "memory");
-    assert!(rt; store.triples_of(alloc, 7, Procedure::Post)?.is_empty());
-    assert!(rt; store.relations_of(alloc, Procedure::Post)?.is_empty());
-
-    store.apply(alloc, first_policy(alloc)?)?;
-    for _ in 0..2 {
-        let rows = store.triples_of(alloc, 7, Procedure::Post)?;
-        assert!(rt;
-            rows.len() == 1 && rows[0].triple().limit == 50_000 && rows[0].members().len() == 1
-        );
-        let rows = store.relations_of(alloc, Procedure::Post)?;
-        assert!(rt; rows.len() == 1 && rows[0].relation().by == 2 && rows[0].members().len() == 1);
-    }
-
-    let withdrawn = PolicyWrite::NoTriple(TripleKey {
+    ];
+    let set = ItemSet::new(1, members.expect(rt, "memory"));
+    let relation = Relation {
+        procedure: Procedure::Post,
+        set: 1,
+        by: 2,
+    };
+    let triple = Triple {
         user: 7,
         procedure: Procedure::Post,
         set: 1,
-    });
-    store.apply(alloc, one_change(alloc, withdrawn)?)?;
-    assert!(rt; store.triples_of(alloc, 7, Procedure::Post)?.is_empty());
-    assert!(rt; store.relations_of(alloc, Procedure::Post)?.len() == 1);
+        limit: 50_000,
+    };
+    vec![in alloc;
+        RowWrite::Policy(PolicyWrite::Set(set)),
+        RowWrite::Policy(PolicyWrite::Relation(relation)),
+        RowWrite::Policy(PolicyWrite::Triple(triple)),
+    ]
+    .expect(rt, "memory")
+}
 
-    let revoked = PolicyWrite::NoRelation(RelationKey {
-        procedure: Procedure::Post,
-        set: 1,
-    });
-    store.apply(alloc, one_change(alloc, revoked)?)?;
-    assert!(rt; store.relations_of(alloc, Procedure::Post)?.is_empty());
-    Ok(())
+/// That the triple is there no more.
+const NO_TRIPLE: PolicyWrite = PolicyWrite::NoTriple(TripleKey {
+    user: 7,
+    procedure: Procedure::Post,
+    set: 1,
+});
+
+/// That the relation is there no more.
+const NO_RELATION: PolicyWrite = PolicyWrite::NoRelation(RelationKey {
+    procedure: Procedure::Post,
+    set: 1,
+});
+
+/// A cache over a store with no rows.
+#[derive(Drop)]
+struct Cache {
+    store: Cached<ListStore>,
+    alloc: Global,
+}
+
+impl Cache {
+    fn new(rt: &impl Abort, alloc: Global) -> Cache {
+        let store = ListStore::new(World::new(alloc, Policy::new(alloc)));
+        let store = Cached::new(alloc, store).ok().expect(rt, "memory");
+        Cache { store, alloc }
+    }
+
+    /// Has the store apply a plan.
+    fn apply(&mut self, rt: &impl Abort, plan: Plan) {
+        self.store.apply(self.alloc, plan).expect(rt, "no fault");
+    }
+
+    /// Has the policy changed once.
+    fn change(&mut self, rt: &impl Abort, change: PolicyWrite) {
+        let plan = vec![in self.alloc; RowWrite::Policy(change)];
+        self.apply(rt, plan.expect(rt, "memory"));
+    }
+
+    fn triples_of(&mut self, rt: &impl Abort, user: u32) -> Vec<HeldRow> {
+        let rows = self.store.triples_of(self.alloc, user, Procedure::Post);
+        rows.expect(rt, "no fault")
+    }
+
+    fn relations(&mut self, rt: &impl Abort) -> Vec<CertifiedRow> {
+        let rows = self.store.relations_of(self.alloc, Procedure::Post);
+        rows.expect(rt, "no fault")
+    }
+
+    /// How many entries it keeps once the triples of a user were asked for.
+    fn entries_after(&mut self, rt: &impl Abort, user: u32) -> usize {
+        self.triples_of(rt, user);
+        self.store.entry_count()
+    }
+
+    /// Asks for no triple of user 7.
+    fn tells_no_triple(&mut self, rt: &impl Abort) {
+        assert!(rt; self.triples_of(rt, 7).is_empty());
+    }
+
+    fn tells_no_relation(&mut self, rt: &impl Abort) {
+        assert!(rt; self.relations(rt).is_empty());
+    }
+
+    /// Asks for the triple of user 7 above.
+    fn tells_the_triple(&mut self, rt: &impl Abort) {
+        let rows = self.triples_of(rt, 7);
+        assert!(rt;
+            rows.len() == 1 && rows[0].triple().limit == 50_000 && rows[0].members().len() == 1
+        );
+    }
+
+    /// Asks for the relation above.
+    fn tells_the_relation(&mut self, rt: &impl Abort) {
+        let rows = self.relations(rt);
+        assert!(rt; rows.len() == 1 && rows[0].relation().by == 2 && rows[0].members().len() == 1);
+    }
+}
+
+/// Has the first policy made, and then its triple and its relation taken away.
+fn follow_the_policy(rt: &impl Abort, cache: &mut Cache) {
+    cache.tells_no_triple(rt);
+    cache.tells_no_relation(rt);
+    cache.apply(rt, first_policy(rt, cache.alloc));
+    for _ in 0..2 {
+        cache.tells_the_triple(rt);
+        cache.tells_the_relation(rt);
+    }
+    cache.change(rt, NO_TRIPLE);
+    cache.tells_no_triple(rt);
+    cache.tells_the_relation(rt);
+    cache.change(rt, NO_RELATION);
+    cache.tells_no_relation(rt);
 }
 
 #[test]
-fn sixty_four_entries_are_kept_at_most(rt: HostRuntime) -> Result<(), Fail> {
-    let alloc = rt.alloc();
-    let mut store = Cached::new(alloc, empty_store(alloc))
-        .ok()
-        .expect(&rt, "memory");
-    store.triples_of(alloc, 0, Procedure::Post)?;
-    assert_eq!(rt; store.entry_count(), 0);
-    for user in 1..=65 {
-        store.triples_of(alloc, user, Procedure::Post)?;
+fn rows_follow_the_policy(rt: HostRuntime) {
+    follow_the_policy(&rt, &mut Cache::new(&rt, rt.alloc()));
+}
+
+/// Has the triples of one user more asked for than there may be entries.
+fn fill(rt: &impl Abort, cache: &mut Cache) {
+    assert_eq!(rt; cache.entries_after(rt, 0), 0);
+    for user in 1..=64 {
+        cache.entries_after(rt, user);
     }
-    assert_eq!(rt; store.entry_count(), MAX_ENTRIES);
-    Ok(())
+    assert_eq!(rt; cache.entries_after(rt, 65), MAX_ENTRIES);
+}
+
+#[test]
+fn sixty_four_entries_are_kept_at_most(rt: HostRuntime) {
+    fill(&rt, &mut Cache::new(&rt, rt.alloc()));
 }

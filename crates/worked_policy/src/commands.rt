@@ -13,7 +13,7 @@ use policy_ops::UserKey;
 use sample_bank::{sample_policy, sample_world};
 use std::alloc::Global;
 use std::process::Abort;
-use store_rows::{Bank, ListStore, PolicyReads, Stands, Store};
+use store_rows::{Bank, ListStore, PolicyReads, Stands};
 
 /// That Tess is suspended.
 fn suspend_tess() -> PolicyOp {
@@ -30,109 +30,131 @@ fn grant_sue() -> PolicyOp {
     })
 }
 
-/// A bank with the policy of the sample, which was changed so often, and with no books.
-fn changed_so_often(rt: &impl Abort, alloc: Global, version: u64) -> Bank<ListStore> {
-    let policy = sample_policy(alloc).expect(rt, "memory");
-    let world = World::from_lists(Lists::new(alloc), policy, version);
-    Bank {
-        store: ListStore::new(world.expect(rt, "rows in order")),
+/// A bank in lists, as it is given commands.
+#[derive(Drop)]
+struct Desk {
+    bank: Bank<ListStore>,
+    alloc: Global,
+}
+
+impl Desk {
+    fn over(alloc: Global, world: World) -> Desk {
+        let store = ListStore::new(world);
+        Desk {
+            bank: Bank { store },
+            alloc,
+        }
+    }
+
+    /// That of a bank with the policy of the sample, which was changed so often, and with no books.
+    fn changed_so_often(rt: &impl Abort, alloc: Global, version: u64) -> Desk {
+        let policy = sample_policy(alloc).expect(rt, "memory");
+        let world = World::from_lists(Lists::new(alloc), policy, version);
+        Desk::over(alloc, world.expect(rt, "rows in order"))
+    }
+
+    /// A command that has to be carried out, with the body of its reply.
+    fn done(&mut self, rt: &impl Abort, who: Who, command: PolicyOp, body: &str) {
+        let given = decide_policy(&mut self.bank, self.alloc, who, command);
+        match given.expect(rt, "no fault") {
+            Ok(given) => assert!(rt; given.as_slice() == body.as_bytes(), "{body}"),
+            Err(rule) => panic!(rt; "{}", rule.name()),
+        }
+    }
+
+    /// A command that has to be denied by this rule.
+    fn denied(&mut self, rt: &impl Abort, who: Who, command: PolicyOp, rule: Rule) {
+        let given = decide_policy(&mut self.bank, self.alloc, who, command);
+        assert!(rt;
+            given.expect(rt, "no fault") == Err(rule),
+            "{}",
+            rule.name()
+        );
+    }
+
+    /// A command that no rule denies, and for which there is no room. It is the fault of this number.
+    fn finds_no_room(&mut self, rt: &impl Abort, who: Who, command: PolicyOp, faults: u64) {
+        let given = decide_policy(&mut self.bank, self.alloc, who, command);
+        assert!(rt; given == Err(Fault::Size));
+        self.has_faults(rt, faults);
+    }
+
+    /// Asks for how many calls of the store answered a fault.
+    fn has_faults(&self, rt: &impl Abort, faults: u64) {
+        assert!(rt; self.bank.store.faults() == faults);
+    }
+
+    fn version(&mut self, rt: &impl Abort) -> u64 {
+        self.bank.store.version(self.alloc).expect(rt, "no fault")
+    }
+
+    /// Asks for how many triples Sue has.
+    fn triples_of_sue_are(&mut self, rt: &impl Abort, count: u64) {
+        let triples = self.bank.store.triples(self.alloc, 9);
+        assert!(rt; triples.expect(rt, "no fault") == count);
+    }
+
+    /// Asks for a Tess who is not suspended.
+    fn tess_stands(&mut self, rt: &impl Abort) {
+        let tess = self.bank.store.user(self.alloc, 7).expect(rt, "no fault");
+        assert!(rt; tess.expect(rt, "Tess").standing == standing(false));
     }
 }
 
-/// A command that has to be carried out, with the body of its reply.
-fn done<S: Store>(
-    rt: &impl Abort,
-    bank: &mut Bank<S>,
-    alloc: Global,
-    who: Who,
-    command: PolicyOp,
-    body: &str,
-) {
-    match decide_policy(bank, alloc, who, command).expect(rt, "no fault") {
-        Ok(given) => assert!(rt; given.as_slice() == body.as_bytes(), "{body}"),
-        Err(rule) => panic!(rt; "{}", rule.name()),
-    }
+/// Has Sue granted a triple, which can't be done again, and not by Tess.
+fn grant_once(rt: &impl Abort, desk: &mut Desk) {
+    desk.done(rt, user(2), grant_sue(), r#"{"done":"grant"}"#);
+    desk.triples_of_sue_are(rt, 5);
+    desk.denied(rt, user(2), grant_sue(), Rule::PolicyState);
+    desk.denied(rt, user(7), grant_sue(), Rule::Certifier);
 }
 
-/// A command that has to be denied by this rule.
-fn denied<S: Store>(
-    rt: &impl Abort,
-    bank: &mut Bank<S>,
-    alloc: Global,
-    who: Who,
-    command: PolicyOp,
-    rule: Rule,
-) {
-    let given = decide_policy(bank, alloc, who, command).expect(rt, "no fault");
-    assert!(rt; given == Err(rule), "{}", rule.name());
+/// Has Tess suspended, who then is as little as nobody.
+fn suspend_once(rt: &impl Abort, desk: &mut Desk) {
+    desk.done(rt, user(1), suspend_tess(), r#"{"done":"suspend"}"#);
+    desk.denied(rt, user(7), grant_sue(), Rule::Identity);
+    let nobody = Who {
+        user: None,
+        ..user(1)
+    };
+    desk.denied(rt, nobody, grant_sue(), Rule::Identity);
 }
 
 #[test]
 fn commands_change_the_policy(rt: HostRuntime) {
     let alloc = rt.alloc();
-    let mut bank = Bank {
-        store: ListStore::new(sample_world(alloc).expect(&rt, "memory")),
-    };
-    let before = bank.store.version(alloc).expect(&rt, "no fault");
-    let body = "{\"done\":\"grant\"}";
-    done(&rt, &mut bank, alloc, user(2), grant_sue(), body);
-    assert!(rt; bank.store.triples(alloc, 9).expect(&rt, "no fault") == 5);
-    denied(
-        &rt,
-        &mut bank,
-        alloc,
-        user(2),
-        grant_sue(),
-        Rule::PolicyState,
-    );
-    denied(&rt, &mut bank, alloc, user(7), grant_sue(), Rule::Certifier);
-    let body = "{\"done\":\"suspend\"}";
-    done(&rt, &mut bank, alloc, user(1), suspend_tess(), body);
-    denied(&rt, &mut bank, alloc, user(7), grant_sue(), Rule::Identity);
-    let nobody = Who {
-        user: None,
-        ..user(1)
-    };
-    denied(&rt, &mut bank, alloc, nobody, grant_sue(), Rule::Identity);
-    assert!(rt; bank.store.version(alloc).expect(&rt, "no fault") == before.saturating_add(2));
-    assert!(rt; bank.store.faults() == 0);
+    let mut desk = Desk::over(alloc, sample_world(alloc).expect(&rt, "memory"));
+    let before = desk.version(&rt);
+    grant_once(&rt, &mut desk);
+    suspend_once(&rt, &mut desk);
+    assert!(rt; desk.version(&rt) == before.saturating_add(2));
+    desk.has_faults(&rt, 0);
 }
 
-/// The rules come first, and then there is no room. Nothing has changed.
+/// Asks for a policy of the greatest version in which Tess and Sue stand as in the sample.
+fn nothing_has_changed(rt: &impl Abort, desk: &mut Desk) {
+    desk.tess_stands(rt);
+    desk.triples_of_sue_are(rt, 4);
+    assert!(rt; desk.version(rt) == MAX_VERSION);
+}
+
+/// The rules come first, and then there is no room.
 #[test]
 fn the_policy_of_the_greatest_version_stays(rt: HostRuntime) {
-    let alloc = rt.alloc();
-    let mut bank = changed_so_often(&rt, alloc, MAX_VERSION);
-    denied(
-        &rt,
-        &mut bank,
-        alloc,
-        user(2),
-        suspend_tess(),
-        Rule::Officer,
-    );
-    assert!(rt; bank.store.faults() == 0);
-    let full = decide_policy(&mut bank, alloc, user(1), suspend_tess());
-    assert!(rt; full == Err(Fault::Size));
-    assert!(rt; bank.store.faults() == 1);
-    let full = decide_policy(&mut bank, alloc, user(2), grant_sue());
-    assert!(rt; full == Err(Fault::Size));
-    assert!(rt; bank.store.faults() == 2);
-    let tess = bank.store.user(alloc, 7).expect(&rt, "no fault");
-    assert!(rt; tess.expect(&rt, "Tess").standing == standing(false));
-    assert!(rt; bank.store.triples(alloc, 9).expect(&rt, "no fault") == 4);
-    assert!(rt; bank.store.version(alloc).expect(&rt, "no fault") == MAX_VERSION);
+    let mut desk = Desk::changed_so_often(&rt, rt.alloc(), MAX_VERSION);
+    desk.denied(&rt, user(2), suspend_tess(), Rule::Officer);
+    desk.has_faults(&rt, 0);
+    desk.finds_no_room(&rt, user(1), suspend_tess(), 1);
+    desk.finds_no_room(&rt, user(2), grant_sue(), 2);
+    nothing_has_changed(&rt, &mut desk);
 }
 
 #[test]
 fn the_greatest_version_is_reached_by_a_command(rt: HostRuntime) {
-    let alloc = rt.alloc();
-    let mut bank = changed_so_often(&rt, alloc, MAX_VERSION - 1);
-    let body = "{\"done\":\"suspend\"}";
-    done(&rt, &mut bank, alloc, user(1), suspend_tess(), body);
-    assert!(rt; bank.store.version(alloc).expect(&rt, "no fault") == MAX_VERSION);
-    let full = decide_policy(&mut bank, alloc, user(2), grant_sue());
-    assert!(rt; full == Err(Fault::Size));
+    let mut desk = Desk::changed_so_often(&rt, rt.alloc(), MAX_VERSION - 1);
+    desk.done(&rt, user(1), suspend_tess(), r#"{"done":"suspend"}"#);
+    assert!(rt; desk.version(&rt) == MAX_VERSION);
+    desk.finds_no_room(&rt, user(2), grant_sue(), 1);
 }
 
 /// The first rule against a command of Carl's, who is a certifier, where these are its rows.
@@ -151,41 +173,43 @@ fn first_against(rows: CommandRows, command: PolicyOp) -> Option<Rule> {
 
 /// One less than the most there may be is room for one more.
 #[test]
-fn lists_of_the_policy_have_a_limit(rt: HostRuntime) {
+fn relations_of_a_procedure_have_a_limit(rt: HostRuntime) {
+    let most = MAX_RELATIONS as u64;
     let certified = RelationKey {
         procedure: Procedure::Balance,
         set: 6,
     };
     let rows = CommandRows::of_certify(true, true, &[], &certified);
-    for (count, first) in [
-        (MAX_RELATIONS as u64 - 1, None),
-        (MAX_RELATIONS as u64, Some(Rule::PolicyState)),
+    for (count, has_set, first) in [
+        (most - 1, true, None),
+        (most, true, Some(Rule::PolicyState)),
+        (most - 1, false, Some(Rule::PolicyUnknown)),
+        (most, false, Some(Rule::PolicyUnknown)),
     ] {
-        let full = CommandRows { count, ..rows };
-        assert!(rt; first_against(full, PolicyOp::Certify(certified)) == first);
-        let has_set = CommandRows {
-            has_set: false,
-            ..full
+        let rows = CommandRows {
+            count,
+            has_set,
+            ..rows
         };
-        let first = first_against(has_set, PolicyOp::Certify(certified));
-        assert!(rt; first == Some(Rule::PolicyUnknown));
+        assert!(rt; first_against(rows, PolicyOp::Certify(certified)) == first);
     }
-    let rows = CommandRows {
-        user: Some(standing(false)),
-        is_related: true,
-        ..CommandRows::of_define_set(true, false, 0)
-    };
-    for (count, first) in [
-        (MAX_TRIPLES as u64 - 1, None),
-        (MAX_TRIPLES as u64, Some(Rule::PolicyState)),
+}
+
+#[test]
+fn triples_of_a_user_have_a_limit(rt: HostRuntime) {
+    let most = MAX_TRIPLES as u64;
+    for (count, is_related, first) in [
+        (most - 1, true, None),
+        (most, true, Some(Rule::PolicyState)),
+        (most - 1, false, Some(Rule::PolicyUnknown)),
+        (most, false, Some(Rule::PolicyUnknown)),
     ] {
-        let full = CommandRows { count, ..rows };
-        assert!(rt; first_against(full, grant_sue()) == first);
-        let is_related = CommandRows {
-            is_related: false,
-            ..full
+        let rows = CommandRows {
+            user: Some(standing(false)),
+            is_related,
+            ..CommandRows::of_define_set(true, false, count)
         };
-        assert!(rt; first_against(is_related, grant_sue()) == Some(Rule::PolicyUnknown));
+        assert!(rt; first_against(rows, grant_sue()) == first);
     }
 }
 

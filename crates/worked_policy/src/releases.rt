@@ -1,12 +1,12 @@
 //! Releases by rows that the sample never has.
 
 use crate::who::{standing, user};
-use bank_policy::Standing;
+use bank_policy::{CertifiedRow, HeldRow, Standing};
 use bank_terms::{MAX_RELEASES, Procedure};
 use counter_ops::{Post, Releasable, Release};
 use decide::{
     Asked, BookRows, Loaded, NamedRelease, Op, OperationRows, PolicyRows, ReleaseRows, Request,
-    Rule, first_rule,
+    Rule, Who, first_rule,
 };
 use money::Delta;
 use postings::PostRows;
@@ -31,10 +31,55 @@ fn great_post(rt: &impl Abort) -> Post {
     }
 }
 
+/// The sample in lists.
+fn sample(rt: &impl Abort, alloc: Global) -> ListStore {
+    ListStore::new(sample_world(alloc).expect(rt, "memory"))
+}
+
+/// The triples of a user of the sample for a procedure.
+fn triples_of(rt: &impl Abort, alloc: Global, user: u32, procedure: Procedure) -> Vec<HeldRow> {
+    let rows = sample(rt, alloc).triples_of(alloc, user, procedure);
+    rows.expect(rt, "no fault")
+}
+
+/// The relations of a procedure of the sample.
+fn relations_of(rt: &impl Abort, alloc: Global, procedure: Procedure) -> Vec<CertifiedRow> {
+    let rows = sample(rt, alloc).relations_of(alloc, procedure);
+    rows.expect(rt, "no fault")
+}
+
+/// The rows of the policy of the sample by which an operation of this user is judged that names no release.
+fn policy_of(rt: &impl Abort, alloc: Global, user: u32, procedure: Procedure) -> PolicyRows {
+    PolicyRows {
+        standing: Some(standing(false)),
+        relations: relations_of(rt, alloc, procedure),
+        held: triples_of(rt, alloc, user, procedure),
+        released: None,
+    }
+}
+
+/// The rows of the books of the sample by which that post is judged.
+fn books_of_post(rt: &impl Abort, alloc: Global) -> BookRows {
+    let mut store = sample(rt, alloc);
+    let account = store.account(alloc, 101).expect(rt, "no fault");
+    let teller = store.teller(alloc, 12).expect(rt, "no fault");
+    let branch = store.branch(alloc, 1).expect(rt, "no fault");
+    BookRows::Post(PostRows::of(account, teller, branch))
+}
+
+/// The first rule against an operation that is judged by these rows.
+fn first_against(policy: PolicyRows, books: BookRows, who: Who, op: Op) -> Option<Rule> {
+    let rows = Loaded::Operation(OperationRows { policy, books });
+    let request = Request {
+        who,
+        moment: 700,
+        asked: Asked::Operation(op),
+    };
+    first_rule(&rows, &request)
+}
+
 /// The first release of Tom's, which Sue has given him for that post today, and which he hasn't used.
 fn given(rt: &impl Abort, alloc: Global) -> NamedRelease {
-    let mut store = ListStore::new(sample_world(alloc).expect(rt, "memory"));
-    let held = store.triples_of(alloc, SUE, Procedure::Release);
     NamedRelease {
         row: bank_books::Release {
             user: TOM,
@@ -47,91 +92,90 @@ fn given(rt: &impl Abort, alloc: Global) -> NamedRelease {
         },
         today: Some(1),
         giver: Some(standing(false)),
-        held: held.expect(rt, "no fault"),
+        held: triples_of(rt, alloc, SUE, Procedure::Release),
     }
 }
 
-/// The first rule against that post of Tom's over the sample, where he names his first release, and this stands of it.
-fn first_with(rt: &impl Abort, alloc: Global, released: Option<NamedRelease>) -> Option<Rule> {
-    let mut store = ListStore::new(sample_world(alloc).expect(rt, "memory"));
-    let relations = store.relations_of(alloc, Procedure::Post);
-    let held = store.triples_of(alloc, TOM, Procedure::Post);
-    let policy = PolicyRows {
-        standing: Some(standing(false)),
-        relations: relations.expect(rt, "no fault"),
-        held: held.expect(rt, "no fault"),
-        released,
-    };
-    let account = store.account(alloc, 101).expect(rt, "no fault");
-    let teller = store.teller(alloc, 12).expect(rt, "no fault");
-    let branch = store.branch(alloc, 1).expect(rt, "no fault");
-    let books = BookRows::Post(PostRows::of(account, teller, branch));
+/// Asks for this first rule against that post of Tom's over the sample, where he names his first release, and this
+/// stands of it.
+fn first_is(rt: &impl Abort, alloc: Global, released: Option<NamedRelease>, rule: Option<Rule>) {
+    let mut policy = policy_of(rt, alloc, TOM, Procedure::Post);
+    policy.released = released;
     let mut who = user(TOM);
     who.release = 1;
-    let request = Request {
-        who,
-        moment: 700,
-        asked: Asked::Operation(Op::Post(great_post(rt))),
-    };
-    first_rule(
-        &Loaded::Operation(OperationRows { policy, books }),
-        &request,
-    )
+    let op = Op::Post(great_post(rt));
+    let first = first_against(policy, books_of_post(rt, alloc), who, op);
+    assert!(rt; first == rule);
 }
 
-/// That a release of these rows lets the post be.
-fn counts(rt: &impl Abort, alloc: Global, named: NamedRelease) {
-    assert!(rt; first_with(rt, alloc, Some(named)).is_none());
-}
-
-/// That it doesn't.
+/// That a release of these rows doesn't let the post be.
 fn does_not_count(rt: &impl Abort, alloc: Global, named: NamedRelease) {
-    assert!(rt; first_with(rt, alloc, Some(named)) == Some(Rule::Release));
+    first_is(rt, alloc, Some(named), Some(Rule::Release));
+}
+
+#[test]
+fn a_release_has_to_be_there(rt: HostRuntime) {
+    first_is(&rt, rt.alloc(), None, Some(Rule::Release));
 }
 
 #[test]
 fn a_release_counts_by_its_own_row(rt: HostRuntime) {
     let alloc = rt.alloc();
-    counts(&rt, alloc, given(&rt, alloc));
-    assert!(rt; first_with(&rt, alloc, None) == Some(Rule::Release));
     let mut used = given(&rt, alloc);
     used.row.used = true;
     does_not_count(&rt, alloc, used);
     let mut of_a_smaller_post = given(&rt, alloc);
     of_a_smaller_post.row.operation.members[2] = 59_999;
     does_not_count(&rt, alloc, of_a_smaller_post);
-    let mut of_yesterday = given(&rt, alloc);
-    of_yesterday.today = Some(2);
-    does_not_count(&rt, alloc, of_yesterday);
-    let mut of_no_branch = given(&rt, alloc);
-    of_no_branch.today = None;
-    does_not_count(&rt, alloc, of_no_branch);
+}
+
+/// The day of yesterday doesn't count, nor that of a branch that isn't there.
+#[test]
+fn a_release_counts_on_its_day(rt: HostRuntime) {
+    let alloc = rt.alloc();
+    for (today, first) in [
+        (Some(1), None),
+        (Some(2), Some(Rule::Release)),
+        (None, Some(Rule::Release)),
+    ] {
+        let mut named = given(&rt, alloc);
+        named.today = today;
+        first_is(&rt, alloc, Some(named), first);
+    }
+}
+
+/// Who isn't there or is suspended gives none that counts; who has left does.
+#[test]
+fn a_release_counts_by_who_gave_it(rt: HostRuntime) {
+    let alloc = rt.alloc();
+    let suspended = Standing {
+        suspended: true,
+        ..standing(false)
+    };
+    let has_left = Standing {
+        on: false,
+        ..standing(false)
+    };
+    for (giver, first) in [
+        (None, Some(Rule::Release)),
+        (Some(suspended), Some(Rule::Release)),
+        (Some(has_left), None),
+    ] {
+        let mut named = given(&rt, alloc);
+        named.giver = giver;
+        first_is(&rt, alloc, Some(named), first);
+    }
 }
 
 #[test]
-fn a_release_counts_by_who_gave_it(rt: HostRuntime) {
+fn a_release_counts_by_another_who_has_a_triple(rt: HostRuntime) {
     let alloc = rt.alloc();
     let mut by_himself = given(&rt, alloc);
     by_himself.row.giver = TOM;
     does_not_count(&rt, alloc, by_himself);
-    let mut by_nobody = given(&rt, alloc);
-    by_nobody.giver = None;
-    does_not_count(&rt, alloc, by_nobody);
-    let mut by_one_suspended = given(&rt, alloc);
-    by_one_suspended.giver = Some(Standing {
-        suspended: true,
-        ..standing(false)
-    });
-    does_not_count(&rt, alloc, by_one_suspended);
     let mut by_one_without_a_triple = given(&rt, alloc);
     by_one_without_a_triple.held = Vec::new(alloc);
     does_not_count(&rt, alloc, by_one_without_a_triple);
-    let mut by_one_who_has_left = given(&rt, alloc);
-    by_one_who_has_left.giver = Some(Standing {
-        on: false,
-        ..standing(false)
-    });
-    counts(&rt, alloc, by_one_who_has_left);
 }
 
 /// The first rule against Sue's giving a user a release for that post, where he has so many.
@@ -141,15 +185,7 @@ fn first_against_giving(
     beneficiary: u32,
     given: u64,
 ) -> Option<Rule> {
-    let mut store = ListStore::new(sample_world(alloc).expect(rt, "memory"));
-    let relations = store.relations_of(alloc, Procedure::Release);
-    let held = store.triples_of(alloc, SUE, Procedure::Release);
-    let policy = PolicyRows {
-        standing: Some(standing(false)),
-        relations: relations.expect(rt, "no fault"),
-        held: held.expect(rt, "no fault"),
-        released: None,
-    };
+    let policy = policy_of(rt, alloc, SUE, Procedure::Release);
     let books = BookRows::Release(ReleaseRows {
         given: Some(given),
         today: Some(1),
@@ -158,23 +194,18 @@ fn first_against_giving(
         beneficiary,
         operation: Releasable::Post(great_post(rt)),
     };
-    let request = Request {
-        who: user(SUE),
-        moment: 700,
-        asked: Asked::Operation(Op::Release(release)),
-    };
-    first_rule(
-        &Loaded::Operation(OperationRows { policy, books }),
-        &request,
-    )
+    first_against(policy, books, user(SUE), Op::Release(release))
 }
 
 #[test]
 fn releases_of_a_user_have_a_limit(rt: HostRuntime) {
     let alloc = rt.alloc();
     let most = MAX_RELEASES as u64;
-    assert!(rt; first_against_giving(&rt, alloc, TOM, most - 1).is_none());
-    assert!(rt; first_against_giving(&rt, alloc, TOM, most) == Some(Rule::Full));
-    let first = first_against_giving(&rt, alloc, SUE, most);
-    assert!(rt; first == Some(Rule::SecondPerson));
+    for (beneficiary, given, first) in [
+        (TOM, most - 1, None),
+        (TOM, most, Some(Rule::Full)),
+        (SUE, most, Some(Rule::SecondPerson)),
+    ] {
+        assert!(rt; first_against_giving(&rt, alloc, beneficiary, given) == first);
+    }
 }
