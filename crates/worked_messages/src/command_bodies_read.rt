@@ -2,8 +2,7 @@ use bank_policy::{Certifier, ItemSet, Member, Name, RelationKey, Triple, TripleK
 use bank_terms::{Kind, Procedure};
 use command_bodies::read_command;
 use policy_ops::{Command, Enrolment, PolicyOp, UserKey};
-use std::alloc::{AllocError, Global};
-use std::test::Fail;
+use std::process::Abort;
 
 const RELATION: RelationKey = RelationKey {
     procedure: Procedure::DrawerOn,
@@ -28,66 +27,82 @@ const CERTIFIER: Certifier = Certifier {
     procedure: Procedure::CloseDay,
 };
 
+const USER: UserKey = UserKey { user: 7 };
+
+const ACCOUNT: Member = Member {
+    kind: Kind::Account,
+    low: 101,
+    high: 102,
+};
+
+/// The body states this command.
+fn states(rt: &(impl Abort + AllocGlobal), command: Command, body: &str, asked: PolicyOp) {
+    let read = read_command(rt.alloc(), command, body.as_bytes()).expect(rt, "memory");
+    let told = format!(in rt.alloc(); "{read:?}").expect(rt, "memory");
+    let stated = format!(in rt.alloc(); "{:?}", Some(asked)).expect(rt, "memory");
+    assert_eq!(rt; told, stated);
+}
+
 #[test]
-fn bodies_that_state_a_row(rt: HostRuntime) -> Result<(), Fail> {
-    let alloc = rt.alloc();
-    let user = UserKey { user: 7 };
-    for (command, body, asked) in [
-        (
-            Command::Certify,
-            r#"{"procedure":"drawer-on","set":999999999}"#,
-            PolicyOp::Certify(RELATION),
-        ),
-        (
-            Command::Withdraw,
-            r#" {"set" : 999999999,"procedure":"drawer-on"}"#,
-            PolicyOp::Withdraw(RELATION),
-        ),
-        (
-            Command::Grant,
-            r#"{"limit":999999999,"procedure":"post","set":1,"user":9999}"#,
-            PolicyOp::Grant(TRIPLE),
-        ),
-        (
-            Command::Revoke,
-            r#"{"procedure":"post","set":1,"user":7}"#,
-            PolicyOp::Revoke(TRIPLE_KEY),
-        ),
-        (
-            Command::Appoint,
-            r#"{"procedure":"close-day","user":1}"#,
-            PolicyOp::Appoint(CERTIFIER),
-        ),
-        (
-            Command::Dismiss,
-            r#"{"procedure":"post","procedure":"close-day","user":1}"#,
-            PolicyOp::Dismiss(CERTIFIER),
-        ),
-        (Command::Suspend, r#"{"user":7}"#, PolicyOp::Suspend(user)),
-        (Command::Restore, r#"{"user":7}"#, PolicyOp::Restore(user)),
-    ] {
-        let read = read_command(alloc, command, body.as_bytes())?;
-        assert_eq!(rt;
-            format!(in alloc; "{read:?}")?,
-            format!(in alloc; "{:?}", Some(asked))?
-        );
-    }
-    Ok(())
+fn bodies_that_state_a_relation_or_a_user(rt: HostRuntime) {
+    states(
+        &rt,
+        Command::Certify,
+        r#"{"procedure":"drawer-on","set":999999999}"#,
+        PolicyOp::Certify(RELATION),
+    );
+    states(
+        &rt,
+        Command::Withdraw,
+        r#" {"set" : 999999999,"procedure":"drawer-on"}"#,
+        PolicyOp::Withdraw(RELATION),
+    );
+    let user = r#"{"user":7}"#;
+    states(&rt, Command::Suspend, user, PolicyOp::Suspend(USER));
+    states(&rt, Command::Restore, user, PolicyOp::Restore(USER));
+}
+
+#[test]
+fn bodies_that_state_a_triple_or_a_certifier(rt: HostRuntime) {
+    states(
+        &rt,
+        Command::Grant,
+        r#"{"limit":999999999,"procedure":"post","set":1,"user":9999}"#,
+        PolicyOp::Grant(TRIPLE),
+    );
+    states(
+        &rt,
+        Command::Revoke,
+        r#"{"procedure":"post","set":1,"user":7}"#,
+        PolicyOp::Revoke(TRIPLE_KEY),
+    );
+    states(
+        &rt,
+        Command::Appoint,
+        r#"{"procedure":"close-day","user":1}"#,
+        PolicyOp::Appoint(CERTIFIER),
+    );
+    states(
+        &rt,
+        Command::Dismiss,
+        r#"{"procedure":"post","procedure":"close-day","user":1}"#,
+        PolicyOp::Dismiss(CERTIFIER),
+    );
 }
 
 /// The body that defines set 1 as an account, this many times.
-fn accounts_body(alloc: Global, count: u32) -> Result<String, AllocError> {
-    let mut text = String::from_str(alloc, r#"{"set":1,"members":[[1,101,102]"#)?;
+fn accounts_body(rt: &(impl Abort + AllocGlobal), count: u32) -> String {
+    let front = r#"{"set":1,"members":[[1,101,102]"#;
+    let mut text = String::from_str(rt.alloc(), front).expect(rt, "memory");
     for _ in 1..count {
-        text.push_str(",[1,101,102]")?;
+        text.push_str(",[1,101,102]").expect(rt, "memory");
     }
-    text.push_str("]}")?;
-    Ok(text)
+    text.push_str("]}").expect(rt, "memory");
+    text
 }
 
 #[test]
-fn bodies_that_state_a_set_or_a_user(rt: HostRuntime) -> Result<(), Fail> {
-    let alloc = rt.alloc();
+fn bodies_that_state_a_set(rt: HostRuntime) {
     let low = Member {
         kind: Kind::Account,
         low: 1,
@@ -98,49 +113,49 @@ fn bodies_that_state_a_set_or_a_user(rt: HostRuntime) -> Result<(), Fail> {
         low: 1,
         high: 999_999_999,
     };
-    let account = Member {
-        kind: Kind::Account,
-        low: 101,
-        high: 102,
-    };
-    let greatest = accounts_body(alloc, 32)?;
-    for (command, body, asked) in [
-        (
-            Command::DefineSet,
-            r#"{"members":[[1,1,1],[6,1,999999999]],"set":5}"#,
-            PolicyOp::DefineSet(ItemSet::new(5, vec![in alloc; low, high]?)),
-        ),
-        (
-            Command::DefineSet,
-            greatest.as_str(),
-            PolicyOp::DefineSet(ItemSet::new(1, vec![in alloc; account; 32]?)),
-        ),
-        (
-            Command::Enrol,
-            r#"{"name":" Olga O. Officer 12~","officer":true,"user":9999}"#,
-            PolicyOp::Enrol(Enrolment {
-                user: 9_999,
-                name: Name::new(alloc, " Olga O. Officer 12~")?,
-                officer: true,
-            }),
-        ),
-    ] {
-        let read = read_command(alloc, command, body.as_bytes())?;
-        assert_eq!(rt;
-            format!(in alloc; "{read:?}")?,
-            format!(in alloc; "{:?}", Some(asked))?
-        );
-    }
-    Ok(())
-}
-
-/// Whether the bytes state nothing for the command.
-fn is_none_stated(alloc: Global, command: Command, body: &[u8]) -> Result<bool, AllocError> {
-    Ok(read_command(alloc, command, body)?.is_none())
+    let two = vec![in rt.alloc(); low, high].expect(&rt, "memory");
+    states(
+        &rt,
+        Command::DefineSet,
+        r#"{"members":[[1,1,1],[6,1,999999999]],"set":5}"#,
+        PolicyOp::DefineSet(ItemSet::new(5, two)),
+    );
 }
 
 #[test]
-fn bodies_that_state_none(rt: HostRuntime) -> Result<(), Fail> {
+fn bodies_that_state_the_greatest_set(rt: HostRuntime) {
+    let greatest = vec![in rt.alloc(); ACCOUNT; 32].expect(&rt, "memory");
+    states(
+        &rt,
+        Command::DefineSet,
+        accounts_body(&rt, 32).as_str(),
+        PolicyOp::DefineSet(ItemSet::new(1, greatest)),
+    );
+}
+
+#[test]
+fn bodies_that_state_an_enrolment(rt: HostRuntime) {
+    let name = Name::new(rt.alloc(), " Olga O. Officer 12~").expect(&rt, "memory");
+    states(
+        &rt,
+        Command::Enrol,
+        r#"{"name":" Olga O. Officer 12~","officer":true,"user":9999}"#,
+        PolicyOp::Enrol(Enrolment {
+            user: 9_999,
+            name,
+            officer: true,
+        }),
+    );
+}
+
+/// Whether the bytes state nothing for the command.
+fn is_none_stated(rt: &(impl Abort + AllocGlobal), command: Command, body: &[u8]) -> bool {
+    let read = read_command(rt.alloc(), command, body).expect(rt, "memory");
+    read.is_none()
+}
+
+#[test]
+fn bodies_that_state_none(rt: HostRuntime) {
     let cases = [
         (Command::Suspend, ""),
         (Command::Suspend, "[7]"),
@@ -174,17 +189,13 @@ fn bodies_that_state_none(rt: HostRuntime) -> Result<(), Fail> {
         (Command::Dismiss, r#"{"procedure":null,"user":1}"#),
     ];
     for (command, body) in cases {
-        assert!(rt;
-            is_none_stated(rt.alloc(), command, body.as_bytes())?,
-            "at {body}"
-        );
+        assert!(rt; is_none_stated(&rt, command, body.as_bytes()), "at {body}");
     }
-    assert!(rt; is_none_stated(rt.alloc(), Command::Suspend, &[0xFF])?);
-    Ok(())
+    assert!(rt; is_none_stated(&rt, Command::Suspend, &[0xFF]));
 }
 
 #[test]
-fn bodies_that_state_no_user(rt: HostRuntime) -> Result<(), Fail> {
+fn bodies_that_state_no_user(rt: HostRuntime) {
     for body in [
         r#"{"name":"","officer":true,"user":7}"#,
         r#"{"name":"123456789012345678901","officer":true,"user":7}"#,
@@ -197,18 +208,15 @@ fn bodies_that_state_no_user(rt: HostRuntime) -> Result<(), Fail> {
         r#"{"name":"Olga","officer":true,"on":true,"user":7}"#,
     ] {
         assert!(rt;
-            is_none_stated(rt.alloc(), Command::Enrol, body.as_bytes())?,
+            is_none_stated(&rt, Command::Enrol, body.as_bytes()),
             "at {body}"
         );
     }
-    Ok(())
 }
 
 #[test]
-fn bodies_that_state_no_set(rt: HostRuntime) -> Result<(), Fail> {
-    let greater = accounts_body(rt.alloc(), 33)?;
+fn bodies_that_state_no_set(rt: HostRuntime) {
     for body in [
-        greater.as_str(),
         r#"{"members":[],"set":1}"#,
         r#"{"members":{"1":[1,1,1]},"set":1}"#,
         r#"{"members":[1,1,1],"set":1}"#,
@@ -224,9 +232,14 @@ fn bodies_that_state_no_set(rt: HostRuntime) -> Result<(), Fail> {
         r#"{"members":[[1,1,1]],"set":0}"#,
     ] {
         assert!(rt;
-            is_none_stated(rt.alloc(), Command::DefineSet, body.as_bytes())?,
+            is_none_stated(&rt, Command::DefineSet, body.as_bytes()),
             "at {body}"
         );
     }
-    Ok(())
+}
+
+#[test]
+fn a_greater_set_is_not_stated(rt: HostRuntime) {
+    let greater = accounts_body(&rt, 33);
+    assert!(rt; is_none_stated(&rt, Command::DefineSet, greater.as_bytes()));
 }

@@ -17,20 +17,14 @@ fn body_len(rt: &(impl Abort + AllocGlobal), bytes: &[u8]) -> Option<Result<usiz
     }
 }
 
-#[test]
-fn parts_of_a_head(rt: HostRuntime) {
-    let bytes =
-        b"HEAD /a HTTP/1.1\r\nHost: x\r\ncontent-LENGTH: \t0002 \r\nConnection: a, CLOSE\r\n\r\n/a";
-    let mut headers = vec![in rt.alloc(); EMPTY_HEADER_SPAN; MAX_FIELDS].expect(&rt, "memory");
-    let Judged::Head(spans) = judge(bytes, headers.as_mut_slice()) else {
-        panic!(rt; "a head")
-    };
-    assert!(rt; spans.len == bytes.len() - 2);
-    let head = Head::new(bytes, headers.as_slice(), &spans);
+fn has_parts(rt: &impl Abort, head: &Head<'_>) {
     assert_eq!(rt; head.method(), b"HEAD".as_slice());
     assert_eq!(rt; head.target(), b"/a".as_slice());
     assert!(rt; matches!(head.field(b"host"), Found::One(b"x")));
     assert!(rt; matches!(head.field(b"cookie"), Found::Missing));
+}
+
+fn has_framing(rt: &impl Abort, head: &Head<'_>) {
     assert!(rt; head.body_len() == Ok(2));
     assert!(rt; head.closes());
     let framing = Framing {
@@ -41,7 +35,21 @@ fn parts_of_a_head(rt: HostRuntime) {
 }
 
 #[test]
-fn heads_with_faults(rt: HostRuntime) {
+fn parts_of_a_head(rt: HostRuntime) {
+    let bytes =
+        b"HEAD /a HTTP/1.1\r\nHost: x\r\ncontent-LENGTH: \t0002 \r\nConnection: a, CLOSE\r\n\r\n/a";
+    let mut headers = vec![in rt.alloc(); EMPTY_HEADER_SPAN; MAX_FIELDS].expect(&rt, "memory");
+    let Judged::Head(spans) = judge(bytes, headers.as_mut_slice()) else {
+        panic!(rt; "a head")
+    };
+    assert!(rt; spans.len == bytes.len() - 2);
+    let head = Head::new(bytes, headers.as_slice(), &spans);
+    has_parts(&rt, &head);
+    has_framing(&rt, &head);
+}
+
+#[test]
+fn bad_heads(rt: HostRuntime) {
     let bad: [&[u8]; 9] = [
         b"\x01 /a HTTP/1.1\r\n",
         b"GET /a\r\nHost: x\r\n\r\n",
@@ -56,6 +64,10 @@ fn heads_with_faults(rt: HostRuntime) {
     for bytes in bad {
         assert!(rt; body_len(&rt, bytes) == Some(Err(MessageFault::BadHead)));
     }
+}
+
+#[test]
+fn bodies_that_are_too_long_or_encoded(rt: HostRuntime) {
     let long: [&[u8]; 3] = [
         b"POST /a HTTP/1.1\r\nHost: x\r\nContent-Length: 1025\r\n\r\n",
         b"POST /a HTTP/1.1\r\nHost: x\r\nTransfer-Encoding: chunked\r\nContent-Length: 2000\r\n\r\n",
@@ -67,7 +79,11 @@ fn heads_with_faults(rt: HostRuntime) {
     let encoded =
         b"POST /a HTTP/1.1\r\nHost: x\r\nTransfer-Encoding: chunked\r\nContent-Length: 10\r\n\r\n";
     assert!(rt; body_len(&rt, encoded) == Some(Err(MessageFault::TransferEncoding)));
-    // The longest body, and as many bytes as no head may have.
+}
+
+/// The longest body, and as many bytes as no head may have.
+#[test]
+fn lengths_at_their_edges(rt: HostRuntime) {
     let longest = b"POST /a HTTP/1.1\r\nHost: x\r\nContent-Length: 1024\r\n\r\n";
     assert!(rt; body_len(&rt, longest) == Some(Ok(MAX_BODY_LEN)));
     let blank = [b'\n'; MAX_HEAD_LEN];

@@ -4,9 +4,8 @@ use counter_ops::{
     Accounts, Balance, CloseDay, Correct, DrawerOff, DrawerOn, MoveCash, NewAccount, Op, Post,
     Proof, Releasable, Release, Statement, Transfer,
 };
-use money::{Cents, Delta, Fault};
-use std::alloc::Global;
-use std::test::Fail;
+use money::{Cents, Delta};
+use std::process::Abort;
 
 /// A post at the sample's teller 11.
 fn post_at_11(account: u32, delta: Delta) -> Op {
@@ -18,11 +17,17 @@ fn post_at_11(account: u32, delta: Delta) -> Op {
     })
 }
 
+/// The body states this operation.
+fn states(rt: &(impl Abort + AllocGlobal), procedure: Procedure, body: &str, op: Op) {
+    let read = read_op(rt.alloc(), procedure, body.as_bytes()).expect(rt, "memory");
+    assert_eq!(rt; read, Some(op), "at {body}");
+}
+
 #[test]
-fn bodies_that_state_a_posting(rt: HostRuntime) -> Result<(), Fail> {
-    let added = Delta::new(2_500).ok_or("in range")?;
-    let most = Delta::new(999_999).ok_or("in range")?;
-    let least = Delta::new(-999_999).ok_or("in range")?;
+fn bodies_that_state_a_posting(rt: HostRuntime) {
+    let added = Delta::new(2_500).expect(&rt, "in range");
+    let most = Delta::new(999_999).expect(&rt, "in range");
+    let least = Delta::new(-999_999).expect(&rt, "in range");
     let transfer = Transfer {
         source: 101,
         target: 999_999_999,
@@ -75,18 +80,13 @@ fn bodies_that_state_a_posting(rt: HostRuntime) -> Result<(), Fail> {
         ),
     ];
     for (procedure, body, op) in cases {
-        assert_eq!(rt;
-            read_op(rt.alloc(), procedure, body.as_bytes())?,
-            Some(op),
-            "at {body}"
-        );
+        states(&rt, procedure, body, op);
     }
-    Ok(())
 }
 
 #[test]
-fn bodies_that_state_another_operation(rt: HostRuntime) -> Result<(), Fail> {
-    let counted = Cents::new(999_999_999_999).ok_or("in range")?;
+fn bodies_that_state_another_operation(rt: HostRuntime) {
+    let counted = Cents::new(999_999_999_999).expect(&rt, "in range");
     let cases = [
         (
             Procedure::DrawerOn,
@@ -156,26 +156,18 @@ fn bodies_that_state_another_operation(rt: HostRuntime) -> Result<(), Fail> {
         ),
     ];
     for (procedure, body, op) in cases {
-        assert_eq!(rt;
-            read_op(rt.alloc(), procedure, body.as_bytes())?,
-            Some(op),
-            "at {body}"
-        );
+        states(&rt, procedure, body, op);
     }
-    Ok(())
 }
 
 /// Whether the bytes state no operation.
-fn is_none_stated(alloc: Global, procedure: Procedure, body: &[u8]) -> Result<bool, Fault> {
-    match read_op(alloc, procedure, body) {
-        Ok(Some(_)) => Ok(false),
-        Ok(None) => Ok(true),
-        Err(fault) => Err(fault),
-    }
+fn is_none_stated(rt: &(impl Abort + AllocGlobal), procedure: Procedure, body: &[u8]) -> bool {
+    let read = read_op(rt.alloc(), procedure, body).expect(rt, "memory");
+    read.is_none()
 }
 
 #[test]
-fn bodies_that_state_none(rt: HostRuntime) -> Result<(), Fail> {
+fn bodies_that_state_none(rt: HostRuntime) {
     let cases = [
         (Procedure::Balance, ""),
         (Procedure::Balance, "null"),
@@ -259,10 +251,9 @@ fn bodies_that_state_none(rt: HostRuntime) -> Result<(), Fail> {
     ];
     for (procedure, body) in cases {
         assert!(rt;
-            is_none_stated(rt.alloc(), procedure, body.as_bytes())?,
+            is_none_stated(&rt, procedure, body.as_bytes()),
             "at {body}"
         );
     }
-    assert!(rt; is_none_stated(rt.alloc(), Procedure::Balance, &[0xFF])?);
-    Ok(())
+    assert!(rt; is_none_stated(&rt, Procedure::Balance, &[0xFF]));
 }
