@@ -4,7 +4,6 @@ ghost use Rattle.whole_tables.specs.Faults.{read_fault_named};
 use bank_schema::fault_of;
 use money::Fault;
 use sqlite::{Error, ErrorCode};
-use std::alloc::{AllocError, AllocFailed};
 use thiserror::Error as FaultText;
 
 /// A table of a bank.
@@ -56,30 +55,6 @@ pub enum ReadFault {
     /// within its limits.
     #[error("a user is out of the limits")]
     UserOutOfLimits,
-}
-
-impl From<AllocError> for ReadFault {
-    ghost use Rattle.std.specs.Prelude.{◌≡◌};
-    ghost use Rattle.money.specs.declared.fault.Fault.TheVariants.{Memory};
-    ghost use Rattle.whole_tables.specs.declared.fault.ReadFault.TheVariants.{Fault as Failed};
-
-    ghost from_gives = { λ _ fault. fault ≡ Failed Memory };
-
-    fn from(_refused: AllocError) -> ReadFault {
-        ReadFault::Fault(Fault::Memory)
-    }
-}
-
-impl<T: Drop> From<AllocFailed<T>> for ReadFault {
-    ghost use Rattle.std.specs.Prelude.{◌≡◌};
-    ghost use Rattle.money.specs.declared.fault.Fault.TheVariants.{Memory};
-    ghost use Rattle.whole_tables.specs.declared.fault.ReadFault.TheVariants.{Fault as Failed};
-
-    ghost from_gives = { λ _ fault. fault ≡ Failed Memory };
-
-    fn from(_refused: AllocFailed<T>) -> ReadFault {
-        ReadFault::from(AllocError)
-    }
 }
 
 /// Why a query for a table was refused: memory, a size, the disk or a limit on the connection's steps, or
