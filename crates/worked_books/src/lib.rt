@@ -7,8 +7,6 @@ mod books;
 #[cfg(test)]
 mod named_entries;
 #[cfg(test)]
-mod plans;
-#[cfg(test)]
 mod policy_rows;
 #[cfg(test)]
 mod reads;
