@@ -1,5 +1,6 @@
 //! A bank in memory that is asked, and what has to come of it.
 
+use crate::forms::post;
 use bank_books::{BranchRecord, Entry, TellerRecord, World};
 use bank_terms::MAX_MOMENT;
 use decide::{Decision, Op, Reply, Rule, Who, carry_out, decide, is_served};
@@ -69,6 +70,14 @@ impl Desk {
     /// That of the sample bank.
     pub(crate) fn of_sample(rt: &impl Abort, alloc: Global) -> Desk {
         Desk::over(alloc, sample_world(alloc).expect(rt, "memory"))
+    }
+
+    /// That of the sample bank after Tess has posted 25.00 to account 101.
+    pub(crate) fn after_first_post(rt: &impl Abort, alloc: Global) -> Desk {
+        let mut desk = Desk::of_sample(rt, alloc);
+        let body = r#"{"balance":52500,"branch":1,"entry":1}"#;
+        desk.done(rt, TESS, post(rt, 101, 11, 1, 2_500), body);
+        desk
     }
 
     /// The body of the reply to a request that is carried out, or the rule that denies it.

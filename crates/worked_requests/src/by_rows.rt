@@ -23,9 +23,15 @@ fn request(user: u32, session: u32, asked: Asked) -> Request {
     }
 }
 
-/// A request of this user for an operation, in his session 1.
-fn asks(user: u32, op: Op) -> Request {
-    request(user, 1, Asked::Operation(op))
+/// The first rule against an operation that this user asks for in his session 1, and that is judged by these rows.
+fn first_against(policy: PolicyRows, books: BookRows, user: u32, op: Op) -> Option<Rule> {
+    let rows = Loaded::Operation(OperationRows { policy, books });
+    first_rule(&rows, &request(user, 1, Asked::Operation(op)))
+}
+
+/// The sample in lists.
+fn sample(rt: &impl Abort, alloc: Global) -> ListStore {
+    ListStore::new(sample_world(alloc).expect(rt, "memory"))
 }
 
 /// The rows of the policy by which an operation of this user is judged.
@@ -60,10 +66,28 @@ fn post_of(rt: &impl Abort, account: u32, delta: i64) -> Post {
     }
 }
 
+/// The first rule against a post of so many cents at teller 12.
+fn first_against_post(
+    rt: &impl Abort,
+    alloc: Global,
+    store: &mut ListStore,
+    user: u32,
+    account: u32,
+    delta: i64,
+) -> Option<Rule> {
+    let op = Op::Post(post_of(rt, account, delta));
+    let policy = policy_of(rt, alloc, store, user, &op);
+    let account = store.account(alloc, account).expect(rt, "no fault");
+    let teller = store.teller(alloc, 12).expect(rt, "no fault");
+    let branch = store.branch(alloc, 1).expect(rt, "no fault");
+    let books = BookRows::Post(PostRows::of(account, teller, branch));
+    first_against(policy, books, user, op)
+}
+
 #[test]
 fn posts_are_judged_by_their_rows(rt: HostRuntime) {
     let alloc = rt.alloc();
-    let mut store = ListStore::new(sample_world(alloc).expect(&rt, "memory"));
+    let mut store = sample(&rt, alloc);
     for (user, account, delta, first) in [
         (8u32, 101u32, 20_000i64, None),
         (8, 101, 60_000, Some(Rule::Limit)),
@@ -76,57 +100,76 @@ fn posts_are_judged_by_their_rows(rt: HostRuntime) {
         (8, 1_000_000, 5, Some(Rule::NotCertified)),
         (55, 101, 5, Some(Rule::Identity)),
     ] {
-        let post = post_of(&rt, account, delta);
-        let op = Op::Post(post);
-        let policy = policy_of(&rt, alloc, &mut store, user, &op);
-        let account = store.account(alloc, account).expect(&rt, "no fault");
-        let teller = store.teller(alloc, 12).expect(&rt, "no fault");
-        let branch = store.branch(alloc, 1).expect(&rt, "no fault");
-        let books = BookRows::Post(PostRows::of(account, teller, branch));
-        let rows = Loaded::Operation(OperationRows { policy, books });
-        assert!(rt; first_rule(&rows, &asks(user, op)) == first);
+        let given = first_against_post(&rt, alloc, &mut store, user, account, delta);
+        assert!(rt; given == first);
+    }
+}
+
+/// The first rule against Sue's opening an account.
+fn first_against_opening(
+    rt: &impl Abort,
+    alloc: Global,
+    store: &mut ListStore,
+    account: u32,
+) -> Option<Rule> {
+    let op = Op::NewAccount(NewAccount {
+        account,
+        branch: 1,
+        floor: 0,
+    });
+    let policy = policy_of(rt, alloc, store, 9, &op);
+    let there = store.account(alloc, account).expect(rt, "no fault");
+    let branch = store.branch(alloc, 1).expect(rt, "no fault");
+    let books = BookRows::NewAccount(OpeningRows::of(there, branch));
+    first_against(policy, books, 9, op)
+}
+
+#[test]
+fn accounts_are_judged_by_their_rows(rt: HostRuntime) {
+    let alloc = rt.alloc();
+    let mut store = sample(&rt, alloc);
+    for (account, first) in [(103, None), (101, Some(Rule::Taken))] {
+        assert!(rt; first_against_opening(&rt, alloc, &mut store, account) == first);
     }
 }
 
 #[test]
-fn accounts_and_balances_are_judged_by_their_rows(rt: HostRuntime) {
+fn balances_are_judged_by_their_rows(rt: HostRuntime) {
     let alloc = rt.alloc();
-    let mut store = ListStore::new(sample_world(alloc).expect(&rt, "memory"));
-    for (account, first) in [(103u32, None), (101, Some(Rule::Taken))] {
-        let op = Op::NewAccount(NewAccount {
-            account,
-            branch: 1,
-            floor: 0,
-        });
-        let policy = policy_of(&rt, alloc, &mut store, 9, &op);
-        let there = store.account(alloc, account).expect(&rt, "no fault");
-        let branch = store.branch(alloc, 1).expect(&rt, "no fault");
-        let books = BookRows::NewAccount(OpeningRows::of(there, branch));
-        let rows = Loaded::Operation(OperationRows { policy, books });
-        assert!(rt; first_rule(&rows, &asks(9, op)) == first);
-    }
+    let mut store = sample(&rt, alloc);
     let op = Op::Balance(Balance { account: 101 });
     let policy = policy_of(&rt, alloc, &mut store, 7, &op);
     let books = BookRows::Balance(store.account(alloc, 101).expect(&rt, "no fault"));
-    let rows = Loaded::Operation(OperationRows { policy, books });
-    assert!(rt; first_rule(&rows, &asks(7, op)).is_none());
+    assert!(rt; first_against(policy, books, 7, op).is_none());
+}
+
+/// The first rules against a user's opening a session and his ending this one.
+fn first_against_session(
+    rt: &impl Abort,
+    alloc: Global,
+    store: &mut ListStore,
+    user: u32,
+    session: u32,
+) -> (Option<Rule>, Option<Rule>) {
+    let row = store.user(alloc, user).expect(rt, "no fault");
+    let rows = Loaded::Session(row.map(|row| row.standing));
+    let opened = first_rule(&rows, &request(user, session, Asked::Opening));
+    let ended = first_rule(&rows, &request(user, session, Asked::Ending));
+    (opened, ended)
 }
 
 #[test]
 fn sessions_are_judged_by_the_row_of_the_user(rt: HostRuntime) {
     let alloc = rt.alloc();
-    let mut store = ListStore::new(sample_world(alloc).expect(&rt, "memory"));
+    let mut store = sample(&rt, alloc);
     for (user, session, opened, ended) in [
         (7u32, 1u32, None, None),
         (7, 2, None, Some(Rule::Identity)),
         (7, 0, None, Some(Rule::Identity)),
         (55, 1, Some(Rule::Identity), Some(Rule::Identity)),
     ] {
-        let row = store.user(alloc, user).expect(&rt, "no fault");
-        let rows = Loaded::Session(row.map(|row| row.standing));
-        for (asked, first) in [(Asked::Opening, opened), (Asked::Ending, ended)] {
-            assert!(rt; first_rule(&rows, &request(user, session, asked)) == first);
-        }
+        let first = first_against_session(&rt, alloc, &mut store, user, session);
+        assert!(rt; first == (opened, ended));
     }
 }
 

@@ -6,57 +6,77 @@ use crate::forms::{CLOSE, correct, first_post, off, on, post};
 use bank_books::Entry;
 use decide::Rule;
 use row_rules::Ledger;
+use std::alloc::Global;
+use std::process::Abort;
+
+/// Has both drawers of the sample put off. While one is held, its day doesn't end.
+fn put_both_off(rt: &impl Abort, desk: &mut Desk) {
+    let body = r#"{"difference":-100,"teller":12,"vault":59900}"#;
+    desk.done(rt, TOM, off(rt, 12, 4_900), body);
+    desk.denied(rt, SUE, CLOSE, Rule::Day);
+    let body = r#"{"difference":0,"teller":11,"vault":99900}"#;
+    desk.done(rt, TESS, off(rt, 11, 40_000), body);
+}
+
+/// Has a day ended with this reply, and asks for the day that follows.
+fn next_day_is(rt: &impl Abort, desk: &mut Desk, body: &str, day: u32) {
+    desk.done(rt, SUE, CLOSE, body);
+    let ledger = Ledger {
+        day,
+        ..SAMPLE_LEDGER
+    };
+    desk.ledger_is(rt, 1, ledger);
+}
 
 #[test]
 fn a_day_ends_when_no_drawer_is_held(rt: HostRuntime) {
     let mut desk = Desk::of_sample(&rt, rt.alloc());
-    let body = r#"{"difference":-100,"teller":12,"vault":59900}"#;
-    desk.done(&rt, TOM, off(&rt, 12, 4_900), body);
-    desk.denied(&rt, SUE, CLOSE, Rule::Day);
-    let body = r#"{"difference":0,"teller":11,"vault":99900}"#;
-    desk.done(&rt, TESS, off(&rt, 11, 40_000), body);
+    put_both_off(&rt, &mut desk);
     let body = r#"{"balance":60000,"cash":99900,"closed":1,"entries":0}"#;
-    desk.done(&rt, SUE, CLOSE, body);
-    let second_day = Ledger {
-        day: 2,
-        ..SAMPLE_LEDGER
-    };
-    desk.ledger_is(&rt, 1, second_day);
+    next_day_is(&rt, &mut desk, body, 2);
     let body = r#"{"balance":60000,"cash":99900,"closed":2,"entries":0}"#;
-    desk.done(&rt, SUE, CLOSE, body);
-    let third_day = Ledger {
-        day: 3,
-        ..SAMPLE_LEDGER
-    };
-    desk.ledger_is(&rt, 1, third_day);
+    next_day_is(&rt, &mut desk, body, 3);
+}
+
+/// The sample bank after a first post, when its day has ended.
+fn after_first_day(rt: &impl Abort, alloc: Global) -> Desk {
+    let mut desk = Desk::after_first_post(rt, alloc);
+    let body = r#"{"difference":0,"teller":11,"vault":97500}"#;
+    desk.done(rt, TESS, off(rt, 11, 42_500), body);
+    let body = r#"{"difference":0,"teller":12,"vault":102500}"#;
+    desk.done(rt, TOM, off(rt, 12, 5_000), body);
+    let body = r#"{"balance":62500,"cash":102500,"closed":1,"entries":1}"#;
+    desk.done(rt, SUE, CLOSE, body);
+    desk
+}
+
+/// The entry of a post of nothing by Tom on the next day.
+fn of_next_day(rt: &impl Abort) -> Entry {
+    Entry {
+        number: 2,
+        turn: 2,
+        teller: 12,
+        delta: delta(rt, 0),
+        day: 2,
+        user: 8,
+        ..first_post(rt)
+    }
+}
+
+/// Has Tom put his drawer on, where he can't undo the first post, and post nothing to its account.
+fn post_on_next_day(rt: &impl Abort, desk: &mut Desk) {
+    let body = r#"{"cash":0,"teller":12,"vault":102500}"#;
+    desk.done(rt, TOM, on(12, 0), body);
+    let undoing = correct(rt, 1, 101, 0, 12, 2_500);
+    desk.denied(rt, TOM, undoing, Rule::Entry);
+    let body = r#"{"balance":52500,"branch":1,"entry":2}"#;
+    desk.done(rt, TOM, post(rt, 101, 12, 1, 0), body);
 }
 
 #[test]
 fn an_entry_of_an_ended_day_stands(rt: HostRuntime) {
-    let mut desk = Desk::of_sample(&rt, rt.alloc());
-    let body = r#"{"balance":52500,"branch":1,"entry":1}"#;
-    desk.done(&rt, TESS, post(&rt, 101, 11, 1, 2_500), body);
-    let body = r#"{"difference":0,"teller":11,"vault":97500}"#;
-    desk.done(&rt, TESS, off(&rt, 11, 42_500), body);
-    let body = r#"{"difference":0,"teller":12,"vault":102500}"#;
-    desk.done(&rt, TOM, off(&rt, 12, 5_000), body);
-    let body = r#"{"balance":62500,"cash":102500,"closed":1,"entries":1}"#;
-    desk.done(&rt, SUE, CLOSE, body);
-    let body = r#"{"cash":0,"teller":12,"vault":102500}"#;
-    desk.done(&rt, TOM, on(12, 0), body);
-    let undoing = correct(&rt, 1, 101, 0, 12, 2_500);
-    desk.denied(&rt, TOM, undoing, Rule::Entry);
-    let body = r#"{"balance":52500,"branch":1,"entry":2}"#;
-    desk.done(&rt, TOM, post(&rt, 101, 12, 1, 0), body);
+    let mut desk = after_first_day(&rt, rt.alloc());
+    post_on_next_day(&rt, &mut desk);
     desk.entry_is(&rt, first_post(&rt));
-    let of_next_day = Entry {
-        number: 2,
-        turn: 2,
-        teller: 12,
-        delta: delta(&rt, 0),
-        day: 2,
-        user: 8,
-        ..first_post(&rt)
-    };
-    desk.entry_is(&rt, of_next_day);
+    desk.entry_is(&rt, of_next_day(&rt));
 }

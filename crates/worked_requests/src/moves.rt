@@ -5,16 +5,23 @@ use crate::forms::{moved, off, post};
 use crate::opening::{VAULT_AT_MOST, with_a_full_drawer, with_drawers_on};
 use decide::Rule;
 use row_rules::CashBook;
+use std::process::Abort;
+
+/// Has Tess move 50.00 to the other drawer, to the vault and back.
+fn move_three_times(rt: &impl Abort, desk: &mut Desk) {
+    for (source, target, body) in [
+        (11, 12, r#"{"moved":5000,"source":35000,"target":10000}"#),
+        (11, 0, r#"{"moved":5000,"source":30000,"target":60000}"#),
+        (0, 11, r#"{"moved":5000,"source":55000,"target":35000}"#),
+    ] {
+        desk.done(rt, TESS, moved(source, target, 5_000), body);
+    }
+}
 
 #[test]
 fn cash_moves_from_place_to_place(rt: HostRuntime) {
     let mut desk = Desk::of_sample(&rt, rt.alloc());
-    let body = r#"{"moved":5000,"source":35000,"target":10000}"#;
-    desk.done(&rt, TESS, moved(11, 12, 5_000), body);
-    let body = r#"{"moved":5000,"source":30000,"target":60000}"#;
-    desk.done(&rt, TESS, moved(11, 0, 5_000), body);
-    let body = r#"{"moved":5000,"source":55000,"target":35000}"#;
-    desk.done(&rt, TESS, moved(0, 11, 5_000), body);
+    move_three_times(&rt, &mut desk);
     desk.drawer_is(&rt, 11, 35_000, Some(7));
     desk.drawer_is(&rt, 12, 10_000, Some(8));
     let book = CashBook {
@@ -28,9 +35,9 @@ fn cash_moves_from_place_to_place(rt: HostRuntime) {
 #[test]
 fn who_moves_cash_holds_the_drawer_that_gives(rt: HostRuntime) {
     let mut desk = Desk::of_sample(&rt, rt.alloc());
-    desk.denied(&rt, TESS, moved(12, 11, 5_000), Rule::Drawer);
-    desk.denied(&rt, TESS, moved(12, 0, 5_000), Rule::Drawer);
-    desk.denied(&rt, TESS, moved(0, 12, 5_000), Rule::Drawer);
+    for (source, target) in [(12, 11), (12, 0), (0, 12)] {
+        desk.denied(&rt, TESS, moved(source, target, 5_000), Rule::Drawer);
+    }
     let body = r#"{"difference":0,"teller":12,"vault":60000}"#;
     desk.done(&rt, TOM, off(&rt, 12, 5_000), body);
     desk.denied(&rt, TESS, moved(11, 12, 5_000), Rule::Drawer);

@@ -184,9 +184,9 @@ pub(crate) fn with_all_cash_of_entries(rt: &impl Abort, alloc: Global) -> World 
 }
 
 /// Asks for books that hold.
-fn holds(rt: &impl Abort, alloc: Global, world: &World) {
-    let kept = Kept::of(alloc, world).expect(rt, "memory");
-    let checked = check_books(alloc, world, &kept).expect(rt, "memory");
+fn holds(rt: &impl Abort, alloc: Global, world: World) {
+    let kept = Kept::of(alloc, &world).expect(rt, "memory");
+    let checked = check_books(alloc, &world, &kept).expect(rt, "memory");
     assert_eq!(rt; checked, Ok(()));
 }
 
@@ -194,13 +194,18 @@ fn holds(rt: &impl Abort, alloc: Global, world: &World) {
 fn books_made_up_hold(rt: HostRuntime) {
     let alloc = rt.alloc();
     for opening in [SAMPLE, TARGET_AT_MOST, VAULT_AT_MOST] {
-        holds(&rt, alloc, &opened(&rt, alloc, opening));
-        holds(&rt, alloc, &with_drawers_on(&rt, alloc, opening));
+        holds(&rt, alloc, opened(&rt, alloc, opening));
+        holds(&rt, alloc, with_drawers_on(&rt, alloc, opening));
     }
     for balance in [MOST, -MOST] {
-        holds(&rt, alloc, &teller_12_at(&rt, alloc, balance));
+        holds(&rt, alloc, teller_12_at(&rt, alloc, balance));
     }
-    holds(&rt, alloc, &opening_at(&rt, alloc, MOST));
-    holds(&rt, alloc, &with_a_full_drawer(&rt, alloc));
-    holds(&rt, alloc, &with_all_cash_of_entries(&rt, alloc));
+}
+
+#[test]
+fn books_made_up_at_the_ends_of_the_range_hold(rt: HostRuntime) {
+    let alloc = rt.alloc();
+    holds(&rt, alloc, opening_at(&rt, alloc, MOST));
+    holds(&rt, alloc, with_a_full_drawer(&rt, alloc));
+    holds(&rt, alloc, with_all_cash_of_entries(&rt, alloc));
 }

@@ -5,16 +5,23 @@ use crate::forms::post;
 use crate::opening::{opening_at, with_a_full_drawer, with_all_cash_of_entries};
 use decide::Rule;
 use row_rules::{CashBook, Ledger};
+use std::process::Abort;
+
+/// Has Tess post to an account of her branch and to one of another.
+fn post_three_times(rt: &impl Abort, desk: &mut Desk) {
+    for (account, added, body) in [
+        (101, 2_500, r#"{"balance":52500,"branch":1,"entry":1}"#),
+        (201, -30_000, r#"{"balance":0,"branch":1,"entry":2}"#),
+        (101, 0, r#"{"balance":52500,"branch":1,"entry":3}"#),
+    ] {
+        desk.done(rt, TESS, post(rt, account, 11, 1, added), body);
+    }
+}
 
 #[test]
 fn posts_move_three_balances_and_a_drawer(rt: HostRuntime) {
     let mut desk = Desk::of_sample(&rt, rt.alloc());
-    let body = r#"{"balance":52500,"branch":1,"entry":1}"#;
-    desk.done(&rt, TESS, post(&rt, 101, 11, 1, 2_500), body);
-    let body = r#"{"balance":0,"branch":1,"entry":2}"#;
-    desk.done(&rt, TESS, post(&rt, 201, 11, 1, -30_000), body);
-    let body = r#"{"balance":52500,"branch":1,"entry":3}"#;
-    desk.done(&rt, TESS, post(&rt, 101, 11, 1, 0), body);
+    post_three_times(&rt, &mut desk);
     desk.teller_is(&rt, 11, 32_500);
     desk.drawer_is(&rt, 11, 12_500, Some(7));
     let ledger = Ledger {
@@ -39,22 +46,25 @@ fn posts_move_three_balances_and_a_drawer(rt: HostRuntime) {
     assert!(rt; desk.faults() == 0);
 }
 
+/// Has one post denied by each rule on posts.
+fn deny_posts(rt: &impl Abort, desk: &mut Desk) {
+    for (who, account, teller, added, rule) in [
+        (TESS, 101, 11, 1, Rule::Range),
+        (TESS, 102, 12, -1, Rule::Drawer),
+        (TESS, 102, 11, -1, Rule::Floor),
+        (TESS, 101, 11, -40_001, Rule::Cash),
+        (TOM, 101, 21, 100, Rule::Branch),
+        (TOM, 999, 11, 100, Rule::Unknown),
+    ] {
+        desk.denied(rt, who, post(rt, account, teller, 1, added), rule);
+    }
+}
+
 #[test]
 fn a_rule_that_denies_changes_nothing(rt: HostRuntime) {
     let alloc = rt.alloc();
     let mut desk = Desk::over(alloc, opening_at(&rt, alloc, 999_999_999_999));
-    let too_much = post(&rt, 101, 11, 1, 1);
-    desk.denied(&rt, TESS, too_much, Rule::Range);
-    let not_held = post(&rt, 102, 12, 1, -1);
-    desk.denied(&rt, TESS, not_held, Rule::Drawer);
-    let below = post(&rt, 102, 11, 1, -1);
-    desk.denied(&rt, TESS, below, Rule::Floor);
-    let more_than_cash = post(&rt, 101, 11, 1, -40_001);
-    desk.denied(&rt, TESS, more_than_cash, Rule::Cash);
-    let elsewhere = post(&rt, 101, 21, 1, 100);
-    desk.denied(&rt, TOM, elsewhere, Rule::Branch);
-    let missing = post(&rt, 999, 11, 1, 100);
-    desk.denied(&rt, TOM, missing, Rule::Unknown);
+    deny_posts(&rt, &mut desk);
     desk.account_is(&rt, 101, 999_999_999_999, 0);
     let ledger = Ledger {
         balance: 999_999_999_999,

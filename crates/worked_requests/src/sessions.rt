@@ -15,23 +15,58 @@ fn tess(session: u32) -> Who {
     }
 }
 
-/// An opening that has to be replied with this body.
-fn opens<S: Store>(
-    rt: &impl Abort,
-    bank: &mut Bank<S>,
+/// A bank in lists, at which sessions are opened and ended.
+#[derive(Drop)]
+struct Door {
+    bank: Bank<ListStore>,
     alloc: Global,
-    user: Option<u32>,
-    body: &str,
-) {
-    match begin(bank, alloc, user).expect(rt, "no fault") {
-        Ok(given) => assert!(rt; given.as_slice() == body.as_bytes(), "{body}"),
-        Err(rule) => panic!(rt; "{}", rule.name()),
+}
+
+impl Door {
+    /// That of the sample bank.
+    fn of_sample(rt: &impl Abort, alloc: Global) -> Door {
+        let store = ListStore::new(sample_world(alloc).expect(rt, "memory"));
+        Door {
+            bank: Bank { store },
+            alloc,
+        }
+    }
+
+    /// Has the row of the session of a user written.
+    fn write(&mut self, rt: &impl Abort, session: Session) {
+        let plan = vec![in self.alloc; RowWrite::Session(session)];
+        let applied = self.bank.store.apply(self.alloc, plan.expect(rt, "memory"));
+        applied.expect(rt, "no fault");
+    }
+
+    /// An opening that has to be replied with this body.
+    fn opens(&mut self, rt: &impl Abort, user: u32, body: &str) {
+        let given = begin(&mut self.bank, self.alloc, Some(user));
+        replied(rt, given.expect(rt, "no fault"), body);
+    }
+
+    /// An opening that has to be denied by this rule.
+    fn stays_shut(&mut self, rt: &impl Abort, user: Option<u32>, rule: Rule) {
+        let given = begin(&mut self.bank, self.alloc, user);
+        assert!(rt; given.expect(rt, "no fault") == Err(rule));
+    }
+
+    /// An ending that has to be replied with this body.
+    fn ends(&mut self, rt: &impl Abort, who: Who, body: &str) {
+        let given = end(&mut self.bank, self.alloc, who);
+        replied(rt, given.expect(rt, "no fault"), body);
+    }
+
+    /// An ending that is denied, since the session isn't that of who asks.
+    fn ends_nothing(&mut self, rt: &impl Abort, who: Who) {
+        let given = end(&mut self.bank, self.alloc, who);
+        assert!(rt; given.expect(rt, "no fault") == Err(Rule::Identity));
     }
 }
 
-/// An ending that has to be replied with this body.
-fn ends<S: Store>(rt: &impl Abort, bank: &mut Bank<S>, alloc: Global, who: Who, body: &str) {
-    match end(bank, alloc, who).expect(rt, "no fault") {
+/// Asks for a reply of this body.
+fn replied(rt: &impl Abort, given: Result<Vec<u8>, Rule>, body: &str) {
+    match given {
         Ok(given) => assert!(rt; given.as_slice() == body.as_bytes(), "{body}"),
         Err(rule) => panic!(rt; "{}", rule.name()),
     }
@@ -39,49 +74,34 @@ fn ends<S: Store>(rt: &impl Abort, bank: &mut Bank<S>, alloc: Global, who: Who, 
 
 #[test]
 fn sessions_are_opened_and_ended(rt: HostRuntime) {
-    let alloc = rt.alloc();
-    let mut bank = Bank {
-        store: ListStore::new(sample_world(alloc).expect(&rt, "memory")),
-    };
-    opens(&rt, &mut bank, alloc, Some(7), r#"{"session":2}"#);
-    assert!(rt; end(&mut bank, alloc, tess(1)).expect(&rt, "no fault") == Err(Rule::Identity));
-    ends(&rt, &mut bank, alloc, tess(2), r#"{"ended":2}"#);
-    assert!(rt; end(&mut bank, alloc, tess(2)).expect(&rt, "no fault") == Err(Rule::Identity));
-    opens(&rt, &mut bank, alloc, Some(7), r#"{"session":3}"#);
-    opens(&rt, &mut bank, alloc, Some(8), r#"{"session":2}"#);
+    let mut door = Door::of_sample(&rt, rt.alloc());
+    door.opens(&rt, 7, r#"{"session":2}"#);
+    door.ends_nothing(&rt, tess(1));
+    door.ends(&rt, tess(2), r#"{"ended":2}"#);
+    door.ends_nothing(&rt, tess(2));
+    door.opens(&rt, 7, r#"{"session":3}"#);
+    door.opens(&rt, 8, r#"{"session":2}"#);
 }
 
 #[test]
 fn sessions_are_opened_for_users_alone(rt: HostRuntime) {
-    let alloc = rt.alloc();
-    let mut bank = Bank {
-        store: ListStore::new(sample_world(alloc).expect(&rt, "memory")),
-    };
-    assert!(rt; begin(&mut bank, alloc, None).expect(&rt, "no fault") == Err(Rule::Identity));
-    assert!(rt; begin(&mut bank, alloc, Some(55)).expect(&rt, "no fault") == Err(Rule::Identity));
+    let mut door = Door::of_sample(&rt, rt.alloc());
+    door.stays_shut(&rt, None, Rule::Identity);
+    door.stays_shut(&rt, Some(55), Rule::Identity);
 }
 
 /// The last number there is can be given, and none behind it.
 #[test]
 fn sessions_end_with_their_last_number(rt: HostRuntime) {
-    let alloc = rt.alloc();
-    let mut store = ListStore::new(sample_world(alloc).expect(&rt, "memory"));
+    let mut door = Door::of_sample(&rt, rt.alloc());
     let before_last = Session {
         user: 7,
         session: 999_999_998,
         on: true,
     };
-    let plan = vec![in alloc; RowWrite::Session(before_last)].expect(&rt, "memory");
-    store.apply(alloc, plan).expect(&rt, "no fault");
-    let mut bank = Bank { store };
-    opens(&rt, &mut bank, alloc, Some(7), r#"{"session":999999999}"#);
-    assert!(rt; begin(&mut bank, alloc, Some(7)).expect(&rt, "no fault") == Err(Rule::Full));
-    ends(
-        &rt,
-        &mut bank,
-        alloc,
-        tess(999_999_999),
-        r#"{"ended":999999999}"#,
-    );
-    assert!(rt; begin(&mut bank, alloc, Some(7)).expect(&rt, "no fault") == Err(Rule::Full));
+    door.write(&rt, before_last);
+    door.opens(&rt, 7, r#"{"session":999999999}"#);
+    door.stays_shut(&rt, Some(7), Rule::Full);
+    door.ends(&rt, tess(999_999_999), r#"{"ended":999999999}"#);
+    door.stays_shut(&rt, Some(7), Rule::Full);
 }

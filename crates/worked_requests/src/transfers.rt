@@ -7,6 +7,8 @@ use crate::opening::{TARGET_AT_MOST, teller_12_at, with_drawers_on};
 use bank_books::{Entry, EntryForm};
 use decide::Rule;
 use row_rules::Ledger;
+use std::alloc::Global;
+use std::process::Abort;
 
 #[test]
 fn a_transfer_makes_two_entries(rt: HostRuntime) {
@@ -38,15 +40,22 @@ fn a_transfer_makes_two_entries(rt: HostRuntime) {
     desk.entry_is(&rt, second);
 }
 
+/// Has Tom transfer 200.00 twice.
+fn transfer_twice(rt: &impl Abort, desk: &mut Desk) {
+    for body in [
+        r#"{"branch":1,"first":1,"second":2,"source":30000,"target":20000}"#,
+        r#"{"branch":1,"first":3,"second":4,"source":10000,"target":40000}"#,
+    ] {
+        desk.done(rt, TOM, transfer(101, 102, 20_000), body);
+    }
+    desk.account_is(rt, 101, 10_000, 2);
+    desk.account_is(rt, 102, 40_000, 2);
+}
+
 #[test]
 fn a_transfer_moves_no_cash(rt: HostRuntime) {
     let mut desk = Desk::of_sample(&rt, rt.alloc());
-    let body = r#"{"branch":1,"first":1,"second":2,"source":30000,"target":20000}"#;
-    desk.done(&rt, TOM, transfer(101, 102, 20_000), body);
-    let body = r#"{"branch":1,"first":3,"second":4,"source":10000,"target":40000}"#;
-    desk.done(&rt, TOM, transfer(101, 102, 20_000), body);
-    desk.account_is(&rt, 101, 10_000, 2);
-    desk.account_is(&rt, 102, 40_000, 2);
+    transfer_twice(&rt, &mut desk);
     desk.teller_is(&rt, 12, 0);
     desk.drawer_is(&rt, 12, 5_000, Some(8));
     let ledger = Ledger {
@@ -70,20 +79,23 @@ fn the_target_of_a_transfer_stays_in_range(rt: HostRuntime) {
     desk.done(&rt, TOM, transfer(101, 102, 1), body);
 }
 
+/// Has Tom transfer 10.00, where his teller and his branch stand at this balance.
+fn stays_at(rt: &impl Abort, alloc: Global, end: i64) {
+    let mut desk = Desk::over(alloc, teller_12_at(rt, alloc, end));
+    let body = r#"{"branch":1,"first":1,"second":2,"source":0,"target":0}"#;
+    desk.done(rt, TOM, transfer(101, 102, 1_000), body);
+    desk.teller_is(rt, 12, i128::from(end));
+    let ledger = Ledger {
+        balance: i128::from(end),
+        entries: 2,
+        ..SAMPLE_LEDGER
+    };
+    desk.ledger_is(rt, 1, ledger);
+}
+
 /// The teller and the branch of a transfer stand at an end of the range, which one of its entries alone would leave.
 #[test]
 fn the_range_is_judged_after_both_entries(rt: HostRuntime) {
-    let alloc = rt.alloc();
-    for end in [MOST, -MOST] {
-        let mut desk = Desk::over(alloc, teller_12_at(&rt, alloc, end));
-        let body = r#"{"branch":1,"first":1,"second":2,"source":0,"target":0}"#;
-        desk.done(&rt, TOM, transfer(101, 102, 1_000), body);
-        desk.teller_is(&rt, 12, i128::from(end));
-        let ledger = Ledger {
-            balance: i128::from(end),
-            entries: 2,
-            ..SAMPLE_LEDGER
-        };
-        desk.ledger_is(&rt, 1, ledger);
-    }
+    stays_at(&rt, rt.alloc(), MOST);
+    stays_at(&rt, rt.alloc(), -MOST);
 }
