@@ -1,3 +1,4 @@
+use bank_books::BranchRecord;
 use counter_ops::{Balance, NewAccount, Post};
 use decide::{
     Asked, BookRows, Loaded, Op, OpeningRows, OperationRows, PolicyRows, ReplyKind, Request, Rule,
@@ -105,12 +106,13 @@ fn posts_are_judged_by_their_rows(rt: HostRuntime) {
     }
 }
 
-/// The first rule against Sue's opening an account.
+/// The first rule against Sue's opening an account at a branch that has so many.
 fn first_against_opening(
     rt: &impl Abort,
     alloc: Global,
     store: &mut ListStore,
     account: u32,
+    accounts: u64,
 ) -> Option<Rule> {
     let op = Op::NewAccount(NewAccount {
         account,
@@ -120,16 +122,24 @@ fn first_against_opening(
     let policy = policy_of(rt, alloc, store, 9, &op);
     let there = store.account(alloc, account).expect(rt, "no fault");
     let branch = store.branch(alloc, 1).expect(rt, "no fault");
+    let branch = branch.map(|row| BranchRecord { accounts, ..row });
     let books = BookRows::NewAccount(OpeningRows::of(there, branch));
     first_against(policy, books, 9, op)
 }
 
 #[test]
-fn accounts_are_judged_by_their_rows(rt: HostRuntime) {
+fn openings_are_judged_by_their_rows(rt: HostRuntime) {
     let alloc = rt.alloc();
     let mut store = sample(&rt, alloc);
-    for (account, first) in [(103, None), (101, Some(Rule::Taken))] {
-        assert!(rt; first_against_opening(&rt, alloc, &mut store, account) == first);
+    for (account, accounts, first) in [
+        (103u32, 2u64, None),
+        (101, 2, Some(Rule::Taken)),
+        (103, 99_999, None),
+        (103, 100_000, Some(Rule::Full)),
+        (101, 100_000, Some(Rule::Taken)),
+    ] {
+        let given = first_against_opening(&rt, alloc, &mut store, account, accounts);
+        assert!(rt; given == first);
     }
 }
 
