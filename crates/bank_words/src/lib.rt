@@ -2,8 +2,6 @@
 #![tactic(auto)]
 
 mod explaining;
-#[cfg(test)]
-mod tests;
 mod words;
 
 pub use explaining::{REFUSED_WORDS, explain, unread};

@@ -3,8 +3,6 @@
 //! moment.
 #![tactic(auto)]
 
-#[cfg(test)]
-mod tests;
 mod words;
 
 use crate::words::words_of;

@@ -2,7 +2,7 @@ use sample_service::Moment;
 use sample_sql::StoreName;
 
 /// What the words ask for.
-#[derive(Clone, Copy, Debug, PartialEq, Eq)]
+#[derive(Clone, Copy)]
 pub struct Words {
     /// The store that the sample bank is kept in.
     pub store: StoreName,

@@ -123,12 +123,12 @@ impl Desk {
     pub(crate) fn account_is(&mut self, rt: &impl Abort, account: u32, balance: i128, turns: u64) {
         let row = self.bank.store.account(self.alloc, account);
         let row = row.expect(rt, "no fault").expect(rt, "the account");
-        assert_eq!(rt; (row.balance, row.turns), (balance, turns), "{account}");
+        assert!(rt; row.balance == balance && row.turns == turns);
     }
 
     /// Asks for the balance of a teller.
     pub(crate) fn teller_is(&mut self, rt: &impl Abort, teller: u32, balance: i128) {
-        assert_eq!(rt; self.teller(rt, teller).balance, balance, "{teller}");
+        assert!(rt; self.teller(rt, teller).balance == balance);
     }
 
     /// Asks for the cash of the drawer of a teller, and who holds it.
@@ -140,7 +140,7 @@ impl Desk {
         holder: Option<u32>,
     ) {
         let row = self.teller(rt, teller);
-        assert_eq!(rt; (row.cash, row.holder), (cash, holder), "{teller}");
+        assert!(rt; row.cash == cash && row.holder == holder);
     }
 
     fn teller(&mut self, rt: &impl Abort, teller: u32) -> TellerRecord {
@@ -151,14 +151,13 @@ impl Desk {
     /// Asks for the history of a branch.
     pub(crate) fn ledger_is(&mut self, rt: &impl Abort, branch: u32, ledger: Ledger) {
         let row = self.branch(rt, branch);
-        assert_eq!(rt; Ledger::of(&row), ledger, "{branch}");
+        assert!(rt; Ledger::of(&row) == ledger);
     }
 
     /// Asks for the cash book of branch 1, and for the cash of its vault.
     pub(crate) fn cash_is(&mut self, rt: &impl Abort, book: CashBook, vault: i128) {
         let row = self.branch(rt, 1);
-        assert_eq!(rt; CashBook::of(&row), book);
-        assert_eq!(rt; row.vault, vault);
+        assert!(rt; CashBook::of(&row) == book && row.vault == vault);
     }
 
     fn branch(&mut self, rt: &impl Abort, branch: u32) -> BranchRecord {
@@ -170,7 +169,7 @@ impl Desk {
     pub(crate) fn entry_is(&mut self, rt: &impl Abort, entry: Entry) {
         let row = self.bank.store.entry(self.alloc, 1, entry.number);
         let row = row.expect(rt, "no fault").expect(rt, "the entry");
-        assert_eq!(rt; row, entry);
+        assert!(rt; row == entry);
     }
 
     /// How many calls of the store answered a fault.

@@ -1,0 +1,141 @@
+"""Finds the functions of a source file: their names, as the prover prints them, and where their bodies stand."""
+import re
+from typing import NamedTuple
+
+# What is no code, or would be taken for a bracket of it: comments, strings, characters.
+NO_CODE = re.compile(r"//[^\n]*|/\*.*?\*/|b?\"(?:\\.|[^\"\\])*\"|b?'(?:\\[^'\n]+|\\'|[^'\\\n])'", re.S)
+HEAD = re.compile(r"\bfn\s+(?P<fn>\w+)|\bimpl\b|\bmod\s+(?P<mod>\w+)\s*(?=\{)|\btrait\s+(?P<trait>\w+)")
+CLAUSE = re.compile(r"\b(requires|ensures|ghost)\b[^{}]*$")
+CLOSED_BY = {"(": ")", "{": "}", "<": ">"}
+
+
+class Function(NamedTuple):
+    """A function with a body. `name` is its path below the crate."""
+
+    name: str
+    start: int
+    end: int
+
+
+def blanked(text):
+    """The text with blanks for what is no code; each character keeps its place."""
+    return NO_CODE.sub(lambda found: re.sub(r"[^\n]", " ", found[0]), text)
+
+
+def behind(code, at):
+    """The place behind the bracket that closes the one at `at`."""
+    opens, closes, depth = code[at], CLOSED_BY[code[at]], 0
+    while at < len(code):
+        is_arrow = code[at] == ">" and code[at - 1] in "-="
+        depth += (code[at] == opens) - (code[at] == closes and not is_arrow)
+        at += 1
+        if not depth:
+            return at
+    raise ValueError("a bracket is not closed")
+
+
+def body_of(code, at):
+    """Where the body of the function stands whose name ends at `at`, or none where it has none."""
+    while code[at].isspace():
+        at += 1
+    if code[at] == "<":
+        at = behind(code, at)
+    at = behind(code, code.index("(", at))
+    while True:
+        found = re.compile(r"[{;]").search(code, at)
+        if not found or found[0] == ";":
+            return None
+        end = behind(code, found.start())
+        if not CLAUSE.search(code, at, found.start()):
+            return found.start(), end
+        at = end
+
+
+def last_words(path):
+    """A type by its last words alone, as the prover names impls: `From<AllocFailed<T>>` as `FromAllocFailed`."""
+    path = re.sub(r"'\w+\b,?", "", path).strip().lstrip("&").strip()
+    name, _, given = path.partition("<")
+    name = re.split(r"::|\s", name.strip())[-1]
+    given = given.rpartition(">")[0]
+    args = [it for it in re.split(r",(?![^<]*>)", given) if it.strip()]
+    return name + "".join(last_words(it) for it in args if not re.fullmatch(r"\s*[A-Z]\s*", it))
+
+
+def name_of_impl(header):
+    """The name under which the prover lists the functions of a block: `impl Write for Tallied<W>` as `TalliedWrite`."""
+    header = header[len("impl") :].strip()
+    if header.startswith("<"):
+        header = header[behind(header, 0) :]
+    header = re.split(r"\bwhere\b", header)[0]
+    of, is_trait, what = header.partition(" for ")
+    shown = what if is_trait else of
+    kind = re.split(r"::|<", shown.strip().lstrip("&").strip())
+    kind = last_words(shown).partition("<")[0] if len(kind) == 1 else re.split(r"::", shown.partition("<")[0].strip())[-1]
+    return kind + (last_words(of) if is_trait else "")
+
+
+def module_of(path):
+    """The module that a file of src/ is."""
+    return [it for it in re.sub(r"^src/|\.rt$", "", path).split("/") if it not in ("lib", "main", "mod")]
+
+
+def homes_of(texts):
+    """The module of each struct and enum of a crate, whose files' texts are given by their paths."""
+    homes = {}
+    for path, text in texts.items():
+        for name in re.findall(r"\b(?:struct|enum)\s+(\w+)", blanked(text)):
+            homes[name] = module_of(path)
+    return homes
+
+
+def functions(text, path, homes):
+    """The functions of a file of src/, in the order in which they stand. A type's own are listed in its module."""
+    code, found, module = blanked(text), [], module_of(path)
+
+    def walk(at, end, above):
+        while True:
+            head = HEAD.search(code, at, end)
+            if not head:
+                return
+            at = head.end()
+            if head["fn"]:
+                body = body_of(code, at)
+                if body:
+                    found.append(Function("::".join([*above, head["fn"]]), *body))
+                    at = body[1]
+                continue
+            opened = code.find("{", head.start(), end)
+            if opened < 0:
+                return
+            at = behind(code, opened)
+            header = code[head.start() : opened]
+            name = head["mod"] or head["trait"] or name_of_impl(header)
+            is_own = header.startswith("impl") and " for " not in header
+            walk(opened + 1, at - 1, [*(homes.get(name, above) if is_own else above), name])
+
+    walk(0, len(code), module)
+    return found
+
+
+def changed_functions(old, new, path, homes):
+    """The names of the functions whose bodies differ between two texts of a file, or none where more than bodies does."""
+    try:
+        before, after = functions(old, path, homes), functions(new, path, homes)
+    except (ValueError, IndexError):
+        return None
+    if [it.name for it in before] != [it.name for it in after]:
+        return None
+    if without_bodies(old, before) != without_bodies(new, after):
+        return None
+    pairs = zip(before, after)
+    return {it.name for it, made in pairs if old[it.start : it.end] != new[made.start : made.end]}
+
+
+def without_bodies(text, found):
+    """The text of a file without the bodies of its functions, its imports, its comments and its blanks."""
+    at, kept = 0, []
+    for it in found:
+        kept.append(text[at : it.start])
+        at = it.end
+    rest = "".join([*kept, text[at:]])
+    return re.sub(r"//[^\n]*|^use [^;]*;|\s+", "", rest, flags=re.M)

@@ -1,0 +1,37 @@
+"""What the tools know of the repository and of the toolchain: the crates, what each uses, and the kit's folder."""
+import os
+import subprocess
+
+TOP = os.path.dirname(os.path.dirname(os.path.abspath(__file__)))
+
+
+def words_of_all():
+    """The libraries that the line of each crate names, the kit's among them, by the crate's name."""
+    uses = {}
+    with open(os.path.join(TOP, "crates.txt"), encoding="utf-8") as file:
+        for line in file:
+            head, colon, names = line.partition("#")[0].partition(":")
+            if colon:
+                uses[head.split()[0]] = names.split()
+    return uses
+
+
+def below(uses, names):
+    """These crates and all that they stand on, each behind those that it uses; the kit's libraries are left out."""
+    order = []
+
+    def visit(crate):
+        if crate in uses and crate not in order:
+            for used in uses[crate]:
+                visit(used)
+            order.append(crate)
+
+    for name in names:
+        visit(name)
+    return order
+
+
+def kit():
+    """The folder of the toolchain's kit."""
+    ran = subprocess.run(["rt", "doc"], cwd=TOP, stdout=subprocess.PIPE, check=True)
+    return os.path.dirname(ran.stdout.decode().strip())
