@@ -6,7 +6,7 @@ from typing import NamedTuple
 NO_CODE = re.compile(r"//[^\n]*|/\*.*?\*/|b?\"(?:\\.|[^\"\\])*\"|b?'(?:\\[^'\n]+|\\'|[^'\\\n])'", re.S)
 HEAD = re.compile(r"\bfn\s+(?P<fn>\w+)|\bimpl\b|\bmod\s+(?P<mod>\w+)\s*(?=\{)|\btrait\s+(?P<trait>\w+)")
 CLAUSE = re.compile(r"\b(requires|ensures|ghost)\b[^{}]*$")
-CLOSED_BY = {"(": ")", "{": "}", "<": ">"}
+CLOSED_BY = {"(": ")", "{": "}", "<": ">", "[": "]"}
 
 
 class Function(NamedTuple):
@@ -42,9 +42,12 @@ def body_of(code, at):
         at = behind(code, at)
     at = behind(code, code.index("(", at))
     while True:
-        found = re.compile(r"[{;]").search(code, at)
+        found = re.compile(r"[{;[]").search(code, at)
         if not found or found[0] == ";":
             return None
+        if found[0] == "[":
+            at = behind(code, found.start())
+            continue
         end = behind(code, found.start())
         if not CLAUSE.search(code, at, found.start()):
             return found.start(), end
