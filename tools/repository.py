@@ -31,6 +31,11 @@ def below(uses, names):
     return order
 
 
+def holds_tests_alone(name):
+    """Whether a crate holds tests and nothing else: tools/worked runs these, and the gate does not prove them."""
+    return name.startswith("worked_")
+
+
 def kit():
     """The folder of the toolchain's kit."""
     ran = subprocess.run(["rt", "doc"], cwd=TOP, stdout=subprocess.PIPE, check=True)

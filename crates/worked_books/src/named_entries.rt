@@ -68,6 +68,6 @@ fn entries_name_entries_of_their_branch(rt: HostRuntime) {
         let world = bank_that_names(&rt, alloc, partner, undoes);
         let kept = Kept::of(alloc, &world).expect(&rt, "memory");
         let checked = check_books(alloc, &world, &kept).expect(&rt, "memory");
-        assert_eq!(rt; checked, verdict, "{partner} {undoes}");
+        assert!(rt; checked == verdict, "{partner} {undoes}");
     }
 }

@@ -18,20 +18,20 @@ fn opening_sums_agree(rt: HostRuntime) -> Result<(), AllocError> {
             second = second.saturating_add(row.opening.get());
         }
     }
-    assert_eq!(rt; (accounts, first, second), (80_000, 60_000, 20_000));
+    assert!(rt; (accounts, first, second) == (80_000, 60_000, 20_000));
     for row in world.branches() {
         let tellers = if row.branch == 1 { first } else { second };
-        assert_eq!(rt; row.opening.get(), tellers, "branch {}", row.branch);
+        assert!(rt; row.opening.get() == tellers, "branch {}", row.branch);
     }
     Ok(())
 }
 
 #[test]
 fn badges_are_compared_byte_for_byte(rt: HostRuntime) {
-    assert_eq!(rt; badge_user(b"tess"), Some(7));
-    assert_eq!(rt; badge_user(b"Tess"), None);
-    assert_eq!(rt; badge_user(b"tess "), None);
-    assert_eq!(rt; badge_user(b""), None);
+    assert!(rt; badge_user(b"tess") == Some(7));
+    assert!(rt; badge_user(b"Tess").is_none());
+    assert!(rt; badge_user(b"tess ").is_none());
+    assert!(rt; badge_user(b"").is_none());
 }
 
 /// The counts of the policy's rows, and its soundness: no row dangles, and no one executes what he certifies.
@@ -39,12 +39,9 @@ fn badges_are_compared_byte_for_byte(rt: HostRuntime) {
 fn policy_is_sound(rt: HostRuntime) -> Result<(), AllocError> {
     let world = sample_world(rt.alloc())?;
     let policy = world.policy();
-    assert_eq!(rt; check_policy(policy), Ok(()));
-    assert_eq!(rt; (policy.users().len(), policy.certifiers().len()), (6, 26));
-    assert_eq!(rt;
-        (policy.relations().len(), policy.triples().len()),
-        (18, 21)
-    );
+    assert!(rt; check_policy(policy).is_ok());
+    assert!(rt; (policy.users().len(), policy.certifiers().len()) == (6, 26));
+    assert!(rt; (policy.relations().len(), policy.triples().len()) == (18, 21));
     assert!(rt;
         policy
             .sets()
@@ -68,16 +65,15 @@ fn each_badge_has_its_user(rt: HostRuntime) -> Result<(), AllocError> {
         (b"tom", 8, "Tom"),
         (b"sue", 9, "Sue"),
     ] {
-        assert_eq!(rt; badge_user(badge), Some(number));
+        assert!(rt; badge_user(badge) == Some(number));
         match user_row(policy, number) {
             Some(user) => {
-                assert_eq!(rt; user.name.as_str(), name);
-                assert_eq!(rt;
-                    (user.officer, user.suspended),
-                    (number == 1, false),
+                assert!(rt; user.name.as_str() == name);
+                assert!(rt;
+                    (user.officer, user.suspended) == (number == 1, false),
                     "{name}"
                 );
-                assert_eq!(rt; (user.session, user.on), (1, true), "{name}");
+                assert!(rt; (user.session, user.on) == (1, true), "{name}");
             }
             None => panic!(rt; "{name}"),
         }

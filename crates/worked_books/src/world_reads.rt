@@ -191,8 +191,8 @@ fn tellers_are_told(rt: HostRuntime) {
     let world = small_world(&rt, rt.alloc());
     let tellers = roster(rt.alloc(), &world, 1).expect(&rt, "memory");
     assert!(rt; tellers.iter().map(|row| row.row.teller).eq([11, 12]));
-    assert_eq!(rt; next_teller(&world, 1, 11), tellers.get(1).copied());
-    assert_eq!(rt; next_teller(&world, 1, 12), None);
+    assert!(rt; next_teller(&world, 1, 11) == tellers.get(1).copied());
+    assert!(rt; next_teller(&world, 1, 12).is_none());
 }
 
 #[test]
@@ -202,18 +202,18 @@ fn cash_is_told(rt: HostRuntime) {
         cash: 400,
         holder: Some(7),
     };
-    assert_eq!(rt; drawer(&world, 11), Some(on));
-    assert_eq!(rt; drawer(&world, 13), None);
-    assert_eq!(rt; vault(&world, 1), Some(4_600));
-    assert_eq!(rt; vault(&world, 3), None);
+    assert!(rt; drawer(&world, 11) == Some(on));
+    assert!(rt; drawer(&world, 13).is_none());
+    assert!(rt; vault(&world, 1) == Some(4_600));
+    assert!(rt; vault(&world, 3).is_none());
 }
 
 #[test]
 fn entries_are_told(rt: HostRuntime) {
     let world = small_world(&rt, rt.alloc());
-    assert_eq!(rt; entry(&world, 2, 1), Some(entry_row(&rt, 2, 1, 2, 0)));
-    assert_eq!(rt; entry(&world, 1, 2), None);
-    assert_eq!(rt; (undone(&world, 1, 1), undone(&world, 2, 1)), (false, true));
+    assert!(rt; entry(&world, 2, 1) == Some(entry_row(&rt, 2, 1, 2, 0)));
+    assert!(rt; entry(&world, 1, 2).is_none());
+    assert!(rt; (undone(&world, 1, 1), undone(&world, 2, 1)) == (false, true));
     assert!(rt; !undone(&world, 1, 0), "number 0 is that of no entry");
 }
 
@@ -221,19 +221,19 @@ fn entries_are_told(rt: HostRuntime) {
 fn entries_of_an_account_are_told(rt: HostRuntime) {
     let world = small_world(&rt, rt.alloc());
     let balance_after = entry_at(&world, 101, 2).map(|row| row.balance_after);
-    assert_eq!(rt; balance_after, Some(2_000));
+    assert!(rt; balance_after == Some(2_000));
     let rows = entries_of(rt.alloc(), &world, 101, 2, 5).expect(&rt, "memory");
     let told = rows.iter().map(|row| (row.row.turn, row.balance_after));
     assert!(rt; told.eq([(2, 2_000), (3, 1_500)]));
     let first = entries_of(rt.alloc(), &world, 101, 1, 1).expect(&rt, "memory");
-    assert_eq!(rt; first.len(), 1);
+    assert!(rt; first.len() == 1);
 }
 
 #[test]
 fn releases_are_told(rt: HostRuntime) {
     let world = small_world(&rt, rt.alloc());
-    assert_eq!(rt; release(&world, 7, 2), Some(release_row(2)));
-    assert_eq!(rt; release(&world, 2, 1), None);
+    assert!(rt; release(&world, 7, 2) == Some(release_row(2)));
+    assert!(rt; release(&world, 2, 1).is_none());
 }
 
 #[test]
@@ -242,15 +242,15 @@ fn accounts_between_intervals_are_left_out(rt: HostRuntime) {
     let rows = shown(rt.alloc(), &world, 7, 0, 9).expect(&rt, "memory");
     assert!(rt; rows.iter().map(|row| row.row.account).eq([101, 105]));
     let next = next_shown(rt.alloc(), &world, 7, 101);
-    assert_eq!(rt; next, Ok(rows.get(1).copied()));
+    assert!(rt; next == Ok(rows.get(1).copied()));
 }
 
 #[test]
 fn accounts_are_shown_up_to_their_count(rt: HostRuntime) {
     let world = small_world(&rt, rt.alloc());
     let first = shown(rt.alloc(), &world, 7, 0, 1).expect(&rt, "memory");
-    assert_eq!(rt; first.len(), 1);
-    assert_eq!(rt; next_shown(rt.alloc(), &world, 2, 0), Ok(None));
+    assert!(rt; first.len() == 1);
+    assert!(rt; next_shown(rt.alloc(), &world, 2, 0) == Ok(None));
 }
 
 #[test]
@@ -265,16 +265,16 @@ fn users_are_told(rt: HostRuntime) {
         },
         releases: 2,
     };
-    assert_eq!(rt; user_record(&world, 7), Some(tess));
-    assert_eq!(rt; user_record(&world, 8), None);
+    assert!(rt; user_record(&world, 7) == Some(tess));
+    assert!(rt; user_record(&world, 8).is_none());
 }
 
 #[test]
 fn sets_triples_and_certifiers_are_told(rt: HostRuntime) {
     let world = small_world(&rt, rt.alloc());
-    assert_eq!(rt; (triple_count(&world, 7), triple_count(&world, 2)), (1, 0));
-    assert_eq!(rt; set_count(&world), 1);
-    assert_eq!(rt; (is_set(&world, 4), is_set(&world, 5)), (true, false));
+    assert!(rt; (triple_count(&world, 7), triple_count(&world, 2)) == (1, 0));
+    assert!(rt; set_count(&world) == 1);
+    assert!(rt; (is_set(&world, 4), is_set(&world, 5)) == (true, false));
     assert!(rt; is_certifier(&world, 2, Procedure::Accounts));
     assert!(rt; !is_certifier(&world, 2, Procedure::Post));
 }
@@ -288,14 +288,14 @@ fn is_followed_by(
     key: Option<PolicyKey>,
 ) {
     let next = next_policy(alloc, world, after).expect(rt, "memory");
-    assert_eq!(rt; next.map(|row| row.key()), key);
+    assert!(rt; next.map(|row| row.key()) == key);
 }
 
 #[test]
 fn each_line_of_the_policy_leads_to_the_next(rt: HostRuntime) {
     let world = small_world(&rt, rt.alloc());
     let rows = policy_rows(rt.alloc(), &world).expect(&rt, "memory");
-    assert_eq!(rt; rows.len(), 7);
+    assert!(rt; rows.len() == 7);
     let mut after = None;
     for row in &rows {
         is_followed_by(&rt, rt.alloc(), &world, after, Some(row.key()));
@@ -308,9 +308,9 @@ fn each_line_of_the_policy_leads_to_the_next(rt: HostRuntime) {
 fn lines_of_the_policy_are_told(rt: HostRuntime) {
     let world = small_world(&rt, rt.alloc());
     let rows = policy_rows(rt.alloc(), &world).expect(&rt, "memory");
-    assert_eq!(rt; rows.len(), 7);
-    assert_eq!(rt; rows[0].key(), PolicyKey::User { user: 2 });
-    assert_eq!(rt; rows[4].key(), PolicyKey::Member { set: 4, place: 2 });
+    assert!(rt; rows.len() == 7);
+    assert!(rt; rows[0].key() == PolicyKey::User { user: 2 });
+    assert!(rt; rows[4].key() == PolicyKey::Member { set: 4, place: 2 });
     assert!(rt; rows[3].key().is_before(rows[4].key()));
     assert!(rt; matches!(&rows[1], PolicyRow::User(row) if row.name.as_str() == "Tess"));
 }

@@ -40,7 +40,7 @@ fn states(rt: &(impl Abort + AllocGlobal), command: Command, body: &str, asked: 
     let read = read_command(rt.alloc(), command, body.as_bytes()).expect(rt, "memory");
     let told = format!(in rt.alloc(); "{read:?}").expect(rt, "memory");
     let stated = format!(in rt.alloc(); "{:?}", Some(asked)).expect(rt, "memory");
-    assert_eq!(rt; told, stated);
+    assert!(rt; told == stated);
 }
 
 #[test]

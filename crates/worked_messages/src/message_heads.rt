@@ -18,8 +18,8 @@ fn body_len(rt: &(impl Abort + AllocGlobal), bytes: &[u8]) -> Option<Result<usiz
 }
 
 fn has_parts(rt: &impl Abort, head: &Head<'_>) {
-    assert_eq!(rt; head.method(), b"HEAD".as_slice());
-    assert_eq!(rt; head.target(), b"/a".as_slice());
+    assert!(rt; head.method() == b"HEAD".as_slice());
+    assert!(rt; head.target() == b"/a".as_slice());
     assert!(rt; matches!(head.field(b"host"), Found::One(b"x")));
     assert!(rt; matches!(head.field(b"cookie"), Found::Missing));
 }
@@ -101,5 +101,5 @@ fn fields_and_faults(rt: HostRuntime) {
     assert!(rt; matches!(find_field(bytes, &headers, b"A"), Found::One(b"1")));
     let fault = MessageFault::NoSuchRoute;
     assert!(rt; fault.status() == StatusCode::NOT_FOUND);
-    assert_eq!(rt; fault.text(), b"{\"fault\":\"M5\"}".as_slice());
+    assert!(rt; fault.text() == b"{\"fault\":\"M5\"}".as_slice());
 }

@@ -44,7 +44,7 @@ fn a_day_that_ends_is_proved(rt: HostRuntime) {
 
 /// Asks for this first rule against the end of a day.
 fn first_is(rt: &impl Abort, rows: &ClosingRows, rule: Option<Rule>) {
-    assert_eq!(rt; rule_against_close_day(rows), rule);
+    assert!(rt; rule_against_close_day(rows) == rule);
 }
 
 /// The history of a branch on this day, with so many entries.

@@ -99,7 +99,7 @@ fn rows_of_post(rt: &impl Abort, added: i64, numbers: [i64; 7], counts: [u64; 3]
 /// account, of a transfer.
 fn first_is(rt: &impl Abort, rows: &CorrectRows, other: u32, added: i64, rule: Option<Rule>) {
     let first = rule_against_correct(rows, &correct(rt, other, 11, added), BY_TESS);
-    assert_eq!(rt; first, rule);
+    assert!(rt; first == rule);
 }
 
 #[test]

@@ -65,7 +65,7 @@ fn drawer_is_put_on(rt: HostRuntime) {
     let planned = plan_drawer_on(rt.alloc(), &rows, &form, signature(7));
     plans(&rt, planned, 2, left);
     form.cash = 5_001;
-    assert_eq!(rt; rule_against_drawer_on(&rows, &form), Some(Rule::Cash));
+    assert!(rt; rule_against_drawer_on(&rows, &form) == Some(Rule::Cash));
 }
 
 #[test]
@@ -84,7 +84,7 @@ fn drawer_is_put_off(rt: HostRuntime) {
     let planned = plan_drawer_off(rt.alloc(), &rows, &form, signature(7));
     plans(&rt, planned, 3, left);
     let first = rule_against_drawer_off(&rows, &form, signature(8));
-    assert_eq!(rt; first, Some(Rule::Drawer));
+    assert!(rt; first == Some(Rule::Drawer));
 }
 
 #[test]
@@ -105,7 +105,7 @@ fn cash_is_moved(rt: HostRuntime) {
     let planned = plan_move(rt.alloc(), &rows, &form, signature(7));
     plans(&rt, planned, 2, left);
     let first = rule_against_move_cash(&rows, &form, signature(8));
-    assert_eq!(rt; first, Some(Rule::Drawer));
+    assert!(rt; first == Some(Rule::Drawer));
 }
 
 #[test]
@@ -127,5 +127,5 @@ fn day_of_a_held_drawer_is_not_closed(rt: HostRuntime) {
     let free = teller(&rt, 12, 0, None);
     let held = teller(&rt, 11, 400, Some(7));
     let rows = ClosingRows::of(Some(branch(&rt)), &[free, held]);
-    assert_eq!(rt; rule_against_close_day(&rows), Some(Rule::Day));
+    assert!(rt; rule_against_close_day(&rows) == Some(Rule::Day));
 }

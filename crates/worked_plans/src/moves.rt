@@ -48,7 +48,7 @@ fn a_move_writes_two_lines(rt: HostRuntime) {
 /// Asks for this first rule against a move of Tess's.
 fn first_is(rt: &impl Abort, rows: &MoveRows, form: &MoveCash, rule: Option<Rule>) {
     let first = rule_against_move_cash(rows, form, BY_TESS);
-    assert_eq!(rt; first, rule);
+    assert!(rt; first == rule);
 }
 
 #[test]

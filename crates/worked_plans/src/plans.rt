@@ -55,8 +55,8 @@ pub(crate) fn plans<T: Debug + Drop + PartialEq>(
     left: T,
 ) {
     let planned = undenied(rt, answer);
-    assert_eq!(rt; planned.plan.len(), count);
-    assert_eq!(rt; planned.left, left);
+    assert!(rt; planned.plan.len() == count);
+    assert!(rt; planned.left == left);
 }
 
 /// Has a bank apply a plan.
@@ -67,6 +67,6 @@ pub(crate) fn apply(rt: &impl Abort, alloc: Global, world: &mut World, plan: Pla
 
 /// Asks for so many lines of a bank, of which these are the last.
 pub(crate) fn lines_end_with(rt: &impl Abort, world: &World, count: usize, last: &[CashLine]) {
-    assert_eq!(rt; world.lines().len(), count);
+    assert!(rt; world.lines().len() == count);
     assert!(rt; world.lines().ends_with(last));
 }

@@ -84,7 +84,7 @@ pub(crate) fn rows_at(rt: &impl Abort, numbers: [i64; 7], counts: [u64; 3]) -> P
 /// Asks for this first rule against a post of so many cents.
 fn first_is(rt: &impl Abort, rows: &PostRows, added: i64, rule: Option<Rule>) {
     let first = rule_against_post(rows, &post_of(rt, added), BY_TESS);
-    assert_eq!(rt; first, rule);
+    assert!(rt; first == rule);
 }
 
 #[test]

@@ -141,11 +141,11 @@ fn rows_follow_the_policy(rt: HostRuntime) {
 
 /// Has the triples of one user more asked for than there may be entries.
 fn fill(rt: &impl Abort, cache: &mut Cache) {
-    assert_eq!(rt; cache.entries_after(rt, 0), 0);
+    assert!(rt; cache.entries_after(rt, 0) == 0);
     for user in 1..=64 {
         cache.entries_after(rt, user);
     }
-    assert_eq!(rt; cache.entries_after(rt, 65), MAX_ENTRIES);
+    assert!(rt; cache.entries_after(rt, 65) == MAX_ENTRIES);
 }
 
 #[test]

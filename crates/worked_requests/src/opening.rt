@@ -187,7 +187,7 @@ pub(crate) fn with_all_cash_of_entries(rt: &impl Abort, alloc: Global) -> World 
 fn holds(rt: &impl Abort, alloc: Global, world: World) {
     let kept = Kept::of(alloc, &world).expect(rt, "memory");
     let checked = check_books(alloc, &world, &kept).expect(rt, "memory");
-    assert_eq!(rt; checked, Ok(()));
+    assert!(rt; checked.is_ok());
 }
 
 #[test]

@@ -6,7 +6,7 @@ use std::process::Abort;
 
 /// Asks for this value.
 pub fn same<T: PartialEq + Debug + Drop>(rt: &impl Abort, told: T, wanted: T) {
-    assert_eq!(rt; told, wanted);
+    assert!(rt; told == wanted);
 }
 
 /// Asks for these rows, in this order.
@@ -16,5 +16,5 @@ pub fn same_rows<R: PartialEq + Debug + Drop>(
     wanted: &[R],
 ) {
     let told = told.expect(rt, "rows");
-    assert_eq!(rt; told.as_slice(), wanted);
+    assert!(rt; told.as_slice() == wanted);
 }

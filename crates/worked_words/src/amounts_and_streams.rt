@@ -49,10 +49,9 @@ fn halts_after(alloc: Global, calls_left: u32, fails: bool) -> Tallied<Halting> 
 
 /// A writer that halted after these calls took this text, and one failure is counted where it halted before the third.
 fn has_taken(rt: &impl Abort, writer: Tallied<Halting>, calls: u32, text: &str) {
-    assert_eq!(rt; writer.failures(), u64::from(calls < 3));
-    assert_eq!(rt;
-        writer.into_inner().taken.as_slice(),
-        text.as_bytes(),
+    assert!(rt; writer.failures() == u64::from(calls < 3));
+    assert!(rt;
+        writer.into_inner().taken.as_slice() == text.as_bytes(),
         "after {calls} calls"
     );
 }
@@ -85,7 +84,7 @@ impl Read for Hiccup {
 
 #[test]
 fn amounts_end_at_their_edges(rt: HostRuntime) {
-    assert_eq!(rt; MAX_CENTS, 999_999_999_999);
+    assert!(rt; MAX_CENTS == 999_999_999_999);
     for (value, stands) in [
         (999_999_999_999, true),
         (-999_999_999_999, true),
@@ -93,20 +92,20 @@ fn amounts_end_at_their_edges(rt: HostRuntime) {
         (-1_000_000_000_000, false),
         (i64::MIN, false),
     ] {
-        assert_eq!(rt; Cents::new(value).map(Cents::get), stands.then_some(value));
+        assert!(rt; Cents::new(value).map(Cents::get) == stands.then_some(value));
     }
 }
 
 #[test]
 fn amounts_to_add_end_at_their_edges(rt: HostRuntime) {
-    assert_eq!(rt; MAX_DELTA, 999_999);
+    assert!(rt; MAX_DELTA == 999_999);
     for (value, stands) in [
         (999_999, true),
         (-999_999, true),
         (1_000_000, false),
         (-1_000_000, false),
     ] {
-        assert_eq!(rt; Delta::new(value).map(Delta::get), stands.then_some(value));
+        assert!(rt; Delta::new(value).map(Delta::get) == stands.then_some(value));
     }
 }
 
@@ -118,16 +117,16 @@ fn a_balance_ends_at_its_edges(rt: HostRuntime) {
         (-999_999_999_999, -1, None),
     ] {
         let sum_now = plus(cents(&rt, balance), delta(&rt, change));
-        assert_eq!(rt; sum_now.map(Cents::get), sum);
+        assert!(rt; sum_now.map(Cents::get) == sum);
     }
 }
 
 #[test]
 fn a_sum_ends_at_its_edges(rt: HostRuntime) {
     let (most, least) = (cents(&rt, 999_999_999_999), cents(&rt, -999_999_999_999));
-    assert_eq!(rt; add(most, least).map(Cents::get), Some(0));
-    assert_eq!(rt; add(most, Cents::from(delta(&rt, 1))), None);
-    assert_eq!(rt; add(least, Cents::from(delta(&rt, -1))), None);
+    assert!(rt; add(most, least).map(Cents::get) == Some(0));
+    assert!(rt; add(most, Cents::from(delta(&rt, 1))).is_none());
+    assert!(rt; add(least, Cents::from(delta(&rt, -1))).is_none());
 }
 
 #[test]
@@ -139,7 +138,7 @@ fn faults_have_messages(rt: HostRuntime) {
         (Fault::Stopped, "the store is stopped"),
     ] {
         let told = format!(in rt.alloc(); "{fault}").expect(&rt, "memory");
-        assert_eq!(rt; told.as_str(), message);
+        assert!(rt; told.as_str() == message);
     }
 }
 
@@ -153,17 +152,16 @@ fn every_amount_has_a_text(rt: HostRuntime) {
         (i128::MAX, "1701411834604692317316873037158841057.27"),
         (i128::MIN, "-1701411834604692317316873037158841057.28"),
     ] {
-        assert_eq!(rt; cents_text(cents).as_slice(), text.as_bytes());
+        assert!(rt; cents_text(cents).as_slice() == text.as_bytes());
     }
 }
 
 fn stands_as(rt: &impl Abort, alloc: Global, value: i64, width: usize, text: &str) {
     let mut writer = Tallied::new(Vec::new(alloc));
-    assert_eq!(rt; write_cents(&mut writer, cents(rt, value), width), Ok(()));
-    assert_eq!(rt; writer.failures(), 0);
-    assert_eq!(rt;
-        writer.into_inner().as_slice(),
-        text.as_bytes(),
+    assert!(rt; write_cents(&mut writer, cents(rt, value), width).is_ok());
+    assert!(rt; writer.failures() == 0);
+    assert!(rt;
+        writer.into_inner().as_slice() == text.as_bytes(),
         "at {value} in {width}"
     );
 }
@@ -188,7 +186,7 @@ fn amounts_stand_right_in_their_width(rt: HostRuntime) {
 /// Writes an amount by this writer, which halts after these calls.
 fn amount_stops(rt: &impl Abort, mut writer: Tallied<Halting>, calls: u32, text: &str) {
     let written = write_cents(&mut writer, cents(rt, -1234), 8);
-    assert_eq!(rt; written.is_ok(), calls == 3);
+    assert!(rt; written.is_ok() == (calls == 3));
     has_taken(rt, writer, calls, text);
 }
 
@@ -202,7 +200,7 @@ fn an_amount_stops_at_the_call_that_fails(rt: HostRuntime) {
 
 fn whole_stops(rt: &impl Abort, mut writer: Tallied<Halting>, calls: u32, text: &str) {
     let written = write_whole(&mut writer, b"abcdefg");
-    assert_eq!(rt; written.is_ok(), calls == 3);
+    assert!(rt; written.is_ok() == (calls == 3));
     has_taken(rt, writer, calls, text);
 }
 
@@ -217,7 +215,7 @@ fn a_stopped_write_is_counted(rt: HostRuntime) {
 fn parts_stop(rt: &impl Abort, mut writer: Tallied<Halting>, calls: u32, text: &str) {
     let parts: [&[u8]; 3] = [b"ab", b"", b"cdefg"];
     let written = write_parts(&mut writer, &parts);
-    assert_eq!(rt; written.is_ok(), calls == 3);
+    assert!(rt; written.is_ok() == (calls == 3));
     has_taken(rt, writer, calls, text);
 }
 
@@ -231,8 +229,8 @@ fn a_stopped_write_of_parts_is_counted(rt: HostRuntime) {
 
 /// A write of which no byte is taken, after which so many failures are counted.
 fn takes_none(rt: &impl Abort, writer: &mut Tallied<Halting>, bytes: &[u8], failures: u64) {
-    assert_eq!(rt; writer.write(bytes).ok(), Some(0));
-    assert_eq!(rt; writer.failures(), failures);
+    assert!(rt; writer.write(bytes).ok() == Some(0));
+    assert!(rt; writer.failures() == failures);
 }
 
 #[test]
@@ -243,13 +241,13 @@ fn each_failed_call_of_a_writer_is_counted(rt: HostRuntime) {
     takes_none(&rt, &mut writer, b"a", 1);
     takes_none(&rt, &mut writer, b"", 1);
     assert!(rt; writer.flush().is_err());
-    assert_eq!(rt; writer.failures(), 2);
+    assert!(rt; writer.failures() == 2);
 }
 
 /// A read of so many bytes, or of none where it fails, after which so many failures are counted.
 fn gives(rt: &impl Abort, reader: &mut Tallied<Hiccup>, count: Option<usize>, failures: u64) {
-    assert_eq!(rt; reader.read(&mut [0]).ok(), count);
-    assert_eq!(rt; reader.failures(), failures);
+    assert!(rt; reader.read(&mut [0]).ok() == count);
+    assert!(rt; reader.failures() == failures);
 }
 
 #[test]

@@ -61,16 +61,16 @@ fn commands_by_name(rt: HostRuntime) {
         (Command::Suspend, b"suspend"),
         (Command::Restore, b"restore"),
     ] {
-        assert_eq!(rt; command.name().as_bytes(), name);
-        assert_eq!(rt; Command::named(command.name()), Some(command));
+        assert!(rt; command.name().as_bytes() == name);
+        assert!(rt; Command::named(command.name()) == Some(command));
     }
     for name in ["", "Grant", "grant ", "define_set", "post"] {
-        assert_eq!(rt; Command::named(name), None);
+        assert!(rt; Command::named(name).is_none());
     }
 }
 
 fn is_of(rt: &impl Abort, asked: PolicyOp, command: Command) {
-    assert_eq!(rt; asked.command(), command);
+    assert!(rt; asked.command() == command);
 }
 
 #[test]

@@ -41,7 +41,7 @@ fn rows_go_behind_those_of_their_key(rt: HostRuntime) {
     rows.reserve(1).expect(&rt, "memory");
     assert!(rt; rows.len() < rows.capacity());
     insert_row_reserved(&mut rows, Marked(1, 'e'));
-    assert_eq!(rt; rows.as_slice(), ORDERED.as_slice());
+    assert!(rt; rows.as_slice() == ORDERED.as_slice());
 }
 
 #[test]
@@ -53,11 +53,11 @@ fn rows_are_found_by_their_keys(rt: HostRuntime) {
         (3, 4, None),
         (u128::MAX, 5, Some('d')),
     ] {
-        assert_eq!(rt; place_of(&ORDERED, key), place);
-        assert_eq!(rt; is_there(&ORDERED, key), first.is_some());
-        assert_eq!(rt; find_row(&ORDERED, key).map(|row| row.1), first);
+        assert!(rt; place_of(&ORDERED, key) == place);
+        assert!(rt; is_there(&ORDERED, key) == first.is_some());
+        assert!(rt; find_row(&ORDERED, key).map(|row| row.1) == first);
     }
-    assert_eq!(rt; rows_between(&ORDERED, 2, u128::MAX), &ORDERED[2..4]);
+    assert!(rt; rows_between(&ORDERED, 2, u128::MAX) == &ORDERED[2..4]);
 }
 
 #[test]
@@ -112,13 +112,13 @@ fn rows_of_one_key_are_changed_and_removed(rt: HostRuntime) {
         change_rows(&mut rows, absent, &Mark('z'));
         remove_rows(&mut rows, absent);
     }
-    assert_eq!(rt; rows, marked_at_two(&rt, rt.alloc(), 'b'));
+    assert!(rt; rows == marked_at_two(&rt, rt.alloc(), 'b'));
     change_rows(&mut rows, 2, &Mark('z'));
-    assert_eq!(rt; rows, marked_at_two(&rt, rt.alloc(), 'z'));
+    assert!(rt; rows == marked_at_two(&rt, rt.alloc(), 'z'));
     remove_rows(&mut rows, 2);
     assert!(rt; is_there(&rows, 1) && is_there(&rows, 3));
     assert!(rt; !is_there(&rows, 2));
-    assert_eq!(rt; rows.len(), 2);
+    assert!(rt; rows.len() == 2);
 }
 
 impl Grouped for Marked {
@@ -139,7 +139,7 @@ fn groups_are_counted_each(rt: HostRuntime) {
         Marked(5, 'c'),
     ];
     for (most, stands) in [(0, false), (1, false), (2, true), (5, true)] {
-        assert_eq!(rt; has_small_groups(&rows, most), stands);
+        assert!(rt; has_small_groups(&rows, most) == stands);
     }
     assert!(rt; has_small_groups(&rows[..2], 1));
     assert!(rt; has_small_groups::<Marked>(&[], 0));
@@ -168,8 +168,8 @@ fn sums_are_exact(rt: HostRuntime) {
         (9, i64::MIN),
         (8, -12),
     ];
-    assert_eq!(rt; sum_of(&OwnedBy(7), &rows), 18_446_744_073_709_551_614);
-    assert_eq!(rt; sum_of(&OwnedBy(8), &rows), -7);
-    assert_eq!(rt; sum_of(&OwnedBy(9), &rows), -18_446_744_073_709_551_616);
-    assert_eq!(rt; sum_of(&OwnedBy(6), &rows), 0);
+    assert!(rt; sum_of(&OwnedBy(7), &rows) == 18_446_744_073_709_551_614);
+    assert!(rt; sum_of(&OwnedBy(8), &rows) == -7);
+    assert!(rt; sum_of(&OwnedBy(9), &rows) == -18_446_744_073_709_551_616);
+    assert!(rt; sum_of(&OwnedBy(6), &rows) == 0);
 }

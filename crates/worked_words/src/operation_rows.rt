@@ -47,8 +47,8 @@ fn correction(other: u32) -> Result<Correct, Fail> {
 /// The operation's row is of this form with these members, and is read as that operation.
 fn stands_as(rt: &impl Abort, op: Op, form: Procedure, members: [i64; 8]) {
     let row = OperationRow { form, members };
-    assert_eq!(rt; op.to_row(), row);
-    assert_eq!(rt; Op::from_row(&row), Some(op));
+    assert!(rt; op.to_row() == row);
+    assert!(rt; Op::from_row(&row) == Some(op));
 }
 
 #[test]
@@ -164,10 +164,10 @@ fn other_rows_there_and_back(rt: HostRuntime) -> Result<(), Fail> {
 #[test]
 fn rows_of_operations_that_are_released(rt: HostRuntime) -> Result<(), Fail> {
     let operation = Releasable::MoveCash(MOVE_CASH);
-    assert_eq!(rt; operation.branch(), 1);
-    assert_eq!(rt; Op::from(operation), Op::MoveCash(MOVE_CASH));
-    assert_eq!(rt; Releasable::from_row(&operation.to_row()), Some(operation));
+    assert!(rt; operation.branch() == 1);
+    assert!(rt; Op::from(operation) == Op::MoveCash(MOVE_CASH));
+    assert!(rt; Releasable::from_row(&operation.to_row()) == Some(operation));
     let balance = Op::Balance(Balance { account: 101 });
-    assert_eq!(rt; Releasable::from_row(&balance.to_row()), None);
+    assert!(rt; Releasable::from_row(&balance.to_row()).is_none());
     Ok(())
 }

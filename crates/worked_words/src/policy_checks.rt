@@ -85,12 +85,12 @@ fn small_policy(rt: &impl Abort, alloc: Global) -> Policy {
 }
 
 fn is_at_fault(rt: &impl Abort, policy: &Policy, fault: PolicyFault) {
-    assert_eq!(rt; check_policy(policy), Err(fault));
+    assert!(rt; check_policy(policy) == Err(fault));
 }
 
 #[test]
 fn the_small_policy_is_sound(rt: HostRuntime) {
-    assert_eq!(rt; check_policy(&small_policy(&rt, rt.alloc())), Ok(()));
+    assert!(rt; check_policy(&small_policy(&rt, rt.alloc())).is_ok());
 }
 
 #[test]
@@ -182,6 +182,6 @@ fn a_fault_names_who_is_at_fault(rt: HostRuntime) {
         (OF_OLGA, "officer holds, user 1"),
     ] {
         let told = format!(in rt.alloc(); "{fault}").expect(&rt, "memory");
-        assert_eq!(rt; told.as_str(), text);
+        assert!(rt; told.as_str() == text);
     }
 }

@@ -60,7 +60,7 @@ fn comes_to(rt: &impl Abort, op: Op, cents: u32, items: &[(Kind, u32)]) {
     let touched = touches(&op);
     let named = touched.as_slice().iter().map(|item| (item.kind, item.key));
     assert!(rt; named.eq(items.iter().copied()));
-    assert_eq!(rt; amount(&op), cents);
+    assert!(rt; amount(&op) == cents);
 }
 
 #[test]
