@@ -1,5 +1,5 @@
-//! Worked commands of the policy, the limits that they meet, releases by rows that the sample never has, and what a cache
-//! reads and tells. It holds tests alone.
+//! Worked sessions, worked commands of the policy and the limits that they meet, releases by rows that the sample never has,
+//! and what a cache reads and tells. It holds tests alone.
 #![tactic(auto)]
 
 #[cfg(test)]
@@ -12,5 +12,7 @@ mod commands;
 mod counting;
 #[cfg(test)]
 mod releases;
+#[cfg(test)]
+mod sessions;
 #[cfg(test)]
 mod who;

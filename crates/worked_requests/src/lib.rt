@@ -23,8 +23,6 @@ mod posts;
 #[cfg(test)]
 mod requests;
 #[cfg(test)]
-mod sessions;
-#[cfg(test)]
 mod transfers;
 #[cfg(test)]
 mod turnovers;

@@ -1,3 +1,5 @@
+//! Sessions that are opened and ended.
+
 use bank_books::RowWrite;
 use bank_policy::Session;
 use decide::{Rule, Who, begin, end};
