@@ -31,9 +31,10 @@ def below(uses, names):
     return order
 
 
-def holds_tests_alone(name):
-    """Whether a crate holds tests and nothing else: tools/worked runs these, and the gate does not prove them."""
-    return name.startswith("worked_")
+def tests_to_run(uses):
+    """The crates of tests alone that tools/worked runs, and that the gate does not prove. Where tests work over SQL tables,
+    compiling them with checks and running them takes longer than proving them: these are left to the gate."""
+    return [it for it in uses if it.startswith("worked_") and "sqlite" not in uses[it]]
 
 
 def kit():

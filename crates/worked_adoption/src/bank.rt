@@ -21,8 +21,7 @@ pub fn worked_files(rt: &impl Abort, alloc: Global) -> Files<Memory> {
 /// The connection to a database with nothing in it, in which the worked bank is made.
 fn worked<S: Alter + Drop>(rt: &impl Abort, alloc: Global, conn: Connection<S>) -> Connection<S> {
     let mut bank = created(rt, alloc, conn);
-    applied(rt, alloc, &mut bank, posting(rt, alloc));
-    applied(rt, alloc, &mut bank, released(rt, alloc));
+    work(rt, alloc, &mut bank);
     connection_of(bank)
 }
 
@@ -40,9 +39,10 @@ fn created<S: Alter + Drop>(rt: &impl Abort, alloc: Global, conn: Connection<S>)
     }
 }
 
-/// Carries out a plan in a bank.
-fn applied<S: Store>(rt: &impl Abort, alloc: Global, bank: &mut S, plan: Plan) {
-    assert!(rt; bank.apply(alloc, plan).is_ok());
+/// Carries out the post and the release of the worked bank.
+fn work<S: Store>(rt: &impl Abort, alloc: Global, bank: &mut S) {
+    assert!(rt; bank.apply(alloc, posting(rt, alloc)).is_ok());
+    assert!(rt; bank.apply(alloc, released(rt, alloc)).is_ok());
 }
 
 /// Tess posts 25.00 to account 101.

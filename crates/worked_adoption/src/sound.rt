@@ -50,19 +50,31 @@ fn policy_told<S: Store>(rt: &impl Abort, alloc: Global, bank: &mut S) -> String
     format!(in alloc; "{rows:?} {shown:?} {release:?}").expect(rt, "memory")
 }
 
-/// What the bank of a database tells to the store that made it.
+/// What account 101 holds.
+fn balance<S: Store>(rt: &impl Abort, alloc: Global, bank: &mut S) -> i128 {
+    match bank.account(alloc, 101).expect(rt, "no fault") {
+        Some(account) => account.balance,
+        None => panic!(rt; "account 101"),
+    }
+}
+
+/// What the worked bank tells of its books and of its policy. Its account 101 has to hold 525.00.
+fn told<S: Store>(rt: &impl Abort, alloc: Global, bank: &mut S) -> (String, String) {
+    assert!(rt; balance(rt, alloc, bank) == 52_500);
+    (books_told(rt, alloc, bank), policy_told(rt, alloc, bank))
+}
+
+/// What the bank of a database tells to a store that takes it unseen, as the one that made it does.
 fn told_before<S: Alter + Drop>(
     rt: &impl Abort,
     alloc: Global,
     conn: Connection<S>,
 ) -> (String, String) {
     assert!(rt; conn.is_autocommit());
-    let mut bank = SqlStore::over(conn);
-    let books = books_told(rt, alloc, &mut bank);
-    (books, policy_told(rt, alloc, &mut bank))
+    told(rt, alloc, &mut SqlStore::over(conn))
 }
 
-/// Adopts the bank of a database, asks for what it told before, and for a balance of 525.00.
+/// Adopts the bank of a database, and asks for what it told before.
 fn told_again<S: Alter + Drop>(
     rt: &impl Abort,
     alloc: Global,
@@ -70,18 +82,9 @@ fn told_again<S: Alter + Drop>(
     before: &(String, String),
 ) -> Connection<S> {
     let mut bank = found(rt, alloc, conn);
-    assert!(rt; balance(rt, alloc, &mut bank) == 52_500);
-    assert!(rt; books_told(rt, alloc, &mut bank).as_str() == before.0.as_str());
-    assert!(rt; policy_told(rt, alloc, &mut bank).as_str() == before.1.as_str());
+    let again = told(rt, alloc, &mut bank);
+    assert!(rt; again == *before);
     connection_of(bank)
-}
-
-/// What account 101 holds.
-fn balance<S: Store>(rt: &impl Abort, alloc: Global, bank: &mut S) -> i128 {
-    match bank.account(alloc, 101).expect(rt, "no fault") {
-        Some(account) => account.balance,
-        None => panic!(rt; "account 101"),
-    }
 }
 
 /// Which account the release of Tess is for, in the bank of a database.
@@ -104,7 +107,18 @@ fn suspend_tess<S: Store>(alloc: Global, bank: &mut Bank<S>) -> Result<bool, Fau
     Ok(answer.is_ok())
 }
 
-/// What a command answers in the bank of a database, which then has the last version.
+/// What a command answers in a bank, which then has the last version.
+fn last_command<S: Store>(
+    rt: &impl Abort,
+    alloc: Global,
+    bank: &mut Bank<S>,
+) -> Result<bool, Fault> {
+    let answer = suspend_tess(alloc, bank);
+    assert!(rt; bank.store.version(alloc) == Ok(MAX_VERSION));
+    answer
+}
+
+/// The same of the bank of a database, and the connection to it.
 fn commanded<S: Alter + Drop>(
     rt: &impl Abort,
     alloc: Global,
@@ -113,8 +127,7 @@ fn commanded<S: Alter + Drop>(
     let mut bank = Bank {
         store: found(rt, alloc, conn),
     };
-    let answer = suspend_tess(alloc, &mut bank);
-    assert!(rt; bank.store.version(alloc) == Ok(MAX_VERSION));
+    let answer = last_command(rt, alloc, &mut bank);
     (answer, connection_of(bank.store))
 }
 
