@@ -3,6 +3,8 @@ import os
 import subprocess
 
 TOP = os.path.dirname(os.path.dirname(os.path.abspath(__file__)))
+# Tests of many banks in files. The gate proves them: compiled with checks in all of the SQL engine, they run for longer.
+PROVED_TESTS = ("worked_adoption", "worked_crashes")
 
 
 def words_of_all():
@@ -32,9 +34,8 @@ def below(uses, names):
 
 
 def tests_to_run(uses):
-    """The crates of tests alone that tools/worked runs, and that the gate does not prove. Where tests work over SQL tables,
-    compiling them with checks and running them takes longer than proving them: these are left to the gate."""
-    return [it for it in uses if it.startswith("worked_") and "sqlite" not in uses[it]]
+    """The crates of tests alone that tools/worked runs, and that the gate does not prove."""
+    return [it for it in uses if it.startswith("worked_") and it not in PROVED_TESTS]
 
 
 def kit():

@@ -64,28 +64,38 @@ fn words(rt: &HostRuntime) -> Option<Task> {
 
 /// Makes the bank up, checks it, and answers the status; none where memory or the clock is refused.
 fn run(rt: &HostRuntime, task: Task) -> Option<u8> {
-    let alloc = rt.alloc();
     let size = Size {
         branches: task.branches,
         entries: ENTRIES,
         triples: 0,
     };
-    let world = made_up_world(alloc, size).ok()??;
-    let kept = Kept::of(alloc, &world).ok()?;
+    let world = made_up_world(rt.alloc(), size).ok()??;
+    let kept = Kept::of(rt.alloc(), &world).ok()?;
+    judge(rt, &world, &kept, task.timed)
+}
+
+/// Checks a bank, tells the verdict, and the nanoseconds before it where they are asked for, and answers the status; none
+/// where memory or the clock is refused.
+fn judge(rt: &HostRuntime, world: &World, kept: &Kept, timed: bool) -> Option<u8> {
     let start = Instant::now(rt).ok()?;
-    let verdict = check(alloc, &world, &kept).ok()?;
+    let verdict = check(rt.alloc(), world, kept).ok()?;
     let nanoseconds = start.elapsed(rt).ok()?.as_nanos();
-    if task.timed {
+    if timed {
         let _ = writeln!(rt.stdout(), "{nanoseconds}");
     }
+    Some(tell(rt, verdict))
+}
+
+/// Tells the verdict, and answers its status.
+fn tell(rt: &HostRuntime, verdict: Result<(), BooksFault>) -> u8 {
     match verdict {
         Ok(()) => {
             let _ = writeln!(rt.stdout(), "books hold");
-            Some(DONE)
+            DONE
         }
         Err(fault) => {
             let _ = writeln!(rt.stdout(), "books: {fault}");
-            Some(REFUSED_BOOKS)
+            REFUSED_BOOKS
         }
     }
 }
