@@ -5,6 +5,8 @@ import subprocess
 TOP = os.path.dirname(os.path.dirname(os.path.abspath(__file__)))
 # Tests of many banks in files. The gate proves them: compiled with checks in all of the SQL engine, they run for longer.
 PROVED_TESTS = ("worked_adoption", "worked_crashes")
+# The programs that take times over banks made up, and what makes these up: tools/bench and tools/check-bench prove them.
+BENCHES = ("made_up_bank", "check_bench", "post_bench")
 
 
 def words_of_all():
@@ -36,6 +38,11 @@ def below(uses, names):
 def tests_to_run(uses):
     """The crates of tests alone that tools/worked runs, and that the gate does not prove."""
     return [it for it in uses if it.startswith("worked_") and it not in PROVED_TESTS]
+
+
+def tried_alone(uses):
+    """The crates that the gate does not prove, as tools/worked runs what they hold."""
+    return [*tests_to_run(uses), *BENCHES]
 
 
 def kit():
