@@ -5,7 +5,7 @@ import subprocess
 TOP = os.path.dirname(os.path.dirname(os.path.abspath(__file__)))
 # Tests of many banks in files. The gate proves them: compiled with checks in all of the SQL engine, they run for longer.
 PROVED_TESTS = ("worked_adoption", "worked_crashes")
-# The programs that take times over banks made up, and what makes these up: tools/bench and tools/check-bench prove them.
+# The programs that take times over banks made up, and what makes these up. tools/bench and tools/check-bench prove them.
 BENCHES = ("made_up_bank", "check_bench", "post_bench")
 
 
@@ -40,9 +40,25 @@ def tests_to_run(uses):
     return [it for it in uses if it.startswith("worked_") and it not in PROVED_TESTS]
 
 
-def tried_alone(uses):
-    """The crates that the gate does not prove, as tools/worked runs what they hold."""
-    return [*tests_to_run(uses), *BENCHES]
+def source_of(crate):
+    """The first file of a crate's source."""
+    program, library = (os.path.join(TOP, "crates", crate, "src", it) for it in ("main.rt", "lib.rt"))
+    return program if os.path.isfile(program) else library
+
+
+def words_of_check(uses, crate, source, libraries, home):
+    """The words of the prover's check of a crate that begins with this file. FOLDER/crates/NAME of the libraries has each
+    crate below it, built; those of the benches, which the gate does not build, are read as they stand."""
+    built = {it: f"{libraries}/crates/{it}/out/rlib" for it in below(uses, [crate]) if it not in (crate, *BENCHES)}
+    words = ["--crate-name", crate, source]
+    for it in ["std", *uses[crate]]:
+        if it in BENCHES:
+            words += ["--lib", f"{it}={source_of(it)}"]
+        else:
+            words += ["--extern", f"{it}={built[it]}/{it}.rlib" if it in built else f"{it}={home}/rlibs/{it}.rlib"]
+    for it in [f"{home}/rlibs", *built.values()]:
+        words += ["-L", f"dependency={it}"]
+    return [*words, "--antt-project", f"{home}/rattle/logic/antt-project.json", "--logic-built", f"{home}/logic_built"]
 
 
 def kit():
