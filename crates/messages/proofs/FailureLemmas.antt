@@ -6,7 +6,7 @@ use Rattle.messages.specs.declared.serving.ServeFault.{ServeFault}
 use Rattle.messages.specs.declared.serving.ServeFault.TheVariants.{Read, Write, Cut, Memory, Report}
 use Rattle.messages.specs.Failures.{CountsByCall, CountsByEnd, CountsByExit, CountsByTurnOf, CountsNone, CountsOne}
 
-one_behind : {T : Type 0} (old mid new : Tallied T) → CountsNone old mid → CountsOne mid new → CountsOne old new
+pub one_behind : {T : Type 0} (old mid new : Tallied T) → CountsNone old mid → CountsOne mid new → CountsOne old new
 one_behind old mid new none one = one ∙ ap counted_once_more none
 
 -- an engine's answer behind it
