@@ -1,6 +1,7 @@
 //! The worked bank: the sample with a post at its counter and a release for Tess.
 
-use crate::files::{closed, no_files, opened};
+use crate::deeds::{Deed, done_in};
+use crate::files::no_files;
 use bank_books::{CashLine, Entry, EntryForm, LineForm, Plan, Release, RowWrite};
 use bank_terms::{OperationRow, Procedure};
 use money::{Cents, Delta};
@@ -15,23 +16,15 @@ use store_sql::SqlStore;
 
 /// The files of the worked bank.
 pub fn worked_files(rt: &impl Abort, alloc: Global) -> Files<Memory> {
-    closed(rt, worked(rt, alloc, opened(rt, alloc, no_files(alloc))))
-}
-
-/// The connection to a database with nothing in it, in which the worked bank is made.
-fn worked<S: Alter + Drop>(rt: &impl Abort, alloc: Global, conn: Connection<S>) -> Connection<S> {
-    let mut bank = created(rt, alloc, conn);
-    work(rt, alloc, &mut bank);
-    connection_of(bank)
-}
-
-/// The connection to the tables of a bank.
-pub fn connection_of<S: Alter>(bank: SqlStore<S>) -> Connection<S> {
-    bank.into_connection()
+    done_in(rt, alloc, no_files(alloc), Deed::Make).1
 }
 
 /// The sample bank, made in a database with nothing in it.
-fn created<S: Alter + Drop>(rt: &impl Abort, alloc: Global, conn: Connection<S>) -> SqlStore<S> {
+pub fn created<S: Alter + Drop>(
+    rt: &impl Abort,
+    alloc: Global,
+    conn: Connection<S>,
+) -> SqlStore<S> {
     assert!(rt; conn.is_autocommit());
     match create(alloc, conn, &sample_world(alloc).expect(rt, "memory")) {
         Ok(bank) => bank,
@@ -40,7 +33,7 @@ fn created<S: Alter + Drop>(rt: &impl Abort, alloc: Global, conn: Connection<S>)
 }
 
 /// Carries out the post and the release of the worked bank.
-fn work<S: Store>(rt: &impl Abort, alloc: Global, bank: &mut S) {
+pub fn work<S: Store>(rt: &impl Abort, alloc: Global, bank: &mut S) {
     assert!(rt; bank.apply(alloc, posting(rt, alloc)).is_ok());
     assert!(rt; bank.apply(alloc, released(rt, alloc)).is_ok());
 }

@@ -4,6 +4,8 @@
 #[cfg(test)]
 mod bank;
 #[cfg(test)]
+mod deeds;
+#[cfg(test)]
 mod files;
 #[cfg(test)]
 mod kept_numbers;
@@ -17,3 +19,5 @@ mod policies;
 mod refusals;
 #[cfg(test)]
 mod sound;
+#[cfg(test)]
+mod tales;

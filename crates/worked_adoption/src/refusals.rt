@@ -1,9 +1,10 @@
 //! Refusals of the worked bank, each after a change of its tables.
 
 use crate::bank::worked_files;
-use crate::files::{are_same, closed, copied, opened, reopened};
-use adopt_sql::{AdoptFault, adopt_bank};
-use sqlite::{Alter, Connection, Files};
+use crate::deeds::{Deed, Outcome, done_in};
+use crate::files::{are_same, copied, reopened};
+use adopt_sql::AdoptFault;
+use sqlite::Files;
 use sqlite_disk::Memory;
 use std::alloc::Global;
 use std::process::Abort;
@@ -29,11 +30,12 @@ pub fn judged(
 ) -> Result<(), AdoptFault> {
     let files = changed(rt, alloc, bank, change);
     let untouched = reopened(rt, alloc, &files);
-    let mut conn = opened(rt, alloc, files);
-    let answer = judged_over(rt, alloc, &mut conn);
-    let after = closed(rt, conn);
+    let (outcome, after) = done_in(rt, alloc, files, Deed::Look);
     assert!(rt; are_same(&untouched, &after), "{change}");
-    answer
+    match outcome {
+        Outcome::Found(answer) => answer,
+        _ => panic!(rt; "an answer"),
+    }
 }
 
 /// The files of a bank after a change of its tables.
@@ -43,22 +45,5 @@ pub fn changed(
     bank: &Files<Memory>,
     change: &str,
 ) -> Files<Memory> {
-    let mut conn = opened(rt, alloc, copied(rt, alloc, bank));
-    execute(rt, &mut conn, change);
-    closed(rt, conn)
-}
-
-fn execute<S: Alter>(rt: &impl Abort, conn: &mut Connection<S>, change: &str) {
-    if let Err(error) = conn.execute_batch(change) {
-        panic!(rt; "{change}: {error}");
-    }
-}
-
-fn judged_over<S: Alter>(
-    rt: &impl Abort,
-    alloc: Global,
-    conn: &mut Connection<S>,
-) -> Result<(), AdoptFault> {
-    assert!(rt; conn.is_autocommit());
-    adopt_bank(alloc, conn)
+    done_in(rt, alloc, copied(rt, alloc, bank), Deed::Change(change)).1
 }
