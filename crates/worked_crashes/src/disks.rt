@@ -36,9 +36,6 @@ pub type Failers = Files<Fuse<Memory>>;
 /// A connection to such files.
 pub type Frail = Connection<FileStore<Fuse<Memory>>>;
 
-/// A connection to files that do not fail.
-pub type Firm = Connection<FileStore<Memory>>;
-
 /// The contents of two new files.
 pub fn nothing(alloc: Global) -> Held {
     Held {
@@ -77,21 +74,13 @@ pub fn failing_files(
     }
 }
 
-/// Files that hold this and do not fail.
-fn firm_files(rt: &impl Abort, alloc: Global, held: &Held) -> Files<Memory> {
-    Files {
-        log: file(rt, alloc, &held.log),
-        db: file(rt, alloc, &held.db),
-    }
-}
-
 /// A connection to these files, or what is left of them where they were not opened.
-fn connection<D: Disk + Drop>(
+fn connection(
     rt: &impl Abort,
     alloc: Global,
-    files: Files<D>,
+    files: Failers,
     options: Options,
-) -> Result<Connection<FileStore<D>>, Files<D>> {
+) -> Result<Frail, Failers> {
     if !files.may_be_used() {
         panic!(rt; "files that were synced");
     }
@@ -113,39 +102,29 @@ pub fn open_frail(rt: &impl Abort, alloc: Global, files: Failers) -> Result<Frai
 }
 
 /// A connection to files that hold this and do not fail.
-pub fn reopened(rt: &impl Abort, alloc: Global, held: &Held) -> Firm {
-    match connection(rt, alloc, firm_files(rt, alloc, held), Options::new(7)) {
+pub fn reopened(rt: &impl Abort, alloc: Global, held: &Held) -> Frail {
+    let files = failing_files(rt, alloc, held, Failing::Log, u64::MAX);
+    match connection(rt, alloc, files, Options::new(7)) {
         Ok(conn) => conn,
         Err(_) => panic!(rt; "the files open"),
     }
 }
 
-/// What files hold whose connection is let go, with nothing more done to them.
-pub fn held_by(rt: &impl Abort, alloc: Global, conn: Firm) -> Held {
-    let files = conn.into_store().close();
-    Held {
-        log: copied(rt, alloc, files.log.bytes()),
-        db: copied(rt, alloc, files.db.bytes()),
-    }
-}
-
 /// What files hold that were closed: the log was copied into the database file.
-pub fn closed_by(rt: &impl Abort, alloc: Global, conn: Firm) -> Held {
+pub fn closed_by(rt: &impl Abort, alloc: Global, conn: Frail) -> Held {
     match conn.close_files() {
-        Ok(files) => Held {
-            log: copied(rt, alloc, files.log.bytes()),
-            db: copied(rt, alloc, files.db.bytes()),
-        },
+        Ok(files) => seen(rt, alloc, &files),
         Err((error, _)) => panic!(rt; "{error}"),
     }
 }
 
-/// The files of a connection that is let go.
+/// The files of a connection that is let go, with nothing more done to them.
 pub fn let_go(conn: Frail) -> Failers {
     conn.into_store().close()
 }
 
-fn seen(rt: &impl Abort, alloc: Global, files: &Failers) -> Held {
+/// What files hold.
+pub fn seen(rt: &impl Abort, alloc: Global, files: &Failers) -> Held {
     Held {
         log: copied(rt, alloc, files.log.inner().bytes()),
         db: copied(rt, alloc, files.db.inner().bytes()),

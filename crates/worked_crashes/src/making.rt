@@ -1,44 +1,35 @@
 //! A bank that is made on a disk that fails at some call, and one that is looked for there.
 
+use crate::deeds::{Deed, Outcome, done_with};
 use crate::disks::{
-    Failers, Failing, Held, closed_by, failing_files, held_by, left_by, let_go, may_have_failed,
-    nothing, open_frail, reopened,
+    Failers, Failing, Frail, Held, closed_by, failing_files, left_by, may_have_failed, nothing,
+    open_frail, reopened, seen,
 };
 use crate::tellings::told_anew;
-use adopt_sql::{AdoptFault, adopt_bank};
-use bank_books::World;
-use money::Fault;
-use open_sql::{OpenFault, make_bank};
-use sample_bank::sample_world;
-use sqlite::{Alter, Connection};
+use adopt_sql::AdoptFault;
 use std::alloc::Global;
 use std::process::Abort;
 
-fn world(rt: &impl Abort, alloc: Global) -> World {
-    sample_world(alloc).expect(rt, "memory")
+/// Makes the sample bank in a database, or looks for it there. Answers whether that was done, and the files.
+fn tried(rt: &impl Abort, alloc: Global, conn: Frail, deed: Deed<'_>) -> (bool, Failers) {
+    match done_with(rt, alloc, conn, deed) {
+        Ok((outcome, files)) => (is_done(rt, outcome), files),
+        Err(fault) => panic!(rt; "{fault}"),
+    }
 }
 
-/// Makes the sample bank in a database, and answers whether that was done: the disk may have failed.
-fn make<S: Alter>(rt: &impl Abort, alloc: Global, conn: &mut Connection<S>) -> bool {
-    assert!(rt; conn.is_autocommit());
-    let outcome = make_bank(alloc, conn, &world(rt, alloc));
-    assert!(rt; outcome.is_ok() || outcome == Err(OpenFault::Fault(Fault::Disk)));
-    outcome.is_ok()
-}
-
-/// Looks for a bank in a database, and answers whether it was found: the disk may have failed.
-fn find<S: Alter>(rt: &impl Abort, alloc: Global, conn: &mut Connection<S>) -> bool {
-    assert!(rt; conn.is_autocommit());
-    let outcome = adopt_bank(alloc, conn);
-    assert!(rt; outcome.is_ok() || outcome == Err(AdoptFault::Fault(Fault::Disk)));
-    outcome.is_ok()
+fn is_done(rt: &impl Abort, outcome: Outcome) -> bool {
+    match outcome {
+        Outcome::Done(well) => well,
+        _ => panic!(rt; "whether it was done"),
+    }
 }
 
 /// What files hold behind the making of the sample bank. It is in the log, and was not copied into the database file.
 fn made_over(rt: &impl Abort, alloc: Global, held: &Held) -> Held {
-    let mut conn = reopened(rt, alloc, held);
-    assert!(rt; make(rt, alloc, &mut conn));
-    held_by(rt, alloc, conn)
+    let (was_made, files) = tried(rt, alloc, reopened(rt, alloc, held), Deed::Make);
+    assert!(rt; was_made);
+    seen(rt, alloc, &files)
 }
 
 /// What new files hold in which the sample bank was made.
@@ -49,10 +40,7 @@ pub fn sample_held(rt: &impl Abort, alloc: Global) -> Held {
 /// Makes the sample bank in files that fail. Answers whether it was made, and the files.
 fn make_in(rt: &impl Abort, alloc: Global, files: Failers) -> (bool, Failers) {
     match open_frail(rt, alloc, files) {
-        Ok(mut conn) => {
-            let was_made = make(rt, alloc, &mut conn);
-            (was_made, let_go(conn))
-        }
+        Ok(conn) => tried(rt, alloc, conn, Deed::Make),
         Err(files) => (false, files),
     }
 }
@@ -61,9 +49,9 @@ fn make_in(rt: &impl Abort, alloc: Global, files: Failers) -> (bool, Failers) {
 /// opened, and the files.
 fn find_in(rt: &impl Abort, alloc: Global, files: Failers) -> (Option<bool>, Failers) {
     match open_frail(rt, alloc, files) {
-        Ok(mut conn) => {
-            let was_found = find(rt, alloc, &mut conn);
-            (Some(was_found), let_go(conn))
+        Ok(conn) => {
+            let (was_found, files) = tried(rt, alloc, conn, Deed::Find);
+            (Some(was_found), files)
         }
         Err(files) => (None, files),
     }

@@ -2,16 +2,17 @@
 //! once; from then on the bank is stopped. Opened again, the bank is the one before the request at which the disk
 //! failed, or the one behind it.
 
-use crate::disks::{Failing, Held, failing_files, left_by, let_go, may_have_failed, open_frail};
+use crate::deeds::{Deed, Outcome, done_with};
+use crate::disks::{
+    Failers, Failing, Frail, Held, failing_files, left_by, may_have_failed, open_frail,
+};
 use crate::making::sample_held;
 use crate::streams::{CLOSING, Exchange, FAILED, POST, RELEASED, STOPPED, TRANSFER, reply};
 use crate::tellings::{told, told_anew};
 use sample_bank::sample_world;
-use sqlite::{Alter, Connection};
 use std::alloc::Global;
 use std::process::Abort;
 use store_rows::{Bank, ListStore, Store};
-use store_sql::SqlStore;
 
 /// How often the bank was found that was there before the request at which the disk failed, and how often the one
 /// behind it.
@@ -61,7 +62,7 @@ fn stopped<S: Store>(rt: &impl Abort, alloc: Global, bank: &mut Bank<S>, stream:
 
 /// How many of these requests were answered by their reply. The one behind them is answered by the fault of the disk,
 /// and from then on the bank is stopped.
-fn answered<S: Store>(
+pub fn answered<S: Store>(
     rt: &impl Abort,
     alloc: Global,
     bank: &mut Bank<S>,
@@ -107,19 +108,19 @@ fn check(
     }
 }
 
-/// Serves requests over the bank in a database. Answers how many got their reply, and the connection.
-fn served<S: Alter>(
-    rt: &impl Abort,
-    alloc: Global,
-    conn: Connection<S>,
-    stream: &[Exchange],
-) -> (usize, Connection<S>) {
-    assert!(rt; conn.is_autocommit());
-    let mut bank = Bank {
-        store: SqlStore::over(conn),
-    };
-    let count = answered(rt, alloc, &mut bank, stream);
-    (count, bank.store.into_connection())
+/// Serves requests over the bank in a database. Answers how many got their reply, and the files.
+fn served(rt: &impl Abort, alloc: Global, conn: Frail, stream: &[Exchange]) -> (usize, Failers) {
+    match done_with(rt, alloc, conn, Deed::Serve(stream)) {
+        Ok((outcome, files)) => (count_of(rt, outcome), files),
+        Err(fault) => panic!(rt; "{fault}"),
+    }
+}
+
+fn count_of(rt: &impl Abort, outcome: Outcome) -> usize {
+    match outcome {
+        Outcome::Served(count) => count,
+        _ => panic!(rt; "how many were served"),
+    }
 }
 
 /// Serves requests over the sample bank with a disk that fails at its first call behind those by which the files are
@@ -139,8 +140,7 @@ fn fail_each_call(
         let Ok(conn) = open_frail(rt, alloc, failing_files(rt, alloc, &held, which, calls)) else {
             continue;
         };
-        let (count, conn) = served(rt, alloc, conn, stream);
-        let mut files = let_go(conn);
+        let (count, mut files) = served(rt, alloc, conn, stream);
         let failed = may_have_failed(&mut files);
         let left = left_by(rt, alloc, files);
         check(rt, alloc, &left.written, &states, count, found);

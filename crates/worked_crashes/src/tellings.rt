@@ -2,10 +2,10 @@
 //! the sample's accounts, tellers and branches, the days of these, who holds which drawer, the first entries of branch 1
 //! and which of them are undone, who has a session open, and the first release that Tom was given.
 
+use crate::deeds::{Deed, Outcome, done_with};
 use crate::disks::{Held, reopened};
-use adopt_sql::{AdoptFault, adopt};
+use adopt_sql::AdoptFault;
 use money::Fault;
-use sqlite::{Alter, Connection};
 use std::alloc::Global;
 use std::fmt::Debug;
 use std::process::Abort;
@@ -49,20 +49,11 @@ pub fn told<S: Store>(rt: &impl Abort, alloc: Global, bank: &mut S) -> String {
     text
 }
 
-/// What the bank in a database tells, where it is adopted.
-fn told_by<S: Alter + Drop>(
-    rt: &impl Abort,
-    alloc: Global,
-    conn: Connection<S>,
-) -> Result<String, AdoptFault> {
-    assert!(rt; conn.is_autocommit());
-    match adopt(alloc, conn) {
-        Ok(mut bank) => Ok(told(rt, alloc, &mut bank)),
-        Err(fault) => Err(fault),
-    }
-}
-
 /// What the bank tells that these files hold, opened anew and adopted.
 pub fn told_anew(rt: &impl Abort, alloc: Global, held: &Held) -> Result<String, AdoptFault> {
-    told_by(rt, alloc, reopened(rt, alloc, held))
+    let (outcome, _) = done_with(rt, alloc, reopened(rt, alloc, held), Deed::Tell)?;
+    match outcome {
+        Outcome::Told(tale) => Ok(tale),
+        _ => panic!(rt; "a tale"),
+    }
 }
