@@ -48,10 +48,12 @@ def source_of(crate):
 
 def words_of_check(uses, crate, source, libraries, home):
     """The words of the prover's check of a crate that begins with this file. FOLDER/crates/NAME of the libraries has each
-    crate below it, built; those of the benches, which the gate does not build, are read as they stand."""
+    crate below it, built; those of the benches, which the gate does not build, are read as they stand, and may use what is
+    passed to the crate."""
     built = {it: f"{libraries}/crates/{it}/out/rlib" for it in below(uses, [crate]) if it not in (crate, *BENCHES)}
     words = ["--crate-name", crate, source]
-    for it in ["std", *uses[crate]]:
+    read = [it for it in below(uses, [crate]) if it in BENCHES]
+    for it in dict.fromkeys(["std", *uses[crate], *(used for name in read for used in uses[name])]):
         if it in BENCHES:
             words += ["--lib", f"{it}={source_of(it)}"]
         else:
