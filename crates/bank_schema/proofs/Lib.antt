@@ -6,7 +6,9 @@ pub mod InsertLemmas
 pub mod KeyLemmas
 pub mod KeyTests
 pub mod PickLemmas
+pub mod ProcedureNumbers
 pub mod ReadLemmas
+pub mod ReadableLemmas
 pub mod ScanLemmas
 pub mod SchemaTexts
 pub mod StepLemmas

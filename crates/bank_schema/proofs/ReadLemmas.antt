@@ -1,5 +1,5 @@
 -- What a query over one table shows: the rows that pass, in order of key where it is sorted so.
-use Rattle.std.proofs.Common.{◌≡◌, ℕ, ◌≤◌, ◌<◌, pos, negsuc, List, [], ◌∷◌, map, filter, length, Bool, true, false, refl, ap, arith, sym, ◌∙◌, subst, ◌==◌, ◌&&◌, Some, IsPermutation, IsSorted, is_eq, int_cmp, Ordering, Less}
+use Rattle.std.proofs.Common.{◌≡◌, ℕ, ◌≤◌, ◌<◌, ◌+◌, ◌*◌, ◌^◌, pos, negsuc, List, [], ◌∷◌, map, filter, length, Bool, true, false, refl, ap, arith, ◌∙◌, subst, ◌==◌, ◌&&◌, Some, IsPermutation, IsSorted, inl, inr, is_eq, int_cmp, Less, Equal}
 use Rattle.std.specs.Prelude.{nat_le, nat_lt}
 use Rattle.std.specs.Ordering.{is_ge, is_gt, ordering_then}
 use Rattle.std.proofs.lemmas.Bool.Decides.{nat_tests}
@@ -15,12 +15,15 @@ use Rattle.sqlite.specs.Listing.{understood, reads_listing}
 use Rattle.sqlite.specs.State.{State, Shown}
 use Rattle.sqlite.proofs.Callers.{IsPlain, command_of, reads_as}
 use Rattle.sqlite.specs.Collation.TheVariants.{Binary}
+use Rattle.sqlite_rules.specs.Lists.{Has}
+use Rattle.sqlite_rules.proofs.ListLemmas.{all_from, all_has, contains_had, has_filtered}
 use Rattle.sqlite_sql.specs.declared.ops.BinaryOp.TheVariants.{Compare}
 use Rattle.sqlite_sql.specs.declared.ops.CompareOp.TheVariants.{Eq, Ge, Gt}
 use Rattle.sqlite_sql.specs.Ops.{binary, is_true, from_truth}
 use Rattle.sqlite_sql.specs.Program.{IsProgramAnswer}
 use Rattle.sqlite_sql.specs.Query.{output_cmp}
 use Rattle.sqlite_sql.proofs.QueryLemmas.{output_cmp_total}
+use Rattle.sqlite_trees.specs.Tree.{IsAscending}
 use Rattle.sqlite_value.specs.Order.{value_cmp}
 use Rattle.sqlite_value.specs.declared.keys.Key.{Key}
 use Rattle.sqlite_value.proofs.OrderLemmas.{value_cmp-Int}
@@ -110,10 +113,34 @@ three_equal a b c m n o = λ i. equals a m i && two_equal b c n o i
 less_pos : (m n : ℕ) → m < n → int_cmp (pos m) (pos n) ≡ Less
 less_pos m n less = grind (arith, nat_tests)
 
-pub rises_by_one : (m n : ℕ) → m < n → ordering_then (value_cmp (Int (pos m)) (Int (pos n))) Rattle.std.proofs.Common.Equal ≡ Less
-rises_by_one m n less = ap (λ o. ordering_then o Rattle.std.proofs.Common.Equal) (value_cmp-Int (pos m) (pos n) ∙ less_pos m n less)
+pub rises_by_one : (m n : ℕ) → m < n → ordering_then (value_cmp (Int (pos m)) (Int (pos n))) Equal ≡ Less
+rises_by_one m n less = ap (λ o. ordering_then o Equal) (value_cmp-Int (pos m) (pos n) ∙ less_pos m n less)
+
+-- keys of two columns and of three rise in the order of the columns, where all parts but the first are small
+by_parts : (a b m n : ℕ) → b < 2 ^ 32 → n < 2 ^ 32 → 2 ^ 32 * a + b < 2 ^ 32 * m + n → ordering_then (int_cmp (pos a) (pos m)) (ordering_then (int_cmp (pos b) (pos n)) Equal) ≡ Less
+by_parts a b m n p q less = grind (arith, nat_tests)
+
+pub rises_by_two : (a b m n : ℕ) → b < 2 ^ 32 → n < 2 ^ 32 → 2 ^ 32 * a + b < 2 ^ 32 * m + n
+    → ordering_then (value_cmp (Int (pos a)) (Int (pos m))) (ordering_then (value_cmp (Int (pos b)) (Int (pos n))) Equal) ≡ Less
+rises_by_two a b m n p q less = (λ i. ordering_then (value_cmp-Int (pos a) (pos m) i) (ordering_then (value_cmp-Int (pos b) (pos n) i) Equal)) ∙ by_parts a b m n p q less
+
+by_three_columns : (a b c l m n : ℕ) → b < 2 ^ 32 → m < 2 ^ 32 → c < 2 ^ 32 → n < 2 ^ 32 → 2 ^ 64 * a + 2 ^ 32 * b + c < 2 ^ 64 * l + 2 ^ 32 * m + n
+    → ordering_then (int_cmp (pos a) (pos l)) (ordering_then (int_cmp (pos b) (pos m)) (ordering_then (int_cmp (pos c) (pos n)) Equal)) ≡ Less
+by_three_columns a b c l m n p q r s less = grind (arith, nat_tests)
+
+pub rises_by_three : (a b c l m n : ℕ) → b < 2 ^ 32 → m < 2 ^ 32 → c < 2 ^ 32 → n < 2 ^ 32 → 2 ^ 64 * a + 2 ^ 32 * b + c < 2 ^ 64 * l + 2 ^ 32 * m + n
+    → ordering_then (value_cmp (Int (pos a)) (Int (pos l))) (ordering_then (value_cmp (Int (pos b)) (Int (pos m))) (ordering_then (value_cmp (Int (pos c)) (Int (pos n))) Equal)) ≡ Less
+rises_by_three a b c l m n p q r s less =
+    (λ i. ordering_then (value_cmp-Int (pos a) (pos l) i) (ordering_then (value_cmp-Int (pos b) (pos m) i) (ordering_then (value_cmp-Int (pos c) (pos n) i) Equal))) ∙ by_three_columns a b c l m n p q r s less
 
 -- ---- what is shown
+
+module _ {X : Type 0} (F : X → Type 0) (R : X → X → Type 0) where
+  -- what is so along rows that fit, where both do
+  fitting_rise : (xs : List X) → ((x : X) → Has xs x → F x) → IsAscending (λ x y. F x → F y → R x y) xs → IsAscending R xs
+  fitting_rise [] fit up = tt
+  fitting_rise (x ∷ xs) fit up =
+      (all_from (R x) xs (λ y there. all_has (λ z. F x → F z → R x z) xs y up.0 there (fit x (inl refl)) (fit y (inr there))), fitting_rise xs (λ y there. fit y (inr there)) up.1)
 
 -- `back` gives a row as the query sees it, by what of it counts
 module _ {X : Type 0} (shows back : Row → Row) (cells : X → Row) (key : X → ℕ) (Fits : X → Type 0) (tree : ℕ) (over : (db : Trees) → overlay db [] tree ≡ db tree)
@@ -145,6 +172,16 @@ module _ {X : Type 0} (shows back : Row → Row) (cells : X → Row) (key : X �
   in_order db xs rows holds h rises =
       let it = answers db xs rows holds h in
       let up = ascending-map (λ a b. output_cmp q a b ≡ Less) shown (filter p xs) (picked_rise key p (λ x y. output_cmp q (shown x) (shown y) ≡ Less) rises xs (rising key xs holds.ordered.distinct holds.ordered.in_order)) in
+      from_outputs xs rows it.0 (sorted_unique (output_cmp q) (output_cmp_total q) (map shown (filter p xs)) it.0 up it.1 it.2) it.3
+
+  -- and so they do where only the keys of rows that fit rise so
+  pub in_order_of_fitting : (db : Trees) (xs : List X) (rows : List Row) → HoldsRows shows cells key Fits xs (db tree) → IsProgramAnswer [] q db params rows
+      → ((x y : X) → Fits x → Fits y → key x < key y → output_cmp q (shown x) (shown y) ≡ Less) → rows ≡ page q params (map (λ x. (shown x).1) (filter p xs))
+  in_order_of_fitting db xs rows holds h rises =
+      let it = answers db xs rows holds h in
+      let R : X → X → Type 0 = λ x y. output_cmp q (shown x) (shown y) ≡ Less in
+      let loose = picked_rise key p (λ x y. Fits x → Fits y → R x y) (λ x y _ _ less a b. rises x y a b less) xs (rising key xs holds.ordered.distinct holds.ordered.in_order) in
+      let up = ascending-map (λ a b. output_cmp q a b ≡ Less) shown (filter p xs) (fitting_rise Fits R (filter p xs) (λ x there. holds.fit x (contains_had xs x (has_filtered p xs x there).0)) loose) in
       from_outputs xs rows it.0 (sorted_unique (output_cmp q) (output_cmp_total q) (map shown (filter p xs)) it.0 up it.1 it.2) it.3
 
   -- and so does one alone

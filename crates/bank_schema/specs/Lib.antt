@@ -4,5 +4,7 @@ pub mod Faults
 pub mod Held
 pub mod HeldRows
 pub mod Numbers
+pub mod Readable
 pub mod Schema
 pub mod Steps
+pub mod Told

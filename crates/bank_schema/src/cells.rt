@@ -1,9 +1,12 @@
 ghost use Rattle.std.specs.Prelude.{◌≡◌, pos, IfErr, IfOk};
+ghost use Rattle.money.specs.Range.{IsCents};
 ghost use Rattle.money.specs.declared.fault.Fault.TheVariants.{Size};
 ghost use Rattle.sqlite.specs.declared.types.Value.TheVariants.{Int};
 ghost use Rattle.sqlite_value.specs.Order.{column};
+ghost use Rattle.bank_schema.specs.Cells.{AnyRow};
 ghost use Rattle.bank_schema.specs.Faults.{fault_named};
 ghost use Rattle.bank_schema.specs.Numbers.{kind_cell, kind_number, kind_numbered, procedure_cell, procedure_numbered, truth_cell};
+ghost use Rattle.bank_schema.specs.Readable.{IsShort, IsUnread};
 
 use bank_terms::{Kind, Procedure};
 use money::{Cents, Fault};
@@ -22,7 +25,8 @@ pub fn fault_of(error: Error) -> Fault
 
 /// A number of 32 bits in a row, whose columns count from 0. Any other value is a fault of the disk.
 pub fn number_at(row: &Row, at: usize) -> Result<u32, Fault>
-    ensures { IfOk result (λ n. column row.now at ≡ Int (pos n)) }
+    ensures told { IfOk result (λ n. column row.now at ≡ Int (pos n)) }
+    ensures unread { IfErr result (IsUnread (λ n. Int (pos n)) IsShort (column row.now at)) }
 {
     match row.get::<u32>(at) {
         Ok(n) => Ok(n),
@@ -32,7 +36,8 @@ pub fn number_at(row: &Row, at: usize) -> Result<u32, Fault>
 
 /// A count in a row. Any other value is a fault of the disk.
 pub fn count_at(row: &Row, at: usize) -> Result<u64, Fault>
-    ensures { IfOk result (λ n. column row.now at ≡ Int (pos n)) }
+    ensures told { IfOk result (λ n. column row.now at ≡ Int (pos n)) }
+    ensures unread { IfErr result (IsUnread (λ n. Int (pos n)) AnyRow (column row.now at)) }
 {
     match row.get::<u64>(at) {
         Ok(n) => Ok(n),
@@ -42,7 +47,8 @@ pub fn count_at(row: &Row, at: usize) -> Result<u64, Fault>
 
 /// A whole number in a row. Any other value is a fault of the disk.
 pub fn whole_at(row: &Row, at: usize) -> Result<i64, Fault>
-    ensures { IfOk result (λ n. column row.now at ≡ Int n) }
+    ensures told { IfOk result (λ n. column row.now at ≡ Int n) }
+    ensures unread { IfErr result (IsUnread Int AnyRow (column row.now at)) }
 {
     match row.get::<i64>(at) {
         Ok(n) => Ok(n),
@@ -52,7 +58,8 @@ pub fn whole_at(row: &Row, at: usize) -> Result<i64, Fault>
 
 /// An amount in a row, in cents. One out of its limits is a fault of the disk.
 pub fn cents_at(row: &Row, at: usize) -> Result<Cents, Fault>
-    ensures { IfOk result (λ n. column row.now at ≡ Int n) }
+    ensures told { IfOk result (λ n. column row.now at ≡ Int n) }
+    ensures unread { IfErr result (IsUnread Int IsCents (column row.now at)) }
 {
     match Cents::new(whole_at(row, at)?) {
         Some(cents) => Ok(cents),
@@ -62,7 +69,8 @@ pub fn cents_at(row: &Row, at: usize) -> Result<Cents, Fault>
 
 /// A truth in a row, 1 or 0. Any other value is a fault of the disk.
 pub fn truth_at(row: &Row, at: usize) -> Result<bool, Fault>
-    ensures { IfOk result (λ truth. column row.now at ≡ truth_cell truth) }
+    ensures told { IfOk result (λ truth. column row.now at ≡ truth_cell truth) }
+    ensures unread { IfErr result (IsUnread truth_cell AnyRow (column row.now at)) }
 {
     match number_at(row, at)? {
         0 => Ok(false),
@@ -73,7 +81,8 @@ pub fn truth_at(row: &Row, at: usize) -> Result<bool, Fault>
 
 /// A procedure in a row, by its number. Any other value is a fault of the disk.
 pub fn procedure_at(row: &Row, at: usize) -> Result<Procedure, Fault>
-    ensures { IfOk result (λ procedure. column row.now at ≡ procedure_cell procedure) }
+    ensures told { IfOk result (λ procedure. column row.now at ≡ procedure_cell procedure) }
+    ensures unread { IfErr result (IsUnread procedure_cell AnyRow (column row.now at)) }
 {
     match procedure_numbered(number_at(row, at)?) {
         Some(procedure) => Ok(procedure),
@@ -105,7 +114,8 @@ fn procedure_numbered(number: u32) -> Option<Procedure>
 
 /// A kind of items in a row, by its number. Any other value is a fault of the disk.
 pub fn kind_at(row: &Row, at: usize) -> Result<Kind, Fault>
-    ensures { IfOk result (λ kind. column row.now at ≡ kind_cell kind) }
+    ensures told { IfOk result (λ kind. column row.now at ≡ kind_cell kind) }
+    ensures unread { IfErr result (IsUnread kind_cell AnyRow (column row.now at)) }
 {
     match kind_numbered(number_at(row, at)?) {
         Some(kind) => Ok(kind),

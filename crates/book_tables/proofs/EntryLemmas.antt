@@ -33,10 +33,10 @@ use Rattle.bank_schema.specs.Schema.{bank_schema, key_index, entries_table}
 use Rattle.bank_schema.proofs.FrameLemmas.{with_entries}
 use Rattle.bank_schema.proofs.KeyTests.{length-mapped}
 use Rattle.bank_schema.proofs.InsertLemmas.{adds_by_columns, apart_by_index, parts_of, puts, two_agree}
-use Rattle.bank_schema.proofs.ReadLemmas.{alone, answered, answers, by_two, is_given, no_limit, no_offset, rising_key, two_equal}
+use Rattle.bank_schema.proofs.ReadLemmas.{alone, answered, answers, by_two, in_order_of_fitting, is_given, no_limit, no_offset, rises_by_two, rising_key, two_equal}
 use Rattle.bank_schema.proofs.ScanLemmas.{passes, scan}
 use Rattle.bank_schema.proofs.WriteLemmas.{cast_int, cast_null, inserts}
-use Rattle.book_tables.proofs.PickedRows.{few_of_parts, first_alone, in_order_of_fitting, rises_by_two}
+use Rattle.book_tables.proofs.PickedRows.{few_of_parts, first_alone}
 use Rattle.book_tables.specs.Picks.{is_entry, is_entry_at, undoes_entry}
 use Rattle.book_tables.specs.Texts.{entry_text, add_entry_text, turn_text, undoing_text}
 

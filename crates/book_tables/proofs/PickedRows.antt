@@ -1,39 +1,26 @@
 -- Rows that pass a test: how many there are, in which order they come, and the first.
-use Rattle.std.proofs.Common.{not, Contains, ◌≡◌, ◌≤◌, ◌<◌, ◌+◌, ◌*◌, ◌^◌, ◌==◌, ◌&&◌, ℕ, zero, suc, ◌++◌, get_or, pos, List, [], ◌∷◌, map, filter, take, length, slice_get, Bool, true, false, cond, Option, Some, None, Result, Ok, Err, OnOk, refl, sym, ap, arith, ◌∙◌, subst, inl, inr, int_cmp, Less, Equal}
+use Rattle.std.proofs.Common.{not, Contains, ◌≡◌, ◌≤◌, ◌<◌, ◌+◌, ◌*◌, ◌^◌, ◌==◌, ◌&&◌, ℕ, zero, suc, ◌++◌, get_or, pos, List, [], ◌∷◌, map, filter, take, length, slice_get, Bool, true, false, cond, Option, Some, None, Result, Ok, Err, OnOk, refl, sym, ap, arith, ◌∙◌, subst, int_cmp}
 use Rattle.std.proofs.lemmas.List.{take_more}
 use Rattle.std.specs.Prelude.{option_map, nat_le, nat_lt}
-use Rattle.std.specs.List.{cons_option, find, list_any}
-use Rattle.std.specs.Ordering.{is_le, ordering_then}
+use Rattle.std.specs.List.{find, list_any}
+use Rattle.std.specs.Ordering.{is_le}
 use Rattle.std.proofs.lemmas.Bool.Decides.{nat_tests}
 use Rattle.sqlite.specs.declared.types.Value.TheVariants.{Int}
 use Rattle.sqlite.specs.Order.{Row}
-use Rattle.sqlite.specs.Query.{Output, Query, output, page}
-use Rattle.sqlite.specs.Program.{overlay}
 use Rattle.sqlite.specs.Term.{Term, col, lit, op2}
-use Rattle.sqlite.specs.Tree.{Trees}
 use Rattle.sqlite.specs.Collation.TheVariants.{Binary}
-use Rattle.sqlite_rules.specs.Lists.{Has}
-use Rattle.sqlite_rules.proofs.ListLemmas.{all_from, all_has, contains_had, has_filtered}
 use Rattle.sqlite_sql.specs.declared.ops.BinaryOp.TheVariants.{Compare}
 use Rattle.sqlite_sql.specs.declared.ops.CompareOp.TheVariants.{Eq, Ge, Gt, Le}
 use Rattle.sqlite_sql.specs.Ops.{binary, from_truth, is_true}
-use Rattle.sqlite_sql.specs.Program.{IsProgramAnswer}
-use Rattle.sqlite_sql.specs.Query.{output_cmp}
-use Rattle.sqlite_sql.proofs.QueryLemmas.{output_cmp_total}
-use Rattle.sqlite_trees.specs.Tree.{IsAscending}
-use Rattle.sqlite_value.specs.Order.{value_cmp}
-use Rattle.sqlite_value.specs.declared.keys.Key.{Key}
 use Rattle.sqlite_value.proofs.OrderLemmas.{value_cmp-Int}
-use Rattle.sqlite_keyed.proofs.ListLemmas.{ascending-map, map-map, none_counted}
-use Rattle.sqlite_keyed.proofs.SortLemmas.{sorted_unique}
+use Rattle.sqlite_keyed.proofs.ListLemmas.{none_counted}
 use Rattle.keyed_rows.specs.Ordered.{AreDistinct}
 use Rattle.book_growth.proofs.Rows.{find-found}
 use Rattle.bank_schema.specs.HeldRows.{HoldsRows, all_but_rowid}
 use Rattle.bank_schema.proofs.HeldLemmas.{picked_alike}
 use Rattle.bank_schema.proofs.KeyTests.{at_most_one, few_mapped, length-mapped, two_parts}
-use Rattle.bank_schema.proofs.KeyLemmas.{one_of_key, picked_rise, rising}
-use Rattle.bank_schema.proofs.ReadLemmas.{above, answers, at_least, equals}
-use Rattle.bank_schema.proofs.ScanLemmas.{passes, scan}
+use Rattle.bank_schema.proofs.KeyLemmas.{one_of_key}
+use Rattle.bank_schema.proofs.ReadLemmas.{above, at_least, equals}
 
 -- ---- how many
 
@@ -93,43 +80,6 @@ read_more shown rows there before made k row read below is reads are so_far made
     let within : k < length there = subst (λ n. k < n) (ap length are ∙ length-mapped shown there) below in
     let here : row ≡ shown (get_or there k read) = is ∙ ap (λ rs. get_or rs k row) are ∙ shown_at shown there k read row within in
     made_is ∙ (λ i. so_far i ++ reads (get_or there k read) here i ∷ []) ∙ sym (take_more there k read within)
-
--- ---- in order of keys whose parts are small
-
-module _ {X : Type 0} (F : X → Type 0) (R : X → X → Type 0) where
-  -- what is so along rows that fit, where both do
-  fitting_rise : (xs : List X) → ((x : X) → Has xs x → F x) → IsAscending (λ x y. F x → F y → R x y) xs → IsAscending R xs
-  fitting_rise [] fit up = tt
-  fitting_rise (x ∷ xs) fit up =
-      (all_from (R x) xs (λ y there. all_has (λ z. F x → F z → R x z) xs y up.0 there (fit x (inl refl)) (fit y (inr there))), fitting_rise xs (λ y there. fit y (inr there)) up.1)
-
-module _ {X : Type 0} (shows back : Row → Row) (cells : X → Row) (key : X → ℕ) (Fits : X → Type 0) (tree : ℕ) (over : (db : Trees) → overlay db [] tree ≡ db tree)
-    (terms project : List Term) (order : List (Term × Key)) (limit offset : Term) (params : Row) (p : X → Bool)
-    (reads : (r : Row) → (passes terms params r ≡ passes terms params (back (shows r))) × (output (scan tree terms project order limit offset) (params ∷ r ∷ []) ≡ output (scan tree terms project order limit offset) (params ∷ back (shows r) ∷ [])))
-    (passing : (x : X) → passes terms params (back (cells x)) ≡ p x) where
-  abbrev q : Query
-  q = scan tree terms project order limit offset
-
-  abbrev shown : X → Output
-  shown x = output q (params ∷ back (cells x) ∷ [])
-
-  -- where the query is sorted by what rises with the keys of rows that fit, they come in order of key
-  pub in_order_of_fitting : (db : Trees) (xs : List X) (rows : List Row) → HoldsRows shows cells key Fits xs (db tree) → IsProgramAnswer [] q db params rows
-      → ((x y : X) → Fits x → Fits y → key x < key y → output_cmp q (shown x) (shown y) ≡ Less) → rows ≡ page q params (map (λ x. (shown x).1) (filter p xs))
-  in_order_of_fitting db xs rows holds h rises =
-      let it = answers shows back cells key Fits tree over terms project order limit offset params p reads passing db xs rows holds h in
-      let R : X → X → Type 0 = λ x y. output_cmp q (shown x) (shown y) ≡ Less in
-      let loose = picked_rise key p (λ x y. Fits x → Fits y → R x y) (λ x y _ _ less a b. rises x y a b less) xs (rising key xs holds.ordered.distinct holds.ordered.in_order) in
-      let up = ascending-map (λ a b. output_cmp q a b ≡ Less) shown (filter p xs) (fitting_rise Fits R (filter p xs) (λ x there. holds.fit x (contains_had xs x (has_filtered p xs x there).0)) loose) in
-      let ordered = sorted_unique (output_cmp q) (output_cmp_total q) (map shown (filter p xs)) it.0 up it.1 it.2 in
-      it.3 ∙ ap (λ os. page q params (map (λ (o : Output). o.1) os)) ordered ∙ ap (page q params) (map-map (λ (o : Output). o.1) shown (filter p xs))
-
-by_parts : (a b m n : ℕ) → b < 2 ^ 32 → n < 2 ^ 32 → 2 ^ 32 * a + b < 2 ^ 32 * m + n → ordering_then (int_cmp (pos a) (pos m)) (ordering_then (int_cmp (pos b) (pos n)) Equal) ≡ Less
-by_parts a b m n p q less = grind (arith, nat_tests)
-
-pub rises_by_two : (a b m n : ℕ) → b < 2 ^ 32 → n < 2 ^ 32 → 2 ^ 32 * a + b < 2 ^ 32 * m + n
-    → ordering_then (value_cmp (Int (pos a)) (Int (pos m))) (ordering_then (value_cmp (Int (pos b)) (Int (pos n))) Equal) ≡ Less
-rises_by_two a b m n p q less = (λ i. ordering_then (value_cmp-Int (pos a) (pos m) i) (ordering_then (value_cmp-Int (pos b) (pos n) i) Equal)) ∙ by_parts a b m n p q less
 
 -- the row that was found is that of the one that is there, where rows that fit tell theirs
 pub decoded_fitting : {X : Type 0} (shown : X → Row) (Fits : X → Type 0) (p : X → Bool) (xs : List X) (row : Row) (read : X) → ((x : X) → Contains xs x → Fits x) → Some row ≡ option_map shown (find p xs)

@@ -1,7 +1,7 @@
 -- Tests by the columns of a key, as statements make them.
-use Rattle.std.proofs.Common.{◌≡◌, ◌<◌, ◌+◌, ◌*◌, ◌^◌, ◌==◌, ◌&&◌, ◌||◌, ℕ, ℤ, pos, negsuc, Bool, true, false, Option, Some, None, refl, ap, arith, sym, ◌∙◌, int_cmp, Less, Equal, is_eq}
+use Rattle.std.proofs.Common.{◌≡◌, ◌==◌, ◌&&◌, ◌||◌, ℕ, ℤ, pos, negsuc, Bool, true, false, Option, Some, None, refl, ap, arith, sym, ◌∙◌, int_cmp, is_eq}
 use Rattle.std.specs.Prelude.{nat_lt}
-use Rattle.std.specs.Ordering.{is_gt, ordering_then}
+use Rattle.std.specs.Ordering.{is_gt}
 use Rattle.std.proofs.lemmas.Bool.Decides.{nat_tests}
 use Rattle.sqlite.specs.declared.types.Value.{Value}
 use Rattle.sqlite.specs.declared.types.Value.TheVariants.{Int}
@@ -9,7 +9,6 @@ use Rattle.sqlite.specs.Collation.TheVariants.{Binary}
 use Rattle.sqlite_sql.specs.declared.ops.BinaryOp.TheVariants.{And, Compare, Or}
 use Rattle.sqlite_sql.specs.declared.ops.CompareOp.TheVariants.{Eq, Gt}
 use Rattle.sqlite_sql.specs.Ops.{binary, from_truth, is_true}
-use Rattle.sqlite_value.specs.Order.{value_cmp}
 use Rattle.sqlite_value.proofs.OrderLemmas.{value_cmp-Int}
 use Rattle.policy_lists.specs.Columns.{are_past, part_of}
 use Rattle.policy_lists.specs.declared.columns.Columns.{Columns}
@@ -121,14 +120,3 @@ past_three None n a b c = and_true _ ∙ ap is_true (three_told a b c (negsuc 0)
 past_three (Some k) n a b c =
     and_true _ ∙ ap is_true (three_told a b c (pos k.first) (pos k.second) (pos k.third)) ∙ told_back _
     ∙ (λ i. above_is a k.first i || (same_is a k.first i && (above_is b k.second i || (same_is b k.second i && above_is c k.third i))))
-
--- ---- in order of three columns
-
-by_three_columns : (a b c l m n : ℕ) → b < 2 ^ 32 → m < 2 ^ 32 → c < 2 ^ 32 → n < 2 ^ 32 → 2 ^ 64 * a + 2 ^ 32 * b + c < 2 ^ 64 * l + 2 ^ 32 * m + n
-    → ordering_then (int_cmp (pos a) (pos l)) (ordering_then (int_cmp (pos b) (pos m)) (ordering_then (int_cmp (pos c) (pos n)) Equal)) ≡ Less
-by_three_columns a b c l m n p q r s less = grind (arith, nat_tests)
-
-pub rises_by_three : (a b c l m n : ℕ) → b < 2 ^ 32 → m < 2 ^ 32 → c < 2 ^ 32 → n < 2 ^ 32 → 2 ^ 64 * a + 2 ^ 32 * b + c < 2 ^ 64 * l + 2 ^ 32 * m + n
-    → ordering_then (value_cmp (Int (pos a)) (Int (pos l))) (ordering_then (value_cmp (Int (pos b)) (Int (pos m))) (ordering_then (value_cmp (Int (pos c)) (Int (pos n))) Equal)) ≡ Less
-rises_by_three a b c l m n p q r s less =
-    (λ i. ordering_then (value_cmp-Int (pos a) (pos l) i) (ordering_then (value_cmp-Int (pos b) (pos m) i) (ordering_then (value_cmp-Int (pos c) (pos n) i) Equal))) ∙ by_three_columns a b c l m n p q r s less

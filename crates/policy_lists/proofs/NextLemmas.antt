@@ -13,7 +13,7 @@ use Rattle.kept_rows.specs.Sheets.{Sheets}
 use Rattle.kept_rows.specs.declared.records.MemberRow.{MemberRow}
 use Rattle.bank_schema.specs.Held.{HoldsTables}
 use Rattle.bank_schema.specs.Held.Sheet.{members as in_members, relations as in_relations, triples as in_triples}
-use Rattle.policy_tables.proofs.ProcedureNumbers.{small_number}
+use Rattle.bank_schema.proofs.ProcedureNumbers.{small_number}
 use Rattle.row_reads.specs.PolicyListing.{is_row_behind}
 use Rattle.row_reads.specs.declared.policy_row.PolicyKey.{PolicyKey}
 use Rattle.row_reads.specs.declared.policy_row.PolicyKey.TheVariants as key

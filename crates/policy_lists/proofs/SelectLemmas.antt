@@ -22,16 +22,15 @@ use Rattle.bank_schema.specs.Held.{HoldsTables}
 use Rattle.bank_schema.specs.Held.Sheet.{certifiers as in_certifiers, members as in_members, relations as in_relations, triples as in_triples, users as in_users}
 use Rattle.bank_schema.specs.HeldRows.{all_but_rowid, all_of_it}
 use Rattle.bank_schema.specs.Schema.{bank_schema}
-use Rattle.bank_schema.proofs.ReadLemmas.{answered, in_order, no_offset, rises_by_one, rising_key}
+use Rattle.bank_schema.proofs.ProcedureNumbers.{small_number}
+use Rattle.bank_schema.proofs.ReadLemmas.{answered, in_order, in_order_of_fitting, no_offset, rises_by_one, rises_by_three, rises_by_two, rising_key}
 use Rattle.bank_schema.proofs.ScanLemmas.{passes, scan}
-use Rattle.book_tables.proofs.PickedRows.{in_order_of_fitting, rises_by_two}
-use Rattle.policy_tables.proofs.ProcedureNumbers.{small_number}
 use Rattle.policy_lists.specs.Columns.{at_most, is_past, part_of}
 use Rattle.policy_lists.specs.Lines.{cells_of, line_of, rows_of}
 use Rattle.policy_lists.specs.Texts.{certifiers_text, given_one, given_three, given_two, members_text, relations_text, triples_text, users_text}
 use Rattle.policy_lists.specs.declared.columns.Columns.{Columns}
 use Rattle.policy_lists.specs.declared.kinds.LineKind.TheVariants as kind
-use Rattle.policy_lists.proofs.ColumnTests.{past_one, past_three, past_two, rises_by_three}
+use Rattle.policy_lists.proofs.ColumnTests.{past_one, past_three, past_two}
 
 -- LIMIT by a number that is given
 counted : {X : Type 0} (count : ℤ) (xs : List X) → limited (as_count (Int count)) xs ≡ at_most count xs

@@ -41,7 +41,7 @@ use Rattle.bank_schema.proofs.ReadLemmas.{alone, answered, by_two, no_limit, no_
 use Rattle.bank_schema.proofs.ScanLemmas.{passes, scan}
 use Rattle.bank_schema.proofs.WriteLemmas.{cast_int, cast_null, inserts}
 use Rattle.bank_schema.proofs.KeyTests.{at_most_one, few_mapped, two_parts}
-use Rattle.policy_tables.proofs.ProcedureNumbers.{small_number}
+use Rattle.bank_schema.proofs.ProcedureNumbers.{small_number}
 use Rattle.policy_tables.specs.Tests.{is_certifier_of}
 use Rattle.policy_tables.specs.Texts.{add_certifier_text, certifier_text, remove_certifier_text}
 

@@ -3,7 +3,6 @@ pub mod CascadeLemmas
 pub mod CertifierLemmas
 pub mod DecodeLemmas
 pub mod MemberLemmas
-pub mod ProcedureNumbers
 pub mod RelationLemmas
 pub mod RemovalLemmas
 pub mod ResultLemmas

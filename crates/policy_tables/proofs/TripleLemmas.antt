@@ -43,7 +43,7 @@ use Rattle.bank_schema.proofs.ReadLemmas.{alone, answered, answers, by_one, by_t
 use Rattle.bank_schema.proofs.ScanLemmas.{passes, scan}
 use Rattle.bank_schema.proofs.WriteLemmas.{cast_int, cast_null, inserts}
 use Rattle.bank_schema.proofs.KeyTests.{at_most_one, few_mapped, length-mapped, three_parts, three_parts_of}
-use Rattle.policy_tables.proofs.ProcedureNumbers.{small_number}
+use Rattle.bank_schema.proofs.ProcedureNumbers.{small_number}
 use Rattle.policy_tables.specs.Tests.{is_triple_at, is_triple_by, is_triple_numbered}
 use Rattle.policy_tables.specs.Texts.{add_triple_text, remove_triple_text, triple_text, triples_text, user_triples_text}
 

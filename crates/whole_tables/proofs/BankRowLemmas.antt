@@ -7,7 +7,7 @@ use Rattle.sqlite.specs.Tree.{Trees}
 use Rattle.sqlite.proofs.Callers.{one_permutation}
 use Rattle.bank_schema.specs.HeldRows.{all_of_it}
 use Rattle.whole_tables.specs.BankRow.{IsBankTable, IsToldBy, bank_row_cells}
-use Rattle.whole_tables.specs.Told.{told_by_key}
+use Rattle.bank_schema.specs.Told.{told_by_key}
 use Rattle.whole_tables.specs.declared.bank.BankRow.{BankRow}
 
 themselves : (rows : List Row) → map all_of_it rows ≡ rows

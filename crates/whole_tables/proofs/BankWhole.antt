@@ -1,15 +1,16 @@
 -- The queries for the row of the bank, whole.
-use Rattle.std.proofs.Common.{List, [], ◌∷◌, codes, inl, inr, refl}
+use Rattle.std.proofs.Common.{ℕ, List, [], ◌∷◌, codes, inl, inr, refl}
 use Rattle.sqlite.specs.Listing.{understood}
 use Rattle.sqlite.specs.Term.{Term, col}
 use Rattle.sqlite_tied.specs.Compute.{everything}
 use Rattle.sqlite_value.specs.declared.keys.Key.{Key}
+use Rattle.bank_schema.specs.Cells.{AnyRow, bank_cells}
 use Rattle.bank_schema.specs.Held.Sheet.{bank as in_bank}
 use Rattle.bank_schema.specs.HeldRows.{all_of_it}
 use Rattle.bank_schema.specs.Schema.{bank_table}
-use Rattle.bank_schema.proofs.ReadLemmas.{rising_key}
+use Rattle.bank_schema.proofs.ReadLemmas.{rises_by_one, rising_key}
 use Rattle.whole_tables.specs.Texts.{all_bank_text}
-use Rattle.whole_tables.specs.Told.{told_by_key}
+use Rattle.bank_schema.specs.Told.{told_by_key}
 use Rattle.whole_tables.specs.Whole.{TellsWhole}
 use Rattle.whole_tables.proofs.WholeLemmas.{IsScanOf, by_rowid_whole}
 
@@ -25,7 +26,11 @@ bank_is : IsScanOf all_bank_text 0 bank_columns bank_order (codes "id" ∷ codes
 unfolding understood everything
 bank_is = (refl, refl, (refl, refl), (refl, refl), refl)
 
-pub tells_bank : TellsWhole all_of_it (told_by_key 2) in_bank all_bank_text
+-- the key of its only row
+abbrev pub bank_no : ℕ → ℕ
+bank_no version = 1
+
+pub tells_bank : TellsWhole all_of_it (told_by_key 2) bank_cells bank_no AnyRow in_bank all_bank_text
 tells_bank =
-    by_rowid_whole in_bank bank_table all_bank_text bank_columns bank_order _ 2 bank_is
-    (inl refl) refl (λ db. refl) refl refl (inr refl) (λ r. refl)
+    by_rowid_whole bank_cells bank_no AnyRow in_bank bank_table all_bank_text bank_columns bank_order _ 2 bank_is
+    (inl refl) refl (λ db. refl) refl refl (inr refl) (λ r. refl) (λ version. refl) (λ x y _ _ less. rises_by_one 1 1 less)

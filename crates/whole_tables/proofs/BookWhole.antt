@@ -4,14 +4,16 @@ use Rattle.sqlite.specs.Listing.{understood}
 use Rattle.sqlite.specs.Term.{Term, col}
 use Rattle.sqlite_tied.specs.Compute.{everything}
 use Rattle.sqlite_value.specs.declared.keys.Key.{Key}
+use Rattle.kept_rows.specs.Sheets.{account_no, branch_no, entry_no, teller_no}
+use Rattle.bank_schema.specs.Cells.{AnyRow, EntryFits, account_cells, branch_cells, entry_cells, teller_cells}
 use Rattle.bank_schema.specs.Held.Sheet.{branches as in_branches, tellers as in_tellers, accounts as in_accounts, entries as in_entries}
 use Rattle.bank_schema.specs.HeldRows.{all_but_rowid, all_of_it}
 use Rattle.bank_schema.specs.Schema.{accounts_table, branches_table, entries_table, tellers_table}
-use Rattle.bank_schema.proofs.ReadLemmas.{rising_key}
+use Rattle.bank_schema.proofs.ReadLemmas.{rises_by_one, rises_by_two, rising_key}
 use Rattle.whole_tables.specs.Texts.{all_branches_text, all_tellers_text, all_accounts_text, all_entries_text}
 use Rattle.whole_tables.specs.Told.{told_by_columns, told_by_key}
 use Rattle.whole_tables.specs.Whole.{TellsWhole}
-use Rattle.whole_tables.proofs.WholeLemmas.{IsScanOf, by_columns_whole, by_rowid_whole}
+use Rattle.whole_tables.proofs.WholeLemmas.{IsScanOf, ReadsNoRowid, by_columns_whole, by_rowid_whole, whole_scan}
 
 -- ---- branches
 
@@ -25,10 +27,11 @@ branches_is : IsScanOf all_branches_text 11 branches_columns branches_order (cod
 unfolding understood everything
 branches_is = (refl, refl, (refl, refl), (refl, refl), refl)
 
-pub tells_branches : TellsWhole all_of_it (told_by_key 12) in_branches all_branches_text
+pub tells_branches : TellsWhole all_of_it (told_by_key 12) branch_cells branch_no AnyRow in_branches all_branches_text
 tells_branches =
-    by_rowid_whole in_branches branches_table all_branches_text branches_columns branches_order _ 12 branches_is
-    (inr (inr (inr (inr (inr (inr (inr (inl refl)))))))) refl (λ db. refl) refl refl (inr refl) (λ r. refl)
+    by_rowid_whole branch_cells branch_no AnyRow in_branches branches_table all_branches_text branches_columns branches_order _ 12 branches_is
+    (inr (inr (inr (inr (inr (inr (inr (inl refl)))))))) refl (λ db. refl) refl refl (inr refl) (λ r. refl) (λ x. refl)
+    (λ x y _ _ less. rises_by_one x.row.branch y.row.branch less)
 
 -- ---- tellers
 
@@ -42,10 +45,11 @@ tellers_is : IsScanOf all_tellers_text 12 tellers_columns tellers_order (codes "
 unfolding understood everything
 tellers_is = (refl, refl, (refl, refl), (refl, refl), refl)
 
-pub tells_tellers : TellsWhole all_of_it (told_by_key 5) in_tellers all_tellers_text
+pub tells_tellers : TellsWhole all_of_it (told_by_key 5) teller_cells teller_no AnyRow in_tellers all_tellers_text
 tells_tellers =
-    by_rowid_whole in_tellers tellers_table all_tellers_text tellers_columns tellers_order _ 5 tellers_is
-    (inr (inr (inr (inr (inr (inr (inr (inr (inl refl))))))))) refl (λ db. refl) refl refl (inr refl) (λ r. refl)
+    by_rowid_whole teller_cells teller_no AnyRow in_tellers tellers_table all_tellers_text tellers_columns tellers_order _ 5 tellers_is
+    (inr (inr (inr (inr (inr (inr (inr (inr (inl refl))))))))) refl (λ db. refl) refl refl (inr refl) (λ r. refl) (λ x. refl)
+    (λ x y _ _ less. rises_by_one x.row.teller y.row.teller less)
 
 -- ---- accounts
 
@@ -59,10 +63,11 @@ accounts_is : IsScanOf all_accounts_text 13 accounts_columns accounts_order (cod
 unfolding understood everything
 accounts_is = (refl, refl, (refl, refl), (refl, refl), refl)
 
-pub tells_accounts : TellsWhole all_of_it (told_by_key 5) in_accounts all_accounts_text
+pub tells_accounts : TellsWhole all_of_it (told_by_key 5) account_cells account_no AnyRow in_accounts all_accounts_text
 tells_accounts =
-    by_rowid_whole in_accounts accounts_table all_accounts_text accounts_columns accounts_order _ 5 accounts_is
-    (inr (inr (inr (inr (inr (inr (inr (inr (inr (inl refl)))))))))) refl (λ db. refl) refl refl (inr refl) (λ r. refl)
+    by_rowid_whole account_cells account_no AnyRow in_accounts accounts_table all_accounts_text accounts_columns accounts_order _ 5 accounts_is
+    (inr (inr (inr (inr (inr (inr (inr (inr (inr (inl refl)))))))))) refl (λ db. refl) refl refl (inr refl) (λ r. refl) (λ x. refl)
+    (λ x y _ _ less. rises_by_one x.row.account y.row.account less)
 
 -- ---- entries
 
@@ -76,7 +81,12 @@ entries_is : IsScanOf all_entries_text 14 entries_columns entries_order (codes "
 unfolding understood everything
 entries_is = (refl, refl, (refl, refl), (refl, refl), refl)
 
-pub tells_entries : TellsWhole all_but_rowid (told_by_columns 13) in_entries all_entries_text
+entries_alike : ReadsNoRowid (whole_scan 14 entries_columns entries_order)
+entries_alike [] = refl
+entries_alike (id ∷ r) = refl
+
+pub tells_entries : TellsWhole all_but_rowid (told_by_columns 13) entry_cells entry_no EntryFits in_entries all_entries_text
 tells_entries =
-    by_columns_whole in_entries entries_table all_entries_text entries_columns entries_order _ 13 entries_is
-    (inr (inr (inr (inr (inr (inr (inr (inr (inr (inr (inl refl))))))))))) refl (λ db. refl) refl refl (λ r. refl)
+    by_columns_whole entry_cells entry_no EntryFits in_entries entries_table all_entries_text entries_columns entries_order _ 13 entries_is
+    (inr (inr (inr (inr (inr (inr (inr (inr (inr (inr (inl refl))))))))))) refl (λ db. refl) refl refl (λ r. refl) entries_alike (λ x. refl)
+    (λ x y p q less. rises_by_two x.row.branch x.row.number y.row.branch y.row.number p q less)

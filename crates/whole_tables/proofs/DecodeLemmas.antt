@@ -1,9 +1,11 @@
 -- Rows that are told, one after another.
-use Rattle.std.proofs.Common.{◌≡◌, ◌<◌, ◌≤◌, ◌+◌, ℕ, List, [], ◌∷◌, ◌++◌, map, take, length, get_or, Contains, inl, inr, sym, ap, subst, ◌∙◌}
+use Rattle.std.proofs.Common.{◌≡◌, ◌<◌, ◌≤◌, ◌+◌, ℕ, zero, suc, List, [], ◌∷◌, ◌++◌, map, take, length, get_or, Contains, inl, inr, refl, sym, ap, arith, subst, ◌∙◌}
 use Rattle.std.proofs.lemmas.List.{map-append, take_all, take_more}
+use Rattle.money.specs.declared.fault.Fault.{Fault}
 use Rattle.sqlite.specs.Order.{Row}
 use Rattle.sqlite_rules.specs.Lists.{Has}
 use Rattle.sqlite_rules.proofs.ListLemmas.{contains_had, has_contained}
+use Rattle.bank_schema.specs.Readable.{IsUnread}
 
 module _ {X : Type 0} (told : Row → Row) (cells : X → Row) (fits : X → Type 0) where
   -- what was told of the rows before the i-th
@@ -26,3 +28,15 @@ module _ {X : Type 0} (told : Row → Row) (cells : X → Row) (fits : X → Typ
 
   pub told_all : (rows : List Row) (i : ℕ) (xs : List X) → length rows ≤ i → AreTold rows i xs → map told rows ≡ map cells xs
   told_all rows i xs past are = ap (map told) (sym (take_all i rows past)) ∙ are.same
+
+module _ {X : Type 0} (told : Row → Row) (cells : X → Row) (readable : X → Type 0) where
+  -- rows are unread where one of them is
+  pub unread_row : (rows : List Row) (i : ℕ) (row : Row) (fault : Fault) → i < length rows → row ≡ get_or rows i row → IsUnread cells readable (told row) fault → IsUnread (map cells) (λ (xs : List X). (x : X) → Contains xs x → readable x) (map told rows) fault
+  unread_row [] i row fault below at unread failed xs all same = absurd (omega (arith, below))
+  unread_row (r ∷ rows) i row fault below at unread failed [] all same = absurd cc
+  unread_row (r ∷ rows) zero row fault below at unread failed (x ∷ xs) all same =
+      let first : told r ≡ cells x = cc in
+      unread failed x (all x (0, omega arith, refl)) (ap told at ∙ first)
+  unread_row (r ∷ rows) (suc i) row fault below at unread failed (x ∷ xs) all same =
+      let rest : map told rows ≡ map cells xs = cc in
+      unread_row rows i row fault (omega (arith, below)) at unread failed xs (λ y there. all y (suc there.0, omega (arith, there.1), there.2)) rest

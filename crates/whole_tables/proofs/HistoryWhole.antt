@@ -4,14 +4,16 @@ use Rattle.sqlite.specs.Listing.{understood}
 use Rattle.sqlite.specs.Term.{Term, col}
 use Rattle.sqlite_tied.specs.Compute.{everything}
 use Rattle.sqlite_value.specs.declared.keys.Key.{Key}
+use Rattle.bank_books.specs.Keys.{line_key, proof_key, release_key}
+use Rattle.bank_schema.specs.Cells.{LineFits, ProofFits, ReleaseFits, line_cells, proof_cells, release_cells}
 use Rattle.bank_schema.specs.Held.Sheet.{lines as in_lines, proofs as in_proofs, releases as in_releases}
 use Rattle.bank_schema.specs.HeldRows.{all_but_rowid}
 use Rattle.bank_schema.specs.Schema.{lines_table, proofs_table, releases_table}
-use Rattle.bank_schema.proofs.ReadLemmas.{rising_key}
+use Rattle.bank_schema.proofs.ReadLemmas.{rises_by_two, rising_key}
 use Rattle.whole_tables.specs.Texts.{all_lines_text, all_proofs_text, all_releases_text}
 use Rattle.whole_tables.specs.Told.{told_by_columns}
 use Rattle.whole_tables.specs.Whole.{TellsWhole}
-use Rattle.whole_tables.proofs.WholeLemmas.{IsScanOf, by_columns_whole}
+use Rattle.whole_tables.proofs.WholeLemmas.{IsScanOf, ReadsNoRowid, by_columns_whole, whole_scan}
 
 -- ---- lines
 
@@ -25,10 +27,15 @@ lines_is : IsScanOf all_lines_text 17 lines_columns lines_order (codes "branch" 
 unfolding understood everything
 lines_is = (refl, refl, (refl, refl), (refl, refl), refl)
 
-pub tells_lines : TellsWhole all_but_rowid (told_by_columns 8) in_lines all_lines_text
+lines_alike : ReadsNoRowid (whole_scan 17 lines_columns lines_order)
+lines_alike [] = refl
+lines_alike (id ∷ r) = refl
+
+pub tells_lines : TellsWhole all_but_rowid (told_by_columns 8) line_cells line_key LineFits in_lines all_lines_text
 tells_lines =
-    by_columns_whole in_lines lines_table all_lines_text lines_columns lines_order _ 8 lines_is
-    (inr (inr (inr (inr (inr (inr (inr (inr (inr (inr (inr (inl refl)))))))))))) refl (λ db. refl) refl refl (λ r. refl)
+    by_columns_whole line_cells line_key LineFits in_lines lines_table all_lines_text lines_columns lines_order _ 8 lines_is
+    (inr (inr (inr (inr (inr (inr (inr (inr (inr (inr (inr (inl refl)))))))))))) refl (λ db. refl) refl refl (λ r. refl) lines_alike (λ x. refl)
+    (λ x y p q less. rises_by_two x.branch x.number y.branch y.number p q less)
 
 -- ---- proofs
 
@@ -42,10 +49,15 @@ proofs_is : IsScanOf all_proofs_text 19 proofs_columns proofs_order (codes "bran
 unfolding understood everything
 proofs_is = (refl, refl, (refl, refl), (refl, refl), refl)
 
-pub tells_proofs : TellsWhole all_but_rowid (told_by_columns 5) in_proofs all_proofs_text
+proofs_alike : ReadsNoRowid (whole_scan 19 proofs_columns proofs_order)
+proofs_alike [] = refl
+proofs_alike (id ∷ r) = refl
+
+pub tells_proofs : TellsWhole all_but_rowid (told_by_columns 5) proof_cells proof_key ProofFits in_proofs all_proofs_text
 tells_proofs =
-    by_columns_whole in_proofs proofs_table all_proofs_text proofs_columns proofs_order _ 5 proofs_is
-    (inr (inr (inr (inr (inr (inr (inr (inr (inr (inr (inr (inr (inl refl))))))))))))) refl (λ db. refl) refl refl (λ r. refl)
+    by_columns_whole proof_cells proof_key ProofFits in_proofs proofs_table all_proofs_text proofs_columns proofs_order _ 5 proofs_is
+    (inr (inr (inr (inr (inr (inr (inr (inr (inr (inr (inr (inr (inl refl))))))))))))) refl (λ db. refl) refl refl (λ r. refl) proofs_alike (λ x. refl)
+    (λ x y p q less. rises_by_two x.branch x.day y.branch y.day p q less)
 
 -- ---- releases
 
@@ -59,7 +71,12 @@ releases_is : IsScanOf all_releases_text 21 releases_columns releases_order (cod
 unfolding understood everything
 releases_is = (refl, refl, (refl, refl), (refl, refl), refl)
 
-pub tells_releases : TellsWhole all_but_rowid (told_by_columns 15) in_releases all_releases_text
+releases_alike : ReadsNoRowid (whole_scan 21 releases_columns releases_order)
+releases_alike [] = refl
+releases_alike (id ∷ r) = refl
+
+pub tells_releases : TellsWhole all_but_rowid (told_by_columns 15) release_cells release_key ReleaseFits in_releases all_releases_text
 tells_releases =
-    by_columns_whole in_releases releases_table all_releases_text releases_columns releases_order _ 15 releases_is
-    (inr (inr (inr (inr (inr (inr (inr (inr (inr (inr (inr (inr (inr (inl refl)))))))))))))) refl (λ db. refl) refl refl (λ r. refl)
+    by_columns_whole release_cells release_key ReleaseFits in_releases releases_table all_releases_text releases_columns releases_order _ 15 releases_is
+    (inr (inr (inr (inr (inr (inr (inr (inr (inr (inr (inr (inr (inr (inl refl)))))))))))))) refl (λ db. refl) refl refl (λ r. refl) releases_alike (λ x. refl)
+    (λ x y p q less. rises_by_two x.user x.number y.user y.number p.number q.number less)

@@ -6,5 +6,6 @@ pub mod HistoryWhole
 pub mod PolicyWhole
 pub mod ReadsLemmas
 pub mod RefusalLemmas
+pub mod ReleaseLemmas
 pub mod WholeLemmas
 pub mod WidthLemmas

@@ -4,14 +4,20 @@ use Rattle.sqlite.specs.Listing.{understood}
 use Rattle.sqlite.specs.Term.{Term, col}
 use Rattle.sqlite_tied.specs.Compute.{everything}
 use Rattle.sqlite_value.specs.declared.keys.Key.{Key}
+use Rattle.bank_terms.specs.Procedure.{number_of}
+use Rattle.bank_policy.specs.PolicyKeys.{certifier_key, relation_key, triple_key}
+use Rattle.kept_rows.specs.Sheets.{member_no, user_no}
+use Rattle.bank_schema.specs.Cells.{AnyRow, MemberFits, RelationFits, TripleFits, certifier_cells, member_cells, relation_cells, set_cells, triple_cells, user_cells}
+use Rattle.bank_schema.specs.Held.{set_no}
 use Rattle.bank_schema.specs.Held.Sheet.{users as in_users, sets as in_sets, members as in_members, relations as in_relations, triples as in_triples, certifiers as in_certifiers}
 use Rattle.bank_schema.specs.HeldRows.{all_but_rowid, all_of_it}
 use Rattle.bank_schema.specs.Schema.{certifiers_table, members_table, relations_table, sets_table, triples_table, users_table}
-use Rattle.bank_schema.proofs.ReadLemmas.{rising_key}
+use Rattle.bank_schema.proofs.ProcedureNumbers.{small_number}
+use Rattle.bank_schema.proofs.ReadLemmas.{rises_by_one, rises_by_three, rises_by_two, rising_key}
 use Rattle.whole_tables.specs.Texts.{all_users_text, all_sets_text, all_members_text, all_relations_text, all_triples_text, all_certifiers_text}
 use Rattle.whole_tables.specs.Told.{told_by_columns, told_by_key}
 use Rattle.whole_tables.specs.Whole.{TellsWhole}
-use Rattle.whole_tables.proofs.WholeLemmas.{IsScanOf, by_columns_whole, by_rowid_whole}
+use Rattle.whole_tables.proofs.WholeLemmas.{IsScanOf, ReadsNoRowid, by_columns_whole, by_rowid_whole, whole_scan}
 
 -- ---- users
 
@@ -25,10 +31,11 @@ users_is : IsScanOf all_users_text 1 users_columns users_order (codes "user_no" 
 unfolding understood everything
 users_is = (refl, refl, (refl, refl), (refl, refl), refl)
 
-pub tells_users : TellsWhole all_of_it (told_by_key 6) in_users all_users_text
+pub tells_users : TellsWhole all_of_it (told_by_key 6) user_cells user_no AnyRow in_users all_users_text
 tells_users =
-    by_rowid_whole in_users users_table all_users_text users_columns users_order _ 6 users_is
-    (inr (inl refl)) refl (λ db. refl) refl refl (inr refl) (λ r. refl)
+    by_rowid_whole user_cells user_no AnyRow in_users users_table all_users_text users_columns users_order _ 6 users_is
+    (inr (inl refl)) refl (λ db. refl) refl refl (inr refl) (λ r. refl) (λ x. refl)
+    (λ x y _ _ less. rises_by_one x.row.user y.row.user less)
 
 -- ---- sets
 
@@ -42,10 +49,11 @@ sets_is : IsScanOf all_sets_text 2 sets_columns sets_order (codes "set_no" ∷ [
 unfolding understood everything
 sets_is = (refl, refl, (refl, refl), (refl, refl), refl)
 
-pub tells_sets : TellsWhole all_of_it (told_by_key 0) in_sets all_sets_text
+pub tells_sets : TellsWhole all_of_it (told_by_key 0) set_cells set_no AnyRow in_sets all_sets_text
 tells_sets =
-    by_rowid_whole in_sets sets_table all_sets_text sets_columns sets_order _ 0 sets_is
-    (inr (inr (inl refl))) refl (λ db. refl) refl refl (inl refl) (λ r. refl)
+    by_rowid_whole set_cells set_no AnyRow in_sets sets_table all_sets_text sets_columns sets_order _ 0 sets_is
+    (inr (inr (inl refl))) refl (λ db. refl) refl refl (inl refl) (λ r. refl) (λ x. refl)
+    (λ x y _ _ less. rises_by_one x y less)
 
 -- ---- members
 
@@ -59,10 +67,15 @@ members_is : IsScanOf all_members_text 3 members_columns members_order (codes "s
 unfolding understood everything
 members_is = (refl, refl, (refl, refl), (refl, refl), refl)
 
-pub tells_members : TellsWhole all_but_rowid (told_by_columns 5) in_members all_members_text
+members_alike : ReadsNoRowid (whole_scan 3 members_columns members_order)
+members_alike [] = refl
+members_alike (id ∷ r) = refl
+
+pub tells_members : TellsWhole all_but_rowid (told_by_columns 5) member_cells member_no MemberFits in_members all_members_text
 tells_members =
-    by_columns_whole in_members members_table all_members_text members_columns members_order _ 5 members_is
-    (inr (inr (inr (inl refl)))) refl (λ db. refl) refl refl (λ r. refl)
+    by_columns_whole member_cells member_no MemberFits in_members members_table all_members_text members_columns members_order _ 5 members_is
+    (inr (inr (inr (inl refl)))) refl (λ db. refl) refl refl (λ r. refl) members_alike (λ x. refl)
+    (λ x y p q less. rises_by_two x.set x.place y.set y.place p q less)
 
 -- ---- relations
 
@@ -76,10 +89,15 @@ relations_is : IsScanOf all_relations_text 5 relations_columns relations_order (
 unfolding understood everything
 relations_is = (refl, refl, (refl, refl), (refl, refl), refl)
 
-pub tells_relations : TellsWhole all_but_rowid (told_by_columns 3) in_relations all_relations_text
+relations_alike : ReadsNoRowid (whole_scan 5 relations_columns relations_order)
+relations_alike [] = refl
+relations_alike (id ∷ r) = refl
+
+pub tells_relations : TellsWhole all_but_rowid (told_by_columns 3) relation_cells relation_key RelationFits in_relations all_relations_text
 tells_relations =
-    by_columns_whole in_relations relations_table all_relations_text relations_columns relations_order _ 3 relations_is
-    (inr (inr (inr (inr (inl refl))))) refl (λ db. refl) refl refl (λ r. refl)
+    by_columns_whole relation_cells relation_key RelationFits in_relations relations_table all_relations_text relations_columns relations_order _ 3 relations_is
+    (inr (inr (inr (inr (inl refl))))) refl (λ db. refl) refl refl (λ r. refl) relations_alike (λ x. refl)
+    (λ x y p q less. rises_by_two (number_of x.procedure) x.set (number_of y.procedure) y.set p q less)
 
 -- ---- triples
 
@@ -93,10 +111,15 @@ triples_is : IsScanOf all_triples_text 7 triples_columns triples_order (codes "u
 unfolding understood everything
 triples_is = (refl, refl, (refl, refl), (refl, refl), refl)
 
-pub tells_triples : TellsWhole all_but_rowid (told_by_columns 4) in_triples all_triples_text
+triples_alike : ReadsNoRowid (whole_scan 7 triples_columns triples_order)
+triples_alike [] = refl
+triples_alike (id ∷ r) = refl
+
+pub tells_triples : TellsWhole all_but_rowid (told_by_columns 4) triple_cells triple_key TripleFits in_triples all_triples_text
 tells_triples =
-    by_columns_whole in_triples triples_table all_triples_text triples_columns triples_order _ 4 triples_is
-    (inr (inr (inr (inr (inr (inl refl)))))) refl (λ db. refl) refl refl (λ r. refl)
+    by_columns_whole triple_cells triple_key TripleFits in_triples triples_table all_triples_text triples_columns triples_order _ 4 triples_is
+    (inr (inr (inr (inr (inr (inl refl)))))) refl (λ db. refl) refl refl (λ r. refl) triples_alike (λ x. refl)
+    (λ x y p q less. rises_by_three x.user (number_of x.procedure) x.set y.user (number_of y.procedure) y.set (small_number x.procedure) (small_number y.procedure) p q less)
 
 -- ---- certifiers
 
@@ -110,7 +133,12 @@ certifiers_is : IsScanOf all_certifiers_text 9 certifiers_columns certifiers_ord
 unfolding understood everything
 certifiers_is = (refl, refl, (refl, refl), (refl, refl), refl)
 
-pub tells_certifiers : TellsWhole all_but_rowid (told_by_columns 2) in_certifiers all_certifiers_text
+certifiers_alike : ReadsNoRowid (whole_scan 9 certifiers_columns certifiers_order)
+certifiers_alike [] = refl
+certifiers_alike (id ∷ r) = refl
+
+pub tells_certifiers : TellsWhole all_but_rowid (told_by_columns 2) certifier_cells certifier_key AnyRow in_certifiers all_certifiers_text
 tells_certifiers =
-    by_columns_whole in_certifiers certifiers_table all_certifiers_text certifiers_columns certifiers_order _ 2 certifiers_is
-    (inr (inr (inr (inr (inr (inr (inl refl))))))) refl (λ db. refl) refl refl (λ r. refl)
+    by_columns_whole certifier_cells certifier_key AnyRow in_certifiers certifiers_table all_certifiers_text certifiers_columns certifiers_order _ 2 certifiers_is
+    (inr (inr (inr (inr (inr (inr (inl refl))))))) refl (λ db. refl) refl refl (λ r. refl) certifiers_alike (λ x. refl)
+    (λ x y _ _ less. rises_by_two x.user (number_of x.procedure) y.user (number_of y.procedure) (small_number x.procedure) (small_number y.procedure) less)

@@ -1,12 +1,14 @@
 -- Reads of whole tables, one after another.
-use Rattle.std.proofs.Common.{◌≡◌, Ok, Err, IfErr, IsErr, IsErrAnd, IsTrue, Result, refl, sym, ap, ◌∙◌, subst}
+use Rattle.std.proofs.Common.{◌≡◌, ◌≢◌, Ok, Err, IfErr, IsErr, IsErrAnd, IsTrue, Result, refl, sym, ap, ◌∙◌, subst}
 use Rattle.std.specs.Prelude.{⊤}
+use Rattle.money.specs.declared.fault.Fault.{Fault}
+use Rattle.money.specs.declared.fault.Fault.TheVariants.{Disk, Memory, Size, Stopped}
 use Rattle.sqlite.specs.Effect.{Database, IsDatabase}
 use Rattle.sqlite.specs.State.{HasCleanDisk, IsUnchanged, KeepsCommit, State, Survives}
 use Rattle.sqlite.specs.Tree.{Trees}
-use Rattle.bank_schema.specs.Held.{tree_of}
+use Rattle.bank_schema.specs.Held.{HoldsSheets, tree_of}
 use Rattle.bank_schema.proofs.StepLemmas.{early, kept_then}
-use Rattle.whole_tables.specs.Whole.{HasBankTables, IsKeptTable, Reads}
+use Rattle.whole_tables.specs.Whole.{HasBankTables, IsKeptTable, OnReadable, Reads}
 
 -- reads that went through, which told this
 abbrev pub Done : State → State → (Trees → Type 0) → Type 0
@@ -50,6 +52,12 @@ gave_then a b c P survives first second clean has =
     let p = first (early b c _ survives clean) has in
     kept_then a b c p.2 (second clean (still_bank a b p.1 has))
 
+-- what a later read says of readable rows, it says of those that the tables held before
+pub readable_then : (a b c : State) (P : Trees → Type 0) (Q : Type 0) → Survives b c (λ _. ⊥) → Done a b P → OnReadable b c Q → OnReadable a c Q
+readable_then a b c P Q survives first second clean has s holds readable =
+    let p = first (early b c _ survives clean) has in
+    second clean (still_bank a b p.1 has) s (subst (λ (d : Database). HoldsSheets d.trees s) (sym p.1.0.now_is) holds) readable
+
 -- nothing more is said of what a refusal gives
 pub gave_whole : {X E : Type 0} (old new : State) (says : Trees → X → Type 0) (r : Result X E) → IsErr r → Gave old new → Reads old new says r
 gave_whole old new says (Ok x) is gave = absurd cc
@@ -62,3 +70,10 @@ done_whole old new P Q from done clean has = let it = done clean has in (from _ 
 pub handed_on : {X E : Type 0} (r : Result X E) (fault : E) (P : E → Type 0) → IsErrAnd r (λ e. e ≡ fault) → P fault → IfErr r P
 handed_on (Ok x) fault P same holds = tt
 handed_on (Err e) fault P same holds = subst P (sym same) holds
+
+-- a fault that can be no other than want of memory
+pub for_memory : (fault : Fault) (P : Type 0) → (fault ≡ Memory → P) → (fault ≢ Memory → ⊥) → P
+for_memory Memory P then never = then refl
+for_memory Size P then never = absurd (never (λ is. cc))
+for_memory Disk P then never = absurd (never (λ is. cc))
+for_memory Stopped P then never = absurd (never (λ is. cc))

@@ -1,5 +1,5 @@
--- What a query for a whole table shows: a row for each row of the table.
-use Rattle.std.proofs.Common.{◌≡◌, ◌<◌, ◌+◌, ℕ, List, [], ◌∷◌, map, filter, length, drop, Bool, true, false, Contains, Some, Ok, Err, Result, IsPermutation, inl, inr, ◌&&◌, ◌⊎◌, refl, ap, ap₂, sym, subst, arith, ◌∙◌}
+-- What a query for a whole table shows: a row for each row of the table, in order of key.
+use Rattle.std.proofs.Common.{◌≡◌, ◌<◌, ◌+◌, ℕ, List, [], ◌∷◌, map, filter, length, drop, Bool, true, false, Contains, Some, Ok, Err, Result, IsPermutation, Less, inl, inr, ◌&&◌, ◌⊎◌, refl, ap, ap₂, sym, subst, arith, ◌∙◌}
 use Rattle.std.specs.List.{AllByRecursion}
 use Rattle.std.proofs.lemmas.List.Sorted.{IsPermutation-map, IsPermutation-sym}
 use Rattle.sqlite.specs.declared.types.Value.TheVariants.{Null}
@@ -21,13 +21,14 @@ use Rattle.sqlite_schema.specs.Rules.{Obeys, passes as passes_rule, are_present,
 use Rattle.sqlite_schema.specs.declared.schema.Constraint.TheVariants.{Datatype, NotNull}
 use Rattle.sqlite_schema.specs.declared.schema.Table.{Table}
 use Rattle.sqlite_sql.specs.Program.{IsProgramAnswer, ProgramOverflows}
+use Rattle.sqlite_sql.specs.Query.{output_cmp}
 use Rattle.sqlite_typing.specs.Types.{accepts_program}
 use Rattle.sqlite_value.specs.declared.keys.Key.{Key}
 use Rattle.sqlite_value.specs.Order.{column}
 use Rattle.bank_schema.specs.Held.{Sheet, tree_of}
-use Rattle.bank_schema.specs.HeldRows.{all_but_rowid, all_of_it}
+use Rattle.bank_schema.specs.HeldRows.{HoldsRows, all_but_rowid, all_of_it}
 use Rattle.bank_schema.specs.Schema.{bank_schema}
-use Rattle.bank_schema.proofs.ReadLemmas.{answered, no_limit, no_offset}
+use Rattle.bank_schema.proofs.ReadLemmas.{answered, in_order_of_fitting, no_limit, no_offset}
 use Rattle.bank_schema.proofs.ScanLemmas.{passes, scan, scanned}
 use Rattle.bank_schema.proofs.StepLemmas.{shown_open}
 use Rattle.whole_tables.specs.Told.{columns_from, told_by_columns, told_by_key}
@@ -78,6 +79,28 @@ module _ (tree : ℕ) (over : (db : Trees) → overlay db [] tree ≡ db tree) (
   all_told shows told db rows tells h =
       let read = IsPermutation-map told _ _ (all_shown db rows h) in
       IsPermutation-sym _ _ (subst (λ l. IsPermutation l (map told rows)) (map-map told (λ r. (output q ([] ∷ r ∷ [])).1) (db tree) ∙ map_alike (λ r. told (output q ([] ∷ r ∷ [])).1) shows (db tree) tells) read)
+
+-- ---- in order of key
+
+-- Of two rows that fit, the query shows the one with the lower key first. `row` gives the row of a table as the query sees it.
+abbrev pub ComesInOrder : {X : Type 0} → (X → Row) → (X → ℕ) → (X → Type 0) → Query → Type 0
+ComesInOrder {X = X} row key Fits q = (x y : X) → Fits x → Fits y → key x < key y → output_cmp q (output q ([] ∷ row x ∷ [])) (output q ([] ∷ row y ∷ [])) ≡ Less
+
+module _ {X : Type 0} (shows back told : Row → Row) (cells : X → Row) (key : X → ℕ) (Fits : X → Type 0) (tree : ℕ) (over : (db : Trees) → overlay db [] tree ≡ db tree) (project : List Term) (order : List (Term × Key))
+    (reads : (r : Row) → output (whole_scan tree project order) ([] ∷ r ∷ []) ≡ output (whole_scan tree project order) ([] ∷ back (shows r) ∷ []))
+    (tells : (x : X) → told (output (whole_scan tree project order) ([] ∷ back (cells x) ∷ [])).1 ≡ cells x) where
+  -- what the rows of the answer tell are the rows that the table holds, in their order
+  pub told_in_order : ComesInOrder (λ x. back (cells x)) key Fits (whole_scan tree project order) → (db : Trees) (xs : List X) (rows : List Row) → HoldsRows shows cells key Fits xs (db tree)
+      → IsProgramAnswer [] (whole_scan tree project order) db [] rows → map told rows ≡ map cells xs
+  told_in_order rises db xs rows holds h =
+      let shown : X → Row = λ x. (output (whole_scan tree project order) ([] ∷ back (cells x) ∷ [])).1 in
+      let every : filter (λ _. true) xs ≡ xs = filter_all (λ _. true) xs (all_of (λ _. true ≡ true) (λ _. refl) xs) in
+      ap (map told) (in_order_of_fitting shows back cells key Fits tree over [] project order no_limit no_offset [] (λ _. true) (λ r. (refl, reads r)) (λ x. refl) db xs rows holds h rises)
+      ∙ map-map told shown (filter (λ _. true) xs) ∙ (λ i. map (λ x. tells x i) (every i))
+
+-- the query does not read the rowid
+abbrev pub ReadsNoRowid : Query → Type 0
+ReadsNoRowid q = (r : Row) → output q ([] ∷ r ∷ []) ≡ output q ([] ∷ (Null ∷ drop 1 r) ∷ [])
 
 -- ---- what a row tells
 
@@ -133,21 +156,28 @@ answers text tree columns order names is = record {
 
 -- ---- the clauses of a read
 
--- what the rows of an answer tell are the rows of the table
-pub all_answered : (shows told : Row → Row) (t : Sheet) (text : List ℕ) → TellsWhole shows told t text → (old new : State) (rows : List Row) → HasBankTables old → Shown text [] old new rows
-    → IsPermutation (map told rows) (map shows (old.now.trees (tree_of t)))
-all_answered shows told t text tells old new rows has h =
-    let asks = tells.asks in
-    let answer = answered text asks.names asks.query [] (known asks.query asks.names (understood bank_schema text) asks.is) asks.unlisted asks.plain old new rows has.schema h in
-    let sound = has.sound (shown_open text [] old new rows h) in
-    tells.whole old.now.trees rows (subst (λ z. Obeys z old.now.trees) has.schema sound.obeys) (has.kept t) answer
+module _ {X : Type 0} (shows told : Row → Row) (cells : X → Row) (key : X → ℕ) (fits : X → Type 0) (t : Sheet) (text : List ℕ) (tells : TellsWhole shows told cells key fits t text) where
+  is_answer : (old new : State) (rows : List Row) → HasBankTables old → Shown text [] old new rows → IsProgramAnswer [] tells.asks.query old.now.trees [] rows
+  is_answer old new rows has h =
+      let asks = tells.asks in
+      answered text asks.names asks.query [] (known asks.query asks.names (understood bank_schema text) asks.is) asks.unlisted asks.plain old new rows has.schema h
 
-module _ {X : Type 0} (shows told : Row → Row) (cells : X → Row) (fits : X → Type 0) (t : Sheet) (text : List ℕ) (tells : TellsWhole shows told t text) where
+  -- what the rows of an answer tell are the rows of the table
+  pub all_answered : (old new : State) (rows : List Row) → HasBankTables old → Shown text [] old new rows → IsPermutation (map told rows) (map shows (old.now.trees (tree_of t)))
+  all_answered old new rows has h =
+      let sound = has.sound (shown_open text [] old new rows h) in
+      tells.whole old.now.trees rows (subst (λ z. Obeys z old.now.trees) has.schema sound.obeys) (has.kept t) (is_answer old new rows has h)
+
+  -- in order of their keys
+  pub in_order_answered : (old new : State) (rows : List Row) (xs : List X) → HasBankTables old → HoldsRows shows cells key fits xs (old.now.trees (tree_of t)) → Shown text [] old new rows → map told rows ≡ map cells xs
+  in_order_answered old new rows xs has held h = tells.ordered old.now.trees xs rows held (is_answer old new rows has h)
+
   pub are_all : (old new : State) (rows : List Row) (xs : List X) → HasBankTables old → Shown text [] old new rows → map told rows ≡ map cells xs → ((x : X) → Contains xs x → fits x)
-      → AreAll shows cells fits t old.now.trees xs
+      → AreAll shows cells key fits t old.now.trees xs
   are_all old new rows xs has h same fit = record {
-    same = subst (λ l. IsPermutation l (map shows (old.now.trees (tree_of t)))) same (all_answered shows told t text tells old new rows has h);
+    same = subst (λ l. IsPermutation l (map shows (old.now.trees (tree_of t)))) same (all_answered old new rows has h);
     fit = fit;
+    in_order = λ held holds. sym same ∙ in_order_answered old new rows held has holds h;
   }
 
 -- the query is plain on a connection to the tables of a bank
@@ -156,7 +186,7 @@ plain_there text s plain has = subst (λ z. IsPlain (understood z text)) (sym ha
 
 -- ---- the queries for whole tables
 
-module _ (t : Sheet) (table : Table) (text : List ℕ) (columns : List Term) (order : List (Term × Key)) (names : List (List ℕ)) (count : ℕ)
+module _ {X : Type 0} (cells : X → Row) (key : X → ℕ) (Fits : X → Type 0) (t : Sheet) (table : Table) (text : List ℕ) (columns : List Term) (order : List (Term × Key)) (names : List (List ℕ)) (count : ℕ)
     (is : IsScanOf text (tree_of t) columns order names) (listed : Has bank_schema.tables table) (place : table.tree ≡ tree_of t) (over : (db : Trees) → overlay db [] (tree_of t) ≡ db (tree_of t)) where
   there : (db : Trees) (row : Row) → Has (db (tree_of t)) row → Has (db table.tree) row
   there db row h = subst (λ n. Has (db n) row) (sym place) h
@@ -164,14 +194,16 @@ module _ (t : Sheet) (table : Table) (text : List ℕ) (columns : List Term) (or
   -- of a table whose rowid is its key, with so many columns beside; the row is wide enough where the last column may not be missing, or there is none beside the key
   pub by_rowid_whole : table.key ≡ Some 0 → length table.columns ≡ count + 1 → (count ≡ 0) ⊎ (ends_needed table.key 0 table.columns ≡ true)
       → ((r : Row) → told_by_key count (output (whole_scan (tree_of t) columns order) ([] ∷ r ∷ [])).1 ≡ column r 0 ∷ Null ∷ columns_from 2 count r)
-      → TellsWhole all_of_it (told_by_key count) t text
-  by_rowid_whole keyed wide need told = record {
+      → ((x : X) → column (cells x) 0 ∷ Null ∷ columns_from 2 count (cells x) ≡ cells x) → ComesInOrder cells key Fits (whole_scan (tree_of t) columns order)
+      → TellsWhole all_of_it (told_by_key count) cells key Fits t text
+  by_rowid_whole keyed wide need told same rises = record {
     asks = answers text (tree_of t) columns order names is;
     whole = λ db answer obeys kept h. all_told (tree_of t) over columns order all_of_it (told_by_key count) db answer
         (λ r here.
         let fits = of_table db table obeys listed r (there db r here) in
         told r ∙ tells_key table r count keyed wide (long r (kept.beside r (contains_had _ r here)) fits.1 need) fits)
         h;
+    ordered = told_in_order all_of_it (λ r. r) (told_by_key count) cells key Fits (tree_of t) over columns order (λ r. refl) (λ x. told (cells x) ∙ same x) rises;
   }
     where
       long : (r : Row) → 1 < length r → are_present table.key 0 table.columns r ≡ true → (count ≡ 0) ⊎ (ends_needed table.key 0 table.columns ≡ true) → length table.columns < length r
@@ -180,11 +212,13 @@ module _ (t : Sheet) (table : Table) (text : List ℕ) (columns : List Term) (or
 
   -- of any other table, with so many columns
   pub by_columns_whole : length table.columns ≡ count → ends_needed table.key 0 table.columns ≡ true
-      → ((r : Row) → told_by_columns count (output (whole_scan (tree_of t) columns order) ([] ∷ r ∷ [])).1 ≡ columns_from 1 count r)
-      → TellsWhole all_but_rowid (told_by_columns count) t text
-  by_columns_whole wide need told = record {
+      → ((r : Row) → told_by_columns count (output (whole_scan (tree_of t) columns order) ([] ∷ r ∷ [])).1 ≡ columns_from 1 count r) → ReadsNoRowid (whole_scan (tree_of t) columns order)
+      → ((x : X) → columns_from 1 count (Null ∷ cells x) ≡ cells x) → ComesInOrder (λ x. Null ∷ cells x) key Fits (whole_scan (tree_of t) columns order)
+      → TellsWhole all_but_rowid (told_by_columns count) cells key Fits t text
+  by_columns_whole wide need told reads same rises = record {
     asks = answers text (tree_of t) columns order names is;
     whole = λ db answer obeys kept h. all_told (tree_of t) over columns order all_but_rowid (told_by_columns count) db answer
         (λ r here. told r ∙ ap (λ n. columns_from 1 n r) (sym wide) ∙ tells_columns table r need (of_table db table obeys listed r (there db r here)))
         h;
+    ordered = told_in_order all_but_rowid (λ r. Null ∷ r) (told_by_columns count) cells key Fits (tree_of t) over columns order reads (λ x. told (Null ∷ cells x) ∙ same x) rises;
   }

@@ -10,7 +10,7 @@ use Rattle.sqlite_schema.specs.Rules.{are_present, are_typed}
 use Rattle.sqlite_schema.specs.declared.schema.Column.{Column}
 use Rattle.sqlite_sql.specs.Ops.{is_null}
 use Rattle.sqlite_value.specs.Order.{column}
-use Rattle.whole_tables.specs.Told.{columns_from}
+use Rattle.bank_schema.specs.Told.{columns_from}
 
 both : (a b : Bool) → (a && b) ≡ true → (a ≡ true) × (b ≡ true)
 both true true h = (refl, refl)

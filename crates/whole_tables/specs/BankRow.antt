@@ -3,7 +3,7 @@ use Rattle.std.specs.Prelude.{◌≡◌, ◌≢◌, [], ◌∷◌, List, map, Op
 use Rattle.sqlite.specs.declared.types.Value.TheVariants.{Int, Null}
 use Rattle.sqlite.specs.Order.{Row}
 use Rattle.sqlite.specs.Tree.{Trees}
-use Rattle.whole_tables.specs.Told.{told_by_key}
+use Rattle.bank_schema.specs.Told.{told_by_key}
 use Rattle.whole_tables.specs.declared.bank.BankRow.{BankRow}
 
 abbrev pub bank_row_cells : BankRow → Row

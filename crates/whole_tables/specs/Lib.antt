@@ -1,7 +1,9 @@
 pub mod BankRow
 pub mod BookRows
 pub mod Faults
+pub mod Heads
 pub mod PolicyTables
+pub mod Tables
 pub mod Texts
 pub mod Told
 pub mod Whole

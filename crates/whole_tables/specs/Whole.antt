@@ -16,8 +16,11 @@ use Rattle.sqlite_sql.specs.Program.{IsProgramAnswer, ProgramOverflows}
 use Rattle.sqlite_typing.specs.Types.{accepts_program}
 use Rattle.sqlite_trees.specs.View.{IsShaped}
 use Rattle.sqlite_trees.specs.declared.store.Shape.TheVariants.{Table}
-use Rattle.bank_schema.specs.Held.{Sheet, tree_of}
+use Rattle.bank_schema.specs.Held.{HoldsSheets, Sheet, tree_of}
+use Rattle.bank_schema.specs.HeldRows.{HoldsRows}
+use Rattle.bank_schema.specs.Readable.{AreReadable}
 use Rattle.bank_schema.specs.Schema.{bank_schema}
+use Rattle.kept_rows.specs.Sheets.{Sheets}
 use Rattle.whole_tables.specs.Faults.{IsOfDatabase}
 use Rattle.whole_tables.specs.declared.fault.ReadFault.{ReadFault}
 
@@ -32,10 +35,12 @@ pub record HasBankTables (s : State) : Type 0 where
   pub sound : IsTrue s.is_open → IsDatabase s.now
   pub kept : (t : Sheet) → IsKeptTable (s.now.trees (tree_of t))
 
--- These are the rows of a table, each once, and none of them has a number too great for its key.
-pub record AreAll {X : Type 0} (shows : Row → Row) (cells : X → Row) (Fits : X → Type 0) (t : Sheet) (db : Trees) (rows : List X) : Type 0 where
+-- These are the rows of a table, each once, and none of them has a number too great for its key. Where the table holds rows whose keys differ,
+-- they are these, in order of their keys.
+pub record AreAll {X : Type 0} (shows : Row → Row) (cells : X → Row) (key : X → ℕ) (Fits : X → Type 0) (t : Sheet) (db : Trees) (rows : List X) : Type 0 where
   pub same : IsPermutation (map cells rows) (map shows (db (tree_of t)))
   pub fit : (x : X) → Contains rows x → Fits x
+  pub in_order : (xs : List X) → HoldsRows shows cells key Fits xs (db (tree_of t)) → map cells rows ≡ map cells xs
 
 -- A read that went through tells this of the trees, and leaves all as it was. One that failed commits nothing.
 abbrev pub Reads : {X E : Type 0} → State → State → (Trees → X → Type 0) → Result X E → Type 0
@@ -44,6 +49,10 @@ Reads old new says result = HasCleanDisk new → HasBankTables old → IfOk resu
 -- A read that is refused is refused for the database itself, or for a limit on the steps of its connection: no table is missing.
 abbrev pub IsThere : {X : Type 0} → State → State → Result X ReadFault → Type 0
 IsThere old new result = HasCleanDisk new → HasBankTables old → IfErr result IsOfDatabase
+
+-- on tables whose rows can all be read, a read says this
+abbrev pub OnReadable : State → State → Type 0 → Type 0
+OnReadable old new says = HasCleanDisk new → HasBankTables old → (s : Sheets) → HoldsSheets old.now.trees s → AreReadable s → says
 
 -- ---- queries for whole tables
 
@@ -68,9 +77,11 @@ pub record IsAnswered (text : List ℕ) : Type 0 where
   pub typed : accepts_program bank_schema [] query [] ≡ true
   pub adds_nothing : (db : Trees) → ProgramOverflows db [] [] [] query → ⊥
 
--- The text is a query of which each answer tells the rows of a table, each once: `shows` gives what of a row counts, and `told` what a
--- row of the answer tells of it.
-pub record TellsWhole (shows told : Row → Row) (t : Sheet) (text : List ℕ) : Type 0 where
+-- The text is a query of which each answer tells the rows of a table, each once, in order of their keys where these differ: `shows` gives
+-- what of a row counts, and `told` what a row of the answer tells of it.
+pub record TellsWhole {X : Type 0} (shows told : Row → Row) (cells : X → Row) (key : X → ℕ) (Fits : X → Type 0) (t : Sheet) (text : List ℕ) : Type 0 where
   pub asks : IsAnswered text
   pub whole : (db : Trees) (answer : List Row) → Obeys bank_schema db → IsKeptTable (db (tree_of t)) → IsProgramAnswer [] asks.query db [] answer
       → IsPermutation (map told answer) (map shows (db (tree_of t)))
+  pub ordered : (db : Trees) (xs : List X) (answer : List Row) → HoldsRows shows cells key Fits xs (db (tree_of t)) → IsProgramAnswer [] asks.query db [] answer
+      → map told answer ≡ map cells xs

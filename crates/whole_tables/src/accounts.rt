@@ -1,17 +1,15 @@
-ghost use Rattle.std.specs.Prelude.{◌≡◌};
+ghost use Rattle.std.specs.Prelude.{◌≡◌, IfErr};
 ghost use Rattle.sqlite.specs.Held.{state};
 ghost use Rattle.sqlite.specs.State.{Survives};
-ghost use Rattle.bank_schema.specs.Cells.{AnyRow, account_cells};
-ghost use Rattle.bank_schema.specs.Held.Sheet.{accounts as in_accounts};
-ghost use Rattle.bank_schema.specs.HeldRows.{all_of_it};
 ghost use Rattle.bank_schema.specs.Steps.{StaysOpen};
-ghost use Rattle.whole_tables.specs.Whole.{AreAll, Reads};
+ghost use Rattle.whole_tables.specs.Tables.{AreAccounts};
+ghost use Rattle.whole_tables.specs.Faults.{IsOfDatabase};
+ghost use Rattle.whole_tables.specs.Whole.{OnReadable, Reads};
 
 use crate::fault::{ReadFault, Table};
 use crate::table_row::{TableRow, whole_table};
-use crate::values::sum_at;
 use bank_books::{Account, AccountRecord};
-use bank_schema::{cents_at, count_at, number_at};
+use bank_schema::{cents_at, count_at, number_at, sum_at};
 use money::Fault;
 use sqlite::{Alter, Row, Transaction};
 use std::alloc::Global;
@@ -25,7 +23,8 @@ pub fn all_accounts<S: Alter>(
     tx: &mut Transaction<'_, S>,
 ) -> Result<Vec<AccountRecord>, ReadFault>
     ensures same_reference { tx.new.conn.ghost_name ≡ tx.old.conn.ghost_name }
-    ensures whole { Reads (state S.Store tx.old.conn.now) (state S.Store tx.new.conn.now) (λ trees rows. AreAll all_of_it account_cells AnyRow in_accounts trees rows.items) result }
+    ensures whole { Reads (state S.Store tx.old.conn.now) (state S.Store tx.new.conn.now) (λ trees rows. AreAccounts trees rows.items) result }
+    ensures takes { OnReadable (state S.Store tx.old.conn.now) (state S.Store tx.new.conn.now) (IfErr result IsOfDatabase) }
     ensures open { StaysOpen (state S.Store tx.old.conn.now) (state S.Store tx.new.conn.now) result }
     ensures survives { Survives (state S.Store tx.old.conn.now) (state S.Store tx.new.conn.now) (λ _. ⊥) }
 {
@@ -36,17 +35,23 @@ impl TableRow for AccountRecord {
     ghost use Rattle.bank_schema.specs.Cells.{AnyRow, account_cells};
     ghost use Rattle.bank_schema.specs.Held.Sheet.{accounts as in_accounts};
     ghost use Rattle.bank_schema.specs.HeldRows.{all_of_it};
-    ghost use Rattle.whole_tables.specs.Told.{told_by_key};
+    ghost use Rattle.bank_schema.specs.Readable.{IsReadableAccount};
+    ghost use Rattle.kept_rows.specs.Sheets.{account_no};
+    ghost use Rattle.bank_schema.specs.Told.{told_by_key};
 
     ghost sheet = { in_accounts };
 
     ghost cells = { account_cells };
+
+    ghost key = { account_no };
 
     ghost shows = { all_of_it };
 
     ghost told = { told_by_key 5 };
 
     ghost fits = { AnyRow };
+
+    ghost readable = { IsReadableAccount };
 
     fn read(_alloc: Global, row: &Row) -> Result<AccountRecord, Fault> {
         Ok(AccountRecord {

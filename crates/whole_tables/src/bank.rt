@@ -1,18 +1,16 @@
-ghost use Rattle.std.specs.Prelude.{ℤ, ◌≡◌, ◌≢◌, IfErr, IfOk};
+ghost use Rattle.std.specs.Prelude.{◌≡◌, ◌≢◌, IfErr, IfOk};
 ghost use Rattle.money.specs.declared.fault.Fault.TheVariants.{Memory};
 ghost use Rattle.sqlite.specs.Held.{state};
 ghost use Rattle.sqlite.specs.State.{Survives};
-ghost use Rattle.sqlite.specs.declared.types.Value.TheVariants.{Int};
-ghost use Rattle.sqlite_value.specs.Order.{column};
 ghost use Rattle.bank_schema.specs.Steps.{StaysOpen};
 ghost use Rattle.whole_tables.specs.BankRow.{IsBankTable, IsToldBy, bank_row_cells};
 ghost use Rattle.whole_tables.specs.Faults.{IsOfDatabase};
-ghost use Rattle.whole_tables.specs.Told.{told_by_key};
+ghost use Rattle.bank_schema.specs.Told.{told_by_key};
 ghost use Rattle.whole_tables.specs.Whole.{IsThere, Reads};
 
 use crate::fault::{ReadFault, Table};
 use crate::table_row::shown_rows;
-use bank_schema::fault_of;
+use bank_schema::whole_at;
 use money::Fault;
 use sqlite::{Alter, Row, Transaction};
 
@@ -62,19 +60,8 @@ fn read_row(row: &Row) -> Result<BankRow, Fault>
     ensures unread { IfErr result (λ fault. fault ≢ Memory → (b : BankRow) → told_by_key 2 row.now ≢ bank_row_cells b) }
 {
     Ok(BankRow {
-        id: whole_number_at(row, 0)?,
-        version: whole_number_at(row, 1)?,
-        policy: whole_number_at(row, 2)?,
+        id: whole_at(row, 0)?,
+        version: whole_at(row, 1)?,
+        policy: whole_at(row, 2)?,
     })
-}
-
-/// A whole number in a row. Memory or any other value keeps it from being read.
-fn whole_number_at(row: &Row, at: usize) -> Result<i64, Fault>
-    ensures told { IfOk result (λ n. column row.now at ≡ Int n) }
-    ensures unread { IfErr result (λ fault. fault ≢ Memory → (n : ℤ) → column row.now at ≢ Int n) }
-{
-    match row.get::<i64>(at) {
-        Ok(n) => Ok(n),
-        Err(error) => Err(fault_of(error)),
-    }
 }

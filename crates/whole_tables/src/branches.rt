@@ -1,19 +1,20 @@
-ghost use Rattle.std.specs.Prelude.{◌≡◌, pos, IfOk};
+ghost use Rattle.std.specs.Prelude.{◌≡◌, pos, IfErr, IfOk};
 ghost use Rattle.sqlite.specs.Held.{state};
 ghost use Rattle.sqlite.specs.State.{Survives};
 ghost use Rattle.sqlite.specs.declared.types.Value.TheVariants.{Int};
 ghost use Rattle.sqlite_value.specs.Order.{column};
-ghost use Rattle.bank_schema.specs.Cells.{AnyRow, branch_cells};
-ghost use Rattle.bank_schema.specs.Held.Sheet.{branches as in_branches};
-ghost use Rattle.bank_schema.specs.HeldRows.{all_of_it};
+ghost use Rattle.bank_schema.specs.Readable.{IsUnread};
 ghost use Rattle.bank_schema.specs.Steps.{StaysOpen};
-ghost use Rattle.whole_tables.specs.Whole.{AreAll, Reads};
+ghost use Rattle.bank_schema.specs.Told.{columns_from};
+ghost use Rattle.whole_tables.specs.Faults.{IsOfDatabase};
+ghost use Rattle.whole_tables.specs.Heads.{IsReadableHead, branch_head};
+ghost use Rattle.whole_tables.specs.Tables.{AreBranches};
+ghost use Rattle.whole_tables.specs.Whole.{OnReadable, Reads};
 
 use crate::fault::{ReadFault, Table};
 use crate::table_row::{TableRow, whole_table};
-use crate::values::sum_at;
 use bank_books::{Branch, BranchRecord};
-use bank_schema::{cents_at, count_at, number_at};
+use bank_schema::{cents_at, count_at, number_at, sum_at};
 use money::Fault;
 use sqlite::{Alter, Row, Transaction};
 use std::alloc::Global;
@@ -27,7 +28,8 @@ pub fn all_branches<S: Alter>(
     tx: &mut Transaction<'_, S>,
 ) -> Result<Vec<BranchRecord>, ReadFault>
     ensures same_reference { tx.new.conn.ghost_name ≡ tx.old.conn.ghost_name }
-    ensures whole { Reads (state S.Store tx.old.conn.now) (state S.Store tx.new.conn.now) (λ trees rows. AreAll all_of_it branch_cells AnyRow in_branches trees rows.items) result }
+    ensures whole { Reads (state S.Store tx.old.conn.now) (state S.Store tx.new.conn.now) (λ trees rows. AreBranches trees rows.items) result }
+    ensures takes { OnReadable (state S.Store tx.old.conn.now) (state S.Store tx.new.conn.now) (IfErr result IsOfDatabase) }
     ensures open { StaysOpen (state S.Store tx.old.conn.now) (state S.Store tx.new.conn.now) result }
     ensures survives { Survives (state S.Store tx.old.conn.now) (state S.Store tx.new.conn.now) (λ _. ⊥) }
 {
@@ -38,17 +40,23 @@ impl TableRow for BranchRecord {
     ghost use Rattle.bank_schema.specs.Cells.{AnyRow, branch_cells};
     ghost use Rattle.bank_schema.specs.Held.Sheet.{branches as in_branches};
     ghost use Rattle.bank_schema.specs.HeldRows.{all_of_it};
-    ghost use Rattle.whole_tables.specs.Told.{told_by_key};
+    ghost use Rattle.bank_schema.specs.Readable.{IsReadableBranch};
+    ghost use Rattle.kept_rows.specs.Sheets.{branch_no};
+    ghost use Rattle.bank_schema.specs.Told.{told_by_key};
 
     ghost sheet = { in_branches };
 
     ghost cells = { branch_cells };
+
+    ghost key = { branch_no };
 
     ghost shows = { all_of_it };
 
     ghost told = { told_by_key 12 };
 
     ghost fits = { AnyRow };
+
+    ghost readable = { IsReadableBranch };
 
     fn read(_alloc: Global, row: &Row) -> Result<BranchRecord, Fault> {
         Ok(BranchRecord {
@@ -72,6 +80,7 @@ fn branch_at(row: &Row) -> Result<Branch, Fault>
     ensures opening { IfOk result (λ b. column row.now 1 ≡ Int b.opening) }
     ensures cash { IfOk result (λ b. column row.now 2 ≡ Int b.cash) }
     ensures day { IfOk result (λ b. column row.now 3 ≡ Int (pos b.day)) }
+    ensures unread { IfErr result (IsUnread branch_head IsReadableHead (columns_from 0 4 row.now)) }
 {
     Ok(Branch {
         branch: number_at(row, 0)?,

@@ -1,11 +1,10 @@
-ghost use Rattle.std.specs.Prelude.{◌≡◌};
+ghost use Rattle.std.specs.Prelude.{◌≡◌, IfErr};
 ghost use Rattle.sqlite.specs.Held.{state};
 ghost use Rattle.sqlite.specs.State.{Survives};
-ghost use Rattle.bank_schema.specs.Cells.{AnyRow, certifier_cells};
-ghost use Rattle.bank_schema.specs.Held.Sheet.{certifiers as in_certifiers};
-ghost use Rattle.bank_schema.specs.HeldRows.{all_but_rowid};
 ghost use Rattle.bank_schema.specs.Steps.{StaysOpen};
-ghost use Rattle.whole_tables.specs.Whole.{AreAll, Reads};
+ghost use Rattle.whole_tables.specs.Tables.{AreCertifiers};
+ghost use Rattle.whole_tables.specs.Faults.{IsOfDatabase};
+ghost use Rattle.whole_tables.specs.Whole.{OnReadable, Reads};
 
 use crate::fault::{ReadFault, Table};
 use crate::table_row::{TableRow, whole_table};
@@ -24,7 +23,8 @@ pub fn all_certifiers<S: Alter>(
     tx: &mut Transaction<'_, S>,
 ) -> Result<Vec<Certifier>, ReadFault>
     ensures same_reference { tx.new.conn.ghost_name ≡ tx.old.conn.ghost_name }
-    ensures whole { Reads (state S.Store tx.old.conn.now) (state S.Store tx.new.conn.now) (λ trees rows. AreAll all_but_rowid certifier_cells AnyRow in_certifiers trees rows.items) result }
+    ensures whole { Reads (state S.Store tx.old.conn.now) (state S.Store tx.new.conn.now) (λ trees rows. AreCertifiers trees rows.items) result }
+    ensures takes { OnReadable (state S.Store tx.old.conn.now) (state S.Store tx.new.conn.now) (IfErr result IsOfDatabase) }
     ensures open { StaysOpen (state S.Store tx.old.conn.now) (state S.Store tx.new.conn.now) result }
     ensures survives { Survives (state S.Store tx.old.conn.now) (state S.Store tx.new.conn.now) (λ _. ⊥) }
 {
@@ -35,17 +35,23 @@ impl TableRow for Certifier {
     ghost use Rattle.bank_schema.specs.Cells.{AnyRow, certifier_cells};
     ghost use Rattle.bank_schema.specs.Held.Sheet.{certifiers as in_certifiers};
     ghost use Rattle.bank_schema.specs.HeldRows.{all_but_rowid};
-    ghost use Rattle.whole_tables.specs.Told.{told_by_columns};
+    ghost use Rattle.bank_schema.specs.Readable.{IsReadableCertifier};
+    ghost use Rattle.bank_policy.specs.PolicyKeys.{certifier_key};
+    ghost use Rattle.bank_schema.specs.Told.{told_by_columns};
 
     ghost sheet = { in_certifiers };
 
     ghost cells = { certifier_cells };
+
+    ghost key = { certifier_key };
 
     ghost shows = { all_but_rowid };
 
     ghost told = { told_by_columns 2 };
 
     ghost fits = { AnyRow };
+
+    ghost readable = { IsReadableCertifier };
 
     fn read(_alloc: Global, row: &Row) -> Result<Certifier, Fault> {
         Ok(Certifier {

@@ -1,11 +1,10 @@
-ghost use Rattle.std.specs.Prelude.{◌≡◌};
+ghost use Rattle.std.specs.Prelude.{◌≡◌, IfErr};
 ghost use Rattle.sqlite.specs.Held.{state};
 ghost use Rattle.sqlite.specs.State.{Survives};
-ghost use Rattle.bank_schema.specs.Cells.{ProofFits, proof_cells};
-ghost use Rattle.bank_schema.specs.Held.Sheet.{proofs as in_proofs};
-ghost use Rattle.bank_schema.specs.HeldRows.{all_but_rowid};
 ghost use Rattle.bank_schema.specs.Steps.{StaysOpen};
-ghost use Rattle.whole_tables.specs.Whole.{AreAll, Reads};
+ghost use Rattle.whole_tables.specs.Tables.{AreProofs};
+ghost use Rattle.whole_tables.specs.Faults.{IsOfDatabase};
+ghost use Rattle.whole_tables.specs.Whole.{OnReadable, Reads};
 
 use crate::fault::{ReadFault, Table};
 use crate::table_row::{TableRow, whole_table};
@@ -24,7 +23,8 @@ pub fn all_proofs<S: Alter>(
     tx: &mut Transaction<'_, S>,
 ) -> Result<Vec<Proof>, ReadFault>
     ensures same_reference { tx.new.conn.ghost_name ≡ tx.old.conn.ghost_name }
-    ensures whole { Reads (state S.Store tx.old.conn.now) (state S.Store tx.new.conn.now) (λ trees rows. AreAll all_but_rowid proof_cells ProofFits in_proofs trees rows.items) result }
+    ensures whole { Reads (state S.Store tx.old.conn.now) (state S.Store tx.new.conn.now) (λ trees rows. AreProofs trees rows.items) result }
+    ensures takes { OnReadable (state S.Store tx.old.conn.now) (state S.Store tx.new.conn.now) (IfErr result IsOfDatabase) }
     ensures open { StaysOpen (state S.Store tx.old.conn.now) (state S.Store tx.new.conn.now) result }
     ensures survives { Survives (state S.Store tx.old.conn.now) (state S.Store tx.new.conn.now) (λ _. ⊥) }
 {
@@ -35,17 +35,23 @@ impl TableRow for Proof {
     ghost use Rattle.bank_schema.specs.Cells.{ProofFits, proof_cells};
     ghost use Rattle.bank_schema.specs.Held.Sheet.{proofs as in_proofs};
     ghost use Rattle.bank_schema.specs.HeldRows.{all_but_rowid};
-    ghost use Rattle.whole_tables.specs.Told.{told_by_columns};
+    ghost use Rattle.bank_schema.specs.Readable.{IsReadableProof};
+    ghost use Rattle.bank_books.specs.Keys.{proof_key};
+    ghost use Rattle.bank_schema.specs.Told.{told_by_columns};
 
     ghost sheet = { in_proofs };
 
     ghost cells = { proof_cells };
+
+    ghost key = { proof_key };
 
     ghost shows = { all_but_rowid };
 
     ghost told = { told_by_columns 5 };
 
     ghost fits = { ProofFits };
+
+    ghost readable = { IsReadableProof };
 
     fn read(_alloc: Global, row: &Row) -> Result<Proof, Fault> {
         Ok(Proof {

@@ -1,17 +1,15 @@
-ghost use Rattle.std.specs.Prelude.{◌≡◌};
+ghost use Rattle.std.specs.Prelude.{◌≡◌, IfErr};
 ghost use Rattle.sqlite.specs.Held.{state};
 ghost use Rattle.sqlite.specs.State.{Survives};
-ghost use Rattle.bank_schema.specs.Cells.{EntryFits, entry_cells};
-ghost use Rattle.bank_schema.specs.Held.Sheet.{entries as in_entries};
-ghost use Rattle.bank_schema.specs.HeldRows.{all_but_rowid};
 ghost use Rattle.bank_schema.specs.Steps.{StaysOpen};
-ghost use Rattle.whole_tables.specs.Whole.{AreAll, Reads};
+ghost use Rattle.whole_tables.specs.Tables.{AreEntries};
+ghost use Rattle.whole_tables.specs.Faults.{IsOfDatabase};
+ghost use Rattle.whole_tables.specs.Whole.{OnReadable, Reads};
 
 use crate::fault::{ReadFault, Table};
 use crate::table_row::{TableRow, whole_table};
-use crate::values::{delta_at, entry_form_at, sum_at};
 use bank_books::{Entry, EntryRecord};
-use bank_schema::{count_at, number_at};
+use bank_schema::{count_at, delta_at, entry_form_at, number_at, sum_at};
 use money::Fault;
 use sqlite::{Alter, Row, Transaction};
 use std::alloc::Global;
@@ -25,7 +23,8 @@ pub fn all_entries<S: Alter>(
     tx: &mut Transaction<'_, S>,
 ) -> Result<Vec<EntryRecord>, ReadFault>
     ensures same_reference { tx.new.conn.ghost_name ≡ tx.old.conn.ghost_name }
-    ensures whole { Reads (state S.Store tx.old.conn.now) (state S.Store tx.new.conn.now) (λ trees rows. AreAll all_but_rowid entry_cells EntryFits in_entries trees rows.items) result }
+    ensures whole { Reads (state S.Store tx.old.conn.now) (state S.Store tx.new.conn.now) (λ trees rows. AreEntries trees rows.items) result }
+    ensures takes { OnReadable (state S.Store tx.old.conn.now) (state S.Store tx.new.conn.now) (IfErr result IsOfDatabase) }
     ensures open { StaysOpen (state S.Store tx.old.conn.now) (state S.Store tx.new.conn.now) result }
     ensures survives { Survives (state S.Store tx.old.conn.now) (state S.Store tx.new.conn.now) (λ _. ⊥) }
 {
@@ -36,17 +35,23 @@ impl TableRow for EntryRecord {
     ghost use Rattle.bank_schema.specs.Cells.{EntryFits, entry_cells};
     ghost use Rattle.bank_schema.specs.Held.Sheet.{entries as in_entries};
     ghost use Rattle.bank_schema.specs.HeldRows.{all_but_rowid};
-    ghost use Rattle.whole_tables.specs.Told.{told_by_columns};
+    ghost use Rattle.bank_schema.specs.Readable.{IsReadableEntry};
+    ghost use Rattle.kept_rows.specs.Sheets.{entry_no};
+    ghost use Rattle.bank_schema.specs.Told.{told_by_columns};
 
     ghost sheet = { in_entries };
 
     ghost cells = { entry_cells };
+
+    ghost key = { entry_no };
 
     ghost shows = { all_but_rowid };
 
     ghost told = { told_by_columns 13 };
 
     ghost fits = { EntryFits };
+
+    ghost readable = { IsReadableEntry };
 
     fn read(_alloc: Global, row: &Row) -> Result<EntryRecord, Fault> {
         Ok(EntryRecord {

@@ -1,5 +1,6 @@
 ghost use Rattle.std.specs.Prelude.{◌≡◌};
-ghost use Rattle.whole_tables.specs.Faults.{read_fault_named};
+ghost use Rattle.money.specs.declared.fault.Fault.TheVariants.{Memory};
+ghost use Rattle.whole_tables.specs.Faults.{IsOfDatabase, read_fault_named};
 
 use bank_schema::fault_of;
 use money::Fault;
@@ -78,7 +79,9 @@ pub(crate) fn read_fault(error: Error, table: Table) -> ReadFault
 }
 
 /// Why a table is refused of which a value was not read: memory, or else the value is out of its limits.
-pub(crate) fn value_fault(fault: Fault, table: Table) -> ReadFault {
+pub(crate) fn value_fault(fault: Fault, table: Table) -> ReadFault
+    ensures { fault ≡ Memory → IsOfDatabase result }
+{
     match fault {
         Fault::Memory => ReadFault::Fault(Fault::Memory),
         _ => ReadFault::OutOfLimits(table),

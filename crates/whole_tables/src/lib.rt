@@ -20,7 +20,6 @@ mod table_row;
 mod tellers;
 mod triples;
 mod users;
-mod values;
 
 pub use accounts::all_accounts;
 pub use asking::ask_tables;

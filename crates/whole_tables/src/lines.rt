@@ -1,17 +1,15 @@
-ghost use Rattle.std.specs.Prelude.{◌≡◌};
+ghost use Rattle.std.specs.Prelude.{◌≡◌, IfErr};
 ghost use Rattle.sqlite.specs.Held.{state};
 ghost use Rattle.sqlite.specs.State.{Survives};
-ghost use Rattle.bank_schema.specs.Cells.{LineFits, line_cells};
-ghost use Rattle.bank_schema.specs.Held.Sheet.{lines as in_lines};
-ghost use Rattle.bank_schema.specs.HeldRows.{all_but_rowid};
 ghost use Rattle.bank_schema.specs.Steps.{StaysOpen};
-ghost use Rattle.whole_tables.specs.Whole.{AreAll, Reads};
+ghost use Rattle.whole_tables.specs.Tables.{AreLines};
+ghost use Rattle.whole_tables.specs.Faults.{IsOfDatabase};
+ghost use Rattle.whole_tables.specs.Whole.{OnReadable, Reads};
 
 use crate::fault::{ReadFault, Table};
 use crate::table_row::{TableRow, whole_table};
-use crate::values::line_form_at;
 use bank_books::CashLine;
-use bank_schema::{cents_at, count_at, number_at};
+use bank_schema::{cents_at, count_at, line_form_at, number_at};
 use money::Fault;
 use sqlite::{Alter, Row, Transaction};
 use std::alloc::Global;
@@ -25,7 +23,8 @@ pub fn all_lines<S: Alter>(
     tx: &mut Transaction<'_, S>,
 ) -> Result<Vec<CashLine>, ReadFault>
     ensures same_reference { tx.new.conn.ghost_name ≡ tx.old.conn.ghost_name }
-    ensures whole { Reads (state S.Store tx.old.conn.now) (state S.Store tx.new.conn.now) (λ trees rows. AreAll all_but_rowid line_cells LineFits in_lines trees rows.items) result }
+    ensures whole { Reads (state S.Store tx.old.conn.now) (state S.Store tx.new.conn.now) (λ trees rows. AreLines trees rows.items) result }
+    ensures takes { OnReadable (state S.Store tx.old.conn.now) (state S.Store tx.new.conn.now) (IfErr result IsOfDatabase) }
     ensures open { StaysOpen (state S.Store tx.old.conn.now) (state S.Store tx.new.conn.now) result }
     ensures survives { Survives (state S.Store tx.old.conn.now) (state S.Store tx.new.conn.now) (λ _. ⊥) }
 {
@@ -36,17 +35,23 @@ impl TableRow for CashLine {
     ghost use Rattle.bank_schema.specs.Cells.{LineFits, line_cells};
     ghost use Rattle.bank_schema.specs.Held.Sheet.{lines as in_lines};
     ghost use Rattle.bank_schema.specs.HeldRows.{all_but_rowid};
-    ghost use Rattle.whole_tables.specs.Told.{told_by_columns};
+    ghost use Rattle.bank_schema.specs.Readable.{IsReadableLine};
+    ghost use Rattle.bank_books.specs.Keys.{line_key};
+    ghost use Rattle.bank_schema.specs.Told.{told_by_columns};
 
     ghost sheet = { in_lines };
 
     ghost cells = { line_cells };
+
+    ghost key = { line_key };
 
     ghost shows = { all_but_rowid };
 
     ghost told = { told_by_columns 8 };
 
     ghost fits = { LineFits };
+
+    ghost readable = { IsReadableLine };
 
     fn read(_alloc: Global, row: &Row) -> Result<CashLine, Fault> {
         Ok(CashLine {

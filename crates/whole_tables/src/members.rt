@@ -1,11 +1,10 @@
-ghost use Rattle.std.specs.Prelude.{◌≡◌};
+ghost use Rattle.std.specs.Prelude.{◌≡◌, IfErr};
 ghost use Rattle.sqlite.specs.Held.{state};
 ghost use Rattle.sqlite.specs.State.{Survives};
-ghost use Rattle.bank_schema.specs.Cells.{MemberFits, member_cells};
-ghost use Rattle.bank_schema.specs.Held.Sheet.{members as in_members};
-ghost use Rattle.bank_schema.specs.HeldRows.{all_but_rowid};
 ghost use Rattle.bank_schema.specs.Steps.{StaysOpen};
-ghost use Rattle.whole_tables.specs.Whole.{AreAll, Reads};
+ghost use Rattle.whole_tables.specs.Tables.{AreMembers};
+ghost use Rattle.whole_tables.specs.Faults.{IsOfDatabase};
+ghost use Rattle.whole_tables.specs.Whole.{OnReadable, Reads};
 
 use crate::fault::{ReadFault, Table};
 use crate::table_row::{TableRow, whole_table};
@@ -25,7 +24,8 @@ pub fn all_members<S: Alter>(
     tx: &mut Transaction<'_, S>,
 ) -> Result<Vec<MemberRow>, ReadFault>
     ensures same_reference { tx.new.conn.ghost_name ≡ tx.old.conn.ghost_name }
-    ensures whole { Reads (state S.Store tx.old.conn.now) (state S.Store tx.new.conn.now) (λ trees rows. AreAll all_but_rowid member_cells MemberFits in_members trees rows.items) result }
+    ensures whole { Reads (state S.Store tx.old.conn.now) (state S.Store tx.new.conn.now) (λ trees rows. AreMembers trees rows.items) result }
+    ensures takes { OnReadable (state S.Store tx.old.conn.now) (state S.Store tx.new.conn.now) (IfErr result IsOfDatabase) }
     ensures open { StaysOpen (state S.Store tx.old.conn.now) (state S.Store tx.new.conn.now) result }
     ensures survives { Survives (state S.Store tx.old.conn.now) (state S.Store tx.new.conn.now) (λ _. ⊥) }
 {
@@ -36,17 +36,23 @@ impl TableRow for MemberRow {
     ghost use Rattle.bank_schema.specs.Cells.{MemberFits, member_cells};
     ghost use Rattle.bank_schema.specs.Held.Sheet.{members as in_members};
     ghost use Rattle.bank_schema.specs.HeldRows.{all_but_rowid};
-    ghost use Rattle.whole_tables.specs.Told.{told_by_columns};
+    ghost use Rattle.bank_schema.specs.Readable.{IsReadableMember};
+    ghost use Rattle.kept_rows.specs.Sheets.{member_no};
+    ghost use Rattle.bank_schema.specs.Told.{told_by_columns};
 
     ghost sheet = { in_members };
 
     ghost cells = { member_cells };
+
+    ghost key = { member_no };
 
     ghost shows = { all_but_rowid };
 
     ghost told = { told_by_columns 5 };
 
     ghost fits = { MemberFits };
+
+    ghost readable = { IsReadableMember };
 
     fn read(_alloc: Global, row: &Row) -> Result<MemberRow, Fault> {
         Ok(MemberRow {

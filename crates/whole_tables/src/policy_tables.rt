@@ -1,8 +1,9 @@
-ghost use Rattle.std.specs.Prelude.{◌≡◌};
+ghost use Rattle.std.specs.Prelude.{◌≡◌, IfErr};
 ghost use Rattle.sqlite.specs.Held.{state};
 ghost use Rattle.sqlite.specs.State.{Survives};
 ghost use Rattle.whole_tables.specs.PolicyTables.{AreGrantRows, ArePolicyTables, AreSetRows};
-ghost use Rattle.whole_tables.specs.Whole.{Reads};
+ghost use Rattle.whole_tables.specs.Faults.{IsOfDatabase};
+ghost use Rattle.whole_tables.specs.Whole.{OnReadable, Reads};
 
 use crate::fault::ReadFault;
 use crate::{all_certifiers, all_members, all_relations, all_sets, all_triples};
@@ -43,6 +44,7 @@ pub struct PolicyTables {
 fn set_rows<S: Alter>(alloc: Global, tx: &mut Transaction<'_, S>) -> Result<SetRows, ReadFault>
     ensures same_reference { tx.new.conn.ghost_name ≡ tx.old.conn.ghost_name }
     ensures whole { Reads (state S.Store tx.old.conn.now) (state S.Store tx.new.conn.now) AreSetRows result }
+    ensures takes { OnReadable (state S.Store tx.old.conn.now) (state S.Store tx.new.conn.now) (IfErr result IsOfDatabase) }
     ensures survives { Survives (state S.Store tx.old.conn.now) (state S.Store tx.new.conn.now) (λ _. ⊥) }
 {
     let sets = all_sets(alloc, tx)?;
@@ -53,6 +55,7 @@ fn set_rows<S: Alter>(alloc: Global, tx: &mut Transaction<'_, S>) -> Result<SetR
 fn grant_rows<S: Alter>(alloc: Global, tx: &mut Transaction<'_, S>) -> Result<GrantRows, ReadFault>
     ensures same_reference { tx.new.conn.ghost_name ≡ tx.old.conn.ghost_name }
     ensures whole { Reads (state S.Store tx.old.conn.now) (state S.Store tx.new.conn.now) AreGrantRows result }
+    ensures takes { OnReadable (state S.Store tx.old.conn.now) (state S.Store tx.new.conn.now) (IfErr result IsOfDatabase) }
     ensures survives { Survives (state S.Store tx.old.conn.now) (state S.Store tx.new.conn.now) (λ _. ⊥) }
 {
     let relations = all_relations(alloc, tx)?;
@@ -72,6 +75,7 @@ pub fn all_policy_tables<S: Alter>(
 ) -> Result<PolicyTables, ReadFault>
     ensures same_reference { tx.new.conn.ghost_name ≡ tx.old.conn.ghost_name }
     ensures whole { Reads (state S.Store tx.old.conn.now) (state S.Store tx.new.conn.now) ArePolicyTables result }
+    ensures takes { OnReadable (state S.Store tx.old.conn.now) (state S.Store tx.new.conn.now) (IfErr result IsOfDatabase) }
     ensures survives { Survives (state S.Store tx.old.conn.now) (state S.Store tx.new.conn.now) (λ _. ⊥) }
 {
     let sets = set_rows(alloc, tx)?;

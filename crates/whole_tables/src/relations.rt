@@ -1,11 +1,10 @@
-ghost use Rattle.std.specs.Prelude.{◌≡◌};
+ghost use Rattle.std.specs.Prelude.{◌≡◌, IfErr};
 ghost use Rattle.sqlite.specs.Held.{state};
 ghost use Rattle.sqlite.specs.State.{Survives};
-ghost use Rattle.bank_schema.specs.Cells.{RelationFits, relation_cells};
-ghost use Rattle.bank_schema.specs.Held.Sheet.{relations as in_relations};
-ghost use Rattle.bank_schema.specs.HeldRows.{all_but_rowid};
 ghost use Rattle.bank_schema.specs.Steps.{StaysOpen};
-ghost use Rattle.whole_tables.specs.Whole.{AreAll, Reads};
+ghost use Rattle.whole_tables.specs.Tables.{AreRelations};
+ghost use Rattle.whole_tables.specs.Faults.{IsOfDatabase};
+ghost use Rattle.whole_tables.specs.Whole.{OnReadable, Reads};
 
 use crate::fault::{ReadFault, Table};
 use crate::table_row::{TableRow, whole_table};
@@ -24,7 +23,8 @@ pub fn all_relations<S: Alter>(
     tx: &mut Transaction<'_, S>,
 ) -> Result<Vec<Relation>, ReadFault>
     ensures same_reference { tx.new.conn.ghost_name ≡ tx.old.conn.ghost_name }
-    ensures whole { Reads (state S.Store tx.old.conn.now) (state S.Store tx.new.conn.now) (λ trees rows. AreAll all_but_rowid relation_cells RelationFits in_relations trees rows.items) result }
+    ensures whole { Reads (state S.Store tx.old.conn.now) (state S.Store tx.new.conn.now) (λ trees rows. AreRelations trees rows.items) result }
+    ensures takes { OnReadable (state S.Store tx.old.conn.now) (state S.Store tx.new.conn.now) (IfErr result IsOfDatabase) }
     ensures open { StaysOpen (state S.Store tx.old.conn.now) (state S.Store tx.new.conn.now) result }
     ensures survives { Survives (state S.Store tx.old.conn.now) (state S.Store tx.new.conn.now) (λ _. ⊥) }
 {
@@ -35,17 +35,23 @@ impl TableRow for Relation {
     ghost use Rattle.bank_schema.specs.Cells.{RelationFits, relation_cells};
     ghost use Rattle.bank_schema.specs.Held.Sheet.{relations as in_relations};
     ghost use Rattle.bank_schema.specs.HeldRows.{all_but_rowid};
-    ghost use Rattle.whole_tables.specs.Told.{told_by_columns};
+    ghost use Rattle.bank_schema.specs.Readable.{IsReadableRelation};
+    ghost use Rattle.bank_policy.specs.PolicyKeys.{relation_key};
+    ghost use Rattle.bank_schema.specs.Told.{told_by_columns};
 
     ghost sheet = { in_relations };
 
     ghost cells = { relation_cells };
+
+    ghost key = { relation_key };
 
     ghost shows = { all_but_rowid };
 
     ghost told = { told_by_columns 3 };
 
     ghost fits = { RelationFits };
+
+    ghost readable = { IsReadableRelation };
 
     fn read(_alloc: Global, row: &Row) -> Result<Relation, Fault> {
         Ok(Relation {

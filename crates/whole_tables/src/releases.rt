@@ -1,17 +1,15 @@
-ghost use Rattle.std.specs.Prelude.{◌≡◌};
+ghost use Rattle.std.specs.Prelude.{◌≡◌, IfErr};
 ghost use Rattle.sqlite.specs.Held.{state};
 ghost use Rattle.sqlite.specs.State.{Survives};
-ghost use Rattle.bank_schema.specs.Cells.{ReleaseFits, release_cells};
-ghost use Rattle.bank_schema.specs.Held.Sheet.{releases as in_releases};
-ghost use Rattle.bank_schema.specs.HeldRows.{all_but_rowid};
 ghost use Rattle.bank_schema.specs.Steps.{StaysOpen};
-ghost use Rattle.whole_tables.specs.Whole.{AreAll, Reads};
+ghost use Rattle.whole_tables.specs.Tables.{AreReleases};
+ghost use Rattle.whole_tables.specs.Faults.{IsOfDatabase};
+ghost use Rattle.whole_tables.specs.Whole.{OnReadable, Reads};
 
 use crate::fault::{ReadFault, Table};
 use crate::table_row::{TableRow, whole_table};
-use crate::values::members_of;
 use bank_books::Release;
-use bank_schema::{number_at, procedure_at, truth_at};
+use bank_schema::{members_of, number_at, procedure_at, truth_at};
 use bank_terms::OperationRow;
 use money::Fault;
 use sqlite::{Alter, Row, Transaction};
@@ -26,7 +24,8 @@ pub fn all_releases<S: Alter>(
     tx: &mut Transaction<'_, S>,
 ) -> Result<Vec<Release>, ReadFault>
     ensures same_reference { tx.new.conn.ghost_name ≡ tx.old.conn.ghost_name }
-    ensures whole { Reads (state S.Store tx.old.conn.now) (state S.Store tx.new.conn.now) (λ trees rows. AreAll all_but_rowid release_cells ReleaseFits in_releases trees rows.items) result }
+    ensures whole { Reads (state S.Store tx.old.conn.now) (state S.Store tx.new.conn.now) (λ trees rows. AreReleases trees rows.items) result }
+    ensures takes { OnReadable (state S.Store tx.old.conn.now) (state S.Store tx.new.conn.now) (IfErr result IsOfDatabase) }
     ensures open { StaysOpen (state S.Store tx.old.conn.now) (state S.Store tx.new.conn.now) result }
     ensures survives { Survives (state S.Store tx.old.conn.now) (state S.Store tx.new.conn.now) (λ _. ⊥) }
 {
@@ -37,17 +36,23 @@ impl TableRow for Release {
     ghost use Rattle.bank_schema.specs.Cells.{ReleaseFits, release_cells};
     ghost use Rattle.bank_schema.specs.Held.Sheet.{releases as in_releases};
     ghost use Rattle.bank_schema.specs.HeldRows.{all_but_rowid};
-    ghost use Rattle.whole_tables.specs.Told.{told_by_columns};
+    ghost use Rattle.bank_schema.specs.Readable.{IsReadableRelease};
+    ghost use Rattle.bank_books.specs.Keys.{release_key};
+    ghost use Rattle.bank_schema.specs.Told.{told_by_columns};
 
     ghost sheet = { in_releases };
 
     ghost cells = { release_cells };
+
+    ghost key = { release_key };
 
     ghost shows = { all_but_rowid };
 
     ghost told = { told_by_columns 15 };
 
     ghost fits = { ReleaseFits };
+
+    ghost readable = { IsReadableRelease };
 
     fn read(_alloc: Global, row: &Row) -> Result<Release, Fault> {
         Ok(Release {

@@ -1,12 +1,15 @@
-ghost use Rattle.std.specs.Prelude.{◌≡◌, [], map, Contains, IfErr, IfOk, OnOk};
+ghost use Rattle.std.specs.Prelude.{◌≡◌, [], List, map, Contains, IfErr, IfOk, OnOk};
 ghost use Rattle.sqlite.specs.Given.{IsPlain};
 ghost use Rattle.sqlite.specs.Held.{state};
 ghost use Rattle.sqlite.specs.Listing.{understood};
 ghost use Rattle.sqlite.specs.State.{HasCleanDisk, IsUnchanged, KeepsCommit, Shown, Survives};
+ghost use Rattle.bank_schema.specs.Held.{tree_of};
+ghost use Rattle.bank_schema.specs.HeldRows.{HoldsRows};
+ghost use Rattle.bank_schema.specs.Readable.{IsUnread};
 ghost use Rattle.bank_schema.specs.Schema.{bank_schema};
 ghost use Rattle.bank_schema.specs.Steps.{StaysOpen};
 ghost use Rattle.whole_tables.specs.Faults.{IsOfDatabase};
-ghost use Rattle.whole_tables.specs.Whole.{AreAll, IsAnswered, Reads, TellsWhole};
+ghost use Rattle.whole_tables.specs.Whole.{AreAll, HasBankTables, IsAnswered, Reads, TellsWhole};
 
 use crate::fault::{ReadFault, Table, read_fault, value_fault};
 use money::Fault;
@@ -15,14 +18,20 @@ use std::alloc::Global;
 
 /// A row of a table of a bank.
 pub trait TableRow: Sized {
-    ghost use Rattle.std.specs.Prelude.{◌≡◌, IfOk};
+    ghost use Rattle.std.specs.Prelude.{ℕ, ◌≡◌, IfErr, IfOk};
+    ghost use Rattle.money.specs.declared.fault.Fault.TheVariants.{Memory};
     ghost use Rattle.sqlite.specs.Order.{Row as Cells};
     ghost use Rattle.bank_schema.specs.Held.{Sheet};
+    ghost use Rattle.bank_schema.specs.Readable.{IsUnread};
+    ghost use Rattle.whole_tables.specs.Faults.{IsOfDatabase};
 
-    // the table, its row, what of a row counts, what a row of an answer tells of it, and that its numbers are small enough for its key
+    // the table, its row and its key, what of a row counts, what a row of an answer tells of it, that its numbers are small enough for its
+    // key, and that they are of the types that they are read as
     ghost sheet: { Sheet };
 
     ghost cells: { Self → Cells };
+
+    ghost key: { Self → ℕ };
 
     ghost shows: { Cells → Cells };
 
@@ -30,14 +39,19 @@ pub trait TableRow: Sized {
 
     ghost fits: { Self → Type 0 };
 
-    /// The row that a row of an answer tells, whose columns stand as the query for the table names them. A value that its
-    /// column may not have is a fault of the disk.
+    ghost readable: { Self → Type 0 };
+
+    /// The row that a row of an answer tells, whose columns stand as the query for the table names them. Only memory, or a value that its
+    /// column may not have, keeps it from being read.
     fn read(alloc: Global, row: &Row) -> Result<Self, Fault>
         ensures same { IfOk result (λ x. told row.now ≡ cells x) }
-        ensures fit { IfOk result fits };
+        ensures fit { IfOk result fits }
+        ensures unread { IfErr result (IsUnread cells readable (told row.now)) };
 
-    /// Why a table of these rows is refused, one of which was not read for this fault.
-    fn refusal(fault: Fault, _rows: &[Row], table: Table) -> ReadFault {
+    /// Why a table of these rows is refused, one of which was not read for this fault. Want of memory says nothing of the table.
+    fn refusal(fault: Fault, _rows: &[Row], table: Table) -> ReadFault
+        ensures { fault ≡ Memory → IsOfDatabase result }
+    {
         value_fault(fault, table)
     }
 }
@@ -49,9 +63,10 @@ pub(crate) fn whole_table<S: Alter, T: TableRow + Drop>(
     sql: &str,
     table: Table,
 ) -> Result<Vec<T>, ReadFault>
-    requires { TellsWhole T.shows T.told T.sheet sql.now }
+    requires { TellsWhole T.shows T.told T.cells T.key T.fits T.sheet sql.now }
     ensures same_reference { tx.new.conn.ghost_name ≡ tx.old.conn.ghost_name }
-    ensures whole { Reads (state S.Store tx.old.conn.now) (state S.Store tx.new.conn.now) (λ trees rows. AreAll T.shows T.cells T.fits T.sheet trees rows.items) result }
+    ensures whole { Reads (state S.Store tx.old.conn.now) (state S.Store tx.new.conn.now) (λ trees rows. AreAll T.shows T.cells T.key T.fits T.sheet trees rows.items) result }
+    ensures takes { HasCleanDisk (state S.Store tx.new.conn.now) → HasBankTables (state S.Store tx.old.conn.now) → (xs : List T) → HoldsRows T.shows T.cells T.key T.fits xs ((state S.Store tx.old.conn.now).now.trees (tree_of T.sheet)) → ((x : T) → Contains xs x → T.readable x) → IfErr result IsOfDatabase }
     ensures open { StaysOpen (state S.Store tx.old.conn.now) (state S.Store tx.new.conn.now) result }
     ensures survives { Survives (state S.Store tx.old.conn.now) (state S.Store tx.new.conn.now) (λ _. ⊥) }
 {
@@ -85,6 +100,7 @@ pub(crate) fn shown_rows<S: Alter>(
 fn read_rows<T: TableRow + Drop>(alloc: Global, rows: &[Row]) -> Result<Vec<T>, Fault>
     ensures same { IfOk result (λ list. map T.told rows.now ≡ map T.cells list.items) }
     ensures fit { IfOk result (λ list. (x : T) → Contains list.items x → T.fits x) }
+    ensures unread { IfErr result (IsUnread (map T.cells) (λ (list : List T). (x : T) → Contains list x → T.readable x) (map T.told rows.now)) }
 {
     let mut list = Vec::new(alloc);
     for row in rows {

@@ -1,17 +1,15 @@
-ghost use Rattle.std.specs.Prelude.{◌≡◌};
+ghost use Rattle.std.specs.Prelude.{◌≡◌, IfErr};
 ghost use Rattle.sqlite.specs.Held.{state};
 ghost use Rattle.sqlite.specs.State.{Survives};
-ghost use Rattle.bank_schema.specs.Cells.{AnyRow, teller_cells};
-ghost use Rattle.bank_schema.specs.Held.Sheet.{tellers as in_tellers};
-ghost use Rattle.bank_schema.specs.HeldRows.{all_of_it};
 ghost use Rattle.bank_schema.specs.Steps.{StaysOpen};
-ghost use Rattle.whole_tables.specs.Whole.{AreAll, Reads};
+ghost use Rattle.whole_tables.specs.Tables.{AreTellers};
+ghost use Rattle.whole_tables.specs.Faults.{IsOfDatabase};
+ghost use Rattle.whole_tables.specs.Whole.{OnReadable, Reads};
 
 use crate::fault::{ReadFault, Table};
 use crate::table_row::{TableRow, whole_table};
-use crate::values::sum_at;
 use bank_books::Teller;
-use bank_schema::{cents_at, number_at};
+use bank_schema::{cents_at, number_at, sum_at};
 use kept_rows::KeptTeller;
 use money::Fault;
 use sqlite::{Alter, Row, Transaction};
@@ -26,7 +24,8 @@ pub fn all_tellers<S: Alter>(
     tx: &mut Transaction<'_, S>,
 ) -> Result<Vec<KeptTeller>, ReadFault>
     ensures same_reference { tx.new.conn.ghost_name ≡ tx.old.conn.ghost_name }
-    ensures whole { Reads (state S.Store tx.old.conn.now) (state S.Store tx.new.conn.now) (λ trees rows. AreAll all_of_it teller_cells AnyRow in_tellers trees rows.items) result }
+    ensures whole { Reads (state S.Store tx.old.conn.now) (state S.Store tx.new.conn.now) (λ trees rows. AreTellers trees rows.items) result }
+    ensures takes { OnReadable (state S.Store tx.old.conn.now) (state S.Store tx.new.conn.now) (IfErr result IsOfDatabase) }
     ensures open { StaysOpen (state S.Store tx.old.conn.now) (state S.Store tx.new.conn.now) result }
     ensures survives { Survives (state S.Store tx.old.conn.now) (state S.Store tx.new.conn.now) (λ _. ⊥) }
 {
@@ -37,17 +36,23 @@ impl TableRow for KeptTeller {
     ghost use Rattle.bank_schema.specs.Cells.{AnyRow, teller_cells};
     ghost use Rattle.bank_schema.specs.Held.Sheet.{tellers as in_tellers};
     ghost use Rattle.bank_schema.specs.HeldRows.{all_of_it};
-    ghost use Rattle.whole_tables.specs.Told.{told_by_key};
+    ghost use Rattle.bank_schema.specs.Readable.{IsReadableTeller};
+    ghost use Rattle.kept_rows.specs.Sheets.{teller_no};
+    ghost use Rattle.bank_schema.specs.Told.{told_by_key};
 
     ghost sheet = { in_tellers };
 
     ghost cells = { teller_cells };
+
+    ghost key = { teller_no };
 
     ghost shows = { all_of_it };
 
     ghost told = { told_by_key 5 };
 
     ghost fits = { AnyRow };
+
+    ghost readable = { IsReadableTeller };
 
     fn read(_alloc: Global, row: &Row) -> Result<KeptTeller, Fault> {
         Ok(KeptTeller {

@@ -1,11 +1,10 @@
-ghost use Rattle.std.specs.Prelude.{◌≡◌};
+ghost use Rattle.std.specs.Prelude.{◌≡◌, IfErr};
 ghost use Rattle.sqlite.specs.Held.{state};
 ghost use Rattle.sqlite.specs.State.{Survives};
-ghost use Rattle.bank_schema.specs.Cells.{TripleFits, triple_cells};
-ghost use Rattle.bank_schema.specs.Held.Sheet.{triples as in_triples};
-ghost use Rattle.bank_schema.specs.HeldRows.{all_but_rowid};
 ghost use Rattle.bank_schema.specs.Steps.{StaysOpen};
-ghost use Rattle.whole_tables.specs.Whole.{AreAll, Reads};
+ghost use Rattle.whole_tables.specs.Tables.{AreTriples};
+ghost use Rattle.whole_tables.specs.Faults.{IsOfDatabase};
+ghost use Rattle.whole_tables.specs.Whole.{OnReadable, Reads};
 
 use crate::fault::{ReadFault, Table};
 use crate::table_row::{TableRow, whole_table};
@@ -24,7 +23,8 @@ pub fn all_triples<S: Alter>(
     tx: &mut Transaction<'_, S>,
 ) -> Result<Vec<Triple>, ReadFault>
     ensures same_reference { tx.new.conn.ghost_name ≡ tx.old.conn.ghost_name }
-    ensures whole { Reads (state S.Store tx.old.conn.now) (state S.Store tx.new.conn.now) (λ trees rows. AreAll all_but_rowid triple_cells TripleFits in_triples trees rows.items) result }
+    ensures whole { Reads (state S.Store tx.old.conn.now) (state S.Store tx.new.conn.now) (λ trees rows. AreTriples trees rows.items) result }
+    ensures takes { OnReadable (state S.Store tx.old.conn.now) (state S.Store tx.new.conn.now) (IfErr result IsOfDatabase) }
     ensures open { StaysOpen (state S.Store tx.old.conn.now) (state S.Store tx.new.conn.now) result }
     ensures survives { Survives (state S.Store tx.old.conn.now) (state S.Store tx.new.conn.now) (λ _. ⊥) }
 {
@@ -35,17 +35,23 @@ impl TableRow for Triple {
     ghost use Rattle.bank_schema.specs.Cells.{TripleFits, triple_cells};
     ghost use Rattle.bank_schema.specs.Held.Sheet.{triples as in_triples};
     ghost use Rattle.bank_schema.specs.HeldRows.{all_but_rowid};
-    ghost use Rattle.whole_tables.specs.Told.{told_by_columns};
+    ghost use Rattle.bank_schema.specs.Readable.{IsReadableTriple};
+    ghost use Rattle.bank_policy.specs.PolicyKeys.{triple_key};
+    ghost use Rattle.bank_schema.specs.Told.{told_by_columns};
 
     ghost sheet = { in_triples };
 
     ghost cells = { triple_cells };
+
+    ghost key = { triple_key };
 
     ghost shows = { all_but_rowid };
 
     ghost told = { told_by_columns 4 };
 
     ghost fits = { TripleFits };
+
+    ghost readable = { IsReadableTriple };
 
     fn read(_alloc: Global, row: &Row) -> Result<Triple, Fault> {
         Ok(Triple {

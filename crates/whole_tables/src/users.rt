@@ -1,17 +1,15 @@
-ghost use Rattle.std.specs.Prelude.{◌≡◌};
+ghost use Rattle.std.specs.Prelude.{◌≡◌, IfErr};
 ghost use Rattle.sqlite.specs.Held.{state};
 ghost use Rattle.sqlite.specs.State.{Survives};
-ghost use Rattle.bank_schema.specs.Cells.{AnyRow, user_cells};
-ghost use Rattle.bank_schema.specs.Held.Sheet.{users as in_users};
-ghost use Rattle.bank_schema.specs.HeldRows.{all_of_it};
 ghost use Rattle.bank_schema.specs.Steps.{StaysOpen};
-ghost use Rattle.whole_tables.specs.Whole.{AreAll, Reads};
+ghost use Rattle.whole_tables.specs.Tables.{AreUsers};
+ghost use Rattle.whole_tables.specs.Faults.{IsOfDatabase};
+ghost use Rattle.whole_tables.specs.Whole.{OnReadable, Reads};
 
 use crate::fault::{ReadFault, Table, value_fault};
 use crate::table_row::{TableRow, whole_table};
-use crate::values::name_at;
 use bank_policy::User;
-use bank_schema::{count_at, number_at, truth_at};
+use bank_schema::{count_at, name_at, number_at, truth_at};
 use kept_rows::KeptUser;
 use money::Fault;
 use sqlite::{Alter, Row, Transaction};
@@ -26,7 +24,8 @@ pub fn all_users<S: Alter>(
     tx: &mut Transaction<'_, S>,
 ) -> Result<Vec<KeptUser>, ReadFault>
     ensures same_reference { tx.new.conn.ghost_name ≡ tx.old.conn.ghost_name }
-    ensures whole { Reads (state S.Store tx.old.conn.now) (state S.Store tx.new.conn.now) (λ trees rows. AreAll all_of_it user_cells AnyRow in_users trees rows.items) result }
+    ensures whole { Reads (state S.Store tx.old.conn.now) (state S.Store tx.new.conn.now) (λ trees rows. AreUsers trees rows.items) result }
+    ensures takes { OnReadable (state S.Store tx.old.conn.now) (state S.Store tx.new.conn.now) (IfErr result IsOfDatabase) }
     ensures open { StaysOpen (state S.Store tx.old.conn.now) (state S.Store tx.new.conn.now) result }
     ensures survives { Survives (state S.Store tx.old.conn.now) (state S.Store tx.new.conn.now) (λ _. ⊥) }
 {
@@ -37,17 +36,23 @@ impl TableRow for KeptUser {
     ghost use Rattle.bank_schema.specs.Cells.{AnyRow, user_cells};
     ghost use Rattle.bank_schema.specs.Held.Sheet.{users as in_users};
     ghost use Rattle.bank_schema.specs.HeldRows.{all_of_it};
-    ghost use Rattle.whole_tables.specs.Told.{told_by_key};
+    ghost use Rattle.bank_schema.specs.Readable.{IsReadableUser};
+    ghost use Rattle.kept_rows.specs.Sheets.{user_no};
+    ghost use Rattle.bank_schema.specs.Told.{told_by_key};
 
     ghost sheet = { in_users };
 
     ghost cells = { user_cells };
+
+    ghost key = { user_no };
 
     ghost shows = { all_of_it };
 
     ghost told = { told_by_key 6 };
 
     ghost fits = { AnyRow };
+
+    ghost readable = { IsReadableUser };
 
     fn read(alloc: Global, row: &Row) -> Result<KeptUser, Fault> {
         Ok(KeptUser {

@@ -8,7 +8,7 @@ pub returns-in-Some-clause-found : goal.returns-in-Some-clause-found
 returns-in-Some-clause-found g c clean s holds =
     IfOk-weaker c.count_at.result _ _
     (λ version is. version_read c.in-Some.row.now c.in-Ok.rows.items s.version version (c.in-Some.ensures.value ∙ ap (λ rows. slice_get rows 0) c.deref.ensures.value) (c.in-Ok.ensures.rows clean s holds) is)
-    c.count_at.ensures
+    c.count_at.ensures.told
 
 pub returns-in-Some-clause-steps : goal.returns-in-Some-clause-steps
 returns-in-Some-clause-steps g c clean inside s holds = let it = c.in-Ok.ensures.steps clean inside s holds in (on_any c.count_at.result _ it.0, it.1)

@@ -16,11 +16,11 @@ returns c b fit is =
     let m6 : to_z w64 (of_z w64 c.in_ok-whole_at-7.field-0) ≡ c.in_ok-whole_at-7.field-0 = omega (arith, ints) in
     let m7 : to_z w64 (of_z w64 c.in_ok-whole_at-8.field-0) ≡ c.in_ok-whole_at-8.field-0 = omega (arith, ints) in
     same_members c.args.row.now _ _ _ _ _ _ _ _ b fit is
-    (c.in_ok-whole_at.ensures ∙ ap Int (sym m0))
-    (c.in_ok-whole_at-2.ensures ∙ ap Int (sym m1))
-    (c.in_ok-whole_at-3.ensures ∙ ap Int (sym m2))
-    (c.in_ok-whole_at-4.ensures ∙ ap Int (sym m3))
-    (c.in_ok-whole_at-5.ensures ∙ ap Int (sym m4))
-    (c.in_ok-whole_at-6.ensures ∙ ap Int (sym m5))
-    (c.in_ok-whole_at-7.ensures ∙ ap Int (sym m6))
-    (c.in_ok-whole_at-8.ensures ∙ ap Int (sym m7))
+    (c.in_ok-whole_at.ensures.told ∙ ap Int (sym m0))
+    (c.in_ok-whole_at-2.ensures.told ∙ ap Int (sym m1))
+    (c.in_ok-whole_at-3.ensures.told ∙ ap Int (sym m2))
+    (c.in_ok-whole_at-4.ensures.told ∙ ap Int (sym m3))
+    (c.in_ok-whole_at-5.ensures.told ∙ ap Int (sym m4))
+    (c.in_ok-whole_at-6.ensures.told ∙ ap Int (sym m5))
+    (c.in_ok-whole_at-7.ensures.told ∙ ap Int (sym m6))
+    (c.in_ok-whole_at-8.ensures.told ∙ ap Int (sym m7))

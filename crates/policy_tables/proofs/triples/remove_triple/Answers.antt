@@ -7,7 +7,7 @@ use Rattle.bank_terms.specs.Procedure.{number_of}
 use Rattle.bank_policy.specs.PolicyKeys.{triple_key, triple_number}
 use Rattle.bank_schema.proofs.StepLemmas.{write_steps}
 use Rattle.policy_tables.specs.Texts.{remove_triple_text}
-use Rattle.policy_tables.proofs.ProcedureNumbers.{small_number}
+use Rattle.bank_schema.proofs.ProcedureNumbers.{small_number}
 use Rattle.policy_tables.proofs.TripleLemmas.{removes_triple}
 use Rattle.policy_tables.proofs.triples.remove_triple.Goals as goal
 

@@ -1,14 +1,15 @@
 use Rattle.std.proofs.Common.{subst}
 use Rattle.std.specs.Prelude.{IfOk}
 use Rattle.sqlite.specs.Held.{state}
+use Rattle.bank_schema.specs.Cells.{AnyRow, bank_cells}
 use Rattle.bank_schema.specs.Held.Sheet.{bank as in_bank}
 use Rattle.bank_schema.specs.HeldRows.{all_of_it}
 use Rattle.whole_tables.specs.BankRow.{IsBankTable, IsToldBy}
 use Rattle.whole_tables.specs.Faults.{IsOfDatabase}
 use Rattle.whole_tables.specs.Texts.{all_bank_text}
-use Rattle.whole_tables.specs.Told.{told_by_key}
+use Rattle.bank_schema.specs.Told.{told_by_key}
 use Rattle.whole_tables.proofs.BankRowLemmas.{tells_table}
-use Rattle.whole_tables.proofs.BankWhole.{tells_bank}
+use Rattle.whole_tables.proofs.BankWhole.{bank_no, tells_bank}
 use Rattle.whole_tables.proofs.ReadsLemmas.{gave_whole, handed_on}
 use Rattle.whole_tables.proofs.WholeLemmas.{all_answered, plain_there}
 use Rattle.whole_tables.proofs.bank.bank_row.Goals as goal
@@ -26,7 +27,7 @@ returns-clause-whole g c clean has =
     let new = state g.S.Store c.shown_rows.new.tx.conn.now in
     tells_table old new c.in_ok-rows.rows.items c.only_row.result
     (subst (λ rows. IfOk c.only_row.result (IsToldBy rows)) c.deref.ensures.value c.only_row.ensures.told)
-    (all_answered all_of_it (told_by_key 2) in_bank all_bank_text tells_bank old new c.in_ok-rows.rows.items has (c.in_ok-rows.ensures.shown clean))
+    (all_answered all_of_it (told_by_key 2) bank_cells bank_no AnyRow in_bank all_bank_text tells_bank old new c.in_ok-rows.rows.items has (c.in_ok-rows.ensures.shown clean))
     (c.in_ok-rows.ensures.still clean (plain_there all_bank_text old tells_bank.asks.plain has))
 
 pub returns-in_err-rows-clause-there : goal.returns-in_err-rows-clause-there

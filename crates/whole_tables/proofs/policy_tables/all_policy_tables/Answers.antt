@@ -1,6 +1,7 @@
 use Rattle.sqlite.specs.Held.{state}
+use Rattle.whole_tables.specs.Faults.{IsOfDatabase}
 use Rattle.whole_tables.specs.PolicyTables.{AreGrantRows, ArePolicyTables, AreSetRows}
-use Rattle.whole_tables.proofs.ReadsLemmas.{done_then, done_whole, gave_then, gave_whole}
+use Rattle.whole_tables.proofs.ReadsLemmas.{done_then, done_whole, gave_then, gave_whole, handed_on, readable_then}
 use Rattle.whole_tables.proofs.policy_tables.all_policy_tables.Goals as goal
 
 pub returns-in_err-grants-clause-whole : goal.returns-in_err-grants-clause-whole
@@ -18,3 +19,12 @@ returns-clause-whole g c =
     let s2 = state g.S.Store c.grant_rows.new.tx.conn.now in
     done_whole s0 s2 (λ db. AreSetRows db c.in_ok-sets.sets × AreGrantRows db c.in_ok-grants.grants) (λ db. ArePolicyTables db (record { sets = c.in_ok-sets.sets; grants = c.in_ok-grants.grants })) (λ db h. record { sets = h.0; grants = h.1 })
     (done_then s0 s1 s2 (λ db. AreSetRows db c.in_ok-sets.sets) (λ db. AreGrantRows db c.in_ok-grants.grants) c.grant_rows.ensures.survives c.in_ok-sets.ensures.whole c.in_ok-grants.ensures.whole)
+
+pub returns-in_err-grants-clause-takes : goal.returns-in_err-grants-clause-takes
+returns-in_err-grants-clause-takes g c clean has s holds readable =
+    let s0 = state g.S.Store c.args.tx.now.conn.now in
+    let s1 = state g.S.Store c.set_rows.new.tx.conn.now in
+    let s2 = state g.S.Store c.grant_rows.new.tx.conn.now in
+    let fault = c.in_err-grants.field-0.0 in
+    handed_on c.from_residual-in_err-grants.result fault IsOfDatabase c.from_residual-in_err-grants.ensures.1
+    (readable_then s0 s1 s2 (λ db. AreSetRows db c.in_ok-sets.sets) (IsOfDatabase fault) c.grant_rows.ensures.survives c.in_ok-sets.ensures.whole c.in_err-grants.ensures.takes clean has s holds readable)

@@ -1,19 +1,23 @@
-ghost use Rattle.std.specs.Prelude.{◌≡◌, pos, length, map, IfOk};
+ghost use Rattle.std.specs.Prelude.{ℤ, List, ◌≡◌, pos, length, map, IfErr, IfOk, IsUtf8};
+ghost use Rattle.money.specs.Range.{IsDelta};
 ghost use Rattle.sqlite.specs.declared.types.Value.TheVariants.{Int, Text};
 ghost use Rattle.sqlite_value.specs.Order.{column};
+ghost use Rattle.bank_schema.specs.Cells.{AnyRow};
 ghost use Rattle.bank_schema.specs.Numbers.{entry_form_number, line_form_number};
-ghost use Rattle.whole_tables.specs.Told.{columns_from};
+ghost use Rattle.bank_schema.specs.Readable.{IsUnread};
+ghost use Rattle.bank_schema.specs.Told.{columns_from};
 
+use crate::cells::{fault_of, number_at, whole_at};
 use bank_books::{EntryForm, LineForm};
 use bank_policy::Name;
-use bank_schema::{fault_of, number_at, whole_at};
 use money::{Delta, Fault};
 use sqlite::Row;
 use std::alloc::Global;
 
 /// A name in a row. A value that is no text is a fault of the disk.
-pub(crate) fn name_at(alloc: Global, row: &Row, at: usize) -> Result<Name, Fault>
-    ensures { IfOk result (λ name. column row.now at ≡ Text name) }
+pub fn name_at(alloc: Global, row: &Row, at: usize) -> Result<Name, Fault>
+    ensures told { IfOk result (λ name. column row.now at ≡ Text name) }
+    ensures unread { IfErr result (IsUnread Text IsUtf8 (column row.now at)) }
 {
     match row.get::<String>(at) {
         Ok(text) => Ok(Name::new(alloc, text.as_str())?),
@@ -22,15 +26,17 @@ pub(crate) fn name_at(alloc: Global, row: &Row, at: usize) -> Result<Name, Fault
 }
 
 /// A sum of cents in a row. Any other value is a fault of the disk.
-pub(crate) fn sum_at(row: &Row, at: usize) -> Result<i128, Fault>
-    ensures { IfOk result (λ sum. column row.now at ≡ Int sum) }
+pub fn sum_at(row: &Row, at: usize) -> Result<i128, Fault>
+    ensures told { IfOk result (λ sum. column row.now at ≡ Int sum) }
+    ensures unread { IfErr result (IsUnread Int AnyRow (column row.now at)) }
 {
     Ok(i128::from(whole_at(row, at)?))
 }
 
 /// What an entry adds, in a row. A value out of its limits is a fault of the disk.
-pub(crate) fn delta_at(row: &Row, at: usize) -> Result<Delta, Fault>
-    ensures { IfOk result (λ delta. column row.now at ≡ Int delta) }
+pub fn delta_at(row: &Row, at: usize) -> Result<Delta, Fault>
+    ensures told { IfOk result (λ delta. column row.now at ≡ Int delta) }
+    ensures unread { IfErr result (IsUnread Int IsDelta (column row.now at)) }
 {
     match Delta::new(whole_at(row, at)?) {
         Some(delta) => Ok(delta),
@@ -39,8 +45,9 @@ pub(crate) fn delta_at(row: &Row, at: usize) -> Result<Delta, Fault>
 }
 
 /// How an entry came about, by the number in a row. Any other value is a fault of the disk.
-pub(crate) fn entry_form_at(row: &Row, at: usize) -> Result<EntryForm, Fault>
-    ensures { IfOk result (λ form. column row.now at ≡ Int (pos (entry_form_number form))) }
+pub fn entry_form_at(row: &Row, at: usize) -> Result<EntryForm, Fault>
+    ensures told { IfOk result (λ form. column row.now at ≡ Int (pos (entry_form_number form))) }
+    ensures unread { IfErr result (IsUnread (λ form. Int (pos (entry_form_number form))) AnyRow (column row.now at)) }
 {
     match number_at(row, at)? {
         1 => Ok(EntryForm::Post),
@@ -51,8 +58,9 @@ pub(crate) fn entry_form_at(row: &Row, at: usize) -> Result<EntryForm, Fault>
 }
 
 /// How a cash line came about, by the number in a row. Any other value is a fault of the disk.
-pub(crate) fn line_form_at(row: &Row, at: usize) -> Result<LineForm, Fault>
-    ensures { IfOk result (λ form. column row.now at ≡ Int (pos (line_form_number form))) }
+pub fn line_form_at(row: &Row, at: usize) -> Result<LineForm, Fault>
+    ensures told { IfOk result (λ form. column row.now at ≡ Int (pos (line_form_number form))) }
+    ensures unread { IfErr result (IsUnread (λ form. Int (pos (line_form_number form))) AnyRow (column row.now at)) }
 {
     match number_at(row, at)? {
         1 => Ok(LineForm::CashEntry),
@@ -65,9 +73,10 @@ pub(crate) fn line_form_at(row: &Row, at: usize) -> Result<LineForm, Fault>
 }
 
 /// The numbers of the eight members of an operation, in a row from its seventh column on.
-pub(crate) fn members_of(row: &Row) -> Result<[i64; 8], Fault>
-    ensures same { IfOk result (λ members. columns_from 6 8 row.now ≡ map Int members) }
+pub fn members_of(row: &Row) -> Result<[i64; 8], Fault>
+    ensures told { IfOk result (λ members. columns_from 6 8 row.now ≡ map Int members) }
     ensures eight { IfOk result (λ members. length members ≡ 8) }
+    ensures unread { IfErr result (IsUnread (map Int) (λ (members : List ℤ). length members ≡ 8) (columns_from 6 8 row.now)) }
 {
     Ok([
         whole_at(row, 6)?,

@@ -1,0 +1,32 @@
+-- The eight members of a release's operation, each in a column of its own.
+use Rattle.std.proofs.Common.{◌≡◌, ℤ, pos, List, [], ◌∷◌, ◌++◌, map, length, Result, IfErr, IsErrAnd, refl, sym, arith, ◌∙◌}
+use Rattle.std.specs.Prelude.{slice_index_or}
+use Rattle.money.specs.declared.fault.Fault.{Fault}
+use Rattle.sqlite.specs.declared.types.Value.{Value}
+use Rattle.sqlite.specs.declared.types.Value.TheVariants.{Int}
+use Rattle.sqlite.specs.Order.{Row}
+use Rattle.sqlite_value.specs.Order.{column}
+use Rattle.bank_schema.specs.Cells.{release_cells}
+use Rattle.bank_schema.specs.Readable.{IsReadableRelease, IsUnread}
+use Rattle.bank_schema.specs.Told.{columns_from, told_by_columns}
+use Rattle.bank_schema.proofs.ReadableLemmas.{unread_part}
+
+abbrev eight_cells : List ℤ → Row
+eight_cells members =
+    Int (slice_index_or members 0 (pos 0)) ∷ Int (slice_index_or members 1 (pos 0)) ∷ Int (slice_index_or members 2 (pos 0)) ∷ Int (slice_index_or members 3 (pos 0))
+    ∷ Int (slice_index_or members 4 (pos 0)) ∷ Int (slice_index_or members 5 (pos 0)) ∷ Int (slice_index_or members 6 (pos 0)) ∷ Int (slice_index_or members 7 (pos 0)) ∷ []
+
+all_eight : (members : List ℤ) → length members ≡ 8 → map Int members ≡ eight_cells members
+all_eight (a ∷ b ∷ c ∷ d ∷ e ∷ f ∷ g ∷ h ∷ []) is = refl
+all_eight members is = absurd (omega (arith, is))
+
+pub release_told : (row : Row) (user number giver branch day form used : Value) (members : List ℤ) → column row 0 ≡ user → column row 1 ≡ number → column row 2 ≡ giver → column row 3 ≡ branch → column row 4 ≡ day → column row 5 ≡ form
+    → columns_from 6 8 row ≡ map Int members → length members ≡ 8 → column row 14 ≡ used → told_by_columns 15 row ≡ user ∷ number ∷ giver ∷ branch ∷ day ∷ form ∷ (eight_cells members ++ used ∷ [])
+release_told row user number giver branch day form used members first second third fourth fifth sixth then eight last =
+    let seventh : columns_from 6 8 row ≡ eight_cells members = then ∙ all_eight members eight in
+    λ i. first i ∷ second i ∷ third i ∷ fourth i ∷ fifth i ∷ sixth i ∷ (seventh i ++ last i ∷ [])
+
+pub unread_members : {R : Type 0} (there : Row) (r : Result R Fault) (fault : Fault) → IsErrAnd r (λ e. e ≡ fault) → IsUnread (map Int) (λ (members : List ℤ). length members ≡ 8) (columns_from 6 8 there) fault
+    → IfErr r (IsUnread release_cells IsReadableRelease there)
+unread_members there r fault handed unread =
+    unread_part release_cells IsReadableRelease there (columns_from 6 8) (map Int) (λ members. length members ≡ 8) (λ x. x.operation.members) r fault handed unread (λ x can. (sym (all_eight x.operation.members can.members), can.members))
