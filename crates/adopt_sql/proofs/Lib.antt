@@ -1,6 +1,9 @@
 pub mod AdoptLemmas
 pub mod FileLemmas
+pub mod FoundLemmas
 pub mod MadeLemmas
 pub mod ReadingLemmas
 pub mod SetLemmas
+pub mod SoundLemmas
+pub mod TakenLemmas
 pub mod ToldLemmas

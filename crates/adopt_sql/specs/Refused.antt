@@ -1,12 +1,20 @@
--- What it tells of the row of the bank that a file is refused.
-use Rattle.std.specs.Prelude.{pos, ◌≡◌, ◌≢◌, [], ◌∷◌, IfErr, Result, ⊤}
-use Rattle.sqlite.specs.State.{HasCleanDisk, State}
+-- What it tells of a file that it is refused.
+use Rattle.std.specs.Prelude.{pos, ◌≡◌, ◌≢◌, [], ◌∷◌, IfErr, Ok, Result, ⊤}
+use Rattle.sqlite.specs.Effect.{Database}
+use Rattle.sqlite.specs.State.{HasCleanDisk, State, Survives}
 use Rattle.sqlite.specs.Tree.{Trees}
+use Rattle.bank_books.specs.Books.{Books}
+use Rattle.bank_books.specs.WorldLists.{WorldLists}
+use Rattle.bank_schema.specs.Held.{HoldsWorld}
+use Rattle.bank_schema.specs.Readable.{AreReadable}
+use Rattle.kept_rows.specs.Sheets.{sheets_of}
+use Rattle.policy_check.specs.PolicyVerdict.{IsPolicyVerdict}
 use Rattle.whole_tables.specs.BankRow.{bank_row_cells}
 use Rattle.whole_tables.specs.Whole.{HasBankTables}
 use Rattle.whole_tables.specs.declared.bank.BankRow.{BankRow}
+use Rattle.adopt_sql.specs.Adopted.{IsBankFile, IsLeft}
 use Rattle.adopt_sql.specs.declared.adopt_fault.AdoptFault.{AdoptFault}
-use Rattle.adopt_sql.specs.declared.adopt_fault.AdoptFault.TheVariants.{NotABank, Version}
+use Rattle.adopt_sql.specs.declared.adopt_fault.AdoptFault.TheVariants.{Fault, NotABank, Version}
 
 -- It is no bank where its table has not the one row of a bank, it is of another version where that row says so, and every other fault says
 -- nothing of the row.
@@ -21,6 +29,29 @@ IsBeyondBankRow NotABank = ⊥
 IsBeyondBankRow Version = ⊥
 IsBeyondBankRow _ = ⊤
 
+-- the database failed, or memory or a limit on size kept it from the whole
+abbrev pub IsOfStore : AdoptFault → Type 0
+IsOfStore (Fault _) = ⊤
+IsOfStore _ = ⊥
+
 -- what a read inside a transaction tells where it is refused
 abbrev pub RefusesFor : {X : Type 0} → State → State → Result X AdoptFault → Type 0
 RefusesFor old new result = HasCleanDisk new → HasBankTables old → IfErr result (IsRefused old.now.trees)
+
+-- ---- a sound bank
+
+-- The tables hold a bank whose books hold and whose policy is sound and separated, each row of which is of the types that it is read as.
+pub record HoldsSoundBank (db : Database) : Type 0 where
+  pub world : WorldLists
+  pub held : HoldsWorld db world
+  pub readable : AreReadable (sheets_of world)
+  pub books : Books world
+  pub policy : IsPolicyVerdict world.policy (Ok tt)
+
+-- A connection that was refused for this fault was dropped as it was then, and nothing was changed. `shows` gives the state of a connection.
+pub record IsDropped {C : Type 0} (shows : C → State) (conn : C) (fault : AdoptFault) : Type 0 where
+  pub last : C
+  pub survives : Survives (shows conn) (shows last) (λ _. ⊥)
+  pub left : HasCleanDisk (shows last) → IsBankFile (shows conn) → IsLeft (shows conn) (shows last)
+  pub refused : HasCleanDisk (shows last) → IsBankFile (shows conn) → IsRefused (shows conn).now.trees fault
+  pub sound : HasCleanDisk (shows last) → IsBankFile (shows conn) → HoldsSoundBank (shows conn).now → IsOfStore fault

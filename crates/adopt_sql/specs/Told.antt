@@ -1,21 +1,25 @@
 -- What rows of tables tell: the World that they are of, and the numbers that are kept beside its rows.
-use Rattle.std.specs.Prelude.{ℕ, ◌≡◌, ◌==◌, List, map, None, Ok, Some, if◌then◌else◌}
-use Rattle.std.specs.List.{flat_map}
+use Rattle.std.specs.Prelude.{ℕ, ◌≡◌, ◌≢◌, ◌==◌, ◌++◌, List, map, Contains, None, Ok, Some, if◌then◌else◌}
+use Rattle.std.specs.List.{enumerate_from, flat_map}
+use Rattle.std.specs.List.Sorted.{IsNonDecreasingBy}
 use Rattle.bank_policy.specs.Policy.{PolicyLists}
+use Rattle.bank_policy.specs.PolicyKeys.{certifier_key, relation_key, triple_key}
 use Rattle.bank_policy.specs.SetRow.{SetRow}
+use Rattle.bank_policy.specs.declared.rows.Member.{Member}
 use Rattle.bank_books.specs.Books.{Books}
 use Rattle.bank_books.specs.Records.{KeptLists}
 use Rattle.bank_books.specs.WorldLists.{WorldLists}
 use Rattle.bank_books.specs.declared.records.ReleaseCount.{ReleaseCount}
 use Rattle.bank_books.specs.declared.records.TellerRecord.{TellerRecord}
 use Rattle.kept_rows.specs.Keepable.{IsKeepable}
-use Rattle.kept_rows.specs.Records.{member_rows}
+use Rattle.kept_rows.specs.Records.{member_row, member_rows}
 use Rattle.kept_rows.specs.Sheets.{Sheets, sheets_of}
 use Rattle.kept_rows.specs.declared.records.KeptTeller.{KeptTeller}
 use Rattle.kept_rows.specs.declared.records.KeptUser.{KeptUser}
 use Rattle.kept_rows.specs.declared.records.MemberRow.{MemberRow}
 use Rattle.policy_check.specs.PolicyVerdict.{IsPolicyVerdict}
 use Rattle.whole_tables.specs.declared.book_rows.BookRows.{BookRows}
+use Rattle.whole_tables.specs.declared.policy_tables.GrantRows.{GrantRows}
 use Rattle.whole_tables.specs.declared.policy_tables.PolicyTables.{PolicyTables}
 
 -- ---- single rows
@@ -34,12 +38,34 @@ pub record AreSetsOf (numbers : List ℕ) (members : List MemberRow) (sets : Lis
   pub numbers_are : map (λ s. s.set) sets ≡ numbers
   pub members_are : flat_map member_rows sets ≡ members
 
+-- These members of the set stand in front of the rows, each at its place, and no row behind them is of the set.
+pub record AreInFront (set : ℕ) (rows : List MemberRow) (members : List Member) : Type 0 where
+  pub behind : List MemberRow
+  pub front : map (member_row set) (enumerate_from 1 members) ++ behind ≡ rows
+  pub others : (m : MemberRow) → Contains behind m → m.set ≢ set
+
 pub record IsPolicyOf (users : List KeptUser) (tables : PolicyTables) (policy : PolicyLists) : Type 0 where
   pub users_are : policy.users ≡ map (λ u. u.row) users
   pub sets : AreSetsOf tables.sets.sets.items tables.sets.members.items policy.sets
   pub relations : policy.relations ≡ tables.grants.relations.items
   pub triples : policy.triples ≡ tables.grants.triples.items
   pub certifiers : policy.certifiers ≡ tables.grants.certifiers.items
+
+-- the policy of these users, sets and grants
+abbrev pub policy_told : List KeptUser → List SetRow → GrantRows → PolicyLists
+policy_told users sets grants = record {
+  users = map (λ u. u.row) users;
+  sets = sets;
+  relations = grants.relations.items;
+  triples = grants.triples.items;
+  certifiers = grants.certifiers.items;
+}
+
+-- the rows of who may do what stand in order of their keys
+pub record AreGrantsInOrder (grants : GrantRows) : Type 0 where
+  pub relations : IsNonDecreasingBy relation_key grants.relations.items
+  pub triples : IsNonDecreasingBy triple_key grants.triples.items
+  pub certifiers : IsNonDecreasingBy certifier_key grants.certifiers.items
 
 -- ---- the bank
 

@@ -1,5 +1,5 @@
 ghost use Rattle.std.specs.Prelude.{◌≡◌};
-ghost use Rattle.adopt_sql.specs.Refused.{IsBeyondBankRow};
+ghost use Rattle.adopt_sql.specs.Refused.{IsBeyondBankRow, IsOfStore};
 ghost use Rattle.whole_tables.specs.Faults.{IsOfDatabase};
 
 use book_check::BooksFault;
@@ -33,7 +33,7 @@ pub enum AdoptFault {
 
 /// Why a bank is not adopted of which its own row was not read, or another table was not there.
 pub(crate) fn table_unread(fault: ReadFault) -> AdoptFault
-    ensures { IsOfDatabase fault → IsBeyondBankRow result }
+    ensures { IsOfDatabase fault → IsOfStore result }
 {
     match fault {
         ReadFault::Fault(fault) => AdoptFault::Fault(fault),
@@ -43,7 +43,8 @@ pub(crate) fn table_unread(fault: ReadFault) -> AdoptFault
 
 /// Why a bank is not adopted of whose books a table was not read, that was there when it was asked for.
 pub(crate) fn books_unread(fault: ReadFault) -> AdoptFault
-    ensures { IsBeyondBankRow result }
+    ensures beyond { IsBeyondBankRow result }
+    ensures store { IsOfDatabase fault → IsOfStore result }
 {
     match fault {
         ReadFault::Fault(fault) => AdoptFault::Fault(fault),

@@ -2,7 +2,7 @@ ghost use Rattle.std.specs.Prelude.{◌≡◌, IfErr, IfOk, Ok, OnOk};
 ghost use Rattle.book_check.specs.Verdict.{IsVerdict};
 ghost use Rattle.policy_check.specs.PolicyVerdict.{IsPolicyVerdict};
 ghost use Rattle.kept_rows.specs.Keepable.{IsKeepable};
-ghost use Rattle.adopt_sql.specs.Refused.{IsBeyondBankRow};
+ghost use Rattle.adopt_sql.specs.Refused.{IsBeyondBankRow, IsOfStore};
 ghost use Rattle.adopt_sql.specs.Told.{IsBankOf, kept_read, sheets_read, world_read};
 
 use crate::adopt_fault::AdoptFault;
@@ -16,7 +16,7 @@ use std::alloc::Global;
 use whole_tables::{BookRows, PolicyTables};
 
 /// Whether these are the rows of a bank whose books hold beside the kept numbers, and then whether its
-/// policy is sound.
+/// policy is sound. Of such a bank only a fault of the database keeps it from that answer.
 pub(crate) fn judge(
     alloc: Global,
     books: BookRows,
@@ -24,6 +24,7 @@ pub(crate) fn judge(
     version: u64,
 ) -> Result<(), AdoptFault>
     ensures bank { OnOk result (IsBankOf (sheets_read books tables version)) }
+    ensures sound { IsBankOf (sheets_read books tables version) → IfErr result IsOfStore }
     ensures beyond { IfErr result IsBeyondBankRow }
 {
     let found = match whole_policy(alloc, &books.users.users, tables) {
@@ -64,6 +65,7 @@ fn judged_books(
     ensures verdict { IfOk result (λ bank. IsVerdict bank.world bank.kept (Ok tt)) }
     ensures world { IfOk result (λ bank. bank.world ≡ world_read books policy version) }
     ensures kept { IfOk result (λ bank. bank.kept ≡ kept_read books) }
+    ensures sound { IsKeepable (world_read books policy version) → IsVerdict (world_read books policy version) (kept_read books) (Ok tt) → IfErr result IsOfStore }
     ensures beyond { IfErr result IsBeyondBankRow }
 {
     let bank = match bank_rows(alloc, books, policy, version) {
@@ -83,6 +85,7 @@ fn judge_policy(bank: &BankRows) -> Result<(), AdoptFault>
     requires { IsVerdict bank.now.world bank.now.kept (Ok tt) }
     ensures policy { OnOk result (IsPolicyVerdict bank.now.world.policy (Ok tt)) }
     ensures keepable { OnOk result (IsKeepable bank.now.world) }
+    ensures sound { IsPolicyVerdict bank.now.world.policy (Ok tt) → IfErr result IsOfStore }
     ensures beyond { IfErr result IsBeyondBankRow }
 {
     if let Err(fault) = check_policy(bank.world.policy()) {

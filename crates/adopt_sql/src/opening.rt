@@ -1,7 +1,8 @@
-ghost use Rattle.std.specs.Prelude.{◌≡◌, false, IfOk};
+ghost use Rattle.std.specs.Prelude.{◌≡◌, false, IfErr, IfOk};
 ghost use Rattle.sqlite.specs.Held.{state};
 ghost use Rattle.sqlite.specs.State.{HasCleanDisk, Survives};
 ghost use Rattle.adopt_sql.specs.Adopted.{Adopts, IsBankFile, IsLeft};
+ghost use Rattle.adopt_sql.specs.Refused.{IsDropped};
 
 use crate::adopt_fault::AdoptFault;
 use crate::adopting::adopt_bank;
@@ -19,6 +20,7 @@ pub fn adopt<S: Alter + Drop>(
     ensures adopts { IfOk result (λ store. HasCleanDisk (state S.Store store.conn) → IsBankFile (state S.Store conn) → Adopts (state S.Store conn) (state S.Store store.conn)) }
     ensures left { IfOk result (λ store. HasCleanDisk (state S.Store store.conn) → IsBankFile (state S.Store conn) → IsLeft (state S.Store conn) (state S.Store store.conn)) }
     ensures works { IfOk result (λ store. (store.is_stopped ≡ false) × (store.faults ≡ 0) × (store.failures ≡ 0)) }
+    ensures dropped { IfErr result (IsDropped (state S.Store) conn) }
     ensures survives { IfOk result (λ store. Survives (state S.Store conn) (state S.Store store.conn) (λ _. ⊥)) }
 {
     adopt_bank(alloc, &mut conn)?;

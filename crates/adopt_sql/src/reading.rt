@@ -1,15 +1,18 @@
-ghost use Rattle.std.specs.Prelude.{◌≡◌, Some, false, pos, IfErr, IfOk, IfSome, IsTrue, OnOk};
+ghost use Rattle.std.specs.Prelude.{ℕ, ◌≡◌, ◌≢◌, Some, false, pos, IfErr, IfOk, IfSome, IsOk, IsSome, IsTrue, OnOk};
 ghost use Rattle.sqlite.specs.Effect.{IsDatabase};
 ghost use Rattle.sqlite.specs.Held.{state};
 ghost use Rattle.sqlite.specs.State.{HasCleanDisk, Survives};
 ghost use Rattle.sqlite.specs.Tree.{Trees};
+ghost use Rattle.bank_schema.specs.Held.{HoldsSheets};
+ghost use Rattle.bank_schema.specs.Readable.{AreReadable};
 ghost use Rattle.bank_schema.specs.Steps.{StaysOpen};
+ghost use Rattle.kept_rows.specs.Sheets.{Sheets};
 ghost use Rattle.whole_tables.specs.PolicyTables.{ArePolicyTables};
 ghost use Rattle.whole_tables.specs.BookRows.{AreBookRows};
 ghost use Rattle.whole_tables.specs.BankRow.{IsBankTable};
-ghost use Rattle.whole_tables.specs.Whole.{Reads};
+ghost use Rattle.whole_tables.specs.Whole.{OnReadable, Reads};
 ghost use Rattle.adopt_sql.specs.Adopted.{AreFileRows, IsBankFile, IsBankNumber, IsBankRow, IsLeft, ReadsLast};
-ghost use Rattle.adopt_sql.specs.Refused.{IsBeyondBankRow, IsRefused, RefusesFor};
+ghost use Rattle.adopt_sql.specs.Refused.{IsBeyondBankRow, IsOfStore, IsRefused, RefusesFor};
 
 use crate::adopt_fault::{AdoptFault, books_unread, table_unread};
 use book_check::BooksFault;
@@ -35,6 +38,7 @@ pub(crate) struct FileRows {
 fn first_version(found: Option<BankRow>) -> Result<BankRow, AdoptFault>
     ensures row { IfOk result (λ row. (found ≡ Some row) × (row.id ≡ pos 1) × (row.version ≡ pos 1)) }
     ensures refused { (db : Trees) → IsBankTable db found → IfErr result (IsRefused db) }
+    ensures first { (db : Trees) (version : ℕ) → IsBankTable db found → IsBankRow db version → IsOk result }
 {
     match found {
         Some(row) if row.id == 1 => {
@@ -52,6 +56,7 @@ fn told_row<S: Alter>(tx: &mut Transaction<'_, S>) -> Result<BankRow, AdoptFault
     ensures same_reference { tx.new.conn.ghost_name ≡ tx.old.conn.ghost_name }
     ensures whole { Reads (state S.Store tx.old.conn.now) (state S.Store tx.new.conn.now) (λ trees row. IsBankNumber trees row.policy) result }
     ensures refused { RefusesFor (state S.Store tx.old.conn.now) (state S.Store tx.new.conn.now) result }
+    ensures takes { OnReadable (state S.Store tx.old.conn.now) (state S.Store tx.new.conn.now) (IfErr result IsOfStore) }
     ensures open { StaysOpen (state S.Store tx.old.conn.now) (state S.Store tx.new.conn.now) result }
     ensures survives { Survives (state S.Store tx.old.conn.now) (state S.Store tx.new.conn.now) (λ _. ⊥) }
 {
@@ -64,6 +69,7 @@ fn told_row<S: Alter>(tx: &mut Transaction<'_, S>) -> Result<BankRow, AdoptFault
 /// The version of the policy. A number below 0 is out of the limits of the books.
 fn version_in(row: &BankRow) -> Result<u64, AdoptFault>
     ensures number { IfOk result (λ version. row.now.policy ≡ pos version) }
+    ensures none { IfErr result (λ _. (version : ℕ) → row.now.policy ≢ pos version) }
     ensures beyond { IfErr result IsBeyondBankRow }
 {
     match u64::try_from(row.policy) {
@@ -78,6 +84,7 @@ fn bank_version<S: Alter>(tx: &mut Transaction<'_, S>) -> Result<u64, AdoptFault
     ensures same_reference { tx.new.conn.ghost_name ≡ tx.old.conn.ghost_name }
     ensures whole { Reads (state S.Store tx.old.conn.now) (state S.Store tx.new.conn.now) IsBankRow result }
     ensures refused { RefusesFor (state S.Store tx.old.conn.now) (state S.Store tx.new.conn.now) result }
+    ensures takes { OnReadable (state S.Store tx.old.conn.now) (state S.Store tx.new.conn.now) (IfErr result IsOfStore) }
     ensures open { HasCleanDisk (state S.Store tx.new.conn.now) → OnOk result (IsTrue (state S.Store tx.old.conn.now).is_open) }
     ensures survives { Survives (state S.Store tx.old.conn.now) (state S.Store tx.new.conn.now) (λ _. ⊥) }
 {
@@ -91,6 +98,7 @@ fn bank_version<S: Alter>(tx: &mut Transaction<'_, S>) -> Result<u64, AdoptFault
 fn book_rows<S: Alter>(alloc: Global, tx: &mut Transaction<'_, S>) -> Result<BookRows, AdoptFault>
     ensures same_reference { tx.new.conn.ghost_name ≡ tx.old.conn.ghost_name }
     ensures whole { Reads (state S.Store tx.old.conn.now) (state S.Store tx.new.conn.now) AreBookRows result }
+    ensures takes { OnReadable (state S.Store tx.old.conn.now) (state S.Store tx.new.conn.now) (IfErr result IsOfStore) }
     ensures beyond { IfErr result IsBeyondBankRow }
     ensures survives { Survives (state S.Store tx.old.conn.now) (state S.Store tx.new.conn.now) (λ _. ⊥) }
 {
@@ -107,6 +115,7 @@ fn policy_tables<S: Alter>(
 ) -> Result<Option<PolicyTables>, AdoptFault>
     ensures same_reference { tx.new.conn.ghost_name ≡ tx.old.conn.ghost_name }
     ensures whole { ReadsLast (state S.Store tx.old.conn.now) (state S.Store tx.new.conn.now) (λ trees found. IfSome found (ArePolicyTables trees)) result }
+    ensures takes { OnReadable (state S.Store tx.old.conn.now) (state S.Store tx.new.conn.now) (IfOk result IsSome × IfErr result IsOfStore) }
     ensures beyond { IfErr result IsBeyondBankRow }
     ensures survives { Survives (state S.Store tx.old.conn.now) (state S.Store tx.new.conn.now) (λ _. ⊥) }
 {
@@ -122,6 +131,7 @@ fn rows_inside<S: Alter>(alloc: Global, tx: &mut Transaction<'_, S>) -> Result<F
     ensures same_reference { tx.new.conn.ghost_name ≡ tx.old.conn.ghost_name }
     ensures whole { ReadsLast (state S.Store tx.old.conn.now) (state S.Store tx.new.conn.now) AreFileRows result }
     ensures refused { RefusesFor (state S.Store tx.old.conn.now) (state S.Store tx.new.conn.now) result }
+    ensures takes { OnReadable (state S.Store tx.old.conn.now) (state S.Store tx.new.conn.now) (IfOk result (λ rows. IsSome rows.policy) × IfErr result IsOfStore) }
     ensures open { HasCleanDisk (state S.Store tx.new.conn.now) → OnOk result (IsTrue (state S.Store tx.old.conn.now).is_open) }
     ensures survives { Survives (state S.Store tx.old.conn.now) (state S.Store tx.new.conn.now) (λ _. ⊥) }
 {
@@ -144,6 +154,7 @@ pub(crate) fn read_file<S: Alter>(
     ensures mode { conn.new.in_transaction ≡ false }
     ensures whole { HasCleanDisk (state S.Store conn.new) → IsBankFile (state S.Store conn.old) → IfOk result (AreFileRows (state S.Store conn.old).now.trees) }
     ensures refused { HasCleanDisk (state S.Store conn.new) → IsBankFile (state S.Store conn.old) → IfErr result (IsRefused (state S.Store conn.old).now.trees) }
+    ensures takes { HasCleanDisk (state S.Store conn.new) → IsBankFile (state S.Store conn.old) → (s : Sheets) → HoldsSheets (state S.Store conn.old).now.trees s → AreReadable s → IfOk result (λ rows. IsSome rows.policy) × IfErr result IsOfStore }
     ensures left { HasCleanDisk (state S.Store conn.new) → IsBankFile (state S.Store conn.old) → IsLeft (state S.Store conn.old) (state S.Store conn.new) }
     ensures open { HasCleanDisk (state S.Store conn.new) → OnOk result (IsTrue (state S.Store conn.old).is_open) }
     ensures sound { HasCleanDisk (state S.Store conn.new) → OnOk result (IsDatabase (state S.Store conn.old).now) }

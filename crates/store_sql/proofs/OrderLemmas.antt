@@ -47,6 +47,10 @@ module _ {X : Type 0} (shows : Row → Row) (cells : X → Row) (key : X → ℕ
   back_all [] fit = refl
   back_all (x ∷ xs) fit = ap (λ y. y ∷ map back (map cells xs)) (tells x (fit x (Contains-head x xs))) ∙ ap (λ ys. x ∷ ys) (back_all xs (λ y there. fit y (Contains-tail x xs y there)))
 
+  -- equal cells are of equal rows
+  pub same_rows : (xs ys : List X) → ((x : X) → Contains xs x → Fits x) → ((y : X) → Contains ys y → Fits y) → map cells xs ≡ map cells ys → xs ≡ ys
+  same_rows xs ys h k same = sym (back_all xs h) ∙ ap (map back) same ∙ back_all ys k
+
   pub one_list : (xs ys : List X) (tree : List Row) → HoldsRows shows cells key Fits xs tree → HoldsRows shows cells key Fits ys tree → xs ≡ ys
   one_list xs ys tree h k =
       let both = IsPermutation-map back _ _ (IsPermutation-trans _ _ _ h.same (IsPermutation-sym _ _ k.same)) in

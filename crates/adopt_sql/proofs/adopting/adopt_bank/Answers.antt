@@ -1,10 +1,14 @@
+use Rattle.std.proofs.Common.{subst}
+use Rattle.std.specs.Prelude.{IsSome}
 use Rattle.sqlite.specs.Held.{state}
+use Rattle.kept_rows.specs.Sheets.{sheets_of}
 use Rattle.whole_tables.specs.PolicyTables.{ArePolicyTables}
 use Rattle.bank_schema.proofs.StepLemmas.{ok_weaker, survived}
 use Rattle.adopt_sql.specs.Adopted.{Adopts}
 use Rattle.adopt_sql.specs.Told.{IsBankOf, sheets_read}
 use Rattle.adopt_sql.proofs.AdoptLemmas.{adopted}
 use Rattle.adopt_sql.proofs.SetLemmas.{some_is}
+use Rattle.adopt_sql.proofs.TakenLemmas.{handed_fault, sheets_are_read}
 use Rattle.adopt_sql.proofs.adopting.adopt_bank.Goals as goal
 
 pub returns-in-Some-clause-adopts : goal.returns-in-Some-clause-adopts
@@ -18,3 +22,26 @@ returns-in-Some-clause-adopts g c clean file =
     (λ bank. adopted old new rows.books tables rows.version file (c.in_ok-rows.ensures.sound clean) read.version read.books (some_is rows.policy tables (ArePolicyTables old.now.trees) read.policy c.in-Some.is) bank (c.in_ok-rows.ensures.left clean file)
     (λ trees may. g.met.S.Store.settled c.args.conn.now.store trees (c.in_ok-rows.ensures.open clean) (survived old new c.read_file.ensures.survives clean trees may)))
     c.judge.ensures.bank
+
+pub returns-in_err-rows-clause-sound : goal.returns-in_err-rows-clause-sound
+returns-in_err-rows-clause-sound g c clean file bank =
+    handed_fault c.from_residual.result c.in_err-rows.field-0.0 c.from_residual.ensures.1 (c.in_err-rows.ensures.takes clean file (sheets_of bank.world) bank.held.world.rows bank.readable).1
+
+pub returns-in-Some-clause-sound : goal.returns-in-Some-clause-sound
+returns-in-Some-clause-sound g c clean file bank =
+    let old = state g.S.Store c.args.conn.now in
+    let rows = c.in_ok-rows.rows in
+    let tables = c.in-Some.tables in
+    let read = c.in_ok-rows.ensures.whole clean file in
+    c.judge.ensures.sound (record {
+      world = bank.world;
+      sheets = sheets_are_read old.now.trees (sheets_of bank.world) rows.books tables rows.version bank.held.world.rows read.version read.books (some_is rows.policy tables (ArePolicyTables old.now.trees) read.policy c.in-Some.is);
+      keepable = bank.held.world.keepable;
+      books = bank.books;
+      policy = bank.policy;
+    })
+
+pub returns-in-None-clause-sound : goal.returns-in-None-clause-sound
+returns-in-None-clause-sound g c clean file bank =
+    let found = (c.in_ok-rows.ensures.takes clean file (sheets_of bank.world) bank.held.world.rows bank.readable).0 in
+    absurd (let none = subst IsSome c.in-None.is found in cc)

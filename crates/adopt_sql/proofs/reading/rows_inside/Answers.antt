@@ -1,11 +1,13 @@
-use Rattle.std.specs.Prelude.{IfSome}
+use Rattle.std.specs.Prelude.{IfSome, IsSome, ⊤}
 use Rattle.sqlite.specs.Held.{state}
 use Rattle.bank_schema.proofs.StepLemmas.{early}
 use Rattle.whole_tables.specs.BookRows.{AreBookRows}
 use Rattle.whole_tables.specs.PolicyTables.{ArePolicyTables}
-use Rattle.whole_tables.proofs.ReadsLemmas.{done_then, gave_then}
+use Rattle.whole_tables.proofs.ReadsLemmas.{done_then, gave_then, readable_then}
 use Rattle.adopt_sql.specs.Adopted.{AreFileRows, IsBankRow}
+use Rattle.adopt_sql.specs.Refused.{IsOfStore}
 use Rattle.adopt_sql.proofs.ReadingLemmas.{gave_last, last_then}
+use Rattle.adopt_sql.proofs.TakenLemmas.{handed_both}
 use Rattle.adopt_sql.proofs.reading.rows_inside.Goals as goal
 
 pub returns-in_err-books-clause-whole : goal.returns-in_err-books-clause-whole
@@ -45,3 +47,36 @@ returns-clause-open g c clean =
     let s2 = state g.S.Store c.book_rows.new.tx.conn.now in
     let s3 = state g.S.Store c.policy_tables.new.tx.conn.now in
     c.in_ok-version.ensures.open (early s1 s2 _ c.book_rows.ensures.survives (early s2 s3 _ c.policy_tables.ensures.survives clean))
+
+pub returns-in_err-books-clause-takes : goal.returns-in_err-books-clause-takes
+returns-in_err-books-clause-takes g c clean has s holds readable =
+    let s0 = state g.S.Store c.args.tx.now.conn.now in
+    let s1 = state g.S.Store c.bank_version.new.tx.conn.now in
+    let s2 = state g.S.Store c.book_rows.new.tx.conn.now in
+    let fault = c.in_err-books.field-0.0 in
+    handed_both c.from_residual-in_err-books.result fault (λ rows. IsSome rows.policy) c.from_residual-in_err-books.ensures.1
+    (readable_then s0 s1 s2 (λ db. IsBankRow db c.in_ok-version.version) (IsOfStore fault) c.book_rows.ensures.survives c.in_ok-version.ensures.whole c.in_err-books.ensures.takes clean has s holds readable)
+
+pub returns-in_err-policy-clause-takes : goal.returns-in_err-policy-clause-takes
+returns-in_err-policy-clause-takes g c clean has s holds readable =
+    let s0 = state g.S.Store c.args.tx.now.conn.now in
+    let s1 = state g.S.Store c.bank_version.new.tx.conn.now in
+    let s2 = state g.S.Store c.book_rows.new.tx.conn.now in
+    let s3 = state g.S.Store c.policy_tables.new.tx.conn.now in
+    let fault = c.in_err-policy.field-0.0 in
+    handed_both c.from_residual-in_err-policy.result fault (λ rows. IsSome rows.policy) c.from_residual-in_err-policy.ensures.1
+    (readable_then s0 s2 s3 (λ db. IsBankRow db c.in_ok-version.version × AreBookRows db c.in_ok-books.books) (⊤ × IsOfStore fault) c.policy_tables.ensures.survives
+    (done_then s0 s1 s2 (λ db. IsBankRow db c.in_ok-version.version) (λ db. AreBookRows db c.in_ok-books.books) c.book_rows.ensures.survives c.in_ok-version.ensures.whole c.in_ok-books.ensures.whole)
+    c.in_err-policy.ensures.takes clean has s holds readable).1
+
+pub returns-clause-takes : goal.returns-clause-takes
+returns-clause-takes g c clean has s holds readable =
+    let s0 = state g.S.Store c.args.tx.now.conn.now in
+    let s1 = state g.S.Store c.bank_version.new.tx.conn.now in
+    let s2 = state g.S.Store c.book_rows.new.tx.conn.now in
+    let s3 = state g.S.Store c.policy_tables.new.tx.conn.now in (
+      (readable_then s0 s2 s3 (λ db. IsBankRow db c.in_ok-version.version × AreBookRows db c.in_ok-books.books) (IsSome c.in_ok-policy.policy × ⊤) c.policy_tables.ensures.survives
+          (done_then s0 s1 s2 (λ db. IsBankRow db c.in_ok-version.version) (λ db. AreBookRows db c.in_ok-books.books) c.book_rows.ensures.survives c.in_ok-version.ensures.whole c.in_ok-books.ensures.whole)
+          c.in_ok-policy.ensures.takes clean has s holds readable).0,
+      tt,
+    )

@@ -1,5 +1,8 @@
 use Rattle.sqlite.specs.Held.{state}
+use Rattle.bank_schema.specs.Held.Sheet.{bank as in_bank}
 use Rattle.adopt_sql.proofs.ReadingLemmas.{beyond_row, reads_row}
+use Rattle.adopt_sql.specs.Refused.{IsOfStore}
+use Rattle.adopt_sql.proofs.TakenLemmas.{never_refused, store_beyond}
 use Rattle.adopt_sql.proofs.reading.told_row.Goals as goal
 
 pub returns-in-Ok-clause-whole : goal.returns-in-Ok-clause-whole
@@ -11,4 +14,11 @@ returns-in-Ok-clause-refused g c clean has = c.first_version.ensures.refused (st
 
 pub returns-in-Err-clause-refused : goal.returns-in-Err-clause-refused
 returns-in-Err-clause-refused g c clean has =
-    beyond_row (state g.S.Store c.args.tx.now.conn.now).now.trees c.table_unread.result (c.table_unread.ensures (c.in-Err.ensures.there clean has))
+    beyond_row (state g.S.Store c.args.tx.now.conn.now).now.trees c.table_unread.result (store_beyond c.table_unread.result (c.table_unread.ensures (c.in-Err.ensures.there clean has)))
+
+pub returns-in-Ok-clause-takes : goal.returns-in-Ok-clause-takes
+returns-in-Ok-clause-takes g c clean has s holds readable =
+    never_refused c.first_version.result IsOfStore (c.first_version.ensures.first (state g.S.Store c.args.tx.now.conn.now).now.trees s.version (c.in-Ok.ensures.whole clean has).0 (holds in_bank))
+
+pub returns-in-Err-clause-takes : goal.returns-in-Err-clause-takes
+returns-in-Err-clause-takes g c clean has s holds readable = c.table_unread.ensures (c.in-Err.ensures.there clean has)

@@ -1,0 +1,100 @@
+-- That tables which hold a sound bank are read whole, and tell its rows, or the database fails.
+use Rattle.std.proofs.Common.{◌≡◌, ◌≢◌, ◌∙◌, ℕ, ℤ, pos, List, [], ◌∷◌, Ok, Err, IfErr, IfOk, IsErrAnd, IsOk, Option, Some, None, Result, sym, ap, subst}
+use Rattle.sqlite.specs.Order.{Row}
+use Rattle.sqlite.specs.State.{HasCleanDisk, State, Survives}
+use Rattle.sqlite.specs.Tree.{Trees}
+use Rattle.sqlite_value.specs.Order.{column}
+use Rattle.bank_policy.specs.PolicyKeys.{certifier_key, relation_key, triple_key}
+use Rattle.bank_books.specs.Keys.{line_key, proof_key, release_key}
+use Rattle.bank_schema.specs.Cells.{AnyRow, EntryFits, LineFits, MemberFits, ProofFits, RelationFits, ReleaseFits, TripleFits, account_cells, bank_cells, branch_cells, certifier_cells, entry_cells, line_cells, member_cells, proof_cells, relation_cells, release_cells, set_cells, teller_cells, triple_cells, user_cells}
+use Rattle.bank_schema.specs.Held.{HoldsSheets, Sheet, set_no, tree_of}
+use Rattle.bank_schema.specs.Held.Sheet.{accounts as in_accounts, bank as in_bank, branches as in_branches, certifiers as in_certifiers, entries as in_entries, lines as in_lines, members as in_members, proofs as in_proofs, relations as in_relations, releases as in_releases, sets as in_sets, tellers as in_tellers, triples as in_triples, users as in_users}
+use Rattle.bank_schema.specs.HeldRows.{HoldsRows, all_but_rowid, all_of_it}
+use Rattle.kept_rows.specs.Sheets.{Sheets, account_no, branch_no, entry_no, member_no, teller_no, user_no}
+use Rattle.store_sql.proofs.CellLemmas as cells
+use Rattle.store_sql.proofs.OrderLemmas.{same_rows}
+use Rattle.whole_tables.specs.BankRow.{IsBankTable, bank_row_cells}
+use Rattle.whole_tables.specs.BookRows.{AreBookRows}
+use Rattle.whole_tables.specs.PolicyTables.{ArePolicyTables}
+use Rattle.whole_tables.specs.Whole.{AreAll}
+use Rattle.whole_tables.specs.declared.bank.BankRow.{BankRow}
+use Rattle.whole_tables.specs.declared.book_rows.BookRows.{BookRows}
+use Rattle.whole_tables.specs.declared.policy_tables.PolicyTables.{PolicyTables}
+use Rattle.adopt_sql.specs.Adopted.{IsBankFile, IsBankNumber, IsBankRow, IsLeft}
+use Rattle.adopt_sql.specs.Refused.{HoldsSoundBank, IsBeyondBankRow, IsDropped, IsOfStore, IsRefused}
+use Rattle.adopt_sql.specs.Told.{sheets_read}
+use Rattle.adopt_sql.specs.declared.adopt_fault.AdoptFault.{AdoptFault}
+use Rattle.adopt_sql.specs.declared.adopt_fault.AdoptFault.TheVariants.{Books, Fault, NotABank, Policy, Version}
+
+-- ---- results
+
+pub never_refused : {X E : Type 0} (r : Result X E) (P : E → Type 0) → IsOk r → IfErr r P
+never_refused (Ok x) P is = tt
+never_refused (Err e) P is = absurd cc
+
+pub handed_fault : {X : Type 0} (r : Result X AdoptFault) (fault : AdoptFault) → IsErrAnd r (λ e. e ≡ fault) → IsOfStore fault → IfErr r IsOfStore
+handed_fault (Ok x) fault same store = tt
+handed_fault (Err e) fault same store = subst IsOfStore (sym same) store
+
+pub handed_both : {X : Type 0} (r : Result X AdoptFault) (fault : AdoptFault) (P : X → Type 0) → IsErrAnd r (λ e. e ≡ fault) → IsOfStore fault → IfOk r P × IfErr r IsOfStore
+handed_both (Ok x) fault P same store = absurd same
+handed_both (Err e) fault P same store = (tt, subst IsOfStore (sym same) store)
+
+-- a fault of the database says nothing of the row of the bank
+pub store_beyond : (fault : AdoptFault) → IsOfStore fault → IsBeyondBankRow fault
+store_beyond NotABank store = store
+store_beyond Version store = store
+store_beyond (Books fault) store = tt
+store_beyond (Policy fault) store = tt
+store_beyond (Fault fault) store = tt
+
+pub dropped : {X C : Type 0} (shows : C → State) (conn last : C) (r : Result X AdoptFault) (fault : AdoptFault) → IsErrAnd r (λ e. e ≡ fault) → Survives (shows conn) (shows last) (λ _. ⊥)
+    → (HasCleanDisk (shows last) → IsBankFile (shows conn) → IsLeft (shows conn) (shows last)) → (HasCleanDisk (shows last) → IsBankFile (shows conn) → IsRefused (shows conn).now.trees fault)
+    → (HasCleanDisk (shows last) → IsBankFile (shows conn) → HoldsSoundBank (shows conn).now → IsOfStore fault) → IfErr r (IsDropped shows conn)
+dropped shows conn last (Ok x) fault same survives left refused sound = tt
+dropped shows conn last (Err e) fault same survives left refused sound = subst (IsDropped shows conn) (sym same) (record { last = last; survives = survives; left = left; refused = refused; sound = sound })
+
+-- ---- the row of the bank
+
+abbrev first_row : List Row → Row
+first_row [] = []
+first_row (r ∷ rows) = r
+
+abbrev number_in : ℕ → List Row → ℤ
+number_in place rows = cells.int_of (column (first_row rows) place)
+
+-- a table that has the row of a bank is found to have it
+pub first_found : (db : Trees) (found : Option BankRow) (version : ℕ) → IsBankTable db found → IsBankRow db version → found ≡ Some (record { id = pos 1; version = pos 1; policy = pos version })
+first_found db None version table row = absurd (table (record { id = pos 1; version = pos 1; policy = pos version }) row)
+first_found db (Some b) version table row =
+    let same : bank_row_cells b ∷ [] ≡ bank_cells version ∷ [] = sym table ∙ row in
+    λ i. Some (record { id = number_in 0 (same i); version = number_in 2 (same i); policy = number_in 3 (same i) })
+
+-- the version of the policy in the row of a bank is a count
+pub counted : (db : Trees) (policy : ℤ) (version : ℕ) (r : Result ℕ AdoptFault) → IfErr r (λ _. (n : ℕ) → policy ≢ pos n) → IsBankNumber db policy → IsBankRow db version → IfErr r IsOfStore
+counted db policy version (Ok n) none number row = tt
+counted db policy version (Err e) none number row = absurd (none version (ap (number_in 3) (sym number ∙ row)))
+
+-- ---- the rows that were read are those that the tables hold
+
+module _ {X : Type 0} (shows : Row → Row) (row_cells : X → Row) (key : X → ℕ) (Fits : X → Type 0) (back : Row → X) (tells : (x : X) → Fits x → back (row_cells x) ≡ x) (t : Sheet) (db : Trees) where
+  held_is_read : (xs rows : List X) → HoldsRows shows row_cells key Fits xs (db (tree_of t)) → AreAll shows row_cells key Fits t db rows → xs ≡ rows
+  held_is_read xs rows held all = same_rows shows row_cells key Fits back tells xs rows held.fit all.fit (sym (all.in_order xs held))
+
+pub sheets_are_read : (db : Trees) (s : Sheets) (books : BookRows) (tables : PolicyTables) (version : ℕ) → HoldsSheets db s → IsBankRow db version → AreBookRows db books → ArePolicyTables db tables → s ≡ sheets_read books tables version
+sheets_are_read db s books tables version h row b p =
+    let users = held_is_read all_of_it user_cells user_no AnyRow cells.user_back (λ x fits. cells.user_tells x) in_users db s.users books.users.users.items (h in_users) b.users.users in
+    let sets = held_is_read all_of_it set_cells set_no AnyRow cells.set_back (λ x fits. cells.set_tells x) in_sets db s.sets tables.sets.sets.items (h in_sets) p.sets.sets in
+    let members = held_is_read all_but_rowid member_cells member_no MemberFits cells.member_back (λ x fits. cells.member_tells x) in_members db s.members tables.sets.members.items (h in_members) p.sets.members in
+    let relations = held_is_read all_but_rowid relation_cells relation_key RelationFits cells.relation_back (λ x fits. cells.relation_tells x) in_relations db s.relations tables.grants.relations.items (h in_relations) p.grants.relations in
+    let triples = held_is_read all_but_rowid triple_cells triple_key TripleFits cells.triple_back (λ x fits. cells.triple_tells x) in_triples db s.triples tables.grants.triples.items (h in_triples) p.grants.triples in
+    let certifiers = held_is_read all_but_rowid certifier_cells certifier_key AnyRow cells.certifier_back (λ x fits. cells.certifier_tells x) in_certifiers db s.certifiers tables.grants.certifiers.items (h in_certifiers) p.grants.certifiers in
+    let branches = held_is_read all_of_it branch_cells branch_no AnyRow cells.branch_back (λ x fits. cells.branch_tells x) in_branches db s.branches books.ledger.branches.items (h in_branches) b.ledger.branches in
+    let tellers = held_is_read all_of_it teller_cells teller_no AnyRow cells.teller_back (λ x fits. cells.teller_tells x) in_tellers db s.tellers books.ledger.tellers.items (h in_tellers) b.ledger.tellers in
+    let accounts = held_is_read all_of_it account_cells account_no AnyRow cells.account_back (λ x fits. cells.account_tells x) in_accounts db s.accounts books.ledger.accounts.items (h in_accounts) b.ledger.accounts in
+    let entries = held_is_read all_but_rowid entry_cells entry_no EntryFits cells.entry_back (λ x fits. cells.entry_tells x) in_entries db s.entries books.history.entries.items (h in_entries) b.history.entries in
+    let lines = held_is_read all_but_rowid line_cells line_key LineFits cells.line_back (λ x fits. cells.line_tells x) in_lines db s.lines books.history.lines.items (h in_lines) b.history.lines in
+    let proofs = held_is_read all_but_rowid proof_cells proof_key ProofFits cells.proof_back (λ x fits. cells.proof_tells x) in_proofs db s.proofs books.history.proofs.items (h in_proofs) b.history.proofs in
+    let releases = held_is_read all_but_rowid release_cells release_key ReleaseFits cells.release_back cells.release_tells in_releases db s.releases books.users.releases.items (h in_releases) b.users.releases in
+    let version_is : s.version ≡ version = ap (λ rows. cells.version_back (first_row rows)) (sym (h in_bank) ∙ row) in
+    λ i. record { users = users i; sets = sets i; members = members i; relations = relations i; triples = triples i; certifiers = certifiers i; branches = branches i; tellers = tellers i; accounts = accounts i; entries = entries i; lines = lines i; proofs = proofs i; releases = releases i; version = version_is i }
