@@ -1,22 +1,328 @@
-"""A rough model of the sample bank, for tools that draw requests: what is there, who may do what, and what that leaves.
+"""The sample bank a second time: what it answers to each request, written down from the rules in docs/ alone.
 
-No answer is compared with it. It learns from the replies what was done; where it judges wrongly, fewer of the requests
-that are drawn by it are allowed, and that is all.
+It shares nothing with the crates. Its World is plain lists, each balance and each cash a sum over them, each rule a
+sentence of docs/RULES.md, and what an operation leaves is judged over the World behind it. Tools compare the replies of
+the program with its own.
 """
+import re
+from typing import NamedTuple
 
 BADGES = {1: "olga", 2: "carl", 3: "cora", 7: "tess", 8: "tom", 9: "sue"}
 KINDS = ["account", "teller", "branch", "history", "drawer", "vault"]
 PROCEDURES = (
     "post transfer correct drawer-on drawer-off move-cash new-account release balance statement accounts proof close-day"
 ).split()
-MOST_USED = 999_999
+RULES = (
+    "identity, not certified, no triple, limit, release, unknown, branch, drawer, second person, entry, floor, cash, range, "
+    "taken, day, full, officer, certifier, separation, policy unknown, policy state"
+).split(", ")
+# Rules of who may do what; the others are conflicts with what is there.
+FORBIDDEN = {1, 2, 3, 4, 5, 8, 9, 17, 18, 19}
+PHRASES = {200: "OK", 403: "Forbidden", 409: "Conflict", 422: "Unprocessable Entity"}
+
+MOST_KEY = 999_999_999
+MOST_CENTS = 999_999_999_999
+MOST_DAY = 999_999
+MOST_ACCOUNTS = MOST_RELEASES = 100_000
+MOST_SETS = 9_999
+MOST_RELATIONS = MOST_TRIPLES = 1_000
+
+KEY = (1, MOST_KEY)
+KEY_OR_NONE = (0, MOST_KEY)
+USER = (1, 9_999)
+DELTA = (-999_999, 999_999)
+AMOUNT = (1, 999_999)
+CASH = (0, MOST_KEY)
+
+# The members of each operation that is served, and their ranges.
+OPERATIONS = {
+    "post": {"account": KEY, "branch": KEY, "delta": DELTA, "teller": KEY},
+    "transfer": {"amount": AMOUNT, "branch": KEY, "source": KEY, "target": KEY, "teller": KEY},
+    "correct": {"account": KEY, "branch": KEY, "delta": DELTA, "entry": KEY, "other": KEY_OR_NONE, "teller": KEY},
+    "drawer-on": {"branch": KEY, "cash": CASH, "teller": KEY},
+    "drawer-off": {"branch": KEY, "counted": (0, MOST_CENTS), "teller": KEY},
+    "move-cash": {"amount": (1, MOST_KEY), "branch": KEY, "source": KEY_OR_NONE, "target": KEY_OR_NONE},
+    "new-account": {"account": KEY, "branch": KEY, "floor": (-MOST_KEY, 0)},
+    "release": {"beneficiary": USER, "operation": None},
+    "balance": {"account": KEY},
+    "close-day": {"branch": KEY},
+}
+# The members that may not be equal.
+APART = {"transfer": ("source", "target"), "move-cash": ("source", "target"), "correct": ("account", "other")}
+RELEASABLE = {"post", "transfer", "correct", "drawer-on", "move-cash"}
+
+# The members of each command of the policy; the range of a number, or what else the member is.
+COMMANDS = {
+    "define-set": {"members": "members", "set": KEY},
+    "certify": {"procedure": "procedure", "set": KEY},
+    "withdraw": {"procedure": "procedure", "set": KEY},
+    "grant": {"limit": CASH, "procedure": "procedure", "set": KEY, "user": USER},
+    "revoke": {"procedure": "procedure", "set": KEY, "user": USER},
+    "appoint": {"procedure": "procedure", "user": USER},
+    "dismiss": {"procedure": "procedure", "user": USER},
+    "enrol": {"name": "name", "officer": "truth", "user": USER},
+    "suspend": {"user": USER},
+    "restore": {"user": USER},
+}
+OF_OFFICERS = {"appoint", "dismiss", "enrol", "suspend", "restore"}
+
+
+class Entry(NamedTuple):
+    branch: int
+    number: int
+    account: int
+    teller: int
+    delta: int
+    day: int
+    user: int
+    is_correction: bool
+    partner: int
+    undoes: int
+
+
+class Line(NamedTuple):
+    branch: int
+    place: int
+    amount: int
+    form: str
+    user: int
+
+
+class Release(NamedTuple):
+    giver: int
+    day: int
+    operation: dict
+
+
+# ---- bodies
+
+
+def is_whole(value, low, high):
+    """Whether a value of JSON is a whole number in this range."""
+    return type(value) is int and low <= value <= high
+
+
+def is_member_of_set(value):
+    """Whether a value is an interval of a set: a kind, the lowest and the highest key."""
+    if type(value) is not list or len(value) != 3 or not is_whole(value[0], 1, len(KINDS)):
+        return False
+    return all(is_whole(it, *KEY) for it in value[1:]) and value[1] <= value[2]
+
+
+def fits(value, form):
+    """Whether a value is of this form, which is a range, or a word for something else."""
+    if form == "members":
+        return type(value) is list and 1 <= len(value) <= 32 and all(map(is_member_of_set, value))
+    if form == "procedure":
+        return value in PROCEDURES
+    if form == "name":
+        return type(value) is str and re.fullmatch(r"[ -~]{1,20}", value) is not None
+    if form == "truth":
+        return type(value) is bool
+    return is_whole(value, *form)
+
+
+def is_operation(procedure, body):
+    """Whether the body states an operation of this procedure."""
+    forms = OPERATIONS[procedure]
+    if type(body) is not dict or set(body) != set(forms):
+        return False
+    if procedure == "release":
+        return is_whole(body["beneficiary"], *USER) and is_releasable(body["operation"])
+    one, other = APART.get(procedure, (None, None))
+    return all(fits(body[it], forms[it]) for it in forms) and (one is None or body[one] != body[other])
+
+
+def is_releasable(value):
+    """Whether a value is an operation that a release may be for, with its procedure."""
+    if type(value) is not dict or value.get("procedure") not in RELEASABLE:
+        return False
+    return is_operation(value["procedure"], {name: it for name, it in value.items() if name != "procedure"})
+
+
+def is_command(command, body):
+    """Whether the body states this command of the policy."""
+    forms = COMMANDS[command]
+    return type(body) is dict and set(body) == set(forms) and all(fits(body[it], forms[it]) for it in forms)
+
+
+# ---- what an operation touches and comes to
+
+
+def drawer_items(teller):
+    return [("teller", teller), ("drawer", teller)]
+
+
+def touched(procedure, body):
+    """The items that an operation touches, each a kind and a key."""
+    if procedure == "release":
+        return touched(body["operation"]["procedure"], body["operation"])
+    branch = [("branch", body["branch"])] if "branch" in body else []
+    if procedure in ("balance", "new-account"):
+        return [("account", body["account"]), *branch]
+    if procedure == "close-day":
+        return [*branch, ("history", body["branch"]), ("vault", body["branch"])]
+    if procedure in ("drawer-on", "drawer-off"):
+        return [*branch, *drawer_items(body["teller"]), ("vault", body["branch"])]
+    if procedure == "move-cash":
+        places = [body["source"], body["target"]]
+        vault = [("vault", body["branch"])] if 0 in places else []
+        return [*branch, *(item for it in places if it for item in drawer_items(it)), *vault]
+    accounts = [("account", it) for it in accounts_of(procedure, body)]
+    return [*accounts, *branch, ("history", body["branch"]), *drawer_items(body["teller"])]
+
+
+def accounts_of(procedure, body):
+    """The accounts that an operation names."""
+    names = {"transfer": ["source", "target"], "correct": ["account", "other"]}.get(procedure, ["account"])
+    return [body[it] for it in names if body.get(it)]
+
+
+def tellers_of(body):
+    """The tellers that an operation names; of a move of cash those whose drawers it is between."""
+    names = ["source", "target"] if "teller" not in body and "source" in body else ["teller"]
+    return [body[it] for it in names if body.get(it)]
+
+
+def amount_of(procedure, body):
+    """What a limit is compared with."""
+    if procedure == "release":
+        return amount_of(body["operation"]["procedure"], body["operation"])
+    if procedure in ("post", "correct"):
+        return abs(body["delta"])
+    if procedure == "new-account":
+        return -body["floor"]
+    if procedure == "drawer-on":
+        return body["cash"]
+    return body["amount"] if procedure in ("transfer", "move-cash") else 0
+
+
+# ---- the bank
+
+
+class Bank:
+    """The sample bank, with two drawers put on and a session of each user open."""
+
+    def __init__(self):
+        self.sessions = {user: 1 for user in BADGES}
+        self.open = set(BADGES)
+        self.users = set(BADGES)
+        self.officers = {1}
+        self.suspended = set()
+        self.certifiers = {(user, procedure) for user in (2, 3) for procedure in PROCEDURES}
+        self.sets = opened_sets()
+        self.relations = opened_relations()
+        self.triples = opened_triples()
+        # by user and number
+        self.releases = {}
+        self.used = set()
+        # the account's home, opening and floor; the teller's branch and opening; the branch's opening and cash
+        self.accounts = {101: (1, 50_000, 0), 102: (1, 0, 0), 201: (2, 30_000, 0)}
+        self.tellers = {11: (1, 60_000), 12: (1, 0), 21: (2, 20_000)}
+        self.branches = {1: (60_000, 100_000), 2: (20_000, 50_000)}
+        self.days = {1: 1, 2: 1}
+        self.entries = []
+        self.lines = [
+            *(Line(1, 0, -40_000, "on", 7), Line(1, 11, 40_000, "on", 7)),
+            *(Line(1, 0, -5_000, "on", 8), Line(1, 12, 5_000, "on", 8)),
+        ]
+
+    # -- sums over the rows
+
+    def balance(self, account):
+        return self.accounts[account][1] + sum(it.delta for it in self.entries if it.account == account)
+
+    def teller_balance(self, teller):
+        return self.tellers[teller][1] + sum(it.delta for it in self.entries if it.teller == teller)
+
+    def branch_balance(self, branch):
+        return self.branches[branch][0] + self.history(branch)
+
+    def history(self, branch):
+        return sum(it.delta for it in self.entries_of(branch))
+
+    def cash(self, branch, place):
+        """The cash at a place of a branch: a teller's drawer, or the vault, which is 0."""
+        opening = 0 if place else self.branches[branch][1]
+        return opening + sum(it.amount for it in self.lines if (it.branch, it.place) == (branch, place))
+
+    def lines_total(self, branch, form):
+        return sum(it.amount for it in self.lines if (it.branch, it.form) == (branch, form))
+
+    def drawers_total(self, branch):
+        return sum(it.amount for it in self.lines if it.branch == branch and it.place)
+
+    def holder(self, teller):
+        """Who holds the drawer: who put it on last, where it was not put off since."""
+        last = next((it for it in reversed(self.lines) if it.place == teller and it.form in ("on", "off")), None)
+        return last.user if last and last.form == "on" else None
+
+    def entries_of(self, branch):
+        return [it for it in self.entries if it.branch == branch]
+
+    def entry(self, branch, number):
+        return next((it for it in self.entries_of(branch) if it.number == number), None)
+
+    def is_undone(self, entry):
+        return any(it.undoes == entry.number for it in self.entries_of(entry.branch))
+
+    def branch_of(self, teller):
+        return self.tellers[teller][0]
+
+    def drawers_of(self, user):
+        """The drawers that the user holds."""
+        return sorted(it for it in self.tellers if self.holder(it) == user)
+
+    # -- the policy
+
+    def holds(self, number, items):
+        """Whether a set has all these items, each in some interval of its kind."""
+        members = self.sets.get(number, [])
+        return all(any(kind == k and low <= key <= high for k, low, high in members) for kind, key in items)
+
+    def limits(self, user, procedure, items):
+        """The limits of the user's triples for a procedure, each of which has all these items."""
+        return [
+            limit
+            for (who, what, number), limit in self.triples.items()
+            if (who, what) == (user, procedure) and self.holds(number, items)
+        ]
+
+    def users_of(self, procedure):
+        """Those who have a triple for the procedure."""
+        return sorted({user for user, what, _ in self.triples if what == procedure})
+
+    def makes(self, user, procedure):
+        """Whether the user is a certifier of the procedure, or made one of its relations."""
+        made = any(what == procedure and by == user for (what, _), by in self.relations.items())
+        return made or (user, procedure) in self.certifiers
+
+    def counts(self, request):
+        """Whether the release that is named gives leave for the operation."""
+        leave = self.releases.get((request.user, request.release))
+        if not leave or (request.user, request.release) in self.used:
+            return False
+        items, amount = touched(request.kind, request.body), amount_of(request.kind, request.body)
+        is_given = any(amount <= it for it in self.limits(leave.giver, "release", items))
+        is_of_another = leave.giver != request.user and leave.giver not in self.suspended
+        names_it = leave.operation == {"procedure": request.kind, **request.body}
+        return names_it and leave.day == self.days.get(request.body["branch"]) and is_of_another and is_given
+
+    def is_known(self, user, session):
+        """Whether the user is there, not suspended, with this session open."""
+        return user in self.open and user not in self.suspended and self.sessions.get(user) == session
+
+    def is_within(self, request):
+        """Whether a triple of the user lets him do it."""
+        amount = amount_of(request.kind, request.body)
+        return any(amount <= it for it in self.limits(request.user, request.kind, touched(request.kind, request.body)))
 
 
 def opened_sets():
     """The sets of the sample, each a list of a kind with its lowest and its highest key."""
     within = [("teller", 11, 12), ("branch", 1, 1), ("history", 1, 1), ("drawer", 11, 12)]
     return {
-        1: [(kind, 1, MOST_USED if kind == "account" else 999) for kind in KINDS],
+        1: [(kind, 1, {"account": 999_999, "teller": 999, "drawer": 999}.get(kind, 99)) for kind in KINDS],
         2: [("account", 101, 102), ("account", 201, 201), ("vault", 1, 1), *within],
         3: [("account", 101, 101), *within],
         4: [("account", 102, 102), *within],
@@ -47,62 +353,3 @@ def opened_triples():
     }
     rows = [(user, *row.split()) for user, text in granted.items() for row in text.split(",")]
     return {(user, procedure, int(number)): int(limit) for user, procedure, number, limit in rows}
-
-
-class Bank:
-    """The sample bank as far as the replies have told."""
-
-    def __init__(self):
-        self.sessions = {user: 1 for user in BADGES}
-        self.open = set(BADGES)
-        self.users = set(BADGES)
-        self.officers = {1}
-        self.suspended = set()
-        self.certifiers = {(user, procedure) for user in (2, 3) for procedure in PROCEDURES}
-        self.sets = opened_sets()
-        self.relations = opened_relations()
-        self.triples = opened_triples()
-        self.balances = {101: 50_000, 102: 0, 201: 30_000}
-        self.floors = {101: 0, 102: 0, 201: 0}
-        self.tellers = {11: 1, 12: 1, 21: 2}
-        self.holders = {11: 7, 12: 8}
-        self.days = {1: 1, 2: 1}
-        # by branch and place, of which 0 is the vault
-        self.cash = {(1, 0): 55_000, (1, 11): 40_000, (1, 12): 5_000, (2, 0): 50_000, (2, 21): 0}
-        # by branch and number
-        self.entries = {}
-        # by user and number
-        self.releases = {}
-
-    def holds(self, number, items):
-        """Whether a set has all these items."""
-        members = self.sets.get(number, [])
-        return all(any(kind == k and low <= key <= high for k, low, high in members) for kind, key in items)
-
-    def may(self, user, procedure, items, amount):
-        """Whether one triple of the user lets him do this."""
-        return any(
-            amount <= limit and (procedure, number) in self.relations and self.holds(number, items)
-            for (who, what, number), limit in self.triples.items()
-            if (who, what) == (user, procedure)
-        )
-
-    def is_known(self, user, session):
-        """Whether the user is there, with this session open."""
-        return user in self.open and user not in self.suspended and self.sessions.get(user) == session
-
-    def users_of(self, procedure):
-        """Those who have a triple for the procedure."""
-        return sorted({user for user, what, _ in self.triples if what == procedure})
-
-    def drawers_of(self, user):
-        """The drawers that the user holds."""
-        return sorted(teller for teller, holder in self.holders.items() if holder == user)
-
-    def can_take(self, account, delta):
-        """Whether the account is there and stays at its floor or above."""
-        return account in self.balances and self.balances[account] + delta >= self.floors[account]
-
-    def is_at_drawer(self, user, teller, branch):
-        """Whether the user holds the drawer of a teller of this branch."""
-        return self.tellers.get(teller) == branch and self.holders.get(teller) == user
