@@ -10,11 +10,14 @@ CLOSED_BY = {"(": ")", "{": "}", "<": ">", "[": "]"}
 
 
 class Function(NamedTuple):
-    """A function with a body. `name` is its path below the crate."""
+    """A function with a body. `name` is its path below the crate; `head` is where its `fn` stands, and `start` and `end` are
+    where its body does. It stands alone where it is neither a trait's nor of an impl of one, nor in a cycle of calls."""
 
     name: str
+    head: int
     start: int
     end: int
+    stands_alone: bool
 
 
 def blanked(text):
@@ -95,7 +98,7 @@ def functions(text, path, homes):
     """The functions of a file of src/, in the order in which they stand. A type's own are listed in its module."""
     code, found, module = blanked(text), [], module_of(path)
 
-    def walk(at, end, above):
+    def walk(at, end, above, is_free):
         while True:
             head = HEAD.search(code, at, end)
             if not head:
@@ -104,7 +107,8 @@ def functions(text, path, homes):
             if head["fn"]:
                 body = body_of(code, at)
                 if body:
-                    found.append(Function("::".join([*above, head["fn"]]), *body))
+                    name, attributes = "::".join([*above, head["fn"]]), code[code.rfind("}", 0, head.start()) + 1 : head.start()]
+                    found.append(Function(name, head.start(), *body, is_free and "#[cycle" not in attributes))
                     at = body[1]
                 continue
             opened = code.find("{", head.start(), end)
@@ -114,9 +118,10 @@ def functions(text, path, homes):
             header = code[head.start() : opened]
             name = head["mod"] or head["trait"] or name_of_impl(header)
             is_own = header.startswith("impl") and " for " not in header
-            walk(opened + 1, at - 1, [*(homes.get(name, above) if is_own else above), name])
+            is_kept_free = is_own or head["mod"] is not None
+            walk(opened + 1, at - 1, [*(homes.get(name, above) if is_own else above), name], is_free and is_kept_free)
 
-    walk(0, len(code), module)
+    walk(0, len(code), module, True)
     return found
 
 
@@ -132,6 +137,25 @@ def changed_functions(old, new, path, homes):
         return None
     pairs = zip(before, after)
     return {it.name for it, made in pairs if old[it.start : it.end] != new[made.start : made.end]}
+
+
+def copied(text, made, path, homes, name, copy, pairs):
+    """The text `made`, which some functions of the text were changed to, with a copy of one of the functions behind it, by
+    another name and with these changes, each of an old text to a new one; or none where that can't be done."""
+    was = next((it for it in functions(text, path, homes) if it.name == name), None)
+    now = next((it for it in functions(made, path, homes) if it.name == name), None)
+    if not was or not now or not was.stands_alone:
+        return None
+    body = text[was.start : was.end]
+    for old, new in pairs:
+        if body.count(old) != 1:
+            return None
+        body = body.replace(old, new)
+    line = text.rfind("\n", 0, was.head) + 1
+    while text.startswith("#[", text.rfind("\n", 0, line - 1) + 1):
+        line = text.rfind("\n", 0, line - 1) + 1
+    head = re.sub(rf"\bfn {name.split('::')[-1]}\b", f"fn {copy}", text[line : was.start], count=1)
+    return f"{made[: now.end]}\n\n{head}{body}{made[now.end :]}"
 
 
 def without_bodies(text, found):
