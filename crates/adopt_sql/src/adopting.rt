@@ -14,7 +14,8 @@ use std::alloc::Global;
 /// beside its rows are compared with those that the rows give. The faults are looked for in this order:
 /// the row of the bank (not a bank, or another version), a table that can't be read (not a bank), the
 /// books, the policy; that a user's number or name can't be read is told of the policy, once each row of
-/// the books was read. A fault of the database may come at any point. Nothing is changed.
+/// the books was read. A fault of the database may come at any point; a bank whose books hold and whose
+/// policy is sound and separated is refused for such a fault alone. Nothing is changed.
 pub fn adopt_bank<S: Alter>(alloc: Global, conn: &mut Connection<S>) -> Result<(), AdoptFault>
     requires { conn.old.in_transaction ≡ false }
     ensures mode { conn.new.in_transaction ≡ false }
