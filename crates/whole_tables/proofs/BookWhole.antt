@@ -9,9 +9,9 @@ use Rattle.bank_schema.specs.Cells.{AnyRow, EntryFits, account_cells, branch_cel
 use Rattle.bank_schema.specs.Held.Sheet.{branches as in_branches, tellers as in_tellers, accounts as in_accounts, entries as in_entries}
 use Rattle.bank_schema.specs.HeldRows.{all_but_rowid, all_of_it}
 use Rattle.bank_schema.specs.Schema.{accounts_table, branches_table, entries_table, tellers_table}
+use Rattle.bank_schema.specs.Told.{told_by_columns, told_by_key}
 use Rattle.bank_schema.proofs.ReadLemmas.{rises_by_one, rises_by_two, rising_key}
 use Rattle.whole_tables.specs.Texts.{all_branches_text, all_tellers_text, all_accounts_text, all_entries_text}
-use Rattle.whole_tables.specs.Told.{told_by_columns, told_by_key}
 use Rattle.whole_tables.specs.Whole.{TellsWhole}
 use Rattle.whole_tables.proofs.WholeLemmas.{IsScanOf, ReadsNoRowid, by_columns_whole, by_rowid_whole, whole_scan}
 

@@ -9,9 +9,9 @@ use Rattle.bank_schema.specs.Cells.{LineFits, ProofFits, ReleaseFits, line_cells
 use Rattle.bank_schema.specs.Held.Sheet.{lines as in_lines, proofs as in_proofs, releases as in_releases}
 use Rattle.bank_schema.specs.HeldRows.{all_but_rowid}
 use Rattle.bank_schema.specs.Schema.{lines_table, proofs_table, releases_table}
+use Rattle.bank_schema.specs.Told.{told_by_columns}
 use Rattle.bank_schema.proofs.ReadLemmas.{rises_by_two, rising_key}
 use Rattle.whole_tables.specs.Texts.{all_lines_text, all_proofs_text, all_releases_text}
-use Rattle.whole_tables.specs.Told.{told_by_columns}
 use Rattle.whole_tables.specs.Whole.{TellsWhole}
 use Rattle.whole_tables.proofs.WholeLemmas.{IsScanOf, ReadsNoRowid, by_columns_whole, whole_scan}
 

@@ -12,10 +12,10 @@ use Rattle.bank_schema.specs.Held.{set_no}
 use Rattle.bank_schema.specs.Held.Sheet.{users as in_users, sets as in_sets, members as in_members, relations as in_relations, triples as in_triples, certifiers as in_certifiers}
 use Rattle.bank_schema.specs.HeldRows.{all_but_rowid, all_of_it}
 use Rattle.bank_schema.specs.Schema.{certifiers_table, members_table, relations_table, sets_table, triples_table, users_table}
+use Rattle.bank_schema.specs.Told.{told_by_columns, told_by_key}
 use Rattle.bank_schema.proofs.ProcedureNumbers.{small_number}
 use Rattle.bank_schema.proofs.ReadLemmas.{rises_by_one, rises_by_three, rises_by_two, rising_key}
 use Rattle.whole_tables.specs.Texts.{all_users_text, all_sets_text, all_members_text, all_relations_text, all_triples_text, all_certifiers_text}
-use Rattle.whole_tables.specs.Told.{told_by_columns, told_by_key}
 use Rattle.whole_tables.specs.Whole.{TellsWhole}
 use Rattle.whole_tables.proofs.WholeLemmas.{IsScanOf, ReadsNoRowid, by_columns_whole, by_rowid_whole, whole_scan}
 

@@ -28,10 +28,10 @@ use Rattle.sqlite_value.specs.Order.{column}
 use Rattle.bank_schema.specs.Held.{Sheet, tree_of}
 use Rattle.bank_schema.specs.HeldRows.{HoldsRows, all_but_rowid, all_of_it}
 use Rattle.bank_schema.specs.Schema.{bank_schema}
+use Rattle.bank_schema.specs.Told.{columns_from, told_by_columns, told_by_key}
 use Rattle.bank_schema.proofs.ReadLemmas.{answered, in_order_of_fitting, no_limit, no_offset}
 use Rattle.bank_schema.proofs.ScanLemmas.{passes, scan, scanned}
 use Rattle.bank_schema.proofs.StepLemmas.{shown_open}
-use Rattle.whole_tables.specs.Told.{columns_from, told_by_columns, told_by_key}
 use Rattle.whole_tables.specs.Whole.{AreAll, HasBankTables, IsAlone, IsAnswered, IsQueryFor, TellsWhole}
 use Rattle.whole_tables.proofs.WidthLemmas.{columns_behind, columns_by_key, ends_needed, no_narrower, no_wider}
 

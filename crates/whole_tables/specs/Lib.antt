@@ -5,5 +5,4 @@ pub mod Heads
 pub mod PolicyTables
 pub mod Tables
 pub mod Texts
-pub mod Told
 pub mod Whole
