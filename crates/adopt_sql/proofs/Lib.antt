@@ -2,6 +2,7 @@ pub mod AdoptLemmas
 pub mod FileLemmas
 pub mod FoundLemmas
 pub mod MadeLemmas
+pub mod NamedLemmas
 pub mod ReadingLemmas
 pub mod SetLemmas
 pub mod SoundLemmas

@@ -1,5 +1,5 @@
 -- That the rows of a bank tell its World, its policy and its numbers, and that a verdict on it is no fault.
-use Rattle.std.proofs.Common.{◌≡◌, ◌≢◌, ◌==◌, ℕ, ap, sym, subst, ◌∙◌, None, Some, Ok, Err, Option, List, refl, map}
+use Rattle.std.proofs.Common.{IfErr, Result, ◌≡◌, ◌≢◌, ◌==◌, ℕ, ap, sym, subst, ◌∙◌, None, Some, Ok, Err, Option, List, refl, map}
 use Rattle.std.specs.Prelude.{if◌then◌else◌, unwrap_or}
 use Rattle.std.proofs.lemmas.Bool.{ne_eqb}
 use Rattle.std.proofs.lemmas.Option.{same_Some}
@@ -21,7 +21,10 @@ use Rattle.policy_check.specs.declared.policy_fault.PolicyFault.{PolicyFault}
 use Rattle.policy_check.specs.declared.policy_fault.PolicyFault.TheVariants.{Dangling, OfficerHolds, Separation}
 use Rattle.whole_tables.specs.declared.book_rows.BookRows.{BookRows}
 use Rattle.whole_tables.specs.declared.policy_tables.PolicyTables.{PolicyTables}
-use Rattle.adopt_sql.specs.Told.{IsBankOf, IsPolicyOf, count_told, kept_read, sheets_read, teller_told, world_read}
+use Rattle.adopt_sql.specs.Refused.{IsOfBooks, IsOfPolicy, IsOfStore}
+use Rattle.adopt_sql.specs.declared.adopt_fault.AdoptFault.{AdoptFault}
+use Rattle.adopt_sql.specs.declared.adopt_fault.AdoptFault.TheVariants as adopt_fault
+use Rattle.adopt_sql.specs.Told.{AreBooksInOrder, IsBankOf, IsPolicyOf, count_told, kept_read, sheets_read, teller_told, world_read}
 
 -- ---- verdicts
 
@@ -38,6 +41,35 @@ pub sound_or_fails : (policy : PolicyLists) (fault : PolicyFault) → IsPolicyVe
 sound_or_fails policy Dangling sound fails = fails sound.0
 sound_or_fails policy (OfficerHolds user) sound fails = sound.1.officers user fails.1.0
 sound_or_fails policy (Separation user procedure) sound fails = sound.1.others user procedure fails.2.0
+
+-- a fault of books that hold is none of theirs
+pub books_or_store : (w : WorldLists) (kept : KeptLists) (fault : AdoptFault) → IsVerdict w kept (Ok tt) → IsOfBooks w kept fault → IsOfStore fault
+books_or_store w kept (adopt_fault.Books fault) holds of = absurd (holds_or_fails w kept fault holds of)
+books_or_store w kept (adopt_fault.Policy fault) holds of = of
+books_or_store w kept (adopt_fault.Fault fault) holds of = tt
+books_or_store w kept adopt_fault.NotABank holds of = of
+books_or_store w kept adopt_fault.Version holds of = of
+
+-- and one of a policy that is sound and separated is none at all
+pub policy_or_store : {X : Type 0} (policy : PolicyLists) (r : Result X AdoptFault) → IsPolicyVerdict policy (Ok tt) → IfErr r (IsOfPolicy policy) → IfErr r IsOfStore
+policy_or_store policy (Ok x) sound of = tt
+policy_or_store policy (Err (adopt_fault.Policy fault)) sound of = absurd (sound_or_fails policy fault sound of)
+policy_or_store policy (Err (adopt_fault.Books fault)) sound of = of
+policy_or_store policy (Err (adopt_fault.Fault fault)) sound of = absurd of
+policy_or_store policy (Err adopt_fault.NotABank) sound of = of
+policy_or_store policy (Err adopt_fault.Version) sound of = of
+
+-- the lists of a World that can be kept stand in order
+pub books_in_order : (books : BookRows) (policy : PolicyLists) (version : ℕ) → IsKeepable (world_read books policy version) → AreBooksInOrder books
+books_in_order books policy version can = record {
+  branches = can.branches.in_order;
+  tellers = can.tellers.ordered.in_order;
+  accounts = can.accounts.in_order;
+  entries = can.entries.ordered.in_order;
+  lines = can.lines.ordered.in_order;
+  proofs = can.proofs.in_order;
+  releases = can.releases.ordered.in_order;
+}
 
 -- ---- what is told of a teller of whom it is kept
 

@@ -1,17 +1,20 @@
 -- What rows of tables tell: the World that they are of, and the numbers that are kept beside its rows.
-use Rattle.std.specs.Prelude.{ℕ, ◌≡◌, ◌≢◌, ◌==◌, ◌++◌, List, map, Contains, None, Ok, Some, if◌then◌else◌}
+use Rattle.std.specs.Prelude.{ℕ, ◌≡◌, ◌≢◌, ◌==◌, ◌++◌, List, map, Contains, None, Ok, Result, Some, if◌then◌else◌}
 use Rattle.std.specs.List.{enumerate_from, flat_map}
 use Rattle.std.specs.List.Sorted.{IsNonDecreasingBy}
 use Rattle.bank_policy.specs.Policy.{PolicyLists}
-use Rattle.bank_policy.specs.PolicyKeys.{certifier_key, relation_key, triple_key}
+use Rattle.bank_policy.specs.PolicyKeys.{certifier_key, relation_key, triple_key, user_key}
 use Rattle.bank_policy.specs.SetRow.{SetRow}
 use Rattle.bank_policy.specs.declared.rows.Member.{Member}
 use Rattle.bank_books.specs.Books.{Books}
+use Rattle.bank_books.specs.Keys.{account_key, branch_key, entry_key, line_key, proof_key, release_key, teller_key}
 use Rattle.bank_books.specs.Records.{KeptLists}
 use Rattle.bank_books.specs.WorldLists.{WorldLists}
 use Rattle.bank_books.specs.declared.records.ReleaseCount.{ReleaseCount}
 use Rattle.bank_books.specs.declared.records.TellerRecord.{TellerRecord}
-use Rattle.kept_rows.specs.Keepable.{IsKeepable}
+use Rattle.book_check.specs.Verdict.{IsVerdict}
+use Rattle.book_check.specs.declared.check.BooksFault.{BooksFault}
+use Rattle.kept_rows.specs.Keepable.{IsKeepable, IsOrdered}
 use Rattle.kept_rows.specs.Records.{member_row, member_rows}
 use Rattle.kept_rows.specs.Sheets.{Sheets, sheets_of}
 use Rattle.kept_rows.specs.declared.records.KeptTeller.{KeptTeller}
@@ -69,6 +72,20 @@ pub record AreGrantsInOrder (grants : GrantRows) : Type 0 where
 
 -- ---- the bank
 
+-- the rows of the books stand in order of their keys
+pub record AreBooksInOrder (books : BookRows) : Type 0 where
+  pub branches : IsNonDecreasingBy branch_key (map (λ b. b.row) books.ledger.branches.items)
+  pub tellers : IsNonDecreasingBy teller_key (map (λ t. t.row) books.ledger.tellers.items)
+  pub accounts : IsNonDecreasingBy account_key (map (λ a. a.row) books.ledger.accounts.items)
+  pub entries : IsNonDecreasingBy entry_key (map (λ e. e.row) books.history.entries.items)
+  pub lines : IsNonDecreasingBy line_key books.history.lines.items
+  pub proofs : IsNonDecreasingBy proof_key books.history.proofs.items
+  pub releases : IsNonDecreasingBy release_key books.users.releases.items
+
+-- and so do the users, each once
+abbrev pub AreUsersOrdered : List KeptUser → Type 0
+AreUsersOrdered users = IsOrdered user_key (map (λ u. u.row) users)
+
 abbrev pub world_read : BookRows → PolicyLists → ℕ → WorldLists
 world_read books policy version = record {
   branches = map (λ b. b.row) books.ledger.branches.items;
@@ -116,3 +133,42 @@ pub record IsBankOf (s : Sheets) : Type 0 where
   pub keepable : IsKeepable world
   pub books : Books world
   pub policy : IsPolicyVerdict world.policy (Ok tt)
+
+-- ---- what is named of rows that were read
+
+-- the World and the kept numbers of these rows, with this policy
+abbrev pub world_told : Sheets → PolicyLists → WorldLists
+world_told s policy = record {
+  branches = map (λ b. b.row) s.branches;
+  tellers = map (λ t. t.row) s.tellers;
+  accounts = map (λ a. a.row) s.accounts;
+  entries = map (λ e. e.row) s.entries;
+  lines = s.lines;
+  proofs = s.proofs;
+  releases = s.releases;
+  policy = policy;
+  version = s.version;
+}
+
+abbrev pub kept_told : Sheets → KeptLists
+kept_told s = record {
+  branches = s.branches;
+  tellers = map teller_told s.tellers;
+  accounts = s.accounts;
+  entries = s.entries;
+  users = map count_told s.users;
+}
+
+-- This is the verdict on the books. Of the policy it needs to know the users alone.
+pub record AreBooksJudged (s : Sheets) (verdict : Result (Unit {0}) BooksFault) : Type 0 where
+  pub policy : PolicyLists
+  pub users : policy.users ≡ map (λ u. u.row) s.users
+  pub told : IsVerdict (world_told s policy) (kept_told s) verdict
+
+-- the policy of these rows
+pub record IsPolicyIn (s : Sheets) (policy : PolicyLists) : Type 0 where
+  pub users : policy.users ≡ map (λ u. u.row) s.users
+  pub sets : AreSetsOf s.sets s.members policy.sets
+  pub relations : policy.relations ≡ s.relations
+  pub triples : policy.triples ≡ s.triples
+  pub certifiers : policy.certifiers ≡ s.certifiers

@@ -1,8 +1,11 @@
 ghost use Rattle.std.specs.Prelude.{◌≡◌, false, IfErr, OnOk};
 ghost use Rattle.sqlite.specs.Held.{state};
 ghost use Rattle.sqlite.specs.State.{HasCleanDisk, Survives};
+ghost use Rattle.bank_schema.specs.Held.{HoldsSheets};
+ghost use Rattle.bank_schema.specs.Readable.{AreReadable};
+ghost use Rattle.kept_rows.specs.Sheets.{Sheets};
 ghost use Rattle.adopt_sql.specs.Adopted.{Adopts, IsBankFile, IsLeft};
-ghost use Rattle.adopt_sql.specs.Refused.{HoldsSoundBank, IsOfStore, IsRefused};
+ghost use Rattle.adopt_sql.specs.Refused.{HoldsSoundBank, IsNamedBy, IsOfStore, IsRefused};
 
 use crate::adopt_fault::AdoptFault;
 use crate::judging::{judge, with_no_policy};
@@ -22,6 +25,7 @@ pub fn adopt_bank<S: Alter>(alloc: Global, conn: &mut Connection<S>) -> Result<(
     ensures adopts { HasCleanDisk (state S.Store conn.new) → IsBankFile (state S.Store conn.old) → OnOk result (Adopts (state S.Store conn.old) (state S.Store conn.new)) }
     ensures refused { HasCleanDisk (state S.Store conn.new) → IsBankFile (state S.Store conn.old) → IfErr result (IsRefused (state S.Store conn.old).now.trees) }
     ensures sound { HasCleanDisk (state S.Store conn.new) → IsBankFile (state S.Store conn.old) → HoldsSoundBank (state S.Store conn.old).now → IfErr result IsOfStore }
+    ensures named { HasCleanDisk (state S.Store conn.new) → IsBankFile (state S.Store conn.old) → (s : Sheets) → HoldsSheets (state S.Store conn.old).now.trees s → AreReadable s → IfErr result (IsNamedBy s) }
     ensures left { HasCleanDisk (state S.Store conn.new) → IsBankFile (state S.Store conn.old) → IsLeft (state S.Store conn.old) (state S.Store conn.new) }
     ensures survives { Survives (state S.Store conn.old) (state S.Store conn.new) (λ _. ⊥) }
 {

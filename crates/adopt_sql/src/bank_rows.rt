@@ -1,6 +1,5 @@
 ghost use Rattle.std.specs.Prelude.{◌≡◌, IfOk, IfSome, IsSome};
-ghost use Rattle.kept_rows.specs.Keepable.{IsKeepable};
-ghost use Rattle.adopt_sql.specs.Told.{kept_read, world_read};
+ghost use Rattle.adopt_sql.specs.Told.{AreBooksInOrder, kept_read, world_read};
 
 use crate::made::all_made;
 use bank_books::{Lists, World};
@@ -20,7 +19,7 @@ pub(crate) struct BankRows {
 }
 
 /// The World of these rows and this policy, and the numbers that stand beside its rows, or none where a
-/// table does not stand in order of its key. They are found where that World can be kept.
+/// table does not stand in order of its key.
 pub(crate) fn bank_rows(
     alloc: Global,
     books: BookRows,
@@ -29,7 +28,7 @@ pub(crate) fn bank_rows(
 ) -> Result<Option<BankRows>, Fault>
     ensures world { IfOk result (λ found. IfSome found (λ bank. bank.world ≡ world_read books policy version)) }
     ensures kept { IfOk result (λ found. IfSome found (λ bank. bank.kept ≡ kept_read books)) }
-    ensures found { IsKeepable (world_read books policy version) → IfOk result IsSome }
+    ensures found { AreBooksInOrder books → IfOk result IsSome }
 {
     let BookRows {
         ledger,

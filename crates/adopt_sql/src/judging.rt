@@ -2,8 +2,8 @@ ghost use Rattle.std.specs.Prelude.{◌≡◌, IfErr, IfOk, Ok, OnOk};
 ghost use Rattle.book_check.specs.Verdict.{IsVerdict};
 ghost use Rattle.policy_check.specs.PolicyVerdict.{IsPolicyVerdict};
 ghost use Rattle.kept_rows.specs.Keepable.{IsKeepable};
-ghost use Rattle.adopt_sql.specs.Refused.{IsBeyondBankRow, IsOfStore};
-ghost use Rattle.adopt_sql.specs.Told.{IsBankOf, kept_read, sheets_read, world_read};
+ghost use Rattle.adopt_sql.specs.Refused.{IsBeyondBankRow, IsNamedBy, IsOfBooks, IsOfNoPolicy, IsOfPolicy, IsOfStore};
+ghost use Rattle.adopt_sql.specs.Told.{AreBooksInOrder, AreUsersOrdered, IsBankOf, kept_read, sheets_read, world_read};
 
 use crate::adopt_fault::AdoptFault;
 use crate::bank_rows::{BankRows, bank_rows};
@@ -25,6 +25,7 @@ pub(crate) fn judge(
 ) -> Result<(), AdoptFault>
     ensures bank { OnOk result (IsBankOf (sheets_read books tables version)) }
     ensures sound { IsBankOf (sheets_read books tables version) → IfErr result IsOfStore }
+    ensures named { AreBooksInOrder books → AreUsersOrdered books.users.users.items → IfErr result (IsNamedBy (sheets_read books tables version)) }
     ensures beyond { IfErr result IsBeyondBankRow }
 {
     let found = match whole_policy(alloc, &books.users.users, tables) {
@@ -42,7 +43,8 @@ pub(crate) fn judge(
 
 /// Why a bank is not adopted of whose policy the tables tell none: its books are judged before.
 pub(crate) fn with_no_policy(alloc: Global, books: BookRows, version: u64) -> AdoptFault
-    ensures { IsBeyondBankRow result }
+    ensures beyond { IsBeyondBankRow result }
+    ensures named { (tables : PolicyTables) → AreBooksInOrder books → AreUsersOrdered books.users.users.items → IsOfNoPolicy (sheets_read books tables version) result }
 {
     match users_alone(alloc, &books.users.users) {
         Ok(Some(policy)) => match judged_books(alloc, books, policy, version) {
@@ -65,7 +67,7 @@ fn judged_books(
     ensures verdict { IfOk result (λ bank. IsVerdict bank.world bank.kept (Ok tt)) }
     ensures world { IfOk result (λ bank. bank.world ≡ world_read books policy version) }
     ensures kept { IfOk result (λ bank. bank.kept ≡ kept_read books) }
-    ensures sound { IsKeepable (world_read books policy version) → IsVerdict (world_read books policy version) (kept_read books) (Ok tt) → IfErr result IsOfStore }
+    ensures named { AreBooksInOrder books → IfErr result (IsOfBooks (world_read books policy version) (kept_read books)) }
     ensures beyond { IfErr result IsBeyondBankRow }
 {
     let bank = match bank_rows(alloc, books, policy, version) {
@@ -85,7 +87,7 @@ fn judge_policy(bank: &BankRows) -> Result<(), AdoptFault>
     requires { IsVerdict bank.now.world bank.now.kept (Ok tt) }
     ensures policy { OnOk result (IsPolicyVerdict bank.now.world.policy (Ok tt)) }
     ensures keepable { OnOk result (IsKeepable bank.now.world) }
-    ensures sound { IsPolicyVerdict bank.now.world.policy (Ok tt) → IfErr result IsOfStore }
+    ensures named { IfErr result (IsOfPolicy bank.now.world.policy) }
     ensures beyond { IfErr result IsBeyondBankRow }
 {
     if let Err(fault) = check_policy(bank.world.policy()) {

@@ -1,7 +1,7 @@
-ghost use Rattle.std.specs.Prelude.{◌≡◌, ◌↔◌, IfOk, IfSome, IsSome, IsTrue, Some};
+ghost use Rattle.std.specs.Prelude.{◌≡◌, ◌↔◌, map, IfOk, IfSome, IsSome, IsTrue, Some};
 ghost use Rattle.bank_policy.specs.Policy.{PolicyLists};
 ghost use Rattle.kept_rows.specs.Keepable.{IsPolicyKeepable};
-ghost use Rattle.adopt_sql.specs.Told.{AreGrantsInOrder, IsPolicyOf, policy_told};
+ghost use Rattle.adopt_sql.specs.Told.{AreGrantsInOrder, AreUsersOrdered, IsPolicyOf, policy_told};
 
 use crate::item_sets::item_sets;
 use crate::made::all_made;
@@ -62,7 +62,10 @@ fn are_grants_in_order(grants: &GrantRows) -> bool
 }
 
 /// A policy of these users and no more, or none where they do not stand in order.
-pub(crate) fn users_alone(alloc: Global, users: &[KeptUser]) -> Result<Option<Policy>, Fault> {
+pub(crate) fn users_alone(alloc: Global, users: &[KeptUser]) -> Result<Option<Policy>, Fault>
+    ensures told { IfOk result (λ found. IfSome found (λ policy. policy.users ≡ map (λ u. u.row) users.now)) }
+    ensures found { AreUsersOrdered users.now → IfOk result IsSome }
+{
     let none = GrantRows {
         relations: Vec::new(alloc),
         triples: Vec::new(alloc),

@@ -1,4 +1,4 @@
-use Rattle.std.proofs.Common.{subst}
+use Rattle.std.proofs.Common.{IfErr, subst, sym}
 use Rattle.std.specs.Prelude.{IsSome}
 use Rattle.sqlite.specs.Held.{state}
 use Rattle.kept_rows.specs.Sheets.{sheets_of}
@@ -7,6 +7,8 @@ use Rattle.bank_schema.proofs.StepLemmas.{ok_weaker, survived}
 use Rattle.adopt_sql.specs.Adopted.{Adopts}
 use Rattle.adopt_sql.specs.Told.{IsBankOf, sheets_read}
 use Rattle.adopt_sql.proofs.AdoptLemmas.{adopted}
+use Rattle.adopt_sql.specs.Refused.{IsNamedBy}
+use Rattle.adopt_sql.proofs.NamedLemmas.{handed_named, held_books, held_users}
 use Rattle.adopt_sql.proofs.SetLemmas.{some_is}
 use Rattle.adopt_sql.proofs.TakenLemmas.{handed_fault, sheets_are_read}
 use Rattle.adopt_sql.proofs.adopting.adopt_bank.Goals as goal
@@ -44,4 +46,23 @@ returns-in-Some-clause-sound g c clean file bank =
 pub returns-in-None-clause-sound : goal.returns-in-None-clause-sound
 returns-in-None-clause-sound g c clean file bank =
     let found = (c.in_ok-rows.ensures.takes clean file (sheets_of bank.world) bank.held.world.rows bank.readable).0 in
+    absurd (let none = subst IsSome c.in-None.is found in cc)
+
+pub returns-in_err-rows-clause-named : goal.returns-in_err-rows-clause-named
+returns-in_err-rows-clause-named g c clean file s holds readable =
+    handed_named s c.from_residual.result c.in_err-rows.field-0.0 c.from_residual.ensures.1 (c.in_err-rows.ensures.takes clean file s holds readable).1
+
+pub returns-in-Some-clause-named : goal.returns-in-Some-clause-named
+returns-in-Some-clause-named g c clean file s holds readable =
+    let db = (state g.S.Store c.args.conn.now).now.trees in
+    let rows = c.in_ok-rows.rows in
+    let tables = c.in-Some.tables in
+    let read = c.in_ok-rows.ensures.whole clean file in
+    let same = sheets_are_read db s rows.books tables rows.version holds read.version read.books (some_is rows.policy tables (ArePolicyTables db) read.policy c.in-Some.is) in
+    subst (λ z. IfErr c.judge.result (IsNamedBy z)) (sym same)
+    (c.judge.ensures.named (held_books rows.books tables rows.version db s holds same) (held_users rows.books tables rows.version db s holds same))
+
+pub returns-in-None-clause-named : goal.returns-in-None-clause-named
+returns-in-None-clause-named g c clean file s holds readable =
+    let found = (c.in_ok-rows.ensures.takes clean file s holds readable).0 in
     absurd (let none = subst IsSome c.in-None.is found in cc)

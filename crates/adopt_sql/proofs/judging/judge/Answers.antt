@@ -1,11 +1,16 @@
-use Rattle.std.proofs.Common.{subst, sym, ◌∙◌}
-use Rattle.std.proofs.lemmas.Option.{none-some}
+use Rattle.std.proofs.Common.{ap, map, IfErr, subst, sym, ◌∙◌}
+use Rattle.std.proofs.lemmas.Option.{none-some, same_Some}
 use Rattle.std.proofs.lemmas.Result.{err_from_is_err_and}
 use Rattle.std.specs.Prelude.{IfSome, Ok}
+use Rattle.bank_books.specs.WorldLists.{WorldLists}
 use Rattle.kept_rows.specs.Keepable.{IsKeepable}
+use Rattle.kept_rows.specs.declared.records.KeptUser.{KeptUser}
 use Rattle.policy_check.specs.PolicyVerdict.{IsPolicyVerdict}
-use Rattle.adopt_sql.specs.Told.{IsBankOf, IsPolicyOf, sheets_read}
-use Rattle.adopt_sql.proofs.SoundLemmas.{keepable_told, policy_is, policy_told, verdict_told}
+use Rattle.adopt_sql.specs.Refused.{IsOfPolicy}
+use Rattle.adopt_sql.specs.Told.{IsBankOf, IsPolicyOf, kept_read, sheets_read, world_read}
+use Rattle.adopt_sql.proofs.NamedLemmas.{judged, named_of_books, named_of_none, named_of_policy, policy_of_tables}
+use Rattle.adopt_sql.proofs.SetLemmas.{some_is}
+use Rattle.adopt_sql.proofs.SoundLemmas.{books_in_order, books_or_store, keepable_told, policy_is, policy_or_store, policy_told, verdict_told}
 use Rattle.adopt_sql.proofs.ToldLemmas.{both_ok, is_bank}
 use Rattle.adopt_sql.proofs.judging.judge.Goals as goal
 
@@ -22,15 +27,42 @@ pub returns-in_err-bank-in-Some-clause-sound : goal.returns-in_err-bank-in-Some-
 returns-in_err-bank-in-Some-clause-sound c bank =
     let right = c.in-Ok.ensures.found bank.world.policy (policy_is c.args.books c.args.tables c.args.version bank c.deref.result.now c.deref.ensures.value) bank.keepable.policy in
     let exit = err_from_is_err_and c.from_residual.result c.from_residual.ensures.1 in
-    rw (exit.1, exit.2) (c.in_err-bank-in-Some.ensures.sound (keepable_told c.args.books c.args.tables c.args.version bank c.in-Ok.found c.in-Some.policy right c.in-Some.is)
-    (verdict_told c.args.books c.args.tables c.args.version bank c.in-Ok.found c.in-Some.policy right c.in-Some.is))
+    let can = keepable_told c.args.books c.args.tables c.args.version bank c.in-Ok.found c.in-Some.policy right c.in-Some.is in
+    rw (exit.1, exit.2) (books_or_store (world_read c.args.books c.in-Some.policy c.args.version) (kept_read c.args.books) c.in_err-bank-in-Some.field-0.0
+    (verdict_told c.args.books c.args.tables c.args.version bank c.in-Ok.found c.in-Some.policy right c.in-Some.is)
+    (c.in_err-bank-in-Some.ensures.named (books_in_order c.args.books c.in-Some.policy c.args.version can)))
 
 pub returns-in_ok-bank-in-Some-clause-sound : goal.returns-in_ok-bank-in-Some-clause-sound
 returns-in_ok-bank-in-Some-clause-sound c bank =
     let right = c.in-Ok.ensures.found bank.world.policy (policy_is c.args.books c.args.tables c.args.version bank c.deref.result.now c.deref.ensures.value) bank.keepable.policy in
-    c.judge_policy.ensures.sound (policy_told c.args.books c.args.tables c.args.version bank c.in-Ok.found c.in-Some.policy right c.in-Some.is c.in_ok-bank-in-Some.bank.world c.in_ok-bank-in-Some.ensures.world)
+    let bank_policy = c.in_ok-bank-in-Some.bank.world.policy in
+    policy_or_store bank_policy c.judge_policy.result
+    (policy_told c.args.books c.args.tables c.args.version bank c.in-Ok.found c.in-Some.policy right c.in-Some.is c.in_ok-bank-in-Some.bank.world c.in_ok-bank-in-Some.ensures.world) c.judge_policy.ensures.named
 
 pub returns-in-None-clause-sound : goal.returns-in-None-clause-sound
 returns-in-None-clause-sound c bank =
     let right = c.in-Ok.ensures.found bank.world.policy (policy_is c.args.books c.args.tables c.args.version bank c.deref.result.now c.deref.ensures.value) bank.keepable.policy in
     absurd (none-some bank.world.policy (sym c.in-None.is ∙ right))
+
+pub returns-in_err-bank-in-Some-clause-named : goal.returns-in_err-bank-in-Some-clause-named
+returns-in_err-bank-in-Some-clause-named c order users =
+    let exit = err_from_is_err_and c.from_residual.result c.from_residual.ensures.1 in
+    let told = some_is c.in-Ok.found c.in-Some.policy (IsPolicyOf c.deref.result.now c.args.tables) c.in-Ok.ensures.told c.in-Some.is in
+    rw (exit.1, exit.2) (named_of_books c.args.books c.args.tables c.args.version c.in-Some.policy (told.users_are ∙ ap (map (λ (u : KeptUser). u.row)) c.deref.ensures.value) c.in_err-bank-in-Some.field-0.0 (c.in_err-bank-in-Some.ensures.named order))
+
+pub returns-in_ok-bank-in-Some-clause-named : goal.returns-in_ok-bank-in-Some-clause-named
+returns-in_ok-bank-in-Some-clause-named c order users =
+    let bank = c.in_ok-bank-in-Some.bank in
+    let policy = c.in-Some.policy in
+    let told = some_is c.in-Ok.found policy (IsPolicyOf c.deref.result.now c.args.tables) c.in-Ok.ensures.told c.in-Some.is in
+    let hold = judged c.args.books c.args.tables c.args.version policy (told.users_are ∙ ap (map (λ (u : KeptUser). u.row)) c.deref.ensures.value) bank.world bank.kept
+    c.in_ok-bank-in-Some.ensures.world c.in_ok-bank-in-Some.ensures.kept c.in_ok-bank-in-Some.ensures.verdict in
+    named_of_policy c.args.books c.args.tables c.args.version c.judge_policy.result policy hold
+    (λ other is can. same_Some other policy (sym (c.in-Ok.ensures.found other (policy_of_tables c.args.books c.args.tables c.args.version c.deref.result.now c.deref.ensures.value other is) can) ∙ c.in-Some.is))
+    (subst (λ (w : WorldLists). IfErr c.judge_policy.result (IsOfPolicy w.policy)) c.in_ok-bank-in-Some.ensures.world c.judge_policy.ensures.named)
+
+pub returns-in-None-clause-named : goal.returns-in-None-clause-named
+returns-in-None-clause-named c order users =
+    named_of_none c.args.books c.args.tables c.args.version c.with_no_policy.result
+    (λ other is can. none-some other (sym c.in-None.is ∙ c.in-Ok.ensures.found other (policy_of_tables c.args.books c.args.tables c.args.version c.deref.result.now c.deref.ensures.value other is) can))
+    (c.with_no_policy.ensures.named c.args.tables order users)
