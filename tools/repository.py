@@ -3,8 +3,8 @@ import os
 import subprocess
 
 TOP = os.path.dirname(os.path.dirname(os.path.abspath(__file__)))
-# Tests of many banks in files. The gate proves them: compiled with checks in all of the SQL engine, they run for longer.
-PROVED_TESTS = ("worked_adoption", "worked_crashes")
+# Tests of many banks in files. The gate proves these: compiled with checks in all of the SQL engine, they run for longer.
+PROVED_TESTS = ("worked_files",)
 # The programs that take times over banks made up, and what makes these up. tools/bench and tools/check-bench prove them.
 BENCHES = ("made_up_bank", "check_bench", "post_bench")
 

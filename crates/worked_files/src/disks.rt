@@ -15,7 +15,7 @@ pub enum Failing {
 }
 
 /// What a database file and its log hold.
-#[derive(Drop)]
+#[derive(PartialEq, Eq, Drop)]
 pub struct Held {
     log: Vec<u8>,
     db: Vec<u8>,

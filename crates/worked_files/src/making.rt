@@ -2,25 +2,31 @@
 
 use crate::deeds::{Deed, Outcome, done_with};
 use crate::disks::{
-    Failers, Failing, Frail, Held, closed_by, failing_files, left_by, may_have_failed, nothing,
-    open_frail, reopened, seen,
+    Failers, Failing, Frail, Held, closed_by, failing_files, left_by, let_go, may_have_failed,
+    nothing, open_frail, reopened, seen,
 };
-use crate::tellings::told_anew;
+use crate::tellings::{Tale, told_anew};
 use adopt_sql::AdoptFault;
+use money::Fault;
 use std::alloc::Global;
 use std::process::Abort;
 
 /// Makes the sample bank in a database, or looks for it there. Answers whether that was done, and the files.
 fn tried(rt: &impl Abort, alloc: Global, conn: Frail, deed: Deed<'_>) -> (bool, Failers) {
     match done_with(rt, alloc, conn, deed) {
-        Ok((outcome, files)) => (is_done(rt, outcome), files),
+        Ok((outcome, conn)) => (is_done(rt, outcome), let_go(conn)),
         Err(fault) => panic!(rt; "{fault}"),
     }
 }
 
+/// Whether a bank was made, or found. It is the disk's fault where it was not.
 fn is_done(rt: &impl Abort, outcome: Outcome) -> bool {
     match outcome {
-        Outcome::Done(well) => well,
+        Outcome::Made(well) => well,
+        Outcome::Found(answer) => {
+            assert!(rt; answer.is_ok() || answer == Err(AdoptFault::Fault(Fault::Disk)));
+            answer.is_ok()
+        }
         _ => panic!(rt; "whether it was done"),
     }
 }
@@ -58,18 +64,18 @@ fn find_in(rt: &impl Abort, alloc: Global, files: Failers) -> (Option<bool>, Fai
 }
 
 /// Whether the bank that files hold is the sample bank.
-fn is_whole(rt: &impl Abort, alloc: Global, held: &Held, whole: &str) -> bool {
+fn is_whole(rt: &impl Abort, alloc: Global, held: &Held, whole: &Tale) -> bool {
     match told_anew(rt, alloc, held) {
-        Ok(tale) => tale.as_str() == whole,
+        Ok(tale) => tale == *whole,
         Err(_) => false,
     }
 }
 
 /// Asks that files hold the whole bank, or none and then one can be made there, and answers which of these.
-fn is_there(rt: &impl Abort, alloc: Global, held: &Held, whole: &str) -> bool {
+fn is_there(rt: &impl Abort, alloc: Global, held: &Held, whole: &Tale) -> bool {
     match told_anew(rt, alloc, held) {
         Ok(tale) => {
-            assert!(rt; tale.as_str() == whole);
+            assert!(rt; tale == *whole);
             true
         }
         Err(fault) => {
@@ -81,7 +87,7 @@ fn is_there(rt: &impl Abort, alloc: Global, held: &Held, whole: &str) -> bool {
 }
 
 /// What the sample bank tells.
-fn whole_tale(rt: &impl Abort, alloc: Global) -> String {
+fn whole_tale(rt: &impl Abort, alloc: Global) -> Tale {
     match told_anew(rt, alloc, &sample_held(rt, alloc)) {
         Ok(tale) => tale,
         Err(fault) => panic!(rt; "{fault}"),
@@ -91,7 +97,7 @@ fn whole_tale(rt: &impl Abort, alloc: Global) -> String {
 /// Makes the bank on a disk that fails at its first call, then on one that fails at its second, and so on until one has
 /// not failed. A bank that was told to be made is there. Answers how often no bank was there, and how often one was of
 /// which it was told that the disk had failed.
-fn make_at_each_call(rt: &impl Abort, alloc: Global, which: Failing, whole: &str) -> (u32, u32) {
+fn make_at_each_call(rt: &impl Abort, alloc: Global, which: Failing, whole: &Tale) -> (u32, u32) {
     let mut absent = 0u32;
     let mut untold = 0u32;
     for calls in 0..10_000u64 {
@@ -117,9 +123,9 @@ fn make_at_each_call(rt: &impl Abort, alloc: Global, which: Failing, whole: &str
 fn a_bank_is_made_whole_or_not(rt: HostRuntime) {
     let alloc = rt.alloc();
     let whole = whole_tale(&rt, alloc);
-    let (absent, untold) = make_at_each_call(&rt, alloc, Failing::Log, whole.as_str());
+    let (absent, untold) = make_at_each_call(&rt, alloc, Failing::Log, &whole);
     assert!(rt; absent > 0 && untold > 0);
-    let (absent, _) = make_at_each_call(&rt, alloc, Failing::Database, whole.as_str());
+    let (absent, _) = make_at_each_call(&rt, alloc, Failing::Database, &whole);
     assert!(rt; absent > 0);
 }
 
@@ -130,7 +136,7 @@ fn find_at_each_call(
     alloc: Global,
     held: &Held,
     which: Failing,
-    whole: &str,
+    whole: &Tale,
 ) -> u32 {
     let mut refused = 0u32;
     for calls in 0..10_000u64 {
@@ -154,7 +160,7 @@ fn a_bank_is_found_or_left_as_it_is(rt: HostRuntime) {
     let alloc = rt.alloc();
     let whole = whole_tale(&rt, alloc);
     let held = sample_held(&rt, alloc);
-    assert!(rt; find_at_each_call(&rt, alloc, &held, Failing::Log, whole.as_str()) > 0);
+    assert!(rt; find_at_each_call(&rt, alloc, &held, Failing::Log, &whole) > 0);
     let closed = closed_by(&rt, alloc, reopened(&rt, alloc, &held));
-    assert!(rt; find_at_each_call(&rt, alloc, &closed, Failing::Database, whole.as_str()) > 0);
+    assert!(rt; find_at_each_call(&rt, alloc, &closed, Failing::Database, &whole) > 0);
 }

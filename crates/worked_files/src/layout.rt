@@ -1,6 +1,6 @@
 //! Files that hold no bank, or a bank in other tables, and which fault is told first.
 
-use crate::files::no_files;
+use crate::disks::nothing;
 use crate::refusals::{judged, refused};
 use adopt_sql::AdoptFault;
 use book_check::BooksFault;
@@ -9,7 +9,7 @@ use policy_check::PolicyFault;
 #[test]
 fn an_empty_file_is_no_bank(rt: HostRuntime) {
     let alloc = rt.alloc();
-    let answer = judged(&rt, alloc, &no_files(alloc), "");
+    let answer = judged(&rt, alloc, &nothing(alloc), "");
     assert!(rt; answer == Err(AdoptFault::NotABank));
 }
 

@@ -2,13 +2,13 @@
 //! once; from then on the bank is stopped. Opened again, the bank is the one before the request at which the disk
 //! failed, or the one behind it.
 
-use crate::deeds::{Deed, Outcome, done_with};
+use crate::deeds::{Act, Deed, Outcome, done_with};
 use crate::disks::{
-    Failers, Failing, Frail, Held, failing_files, left_by, may_have_failed, open_frail,
+    Failers, Failing, Frail, Held, failing_files, left_by, let_go, may_have_failed, open_frail,
 };
 use crate::making::sample_held;
 use crate::streams::{CLOSING, Exchange, FAILED, POST, RELEASED, STOPPED, TRANSFER, reply};
-use crate::tellings::{told, told_anew};
+use crate::tellings::{Tale, told, told_anew};
 use sample_bank::sample_world;
 use std::alloc::Global;
 use std::process::Abort;
@@ -28,7 +28,7 @@ fn states_of<S: Store>(
     alloc: Global,
     bank: &mut Bank<S>,
     stream: &[Exchange],
-) -> Vec<String> {
+) -> Vec<Tale> {
     let mut states = Vec::new(alloc);
     push(rt, &mut states, told(rt, alloc, &mut bank.store));
     for exchange in stream {
@@ -40,7 +40,7 @@ fn states_of<S: Store>(
 }
 
 /// What the sample bank tells so, in lists.
-fn listed_states(rt: &impl Abort, alloc: Global, stream: &[Exchange]) -> Vec<String> {
+fn listed_states(rt: &impl Abort, alloc: Global, stream: &[Exchange]) -> Vec<Tale> {
     let world = sample_world(alloc).expect(rt, "memory");
     let mut bank = Bank {
         store: ListStore::new(world),
@@ -48,7 +48,7 @@ fn listed_states(rt: &impl Abort, alloc: Global, stream: &[Exchange]) -> Vec<Str
     states_of(rt, alloc, &mut bank, stream)
 }
 
-fn push(rt: &impl Abort, states: &mut Vec<String>, state: String) {
+fn push(rt: &impl Abort, states: &mut Vec<Tale>, state: Tale) {
     assert!(rt; states.push(state).is_ok());
 }
 
@@ -86,7 +86,7 @@ fn check(
     rt: &impl Abort,
     alloc: Global,
     held: &Held,
-    states: &[String],
+    states: &[Tale],
     count: usize,
     found: &mut Found,
 ) {
@@ -103,15 +103,15 @@ fn check(
             found.before = found.before.saturating_add(1);
         }
     } else {
-        assert!(rt; tale == *behind, "{tale} in the place of {behind}");
+        assert!(rt; tale == *behind);
         found.behind = found.behind.saturating_add(1);
     }
 }
 
 /// Serves requests over the bank in a database. Answers how many got their reply, and the files.
 fn served(rt: &impl Abort, alloc: Global, conn: Frail, stream: &[Exchange]) -> (usize, Failers) {
-    match done_with(rt, alloc, conn, Deed::Serve(stream)) {
-        Ok((outcome, files)) => (count_of(rt, outcome), files),
+    match done_with(rt, alloc, conn, Deed::Open(Act::Serve(stream))) {
+        Ok((outcome, conn)) => (count_of(rt, outcome), let_go(conn)),
         Err(fault) => panic!(rt; "{fault}"),
     }
 }

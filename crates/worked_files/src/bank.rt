@@ -1,36 +1,13 @@
 //! The worked bank: the sample with a post at its counter and a release for Tess.
 
-use crate::deeds::{Deed, done_in};
-use crate::files::no_files;
 use bank_books::{CashLine, Entry, EntryForm, LineForm, Plan, Release, RowWrite};
-use bank_terms::{OperationRow, Procedure};
-use money::{Cents, Delta};
-use open_sql::create;
-use sample_bank::sample_world;
-use sqlite::{Alter, Connection, Files};
-use sqlite_disk::Memory;
+use bank_terms::{MAX_VERSION, OperationRow, Procedure};
+use decide::{PolicyOp, Who, decide_policy};
+use money::{Cents, Delta, Fault};
+use policy_ops::UserKey;
 use std::alloc::Global;
 use std::process::Abort;
-use store_rows::Store;
-use store_sql::SqlStore;
-
-/// The files of the worked bank.
-pub fn worked_files(rt: &impl Abort, alloc: Global) -> Files<Memory> {
-    done_in(rt, alloc, no_files(alloc), Deed::Make).1
-}
-
-/// The sample bank, made in a database with nothing in it.
-pub fn created<S: Alter + Drop>(
-    rt: &impl Abort,
-    alloc: Global,
-    conn: Connection<S>,
-) -> SqlStore<S> {
-    assert!(rt; conn.is_autocommit());
-    match create(alloc, conn, &sample_world(alloc).expect(rt, "memory")) {
-        Ok(bank) => bank,
-        Err(fault) => panic!(rt; "{fault}"),
-    }
-}
+use store_rows::{Bank, Store};
 
 /// Carries out the post and the release of the worked bank.
 pub fn work<S: Store>(rt: &impl Abort, alloc: Global, bank: &mut S) {
@@ -89,4 +66,26 @@ fn released(rt: &impl Abort, alloc: Global) -> Plan {
         used: false,
     };
     vec![in alloc; RowWrite::Release(release)].expect(rt, "memory")
+}
+
+/// Olga asks for Tess to be suspended. Whether no rule denies it.
+fn suspend_tess<S: Store>(alloc: Global, bank: &mut Bank<S>) -> Result<bool, Fault> {
+    let olga = Who {
+        user: Some(1),
+        session: 1,
+        release: 0,
+    };
+    let answer = decide_policy(bank, alloc, olga, PolicyOp::Suspend(UserKey { user: 7 }))?;
+    Ok(answer.is_ok())
+}
+
+/// What that command answers in a bank, which then has the last version.
+pub fn last_command<S: Store>(
+    rt: &impl Abort,
+    alloc: Global,
+    bank: &mut Bank<S>,
+) -> Result<bool, Fault> {
+    let answer = suspend_tess(alloc, bank);
+    assert!(rt; bank.store.version(alloc) == Ok(MAX_VERSION));
+    answer
 }

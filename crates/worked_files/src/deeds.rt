@@ -1,0 +1,126 @@
+//! What is done with the bank of a database whose disk may fail, and what comes of it.
+//!
+//! All of it goes through one call at the type of the database, and one at that of its store: at each function that makes
+//! such a call the prover shows anew that they give what is asked of them, which takes half a minute.
+
+use crate::bank::{last_command, work};
+use crate::disks::Frail;
+use crate::serving::answered;
+use crate::streams::Exchange;
+use crate::tellings::{Tale, told};
+use adopt_sql::{AdoptFault, adopt, adopt_bank};
+use money::Fault;
+use open_sql::{OpenFault, make_bank};
+use sample_bank::sample_world;
+use sqlite::{Alter, Connection};
+use std::alloc::Global;
+use std::process::Abort;
+use store_rows::Bank;
+use store_sql::SqlStore;
+
+/// What is done with a database.
+#[derive(Clone, Copy, Debug)]
+pub enum Deed<'a> {
+    /// The sample bank is made there.
+    Make,
+    /// The tables are changed by these statements.
+    Change(&'a str),
+    /// A bank is looked for.
+    Find,
+    /// A store takes the bank unseen.
+    Open(Act<'a>),
+    /// The bank is adopted.
+    Adopt(Act<'a>),
+}
+
+/// What is done with a bank.
+#[derive(Clone, Copy, Debug)]
+pub enum Act<'a> {
+    /// The post and the release of the worked bank are carried out.
+    Work,
+    /// These requests are served.
+    Serve(&'a [Exchange]),
+    /// One more command is given, the last that the version has room for.
+    Command,
+    /// The bank tells of itself.
+    Tell,
+}
+
+/// What comes of it.
+#[derive(Drop)]
+pub enum Outcome {
+    /// It was done.
+    Done,
+    /// Whether the bank was made: the disk may have failed.
+    Made(bool),
+    /// Whether a bank was found.
+    Found(Result<(), AdoptFault>),
+    /// How many requests got their reply.
+    Served(usize),
+    /// What the command answers: whether no rule denies it.
+    Commanded(Result<bool, Fault>),
+    /// What the bank tells.
+    Told(Tale),
+}
+
+fn made<S: Alter>(rt: &impl Abort, alloc: Global, conn: &mut Connection<S>) -> Outcome {
+    assert!(rt; conn.is_autocommit());
+    let world = sample_world(alloc).expect(rt, "memory");
+    let outcome = make_bank(alloc, conn, &world);
+    assert!(rt; outcome.is_ok() || outcome == Err(OpenFault::Fault(Fault::Disk)));
+    Outcome::Made(outcome.is_ok())
+}
+
+fn changed<S: Alter>(rt: &impl Abort, conn: &mut Connection<S>, change: &str) -> Outcome {
+    if let Err(error) = conn.execute_batch(change) {
+        panic!(rt; "{change}: {error}");
+    }
+    Outcome::Done
+}
+
+/// Does this with the bank of a store.
+fn done_over<S: Alter>(
+    rt: &impl Abort,
+    alloc: Global,
+    store: SqlStore<S>,
+    act: Act<'_>,
+) -> (Outcome, Connection<S>) {
+    let mut bank = Bank { store };
+    let outcome = match act {
+        Act::Work => {
+            work(rt, alloc, &mut bank.store);
+            Outcome::Done
+        }
+        Act::Serve(stream) => Outcome::Served(answered(rt, alloc, &mut bank, stream)),
+        Act::Command => Outcome::Commanded(last_command(rt, alloc, &mut bank)),
+        Act::Tell => Outcome::Told(told(rt, alloc, &mut bank.store)),
+    };
+    (outcome, bank.store.into_connection())
+}
+
+/// Does this with a database. Where its bank is not adopted, the connection is gone.
+fn done<S: Alter + Drop>(
+    rt: &impl Abort,
+    alloc: Global,
+    mut conn: Connection<S>,
+    deed: Deed<'_>,
+) -> Result<(Outcome, Connection<S>), AdoptFault> {
+    assert!(rt; conn.is_autocommit());
+    match deed {
+        Deed::Make => Ok((made(rt, alloc, &mut conn), conn)),
+        Deed::Change(change) => Ok((changed(rt, &mut conn, change), conn)),
+        Deed::Find => Ok((Outcome::Found(adopt_bank(alloc, &mut conn)), conn)),
+        Deed::Open(act) => Ok(done_over(rt, alloc, SqlStore::over(conn), act)),
+        Deed::Adopt(act) => Ok(done_over(rt, alloc, adopt(alloc, conn)?, act)),
+    }
+}
+
+/// Does this with files, and answers what came of it, and the connection. It is lost where their bank is not adopted.
+pub fn done_with(
+    rt: &impl Abort,
+    alloc: Global,
+    conn: Frail,
+    deed: Deed<'_>,
+) -> Result<(Outcome, Frail), AdoptFault> {
+    done(rt, alloc, conn, deed)
+}

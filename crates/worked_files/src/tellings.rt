@@ -1,0 +1,106 @@
+//! What a bank tells of itself. Two banks are compared by this.
+
+use crate::deeds::{Act, Deed, Outcome, done_with};
+use crate::disks::{Held, let_go, reopened};
+use adopt_sql::AdoptFault;
+use money::Fault;
+use std::alloc::Global;
+use std::fmt::Debug;
+use std::process::Abort;
+use store_rows::Store;
+
+/// What a bank tells.
+#[derive(PartialEq, Eq, Drop)]
+pub struct Tale {
+    /// Of its books and of its policy.
+    text: String,
+    /// What account 101 holds, in cents.
+    pub balance: Option<i128>,
+    /// Which account the first release of Tess is for.
+    pub released: Option<i64>,
+}
+
+/// Tells an answer in a line of its own.
+fn tell<A: Debug + Drop>(
+    rt: &impl Abort,
+    alloc: Global,
+    text: &mut String,
+    answer: Result<A, Fault>,
+) {
+    let answer = answer.expect(rt, "no fault");
+    let line = format!(in alloc; "{answer:?}\n").expect(rt, "memory");
+    assert!(rt; text.push_str(line.as_str()).is_ok());
+}
+
+/// Tells the balances, the cash and the counts of entries of the sample's accounts, tellers and branches, the days of
+/// these, and who holds which drawer.
+fn tell_places<S: Store>(rt: &impl Abort, alloc: Global, bank: &mut S, text: &mut String) {
+    for account in [101, 102, 201] {
+        tell(rt, alloc, text, bank.account(alloc, account));
+    }
+    for teller in [11, 12, 21] {
+        tell(rt, alloc, text, bank.teller(alloc, teller));
+    }
+    for branch in [1, 2] {
+        tell(rt, alloc, text, bank.branch(alloc, branch));
+    }
+    for teller in [11, 12] {
+        tell(rt, alloc, text, bank.drawer(alloc, teller));
+    }
+}
+
+/// Tells the first entries of branch 1, which of them are undone, and those of account 101.
+fn tell_history<S: Store>(rt: &impl Abort, alloc: Global, bank: &mut S, text: &mut String) {
+    for number in [1, 2, 3] {
+        tell(rt, alloc, text, bank.entry(alloc, 1, number));
+        tell(rt, alloc, text, bank.undone(alloc, 1, number));
+    }
+    tell(rt, alloc, text, bank.entries_of(alloc, 101, 1, 9));
+}
+
+/// Tells who has a session open, the first releases of Tess and Tom, the rows of the policy, and what Tess may do.
+fn tell_policy<S: Store>(rt: &impl Abort, alloc: Global, bank: &mut S, text: &mut String) {
+    for user in [7, 8, 9] {
+        tell(rt, alloc, text, bank.user(alloc, user));
+    }
+    for user in [7, 8] {
+        tell(rt, alloc, text, bank.release(alloc, user, 1));
+    }
+    tell(rt, alloc, text, bank.policy_rows(alloc));
+    tell(rt, alloc, text, bank.shown(alloc, 7, 0, 9));
+}
+
+/// What account 101 holds.
+fn balance<S: Store>(rt: &impl Abort, alloc: Global, bank: &mut S) -> Option<i128> {
+    let account = bank.account(alloc, 101).expect(rt, "no fault")?;
+    Some(account.balance)
+}
+
+/// Which account the first release of Tess is for.
+fn released<S: Store>(rt: &impl Abort, alloc: Global, bank: &mut S) -> Option<i64> {
+    let release = bank.release(alloc, 7, 1).expect(rt, "no fault")?;
+    Some(release.operation.members[0])
+}
+
+/// What a bank tells.
+pub fn told<S: Store>(rt: &impl Abort, alloc: Global, bank: &mut S) -> Tale {
+    let mut text = String::new(alloc);
+    tell_places(rt, alloc, bank, &mut text);
+    tell_history(rt, alloc, bank, &mut text);
+    tell_policy(rt, alloc, bank, &mut text);
+    Tale {
+        text,
+        balance: balance(rt, alloc, bank),
+        released: released(rt, alloc, bank),
+    }
+}
+
+/// What the bank tells that these files hold, opened anew and adopted.
+pub fn told_anew(rt: &impl Abort, alloc: Global, held: &Held) -> Result<Tale, AdoptFault> {
+    let (outcome, conn) = done_with(rt, alloc, reopened(rt, alloc, held), Deed::Adopt(Act::Tell))?;
+    let _ = let_go(conn);
+    match outcome {
+        Outcome::Told(tale) => Ok(tale),
+        _ => panic!(rt; "a tale"),
+    }
+}
