@@ -70,18 +70,32 @@ module _ (books : BookRows) (tables : PolicyTables) (version : ℕ) where
     certifiers = is.certifiers;
   }
 
-  pub named_of_policy : {X : Type 0} (r : Result X AdoptFault) (policy : PolicyLists) → AreBooksJudged s (Ok tt) → ((other : PolicyLists) → IsPolicyIn s other → IsPolicyKeepable other → other ≡ policy)
-      → IfErr r (IsOfPolicy policy) → IfErr r (IsNamedBy s)
-  named_of_policy (Ok x) policy hold one of = tt
-  named_of_policy (Err (Policy fault)) policy hold one of = (hold, λ other is can. subst (λ p. IsPolicyVerdict p (Err fault)) (sym (one other is can)) of)
-  named_of_policy (Err (Books fault)) policy hold one of = absurd of
-  named_of_policy (Err (Fault fault)) policy hold one of = absurd of
-  named_of_policy (Err NotABank) policy hold one of = of
-  named_of_policy (Err Version) policy hold one of = of
+  -- and that of the tables is the policy of the rows
+  pub policy_in_rows : (users : List KeptUser) → users ≡ books.users.users.items → (policy : PolicyLists) → IsPolicyOf users tables policy → IsPolicyIn s policy
+  policy_in_rows users read policy of = record {
+    users = of.users_are ∙ ap (map (λ (u : KeptUser). u.row)) read;
+    sets = of.sets;
+    relations = of.relations;
+    triples = of.triples;
+    certifiers = of.certifiers;
+  }
+
+  pub named_of_policy : {X : Type 0} (r : Result X AdoptFault) (policy : PolicyLists) → AreBooksJudged s (Ok tt) → IsPolicyIn s policy
+      → ((other : PolicyLists) → IsPolicyIn s other → IsPolicyKeepable other → other ≡ policy) → IfErr r (IsOfPolicy policy) → IfErr r (IsNamedBy s)
+  named_of_policy (Ok x) policy hold there one of = tt
+  named_of_policy (Err (Policy fault)) policy hold there one of = record {
+    books = hold;
+    told = λ other is can. subst (λ p. IsPolicyVerdict p (Err fault)) (sym (one other is can)) of;
+    untold = λ none. absurd (none policy there);
+  }
+  named_of_policy (Err (Books fault)) policy hold there one of = absurd of
+  named_of_policy (Err (Fault fault)) policy hold there one of = absurd of
+  named_of_policy (Err NotABank) policy hold there one of = of
+  named_of_policy (Err Version) policy hold there one of = of
 
   pub named_of_none : (fault : AdoptFault) → ((other : PolicyLists) → IsPolicyIn s other → IsPolicyKeepable other → ⊥) → IsOfNoPolicy s fault → IsNamedBy s fault
   named_of_none (Books fault) none of = of
-  named_of_none (Policy fault) none of = (of.0, λ other is can. absurd (none other is can))
+  named_of_none (Policy fault) none of = record { books = of.0; told = λ other is can. absurd (none other is can); untold = λ no. of.1 }
   named_of_none (Fault fault) none of = tt
   named_of_none NotABank none of = of
   named_of_none Version none of = of

@@ -1,5 +1,5 @@
 -- Reads of which the last leaves nothing to be read.
-use Rattle.std.proofs.Common.{◌≡◌, ℕ, ℤ, pos, [], ◌∷◌, Ok, Err, IsErr, IfErr, IfOk, IsTrue, OnOk, Option, Some, Result, sym, ap, ap₂, ◌∙◌, subst}
+use Rattle.std.proofs.Common.{◌≡◌, ℕ, ℤ, pos, [], ◌∷◌, Ok, Err, IsErr, IfErr, IsErrAnd, IfOk, IsTrue, OnOk, Option, Some, Result, refl, sym, ap, ap₂, ◌∙◌, subst}
 use Rattle.std.specs.Prelude.{⊤}
 use Rattle.sqlite.specs.Effect.{Database, IsDatabase}
 use Rattle.sqlite.specs.State.{HasCleanDisk, IsLive, IsRolledBack, IsUnchanged, KeepsCommit, State, Survives}
@@ -11,9 +11,9 @@ use Rattle.whole_tables.specs.Whole.{HasBankTables, IsKeptTable, Reads}
 use Rattle.whole_tables.specs.declared.bank.BankRow.{BankRow}
 use Rattle.whole_tables.proofs.ReadsLemmas.{Done, Gave, done_then, gave_then, still_bank}
 use Rattle.adopt_sql.specs.Adopted.{IsBankFile, IsBankNumber, IsBankRow, IsLeft, ReadsLast}
-use Rattle.adopt_sql.specs.Refused.{IsBeyondBankRow, IsRefused}
+use Rattle.adopt_sql.specs.Refused.{IsBeyondBankRow, IsOfStore, IsOutOfRange, IsRefused}
 use Rattle.adopt_sql.specs.declared.adopt_fault.AdoptFault.{AdoptFault}
-use Rattle.adopt_sql.specs.declared.adopt_fault.AdoptFault.TheVariants.{NotABank, Version}
+use Rattle.adopt_sql.specs.declared.adopt_fault.AdoptFault.TheVariants.{Books, Fault, NotABank, Policy, Version}
 
 abbrev pub Ends : State → State → (Trees → Type 0) → Type 0
 Ends old new says = HasCleanDisk new → HasBankTables old → says old.now.trees × KeepsCommit old new
@@ -57,15 +57,34 @@ pub reads_row : {E : Type 0} (old new : State) (found : Option BankRow) (r : Res
 reads_row old new found (Ok row) is it = (first_row old.now.trees found row is it.0, it.1, it.2)
 reads_row old new found (Err e) is it = (tt, tt, it.2)
 
--- a fault that says nothing of the row is lawful whatever the row is
-pub beyond_row : (db : Trees) (fault : AdoptFault) → IsBeyondBankRow fault → IsRefused db fault
-beyond_row db NotABank none = absurd none
-beyond_row db Version none = absurd none
-beyond_row db _ beyond = tt
+-- a fault of the database is lawful whatever the row is
+pub store_refused : (db : Trees) (fault : AdoptFault) → IsOfStore fault → IsRefused db fault
+store_refused db NotABank store = absurd store
+store_refused db Version store = absurd store
+store_refused db (Books fault) store = absurd store
+store_refused db (Policy fault) store = absurd store
+store_refused db (Fault fault) store = tt
 
-pub beyond_rows : {X : Type 0} (db : Trees) (r : Result X AdoptFault) → IfErr r IsBeyondBankRow → IfErr r (IsRefused db)
-beyond_rows db (Ok x) beyond = tt
-beyond_rows db (Err fault) beyond = beyond_row db fault beyond
+-- and a fault that says nothing of the row where that is one of the first version, with a count
+pub beyond_row : (db : Trees) (version : ℕ) → IsBankRow db version → (fault : AdoptFault) → IsBeyondBankRow fault → IsRefused db fault
+beyond_row db version row NotABank none = absurd none
+beyond_row db version row Version none = absurd none
+beyond_row db version row (Books fault) beyond = record { policy = pos version; row = row; range = λ none. absurd (none version refl) }
+beyond_row db version row (Policy fault) beyond = record { version = version; row = row }
+beyond_row db version row (Fault fault) beyond = tt
+
+pub beyond_rows : {X : Type 0} (db : Trees) (version : ℕ) → IsBankRow db version → (r : Result X AdoptFault) → IfErr r IsBeyondBankRow → IfErr r (IsRefused db)
+beyond_rows db version row (Ok x) beyond = tt
+beyond_rows db version row (Err fault) beyond = beyond_row db version row fault beyond
+
+pub handed_refused : {X : Type 0} (db : Trees) (r : Result X AdoptFault) (fault : AdoptFault) → IsErrAnd r (λ e. e ≡ fault) → IsRefused db fault → IfErr r (IsRefused db)
+handed_refused db (Ok x) fault same refused = tt
+handed_refused db (Err e) fault same refused = subst (IsRefused db) (sym same) refused
+
+-- the version of the policy is out of range where the row is one of the first version
+pub range_refused : {X : Type 0} (db : Trees) (policy : ℤ) → IsBankNumber db policy → (r : Result X AdoptFault) → IfErr r IsOutOfRange → IfErr r (IsRefused db)
+range_refused db policy number (Ok x) range = tt
+range_refused db policy number (Err fault) range = subst (IsRefused db) (sym range) (record { policy = policy; row = number; range = λ none. refl })
 
 -- the tables that are asked then, on a connection that the read of the row found open
 module _ (a b c : State) (P : Trees → Type 0) (survives : Survives b c (λ _. ⊥)) (first : Done a b P) where

@@ -22,10 +22,9 @@ use Rattle.whole_tables.specs.declared.bank.BankRow.{BankRow}
 use Rattle.whole_tables.specs.declared.book_rows.BookRows.{BookRows}
 use Rattle.whole_tables.specs.declared.policy_tables.PolicyTables.{PolicyTables}
 use Rattle.adopt_sql.specs.Adopted.{IsBankFile, IsBankNumber, IsBankRow, IsLeft}
-use Rattle.adopt_sql.specs.Refused.{HoldsSoundBank, IsBeyondBankRow, IsDropped, IsNamedBy, IsOfStore, IsRefused}
+use Rattle.adopt_sql.specs.Refused.{HoldsSoundBank, IsDropped, IsNamedBy, IsOfStore, IsRefused}
 use Rattle.adopt_sql.specs.Told.{sheets_read}
 use Rattle.adopt_sql.specs.declared.adopt_fault.AdoptFault.{AdoptFault}
-use Rattle.adopt_sql.specs.declared.adopt_fault.AdoptFault.TheVariants.{Books, Fault, NotABank, Policy, Version}
 
 -- ---- results
 
@@ -40,14 +39,6 @@ handed_fault (Err e) fault same store = subst IsOfStore (sym same) store
 pub handed_both : {X : Type 0} (r : Result X AdoptFault) (fault : AdoptFault) (P : X → Type 0) → IsErrAnd r (λ e. e ≡ fault) → IsOfStore fault → IfOk r P × IfErr r IsOfStore
 handed_both (Ok x) fault P same store = absurd same
 handed_both (Err e) fault P same store = (tt, subst IsOfStore (sym same) store)
-
--- a fault of the database says nothing of the row of the bank
-pub store_beyond : (fault : AdoptFault) → IsOfStore fault → IsBeyondBankRow fault
-store_beyond NotABank store = store
-store_beyond Version store = store
-store_beyond (Books fault) store = tt
-store_beyond (Policy fault) store = tt
-store_beyond (Fault fault) store = tt
 
 pub dropped : {X C : Type 0} (shows : C → State) (conn last : C) (r : Result X AdoptFault) (fault : AdoptFault) → IsErrAnd r (λ e. e ≡ fault) → Survives (shows conn) (shows last) (λ _. ⊥)
     → (HasCleanDisk (shows last) → IsBankFile (shows conn) → IsLeft (shows conn) (shows last)) → (HasCleanDisk (shows last) → IsBankFile (shows conn) → IsRefused (shows conn).now.trees fault)

@@ -1,5 +1,5 @@
 -- What it tells of a file that it is refused.
-use Rattle.std.specs.Prelude.{pos, ◌≡◌, ◌≢◌, [], ◌∷◌, IfErr, Ok, Err, Result, ⊤}
+use Rattle.std.specs.Prelude.{ℕ, ℤ, pos, ◌≡◌, ◌≢◌, [], ◌∷◌, IfErr, Ok, Err, Result, ⊤}
 use Rattle.sqlite.specs.Effect.{Database}
 use Rattle.sqlite.specs.State.{HasCleanDisk, State, Survives}
 use Rattle.sqlite.specs.Tree.{Trees}
@@ -8,26 +8,47 @@ use Rattle.bank_books.specs.Books.{Books as BooksHold}
 use Rattle.bank_books.specs.Records.{KeptLists}
 use Rattle.bank_books.specs.WorldLists.{WorldLists}
 use Rattle.book_check.specs.Verdict.{IsVerdict}
+use Rattle.book_check.specs.declared.check.BooksFault.{BooksFault}
+use Rattle.book_check.specs.declared.check.BooksFault.TheVariants.{Range}
 use Rattle.bank_schema.specs.Held.{HoldsSheets, HoldsWorld}
 use Rattle.bank_schema.specs.Readable.{AreReadable}
 use Rattle.kept_rows.specs.Keepable.{IsPolicyKeepable}
 use Rattle.kept_rows.specs.Sheets.{Sheets, sheets_of}
 use Rattle.policy_check.specs.PolicyVerdict.{IsPolicyVerdict}
+use Rattle.policy_check.specs.declared.policy_fault.PolicyFault.{PolicyFault}
 use Rattle.policy_check.specs.declared.policy_fault.PolicyFault.TheVariants.{Dangling}
 use Rattle.whole_tables.specs.BankRow.{bank_row_cells}
 use Rattle.whole_tables.specs.Whole.{HasBankTables}
 use Rattle.whole_tables.specs.declared.bank.BankRow.{BankRow}
-use Rattle.adopt_sql.specs.Adopted.{IsBankFile, IsLeft}
+use Rattle.adopt_sql.specs.Adopted.{IsBankFile, IsBankNumber, IsBankRow, IsLeft}
 use Rattle.adopt_sql.specs.declared.adopt_fault.AdoptFault.{AdoptFault}
 use Rattle.adopt_sql.specs.Told.{AreBooksJudged, IsPolicyIn}
 use Rattle.adopt_sql.specs.declared.adopt_fault.AdoptFault.TheVariants.{Books, Fault, NotABank, Policy, Version}
 
--- It is no bank where its table has not the one row of a bank, it is of another version where that row says so, and every other fault says
--- nothing of the row.
+-- Of the books it is told where the row of the bank is of the first version, and that they are out of range where its version of the policy
+-- is no count.
+pub record TellsOfBooks (db : Trees) (fault : BooksFault) : Type 0 where
+  pub policy : ℤ
+  pub row : IsBankNumber db policy
+  pub range : ((version : ℕ) → policy ≢ pos version) → fault ≡ Range
+
+-- and of the policy where that is one
+pub record TellsOfPolicy (db : Trees) : Type 0 where
+  pub version : ℕ
+  pub row : IsBankRow db version
+
+-- It is no bank where its table has not the one row of a bank, it is of another version where that row says so, and no other fault but one of
+-- the database is told before these.
 abbrev pub IsRefused : Trees → AdoptFault → Type 0
 IsRefused db NotABank = (b : BankRow) → b.id ≡ pos 1 → db 0 ≢ bank_row_cells b ∷ []
 IsRefused db Version = (b : BankRow) × (b.id ≡ pos 1) × (b.version ≢ pos 1) × (db 0 ≡ bank_row_cells b ∷ [])
-IsRefused db _ = ⊤
+IsRefused db (Books fault) = TellsOfBooks db fault
+IsRefused db (Policy _) = TellsOfPolicy db
+IsRefused db (Fault _) = ⊤
+
+-- the books are out of range
+abbrev pub IsOutOfRange : AdoptFault → Type 0
+IsOutOfRange fault = fault ≡ Books Range
 
 -- the fault says nothing of the row of the bank
 abbrev pub IsBeyondBankRow : AdoptFault → Type 0
@@ -74,15 +95,21 @@ IsOfNoPolicy s (Policy fault) = AreBooksJudged s (Ok tt) × (fault ≡ Dangling)
 IsOfNoPolicy s (Fault _) = ⊤
 IsOfNoPolicy s _ = ⊥
 
--- Of rows that were read: the first fault of the books, or where these hold the first of the policy, which is that it dangles where the rows
--- are of no policy. A fault of the database may come at any point.
+-- The books of these rows hold, and it is the first fault of the policy that they tell, or that it dangles where they tell none.
+pub record IsOfPolicyIn (s : Sheets) (fault : PolicyFault) : Type 0 where
+  pub books : AreBooksJudged s (Ok tt)
+  pub told : (policy : PolicyLists) → IsPolicyIn s policy → IsPolicyKeepable policy → IsPolicyVerdict policy (Err fault)
+  pub untold : ((policy : PolicyLists) → IsPolicyIn s policy → ⊥) → fault ≡ Dangling
+
+-- Of rows that were read: the first fault of the books, or where these hold the first of the policy. A fault of the database may come at any
+-- point.
 abbrev pub IsNamedBy : Sheets → AdoptFault → Type 0
 IsNamedBy s (Books fault) = AreBooksJudged s (Err fault)
-IsNamedBy s (Policy fault) = AreBooksJudged s (Ok tt) × ((policy : PolicyLists) → IsPolicyIn s policy → IsPolicyKeepable policy → IsPolicyVerdict policy (Err fault))
+IsNamedBy s (Policy fault) = IsOfPolicyIn s fault
 IsNamedBy s (Fault _) = ⊤
 IsNamedBy s _ = ⊥
 
--- A connection that was refused for this fault was dropped as it was then, and nothing was changed. `shows` gives the state of a connection.
+-- There was such a connection, on which nothing was changed, when this fault was told of it. `shows` gives the state of a connection.
 pub record IsDropped {C : Type 0} (shows : C → State) (conn : C) (fault : AdoptFault) : Type 0 where
   pub last : C
   pub survives : Survives (shows conn) (shows last) (λ _. ⊥)

@@ -10,8 +10,9 @@ use sqlite::{Alter, Connection};
 use std::alloc::Global;
 use store_sql::SqlStore;
 
-/// The store of the bank that stands in the database. It is refused as `adopt_bank` says; the connection is
-/// then dropped, and nothing was changed.
+/// The store of the bank that stands in the database. It is refused as `adopt_bank` says, and the connection
+/// is then dropped as that left it, with nothing changed. No clause speaks of a connection that is gone:
+/// `dropped` says that there was one of which this fault was told so.
 pub fn adopt<S: Alter + Drop>(
     alloc: Global,
     mut conn: Connection<S>,

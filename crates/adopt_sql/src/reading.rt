@@ -12,7 +12,7 @@ ghost use Rattle.whole_tables.specs.BookRows.{AreBookRows};
 ghost use Rattle.whole_tables.specs.BankRow.{IsBankTable};
 ghost use Rattle.whole_tables.specs.Whole.{OnReadable, Reads};
 ghost use Rattle.adopt_sql.specs.Adopted.{AreFileRows, IsBankFile, IsBankNumber, IsBankRow, IsLeft, ReadsLast};
-ghost use Rattle.adopt_sql.specs.Refused.{IsBeyondBankRow, IsOfStore, IsRefused, RefusesFor};
+ghost use Rattle.adopt_sql.specs.Refused.{IsBeyondBankRow, IsOfStore, IsOutOfRange, IsRefused, RefusesFor};
 
 use crate::adopt_fault::{AdoptFault, books_unread, table_unread};
 use book_check::BooksFault;
@@ -70,7 +70,7 @@ fn told_row<S: Alter>(tx: &mut Transaction<'_, S>) -> Result<BankRow, AdoptFault
 fn version_in(row: &BankRow) -> Result<u64, AdoptFault>
     ensures number { IfOk result (λ version. row.now.policy ≡ pos version) }
     ensures none { IfErr result (λ _. (version : ℕ) → row.now.policy ≢ pos version) }
-    ensures beyond { IfErr result IsBeyondBankRow }
+    ensures range { IfErr result IsOutOfRange }
 {
     match u64::try_from(row.policy) {
         Ok(version) => Ok(version),

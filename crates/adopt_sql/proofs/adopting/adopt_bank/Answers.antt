@@ -9,6 +9,7 @@ use Rattle.adopt_sql.specs.Told.{IsBankOf, sheets_read}
 use Rattle.adopt_sql.proofs.AdoptLemmas.{adopted}
 use Rattle.adopt_sql.specs.Refused.{IsNamedBy}
 use Rattle.adopt_sql.proofs.NamedLemmas.{handed_named, held_books, held_users}
+use Rattle.adopt_sql.proofs.ReadingLemmas.{beyond_row, beyond_rows}
 use Rattle.adopt_sql.proofs.SetLemmas.{some_is}
 use Rattle.adopt_sql.proofs.TakenLemmas.{handed_fault, sheets_are_read}
 use Rattle.adopt_sql.proofs.adopting.adopt_bank.Goals as goal
@@ -24,6 +25,16 @@ returns-in-Some-clause-adopts g c clean file =
     (λ bank. adopted old new rows.books tables rows.version file (c.in_ok-rows.ensures.sound clean) read.version read.books (some_is rows.policy tables (ArePolicyTables old.now.trees) read.policy c.in-Some.is) bank (c.in_ok-rows.ensures.left clean file)
     (λ trees may. g.met.S.Store.settled c.args.conn.now.store trees (c.in_ok-rows.ensures.open clean) (survived old new c.read_file.ensures.survives clean trees may)))
     c.judge.ensures.bank
+
+pub returns-in-Some-clause-refused : goal.returns-in-Some-clause-refused
+returns-in-Some-clause-refused g c clean file =
+    let db = (state g.S.Store c.args.conn.now).now.trees in
+    beyond_rows db c.in_ok-rows.rows.version (c.in_ok-rows.ensures.whole clean file).version c.judge.result c.judge.ensures.beyond
+
+pub returns-in-None-clause-refused : goal.returns-in-None-clause-refused
+returns-in-None-clause-refused g c clean file =
+    let db = (state g.S.Store c.args.conn.now).now.trees in
+    beyond_row db c.in_ok-rows.rows.version (c.in_ok-rows.ensures.whole clean file).version c.with_no_policy.result c.with_no_policy.ensures.beyond
 
 pub returns-in_err-rows-clause-sound : goal.returns-in_err-rows-clause-sound
 returns-in_err-rows-clause-sound g c clean file bank =

@@ -8,7 +8,7 @@ use Rattle.kept_rows.specs.declared.records.KeptUser.{KeptUser}
 use Rattle.policy_check.specs.PolicyVerdict.{IsPolicyVerdict}
 use Rattle.adopt_sql.specs.Refused.{IsOfPolicy}
 use Rattle.adopt_sql.specs.Told.{IsBankOf, IsPolicyOf, kept_read, sheets_read, world_read}
-use Rattle.adopt_sql.proofs.NamedLemmas.{judged, named_of_books, named_of_none, named_of_policy, policy_of_tables}
+use Rattle.adopt_sql.proofs.NamedLemmas.{judged, named_of_books, named_of_none, named_of_policy, policy_in_rows, policy_of_tables}
 use Rattle.adopt_sql.proofs.SetLemmas.{some_is}
 use Rattle.adopt_sql.proofs.SoundLemmas.{books_in_order, books_or_store, keepable_told, policy_is, policy_or_store, policy_told, verdict_told}
 use Rattle.adopt_sql.proofs.ToldLemmas.{both_ok, is_bank}
@@ -57,7 +57,7 @@ returns-in_ok-bank-in-Some-clause-named c order users =
     let told = some_is c.in-Ok.found policy (IsPolicyOf c.deref.result.now c.args.tables) c.in-Ok.ensures.told c.in-Some.is in
     let hold = judged c.args.books c.args.tables c.args.version policy (told.users_are ∙ ap (map (λ (u : KeptUser). u.row)) c.deref.ensures.value) bank.world bank.kept
     c.in_ok-bank-in-Some.ensures.world c.in_ok-bank-in-Some.ensures.kept c.in_ok-bank-in-Some.ensures.verdict in
-    named_of_policy c.args.books c.args.tables c.args.version c.judge_policy.result policy hold
+    named_of_policy c.args.books c.args.tables c.args.version c.judge_policy.result policy hold (policy_in_rows c.args.books c.args.tables c.args.version c.deref.result.now c.deref.ensures.value policy told)
     (λ other is can. same_Some other policy (sym (c.in-Ok.ensures.found other (policy_of_tables c.args.books c.args.tables c.args.version c.deref.result.now c.deref.ensures.value other is) can) ∙ c.in-Some.is))
     (subst (λ (w : WorldLists). IfErr c.judge_policy.result (IsOfPolicy w.policy)) c.in_ok-bank-in-Some.ensures.world c.judge_policy.ensures.named)
 

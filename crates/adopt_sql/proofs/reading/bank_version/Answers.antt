@@ -3,8 +3,8 @@ use Rattle.bank_schema.specs.Held.Sheet.{bank as in_bank}
 use Rattle.bank_schema.proofs.StepLemmas.{early}
 use Rattle.whole_tables.specs.Faults.{IsOfDatabase}
 use Rattle.adopt_sql.specs.Adopted.{IsBankNumber}
-use Rattle.adopt_sql.proofs.ReadingLemmas.{asked_gave, asked_then, asked_there, beyond_row, beyond_rows, reads_version}
-use Rattle.adopt_sql.proofs.TakenLemmas.{counted, store_beyond}
+use Rattle.adopt_sql.proofs.ReadingLemmas.{asked_gave, asked_then, asked_there, range_refused, reads_version, store_refused}
+use Rattle.adopt_sql.proofs.TakenLemmas.{counted}
 use Rattle.adopt_sql.proofs.reading.bank_version.Goals as goal
 
 pub returns-in-Ok-clause-whole : goal.returns-in-Ok-clause-whole
@@ -23,15 +23,19 @@ returns-in-Err-clause-whole g c clean has =
     (tt, tt, asked_gave s0 s1 s2 (λ db. IsBankNumber db c.in_ok-row.row.policy) c.ask_tables.ensures.survives c.in_ok-row.ensures.whole (λ is_open clean has. (c.in-Err.ensures.whole is_open clean has).2) clean has)
 
 pub returns-in-Ok-clause-refused : goal.returns-in-Ok-clause-refused
-returns-in-Ok-clause-refused g c clean has = beyond_rows (state g.S.Store c.args.tx.now.conn.now).now.trees c.version_in.result c.version_in.ensures.beyond
+returns-in-Ok-clause-refused g c clean has =
+    let s0 = state g.S.Store c.args.tx.now.conn.now in
+    let s1 = state g.S.Store c.told_row.new.tx.conn.now in
+    let s2 = state g.S.Store c.ask_tables.new.tx.conn.now in
+    range_refused s0.now.trees c.in_ok-row.row.policy (c.in_ok-row.ensures.whole (early s1 s2 _ c.ask_tables.ensures.survives clean) has).0 c.version_in.result c.version_in.ensures.range
 
 pub returns-in-Err-clause-refused : goal.returns-in-Err-clause-refused
 returns-in-Err-clause-refused g c clean has =
     let s0 = state g.S.Store c.args.tx.now.conn.now in
     let s1 = state g.S.Store c.told_row.new.tx.conn.now in
     let s2 = state g.S.Store c.ask_tables.new.tx.conn.now in
-    beyond_row s0.now.trees c.table_unread.result
-    (store_beyond c.table_unread.result (c.table_unread.ensures (asked_there s0 s1 s2 (λ db. IsBankNumber db c.in_ok-row.row.policy) c.ask_tables.ensures.survives c.in_ok-row.ensures.whole (IsOfDatabase c.in-Err.fault) c.in-Err.ensures.there clean has)))
+    store_refused s0.now.trees c.table_unread.result
+    (c.table_unread.ensures (asked_there s0 s1 s2 (λ db. IsBankNumber db c.in_ok-row.row.policy) c.ask_tables.ensures.survives c.in_ok-row.ensures.whole (IsOfDatabase c.in-Err.fault) c.in-Err.ensures.there clean has))
 
 pub returns-in-Ok-clause-takes : goal.returns-in-Ok-clause-takes
 returns-in-Ok-clause-takes g c clean has s holds readable =

@@ -1,8 +1,8 @@
 use Rattle.sqlite.specs.Held.{state}
 use Rattle.bank_schema.specs.Held.Sheet.{bank as in_bank}
-use Rattle.adopt_sql.proofs.ReadingLemmas.{beyond_row, reads_row}
+use Rattle.adopt_sql.proofs.ReadingLemmas.{reads_row, store_refused}
 use Rattle.adopt_sql.specs.Refused.{IsOfStore}
-use Rattle.adopt_sql.proofs.TakenLemmas.{never_refused, store_beyond}
+use Rattle.adopt_sql.proofs.TakenLemmas.{never_refused}
 use Rattle.adopt_sql.proofs.reading.told_row.Goals as goal
 
 pub returns-in-Ok-clause-whole : goal.returns-in-Ok-clause-whole
@@ -14,7 +14,7 @@ returns-in-Ok-clause-refused g c clean has = c.first_version.ensures.refused (st
 
 pub returns-in-Err-clause-refused : goal.returns-in-Err-clause-refused
 returns-in-Err-clause-refused g c clean has =
-    beyond_row (state g.S.Store c.args.tx.now.conn.now).now.trees c.table_unread.result (store_beyond c.table_unread.result (c.table_unread.ensures (c.in-Err.ensures.there clean has)))
+    store_refused (state g.S.Store c.args.tx.now.conn.now).now.trees c.table_unread.result (c.table_unread.ensures (c.in-Err.ensures.there clean has))
 
 pub returns-in-Ok-clause-takes : goal.returns-in-Ok-clause-takes
 returns-in-Ok-clause-takes g c clean has s holds readable =
