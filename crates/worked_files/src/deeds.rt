@@ -4,7 +4,6 @@
 //! such a call the prover shows anew that they give what is asked of them, which takes half a minute.
 
 use crate::bank::{last_command, work};
-use crate::disks::Frail;
 use crate::serving::answered;
 use crate::streams::Exchange;
 use crate::tellings::{Tale, told};
@@ -12,7 +11,8 @@ use adopt_sql::{AdoptFault, adopt, adopt_bank};
 use money::Fault;
 use open_sql::{OpenFault, make_bank};
 use sample_bank::sample_world;
-use sqlite::{Alter, Connection};
+use sqlite::{Alter, Connection, FileStore};
+use sqlite_disk::Disk;
 use std::alloc::Global;
 use std::process::Abort;
 use store_rows::Bank;
@@ -116,11 +116,11 @@ fn done<S: Alter + Drop>(
 }
 
 /// Does this with files, and answers what came of it, and the connection. It is lost where their bank is not adopted.
-pub fn done_with(
+pub fn done_with<D: Disk + Drop>(
     rt: &impl Abort,
     alloc: Global,
-    conn: Frail,
+    conn: Connection<FileStore<D>>,
     deed: Deed<'_>,
-) -> Result<(Outcome, Frail), AdoptFault> {
+) -> Result<(Outcome, Connection<FileStore<D>>), AdoptFault> {
     done(rt, alloc, conn, deed)
 }

@@ -119,7 +119,7 @@ pub fn closed_by(rt: &impl Abort, alloc: Global, conn: Frail) -> Held {
 }
 
 /// The files of a connection that is let go, with nothing more done to them.
-pub fn let_go(conn: Frail) -> Failers {
+pub fn let_go<D: Disk + Drop>(conn: Connection<FileStore<D>>) -> Files<D> {
     conn.into_store().close()
 }
 
