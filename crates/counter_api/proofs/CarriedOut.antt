@@ -1,14 +1,12 @@
 -- What a crash may leave of a request that was decided and carried out.
-use Rattle.std.proofs.Common.{◌≡◌, ◌&&◌, Bool, true, false, is_none, inl, inr, Option, None, Some, Err, refl, ap, subst, sym, ◌∙◌}
+use Rattle.std.proofs.Common.{◌≡◌, ◌&&◌, Bool, true, false, is_none, inl, inr, Option, None, Some, Err, refl, ap, sym, ◌∙◌}
 use Rattle.bank_terms.specs.declared.rule.Rule.{Rule}
 use Rattle.money.specs.declared.fault.Fault.{Fault}
 use Rattle.bank_books.specs.WorldLists.{WorldLists}
-use Rattle.policy_ops.specs.declared.policy_op.PolicyOp.{PolicyOp}
 use Rattle.store_rows.specs.Status.{Keeps, Status, Tells}
 use Rattle.decide.specs.Permit.{CarriesOut, IsLeave, IsPermitOf, IsReplied}
-use Rattle.bank_run.specs.Requests.{commands, effect, executes, first, reply_text}
+use Rattle.bank_run.specs.Requests.{effect, executes, first, reply_text}
 use Rattle.bank_run.specs.Run.{if_allowed, is_accepted, reply, step, told}
-use Rattle.bank_run.specs.declared.request.Asked.TheVariants as asked
 use Rattle.decide.specs.declared.permit.Permit.{Permit}
 use Rattle.decide.specs.declared.permit.Reply.{Reply}
 use Rattle.bank_run.specs.declared.request.Request.{Request}
@@ -48,13 +46,6 @@ not_accepted w r rule mark = go (first w r) (is_none mark)
     go (Some denies) true is accepted = absurd cc
     go (Some denies) false is accepted = absurd cc
 
--- so nothing is asked of one that is denied; of a command no moment is looked at
-pub denied_finds : (old new : Status) (r : Request) (command : PolicyOp) (rule : Rule) (mark : Option Fault) → r.asked ≡ asked.Command command
-    → Tells old new (λ w. reply w (commands command r.who) ≡ Err rule) → Tells old new (FindsRoom r mark)
-denied_finds old new r command rule mark is denied honest w holds accepted =
-    absurd (not_accepted w (commands command r.who) rule mark (denied honest w holds)
-    (subst (λ a. is_accepted w (record { request = record { who = r.who; moment = r.moment; asked = a }; mark = mark }) ≡ true) is accepted))
-
--- of a command no moment is looked at
-pub settled_as_asked : (old new : Status) (r : Request) (command : PolicyOp) → r.asked ≡ asked.Command command → Settles old new (commands command r.who) None → Settles old new r None
-settled_as_asked old new r command is settled = subst (λ a. Settles old new (record { who = r.who; moment = r.moment; asked = a }) None) (sym is) settled
+-- so nothing is asked of one that is denied
+pub denied_finds : (old new : Status) (r : Request) (rule : Rule) (mark : Option Fault) → Tells old new (λ w. reply w r ≡ Err rule) → Tells old new (FindsRoom r mark)
+denied_finds old new r rule mark denied honest w holds accepted = absurd (not_accepted w r rule mark (denied honest w holds) accepted)

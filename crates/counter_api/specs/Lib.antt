@@ -1,4 +1,5 @@
 pub mod Answers
+pub mod CarriedOut
 pub mod Exit
 pub mod Fault
 pub mod Response

@@ -1,18 +1,20 @@
-ghost use Rattle.std.specs.Prelude.{◌≡◌, ◌≤◌, IsNone, IsOkUnless, IsSome, OnErr, OnOk};
+ghost use Rattle.std.specs.Prelude.{◌≡◌, ◌≤◌, OnErr, OnOk};
 ghost use Rattle.bank_terms.specs.Limits.{max_moment};
 ghost use Rattle.std.specs.Io.KnownBytes.{Appends};
 ghost use Rattle.money.specs.Counted.{AppendsBeginning, stream_of};
-ghost use Rattle.money.specs.declared.fault.Fault.TheVariants.{Memory};
 ghost use Rattle.bank_run.specs.Sums.{IsProper};
 ghost use Rattle.messages.specs.Failures.{CountsByCall};
-ghost use Rattle.store_rows.specs.Status.{Answers, StaysWhole, Tells, mark_of};
-ghost use Rattle.decide.specs.OneRequest.{LeavesBoth, Moves, Replies, Settles};
+ghost use Rattle.store_rows.specs.Status.{mark_of};
 ghost use Rattle.requests.specs.Request.{IsServedAsked};
-ghost use Rattle.counter_api.specs.Run.{FindsRoom, IsHandled, IsResponse, RefusesRequest, framed, parts_or_fault};
+ghost use Rattle.counter_api.specs.CarriedOut.{IsCarriedOut};
+ghost use Rattle.counter_api.specs.Run.{IsHandled, framed, parts_or_fault};
 
 use crate::clock::Clock;
 use crate::response::Response;
-use decide::{Asked, Decision, Reply, Request, begin, carry_out, decide, decide_policy, end};
+use decide::{
+    Asked, Decision, Op, PolicyOp, Reply, Request, Who, begin, carry_out, decide, decide_policy,
+    end,
+};
 use messages::{AnswerFault, Engine, Message};
 use money::{Fault, Tallied, WriteStopped};
 use requests::{Gate, stated_request};
@@ -40,42 +42,86 @@ fn carried_out<S: Store>(
 ) -> Result<Response, Fault>
     requires served { IsServedAsked request.asked }
     requires proper { IsProper request }
-    ensures answers { Answers (S.status bank.old.store) (S.status bank.new.store) (mark_of result) }
-    ensures moved { Moves (S.status bank.old.store) (S.status bank.new.store) request (mark_of result) }
-    ensures replied { Replies (S.status bank.old.store) (S.status bank.new.store) request IsResponse result }
-    ensures room { Tells (S.status bank.old.store) (S.status bank.new.store) (FindsRoom request (mark_of result)) }
-    ensures crash { LeavesBoth (S.status bank.old.store) (S.status bank.new.store) request }
-    ensures whole { StaysWhole (S.status bank.old.store) (S.status bank.new.store) }
-    ensures settled { Settles (S.status bank.old.store) (S.status bank.new.store) request (mark_of result) }
-    ensures refused { IsSome request.who.user → RefusesRequest (S.status bank.old.store).is_stopped (mark_of result) }
-    ensures stranger { IsNone request.who.user → IsOkUnless result Memory }
+    ensures { IsCarriedOut (S.status bank.old.store) (S.status bank.new.store) request result }
 {
     let Request { who, moment, asked } = request;
     match asked {
-        Asked::Operation(op) => match decide(bank, alloc, who, moment, &op) {
-            Ok(Decision::Denied(denial)) => Ok(Response::denied(alloc, denial.rule())?),
-            Ok(Decision::Allowed(permit)) => match carry_out(permit) {
-                Ok(Reply::Done(done)) => Ok(Response::done(done.into_body())),
-                Err(fault) => Err(fault),
-            },
-            Err(fault) => Err(fault),
-        },
-        Asked::Opening => match begin(bank, alloc, who.user) {
-            Ok(Ok(body)) => Ok(Response::done(body)),
-            Ok(Err(rule)) => Ok(Response::denied(alloc, rule)?),
-            Err(fault) => Err(fault),
-        },
-        Asked::Ending => match end(bank, alloc, who) {
-            Ok(Ok(body)) => Ok(Response::done(body)),
-            Ok(Err(rule)) => Ok(Response::denied(alloc, rule)?),
-            Err(fault) => Err(fault),
-        },
-        Asked::Command(command) => match decide_policy(bank, alloc, who, command) {
-            Ok(Ok(body)) => Ok(Response::done(body)),
-            Ok(Err(rule)) => Ok(Response::denied(alloc, rule)?),
-            Err(fault) => Err(fault),
-        },
+        Asked::Operation(op) => operation_done(bank, alloc, who, moment, &op),
+        Asked::Opening => session_opened(bank, alloc, who, moment),
+        Asked::Ending => session_ended(bank, alloc, who, moment),
+        Asked::Command(command) => command_done(bank, alloc, who, moment, command),
         Asked::Listing => unreachable!(),
+    }
+}
+
+/// Decides an operation, and carries it out where it is allowed.
+fn operation_done<S: Store>(
+    bank: &mut Bank<S>,
+    alloc: Global,
+    who: Who,
+    moment: u64,
+    op: &Op,
+) -> Result<Response, Fault>
+    requires served { IsServedAsked (Asked.Operation op.now) }
+    requires proper { IsProper (record { who = who; moment = moment; asked = Asked.Operation op.now }) }
+    ensures { IsCarriedOut (S.status bank.old.store) (S.status bank.new.store) (record { who = who; moment = moment; asked = Asked.Operation op.now }) result }
+{
+    match decide(bank, alloc, who, moment, op) {
+        Ok(Decision::Denied(denial)) => Ok(Response::denied(alloc, denial.rule())?),
+        Ok(Decision::Allowed(permit)) => match carry_out(permit) {
+            Ok(Reply::Done(done)) => Ok(Response::done(done.into_body())),
+            Err(fault) => Err(fault),
+        },
+        Err(fault) => Err(fault),
+    }
+}
+
+/// Opens a session for who asks, or tells the rule against that. The moment is not looked at.
+fn session_opened<S: Store>(
+    bank: &mut Bank<S>,
+    alloc: Global,
+    who: Who,
+    moment: u64,
+) -> Result<Response, Fault>
+    ensures { IsCarriedOut (S.status bank.old.store) (S.status bank.new.store) (record { who = who; moment = moment; asked = Asked.Opening }) result }
+{
+    match begin(bank, alloc, who.user) {
+        Ok(Ok(body)) => Ok(Response::done(body)),
+        Ok(Err(rule)) => Ok(Response::denied(alloc, rule)?),
+        Err(fault) => Err(fault),
+    }
+}
+
+/// Ends the session of who asks, or tells the rule against that. The moment is not looked at.
+fn session_ended<S: Store>(
+    bank: &mut Bank<S>,
+    alloc: Global,
+    who: Who,
+    moment: u64,
+) -> Result<Response, Fault>
+    ensures { IsCarriedOut (S.status bank.old.store) (S.status bank.new.store) (record { who = who; moment = moment; asked = Asked.Ending }) result }
+{
+    match end(bank, alloc, who) {
+        Ok(Ok(body)) => Ok(Response::done(body)),
+        Ok(Err(rule)) => Ok(Response::denied(alloc, rule)?),
+        Err(fault) => Err(fault),
+    }
+}
+
+/// Carries a command of the policy out, or tells the rule against it. The moment is not looked at.
+fn command_done<S: Store>(
+    bank: &mut Bank<S>,
+    alloc: Global,
+    who: Who,
+    moment: u64,
+    command: PolicyOp,
+) -> Result<Response, Fault>
+    ensures { IsCarriedOut (S.status bank.old.store) (S.status bank.new.store) (record { who = who; moment = moment; asked = Asked.Command command }) result }
+{
+    match decide_policy(bank, alloc, who, command) {
+        Ok(Ok(body)) => Ok(Response::done(body)),
+        Ok(Err(rule)) => Ok(Response::denied(alloc, rule)?),
+        Err(fault) => Err(fault),
     }
 }
 
