@@ -166,3 +166,25 @@ def without_bodies(text, found):
         at = it.end
     rest = "".join([*kept, text[at:]])
     return re.sub(r"//[^\n]*|^use [^;]*;|\s+", "", rest, flags=re.M)
+
+
+def calls_in(texts, homes):
+    """The functions of a crate that each of its functions may call, whose files' texts are given by their paths: those whose
+    last name stands in its body as that of a call does."""
+    found = [(it, blanked(text)[it.start : it.end]) for path, text in texts.items() for it in functions(text, path, homes)]
+    named = {}
+    for it, _ in found:
+        named.setdefault(it.name.split("::")[-1], set()).add(it.name)
+    called = lambda body: re.findall(r"\b(\w+)\s*(?:::\s*<[^;{}]*>\s*)?\(", body)
+    return {it.name: set().union(*(named.get(word, ()) for word in called(body))) for it, body in found}
+
+
+def reached(calls, names):
+    """These functions of a crate and all that they may call, one through another."""
+    left, found = [*names], set()
+    while left:
+        name = left.pop()
+        if name not in found:
+            found.add(name)
+            left += calls.get(name, ())
+    return found
