@@ -1,4 +1,4 @@
-use Rattle.std.proofs.Common.{rules, ◌∙◌, IsTrue, List, subst, sym}
+use Rattle.std.proofs.Common.{◌∙◌, IsTrue, List, subst, sym}
 use Rattle.sqlite.specs.Held.{state}
 use Rattle.bank_books.specs.Effects.{all_written}
 use Rattle.bank_books.specs.Version.{has_version_for}
@@ -30,6 +30,3 @@ returns-then-changes_policy-clause-room g c clean inside w holds =
 
 pub returns-else-changes_policy-clause-room : goal.returns-else-changes_policy-clause-room
 returns-else-changes_policy-clause-room g c clean inside w holds = room_unasked c.args.plan.now w.version (sym c.changes_policy.ensures ∙ c.if-changes_policy.false)
-
-pub returns-else-changes_policy-clause-moves : goal.returns-else-changes_policy-clause-moves
-returns-else-changes_policy-clause-moves g c = search rules
