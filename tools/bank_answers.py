@@ -298,7 +298,11 @@ def is_full(bank, request):
         return sum(home == request.body["branch"] for home, _, _ in bank.accounts.values()) == MOST_ACCOUNTS
     if request.kind == "close-day":
         return bank.days[request.body["branch"]] == MOST_DAY
-    return len(bank.entries) > MOST_KEY or len(bank.lines) > MOST_KEY
+    if "branch" not in request.body:
+        return False
+    bank, branch = after(bank, request)[0], request.body["branch"]
+    turns = [sum(it.account == account for it in bank.entries) for account in accounts_of(request.kind, request.body)]
+    return max(len(bank.entries_of(branch)), sum(it.branch == branch for it in bank.lines), *turns) > MOST_KEY
 
 
 RULES_OF_BOOKS = {

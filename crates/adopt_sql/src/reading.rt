@@ -160,6 +160,7 @@ pub(crate) fn read_file<S: Alter>(
     ensures sound { HasCleanDisk (state S.Store conn.new) → OnOk result (IsDatabase (state S.Store conn.old).now) }
     ensures survives { Survives (state S.Store conn.old) (state S.Store conn.new) (λ _. ⊥) }
 {
+    // With its schema a connection tells that its state is one that it can be in, which the clauses rest on.
     let _schema = conn.schema();
     let mut tx = conn.transaction();
     let rows = rows_inside(alloc, &mut tx);

@@ -41,11 +41,12 @@ pub enum Rule {
     Officer,
     /// Only a certifier of the procedure may do this.
     Certifier,
-    /// A user would execute what he certifies.
+    /// A user would execute what he certifies, or an officer would execute or certify something.
     Separation,
     /// A row that the command names is not there.
     PolicyUnknown,
-    /// A row that the command adds is there already, or a limit of the policy is reached.
+    /// A row that the command adds is there already, or a limit of the policy is reached; or who is to be suspended is who
+    /// asks or is suspended, or who is to be restored is not suspended.
     PolicyState,
 }
 

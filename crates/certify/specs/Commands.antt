@@ -36,7 +36,7 @@ names_officer rows = option_map_or (λ s. s.officer) rows.user false
 abbrev pub is_suspended : CommandRows → Bool
 is_suspended rows = option_map_or (λ s. s.suspended) rows.user false
 
--- Separation of duty: who would execute a procedure certifies it not, and has certified it nowhere; and an officer does neither.
+-- Separation of duty: who would execute a procedure is no certifier of it, and on no set is it certified by him; and an officer does neither.
 abbrev pub breaks_separation : CommandRows → PolicyOp → Bool
 breaks_separation rows (asked.DefineSet s) = false
 breaks_separation rows (asked.Certify k) = false

@@ -111,7 +111,7 @@ fn is_of_officers(command: &PolicyOp) -> bool
     }
 }
 
-/// Whether a user would execute what he certifies or has certified, or an officer would do either.
+/// Whether a user would execute what he may certify or what is certified by him, or an officer would do either.
 fn breaks_separation(rows: &CommandRows, command: &PolicyOp) -> bool
     ensures { result ≡ breaks_separation rows.now command.now }
 {

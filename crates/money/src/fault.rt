@@ -1,7 +1,7 @@
 use std::alloc::{AllocError, AllocFailed};
 use thiserror::Error;
 
-/// Why a call of a store, or one that forms a reply, gave up. Nothing has changed after one.
+/// Why a call of a store, or one that forms a reply, gave up. What the store stands for is as it was.
 #[derive(Clone, Copy, Debug, PartialEq, Eq, Error)]
 pub enum Fault {
     /// Memory was refused. The next call may succeed.
@@ -10,7 +10,8 @@ pub enum Fault {
     /// A size limit of the store was reached.
     #[error("a size limit is reached")]
     Size,
-    /// The disk failed. Every later call answers `Stopped` until the store is opened anew.
+    /// The disk failed. Every later call answers `Stopped` until the store is opened anew, and what it is then is either
+    /// as it was or as the call would have made it.
     #[error("the disk failed")]
     Disk,
     /// The store stopped at an earlier failure of its disk.

@@ -3,7 +3,7 @@ use money::Fault;
 use policy_check::PolicyFault;
 use thiserror::Error;
 
-/// Why a bank is not opened.
+/// Why a bank is not made.
 #[derive(Clone, Copy, Debug, PartialEq, Eq, Error)]
 pub enum OpenFault {
     /// The books do not hold.

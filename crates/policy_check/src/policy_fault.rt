@@ -13,8 +13,8 @@ pub enum PolicyFault {
         /// The procedure.
         procedure: Procedure,
     },
-    /// In a sound policy, this officer has a triple, is a certifier or has certified a relation. No officer of a lesser
-    /// number does.
+    /// In a sound policy, this officer has a triple, is a certifier, or a relation stands by him. It is the officer of
+    /// the least number of whom that is so.
     #[error("officer holds, user {user}")]
     OfficerHolds {
         /// The officer.

@@ -6,7 +6,7 @@ ghost use Rattle.policy_check.specs.Separation.{BreaksSeparation, Certifies, Has
 use bank_policy::{Policy, User};
 use bank_terms::Procedure;
 
-/// The least officer who has a triple, is a certifier or has certified a relation.
+/// The least officer who has a triple, is a certifier, or by whom a relation stands.
 pub(crate) fn first_officer(policy: &Policy) -> Option<u32>
     ensures { MatchOption result ((user : ℕ) → ¬ OfficerHolds policy.now user) (λ user. IsLeastOfficer policy.now user) }
 {

@@ -7,10 +7,12 @@ use money::Cents;
 use std::alloc::{AllocError, Global};
 use std::process::Abort;
 
+/// An amount in cents that is in range.
 pub fn cents(rt: &impl Abort, amount: i64) -> Cents {
     Cents::new(amount).expect(rt, "an amount of money")
 }
 
+/// A branch on its first day, with no money.
 pub fn branch_row(rt: &impl Abort, branch: u32) -> Branch {
     Branch {
         branch,
@@ -20,6 +22,7 @@ pub fn branch_row(rt: &impl Abort, branch: u32) -> Branch {
     }
 }
 
+/// A release by user 2 at branch 1, which was not used.
 pub fn release_row(user: u32, number: u32) -> Release {
     Release {
         user,
@@ -35,6 +38,7 @@ pub fn release_row(user: u32, number: u32) -> Release {
     }
 }
 
+/// A user whose third session is open.
 pub fn user_row(alloc: Global, user: u32) -> Result<User, AllocError> {
     Ok(User {
         user,
@@ -46,6 +50,7 @@ pub fn user_row(alloc: Global, user: u32) -> Result<User, AllocError> {
     })
 }
 
+/// A relation that stands by user 2.
 pub fn relation_row(procedure: Procedure, set: u32) -> Relation {
     Relation {
         procedure,
@@ -54,6 +59,7 @@ pub fn relation_row(procedure: Procedure, set: u32) -> Relation {
     }
 }
 
+/// A triple up to an amount of 10.
 pub fn triple_row(user: u32, procedure: Procedure, set: u32) -> Triple {
     Triple {
         user,
