@@ -158,6 +158,14 @@ def copied(text, made, path, homes, name, copy, pairs):
     return f"{made[: now.end]}\n\n{head}{body}{made[now.end :]}"
 
 
+def emptied(text, path, homes, names):
+    """The text with a body that does nothing, and that fits any type, in each function of these names."""
+    for it in reversed(functions(text, path, homes)):
+        if it.name in names:
+            text = f"{text[: it.start]}{{ loop {{}} }}{text[it.end :]}"
+    return text
+
+
 def without_bodies(text, found):
     """The text of a file without the bodies of its functions, its imports, its comments and its blanks."""
     at, kept = 0, []
