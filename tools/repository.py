@@ -3,8 +3,6 @@ import os
 import subprocess
 
 TOP = os.path.dirname(os.path.dirname(os.path.abspath(__file__)))
-# Tests of many banks in files. The gate proves these: compiled with checks in all of the SQL engine, they run for longer.
-PROVED_TESTS = ("worked_files",)
 # The programs that take times over banks made up, and what makes these up. tools/bench and tools/check-bench prove them.
 BENCHES = ("made_up_bank", "check_bench", "post_bench")
 
@@ -37,7 +35,7 @@ def below(uses, names):
 
 def tests_to_run(uses):
     """The crates of tests alone that tools/worked runs, and that the gate does not prove."""
-    return [it for it in uses if it.startswith("worked_") and it not in PROVED_TESTS]
+    return [it for it in uses if it.startswith("worked_")]
 
 
 def source_of(crate):
