@@ -4,8 +4,8 @@ ghost use Rattle.ends.specs.Streams.{stream_at, streams_at};
 
 use bank_words::{Action, explain, read_words};
 use money::Tallied;
-use sample_service::answer_sample;
-use sample_sql::cached_sql_sample;
+use sample_service::answer_behind_cache;
+use sample_sql::sql_sample;
 use std::alloc::Global;
 use std::io::{Read, Write};
 
@@ -45,14 +45,7 @@ fn act<R: Read, W: Write, E: Write>(
 {
     match action {
         Action::Sample { moment } => {
-            answer_sample(
-                alloc,
-                cached_sql_sample(alloc),
-                moment,
-                input,
-                output,
-                errors,
-            )
+            answer_behind_cache(alloc, sql_sample(alloc), moment, input, output, errors)
         }
     }
 }

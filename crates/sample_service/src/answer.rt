@@ -1,10 +1,12 @@
 ghost use Rattle.std.specs.Prelude.{IfOk};
+ghost use Rattle.cached.specs.Standing.{cached_status};
 ghost use Rattle.ends.specs.Streams.{stream_at, streams_at};
 ghost use Rattle.sample_service.specs.Ends.{IsSampleEnd};
 ghost use Rattle.sample_service.specs.Serving.{IsOpening};
 
 use crate::moment::Moment;
 use crate::service::serve_sample;
+use crate::stores::behind_cache;
 use ends::tell_end;
 use money::Tallied;
 use std::alloc::{AllocError, Global};
@@ -29,4 +31,23 @@ pub fn answer_sample<S: Store + Drop, R: Read, W: Write, E: Write>(
 {
     let served = serve_sample(alloc, store, moment, input, output);
     tell_end(errors, served)
+}
+
+/// Serves a stream as `answer_sample` does, with a cache of the rows of its policy before the store.
+pub fn answer_behind_cache<S: Store + Drop, R: Read, W: Write, E: Write>(
+    alloc: Global,
+    store: Result<S, AllocError>,
+    moment: Moment,
+    input: &mut Tallied<R>,
+    output: &mut Tallied<W>,
+    errors: &mut Tallied<E>,
+) -> u8
+    requires opened { IfOk store (IsOpening S.status) }
+    ensures { IsSampleEnd (cached_status S.status) moment
+        (streams_at R.remaining W.contents input.old output.old)
+        (streams_at R.remaining W.contents input.new output.new)
+        (stream_at E.contents errors.old) (stream_at E.contents errors.new) result }
+{
+    let cached = behind_cache(alloc, store);
+    answer_sample(alloc, cached, moment, input, output, errors)
 }

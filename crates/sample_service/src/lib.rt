@@ -8,7 +8,7 @@ mod moment;
 mod service;
 mod stores;
 
-pub use answer::answer_sample;
+pub use answer::{answer_behind_cache, answer_sample};
 pub use badges::SampleBadges;
 pub use bank_terms::MAX_MOMENT;
 pub use clock::Fixed;
@@ -16,4 +16,4 @@ pub use counter_api::{ServeFault, Served};
 pub use ends::{DONE, FAILED, fail, line_of, show, tell};
 pub use moment::Moment;
 pub use service::serve_sample;
-pub use stores::{cached_sample, listed_sample};
+pub use stores::{behind_cache, listed_sample};

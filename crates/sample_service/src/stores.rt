@@ -1,8 +1,8 @@
 ghost use Rattle.std.specs.Prelude.{IfOk, OnOk};
 ghost use Rattle.bank_run.specs.Sums.{PassesChecks};
+ghost use Rattle.cached.specs.Standing.{cached_status};
 ghost use Rattle.store_rows.specs.ListStore.{list_status};
 ghost use Rattle.sample_service.specs.Serving.{IsOpening};
-ghost use Rattle.sample_service.specs.Stores.{cached_list_status};
 
 use bank_books::World;
 use book_check::check_books;
@@ -11,7 +11,7 @@ use cached::Cached;
 use policy_check::check_policy;
 use sample_bank::sample_world;
 use std::alloc::{AllocError, Global};
-use store_rows::ListStore;
+use store_rows::{ListStore, Store};
 
 /// The sample bank as its books are opened, in lists. They pass both checks, which are made; so only memory keeps
 /// it from one.
@@ -40,12 +40,16 @@ fn require_checks(alloc: Global, world: &World) -> Result<(), AllocError>
     }
 }
 
-/// The same behind a cache of the rows of its policy. Only memory keeps it from one.
-pub fn cached_sample(alloc: Global) -> Result<Cached<ListStore>, AllocError>
-    ensures { IfOk result (IsOpening cached_list_status) }
+/// A store of the sample bank behind a cache of the rows of its policy. Only memory keeps it from one.
+pub fn behind_cache<S: Store + Drop>(
+    alloc: Global,
+    store: Result<S, AllocError>,
+) -> Result<Cached<S>, AllocError>
+    requires opened { IfOk store (IsOpening S.status) }
+    ensures { IfOk result (IsOpening (cached_status S.status)) }
 {
-    match Cached::new(alloc, listed_sample(alloc)?) {
-        Ok(store) => Ok(store),
+    match Cached::new(alloc, store?) {
+        Ok(cached) => Ok(cached),
         Err(_) => Err(AllocError),
     }
 }

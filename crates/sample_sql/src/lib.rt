@@ -5,4 +5,4 @@ mod store_name;
 mod stores;
 
 pub use store_name::{StoreName, answer_in};
-pub use stores::{cached_sql_sample, sql_sample};
+pub use stores::sql_sample;

@@ -3,7 +3,7 @@ ghost use Rattle.sample_sql.specs.Answered.{IsAnswered};
 
 use crate::stores::sql_sample;
 use money::Tallied;
-use sample_service::{Moment, answer_sample, cached_sample, listed_sample};
+use sample_service::{Moment, answer_behind_cache, answer_sample, listed_sample};
 use std::alloc::Global;
 use std::io::{Read, Write};
 
@@ -37,7 +37,7 @@ pub fn answer_in<R: Read, W: Write, E: Write>(
             answer_sample(alloc, listed_sample(alloc), moment, input, output, errors)
         }
         StoreName::Cached => {
-            answer_sample(alloc, cached_sample(alloc), moment, input, output, errors)
+            answer_behind_cache(alloc, listed_sample(alloc), moment, input, output, errors)
         }
         StoreName::Tables => answer_sample(alloc, sql_sample(alloc), moment, input, output, errors),
     }

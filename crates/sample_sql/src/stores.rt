@@ -1,8 +1,7 @@
 ghost use Rattle.std.specs.Prelude.{IfOk};
 ghost use Rattle.sample_service.specs.Serving.{IsOpening};
-ghost use Rattle.sample_sql.specs.Stores.{cached_sql_status, memory_status};
+ghost use Rattle.sample_sql.specs.Stores.{memory_status};
 
-use cached::Cached;
 use open_sql::create;
 use sample_bank::sample_world;
 use sqlite::{Connection, MemStore};
@@ -16,16 +15,6 @@ pub fn sql_sample(alloc: Global) -> Result<SqlStore<MemStore>, AllocError>
     let world = sample_world(alloc)?;
     let conn = Connection::open_in_memory(alloc)?;
     match create(alloc, conn, &world) {
-        Ok(store) => Ok(store),
-        Err(_) => Err(AllocError),
-    }
-}
-
-/// The same behind a cache of the rows of its policy. Only memory keeps it from one.
-pub fn cached_sql_sample(alloc: Global) -> Result<Cached<SqlStore<MemStore>>, AllocError>
-    ensures { IfOk result (IsOpening cached_sql_status) }
-{
-    match Cached::new(alloc, sql_sample(alloc)?) {
         Ok(store) => Ok(store),
         Err(_) => Err(AllocError),
     }
