@@ -2,6 +2,7 @@ pub mod BalanceText
 pub mod CloseDayText
 pub mod DrawerOffText
 pub mod DrawerOnText
+pub mod Kept
 pub mod MoveCashText
 pub mod NewAccountText
 pub mod PostText

@@ -1,0 +1,50 @@
+-- What calls of a store keep one after the other, where all but the last read and answer.
+use Rattle.std.proofs.Common.{◌≡◌, ℕ, IsTrue, Option, Some, None, Result, Err, ap, subst, ◌∙◌, arith}
+use Rattle.bank_books.specs.WorldLists.{WorldLists}
+use Rattle.money.specs.declared.fault.Fault.{Fault}
+use Rattle.money.specs.declared.fault.Fault.TheVariants as fault
+use Rattle.store_rows.specs.Status.{Keeps, Reads, RoseBy, Status, counts, failures_after, stops}
+
+counted_then : (n old mid new : ℕ) → RoseBy 0 old mid → RoseBy n mid new → RoseBy n old new
+counted_then n old mid new a b = grind arith
+
+-- a call that answers, and then another one
+pub keeps_then : (old mid new : Status) (m : Option Fault) → Keeps old mid None → Keeps mid new m → Keeps old new m
+keeps_then old mid new m a b = record {
+  answers = record {
+    honest = λ honest. a.answers.honest (b.answers.honest honest);
+    state = b.answers.state ∙ ap (stops m) a.answers.state;
+    was_stopped = λ is. subst (λ s. IsTrue s) a.answers.state (b.answers.was_stopped is);
+    counted = counted_then (counts m) _ _ _ a.answers.counted b.answers.counted;
+    no_more = omega (arith, a.answers.no_more, b.answers.no_more);
+    failed = b.answers.failed ∙ ap (failures_after m) a.answers.failed;
+  };
+  kept = λ w holds. b.kept w (a.kept w holds);
+  crash = λ honest w left. a.crash (b.answers.honest honest) w (b.crash honest w left);
+  whole = λ honest before. b.whole honest (a.whole (b.answers.honest honest) before);
+}
+
+-- calls that answer, and then a want of memory beside the store
+pub keeps_in_memory : (old new : Status) → Keeps old new None → Keeps old new (Some fault.Memory)
+keeps_in_memory old new a = record {
+  answers = record {
+    honest = a.answers.honest;
+    state = a.answers.state;
+    was_stopped = λ is. absurd (cc);
+    counted = a.answers.counted;
+    no_more = omega (arith, a.answers.no_more);
+    failed = a.answers.failed;
+  };
+  kept = a.kept;
+  crash = a.crash;
+  whole = a.whole;
+}
+
+-- a call that answers is none of a store that is stopped
+pub answered : {A : Type 0} {f : Fault} → None ≡ Some f → A
+answered e = absurd (cc)
+
+-- behind calls that answer, a call ends in a fault
+pub fails : {A : Type 0} (old new : Status) (r : Result A Fault) (e : Fault) (P : WorldLists → A → Type 0) → r ≡ Err e
+    → (IsTrue old.is_stopped → None ≡ Some fault.Stopped) → Keeps old new (Some e) → Reads old new r P
+fails old new r e P is refused kept = rw is (record { told = λ honest w holds. tt; kept = kept; refused = λ stopped. answered (refused stopped) })
