@@ -24,22 +24,6 @@ keeps_then old mid new m a b = record {
   whole = λ honest before. b.whole honest (a.whole (b.answers.honest honest) before);
 }
 
--- calls that answer, and then a want of memory beside the store
-pub keeps_in_memory : (old new : Status) → Keeps old new None → Keeps old new (Some fault.Memory)
-keeps_in_memory old new a = record {
-  answers = record {
-    honest = a.answers.honest;
-    state = a.answers.state;
-    was_stopped = λ is. absurd (cc);
-    counted = a.answers.counted;
-    no_more = omega (arith, a.answers.no_more);
-    failed = a.answers.failed;
-  };
-  kept = a.kept;
-  crash = a.crash;
-  whole = a.whole;
-}
-
 -- a call that answers is none of a store that is stopped
 pub answered : {A : Type 0} {f : Fault} → None ≡ Some f → A
 answered e = absurd (cc)

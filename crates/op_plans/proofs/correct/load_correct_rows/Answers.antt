@@ -1,4 +1,5 @@
--- Each read keeps what the reads before it kept, and the rows are those of one World.
+-- Each read keeps what the reads before it kept, and the rows are those of one World. Search finds all of this but
+-- `returns-in_err-is_undone`, in a quarter of a minute more.
 use Rattle.std.proofs.Common.{◌≡◌, Err, refl, rules, ◌∙◌}
 use Rattle.op_plans.proofs.Kept.{answered, fails, keeps_then}
 use Rattle.op_plans.proofs.correct.load_correct_rows.Goals as goal
