@@ -1,16 +1,15 @@
 -- Reads of which the last leaves nothing to be read.
-use Rattle.std.proofs.Common.{◌≡◌, ℕ, ℤ, pos, [], ◌∷◌, Ok, Err, IsErr, IfErr, IsErrAnd, IfOk, IsTrue, OnOk, Option, Some, Result, refl, sym, ap, ap₂, ◌∙◌, subst}
+use Rattle.std.proofs.Common.{◌≡◌, ℕ, ℤ, pos, [], ◌∷◌, Ok, Err, IsErr, IfErr, IsErrAnd, IfOk, IsTrue, OnOk, Option, Some, Result, refl, sym, ap₂, ◌∙◌, subst}
 use Rattle.std.specs.Prelude.{⊤}
-use Rattle.sqlite.specs.Effect.{Database, IsDatabase}
-use Rattle.sqlite.specs.State.{HasCleanDisk, IsLive, IsRolledBack, IsUnchanged, KeepsCommit, State, Survives}
+use Rattle.sqlite.specs.Effect.{Database}
+use Rattle.sqlite.specs.State.{HasCleanDisk, IsUnchanged, KeepsCommit, State, Survives}
 use Rattle.sqlite.specs.Tree.{Trees}
 use Rattle.bank_schema.proofs.StepLemmas.{early, kept_then}
-use Rattle.bank_schema.specs.Held.{tree_of}
 use Rattle.whole_tables.specs.BankRow.{IsBankTable, bank_row_cells}
-use Rattle.whole_tables.specs.Whole.{HasBankTables, IsKeptTable, Reads}
+use Rattle.whole_tables.specs.Whole.{HasBankTables, Reads}
 use Rattle.whole_tables.specs.declared.bank.BankRow.{BankRow}
 use Rattle.whole_tables.proofs.ReadsLemmas.{Done, Gave, done_then, gave_then, still_bank}
-use Rattle.adopt_sql.specs.Adopted.{IsBankFile, IsBankNumber, IsBankRow, IsLeft, ReadsLast}
+use Rattle.adopt_sql.specs.Adopted.{IsBankNumber, IsBankRow, ReadsLast}
 use Rattle.adopt_sql.specs.Refused.{IsBeyondBankRow, IsOfStore, IsOutOfRange, IsRefused}
 use Rattle.adopt_sql.specs.declared.adopt_fault.AdoptFault.{AdoptFault}
 use Rattle.adopt_sql.specs.declared.adopt_fault.AdoptFault.TheVariants.{Books, Fault, NotABank, Policy, Version}
@@ -27,24 +26,6 @@ last_then a b c P Q R both survives first second clean has =
 pub gave_last : {X E : Type 0} (old new : State) (says : Trees → X → Type 0) (r : Result X E) → IsErr r → Gave old new → ReadsLast old new says r
 gave_last old new says (Ok x) is gave = absurd cc
 gave_last old new says (Err e) is gave = λ clean has. (tt, gave clean has)
-
--- ---- a transaction that was rolled back
-
--- the tables of a file are those of a bank, on a connection that shows a database while it is open
-pub bank_tables : (old begun : State) → IsBankFile old → IsLive old → begun.now ≡ old.now → begun.is_open ≡ old.is_open → HasBankTables begun
-bank_tables old begun file live now is_open = record {
-  schema = ap (λ (d : Database). d.schema) now ∙ file.schema;
-  sound = λ h. subst IsDatabase (sym now) (live (subst IsTrue is_open h)).0;
-  kept = λ t. subst (λ (d : Database). IsKeptTable (d.trees (tree_of t))) (sym now) (file.kept t);
-}
-
--- and nothing has changed
-pub is_left : (old begun read new : State) → IsBankFile old → begun.is_open ≡ old.is_open → begun.committed ≡ old.committed → KeepsCommit begun read → IsRolledBack read new → IsLeft old new
-is_left old begun read new file same committed kept back = record {
-  was_open = λ h. subst IsTrue same (kept.was_open (back.was_open h));
-  now = λ h. (back.undone h).0 ∙ kept.committed (back.was_open h) ∙ committed ∙ file.settled;
-  settled = λ h. (back.undone h).1 ∙ sym (back.undone h).0;
-}
 
 -- ---- the row of the bank
 

@@ -2,12 +2,11 @@
 use Rattle.std.proofs.Common.{◌≡◌, ◌≤◌, ◌<◌, ◌+◌, ℕ, List, [], ◌∷◌, ◌++◌, map, take, drop, length, get_or, sym, ap, ap₂, subst, arith, ◌∙◌, append_assoc, append-nil, length-append, length-drop, take-add}
 use Rattle.std.specs.Prelude.{IfSome, Option, Some}
 use Rattle.std.specs.List.{enumerate_from, flat_map}
-use Rattle.std.proofs.lemmas.List.{map-append, take_all, take_more}
+use Rattle.std.proofs.lemmas.List.{map-append, take_more}
 use Rattle.bank_policy.specs.SetRow.{SetRow}
 use Rattle.bank_policy.specs.declared.rows.Member.{Member}
 use Rattle.kept_rows.specs.Records.{member_row, member_rows}
 use Rattle.kept_rows.specs.declared.records.MemberRow.{MemberRow}
-use Rattle.adopt_sql.specs.Told.{AreSetsOf}
 
 pub enumerate-append : (n : ℕ) (xs : List Member) (x : Member) → enumerate_from n (xs ++ x ∷ []) ≡ enumerate_from n xs ++ (n + length xs, x) ∷ []
 enumerate-append n [] x = ap (λ k. (k, x) ∷ []) (omega arith)
@@ -46,22 +45,7 @@ set_more numbers members i at next own sets new below front fits before next_is 
   within = let left = length-drop at members in omega (arith, left, fits, before.within, next_is);
 }
 
-pub sets_done : (numbers : List ℕ) (members : List MemberRow) (i at : ℕ) (sets : List SetRow) → length numbers ≤ i → at ≡ length members → AreSoFar numbers members i at sets → AreSetsOf numbers members sets
-sets_done numbers members i at sets past all are = record {
-  numbers_are = are.numbers_are ∙ take_all i numbers past;
-  members_are = are.members_are ∙ take_all at members (omega (arith, all));
-}
-
 -- ---- the members of one set, where another follows or none
-
-pub own_front : (set : ℕ) (rows : List MemberRow) (i : ℕ) (own : List Member) → AreOwn set rows i own → take (length own) rows ≡ map (member_row set) (enumerate_from 1 own)
-own_front set rows i own are = ap (λ n. take n rows) are.count ∙ are.front
-
-pub own_within : (set : ℕ) (rows : List MemberRow) (i : ℕ) (own : List Member) → i < length rows → AreOwn set rows i own → length own ≤ length rows
-own_within set rows i own below are = omega (arith, below, are.count)
-
-pub own_all : (set : ℕ) (rows : List MemberRow) (i : ℕ) (own : List Member) → i ≤ length rows → AreOwn set rows i own → length own ≤ length rows
-own_all set rows i own below are = omega (arith, below, are.count)
 
 pub some_is : {X : Type 0} (o : Option X) (x : X) (P : X → Type 0) → IfSome o P → o ≡ Some x → P x
 some_is o x P h is = subst (λ found. IfSome found P) is h

@@ -10,7 +10,7 @@ use Rattle.bank_terms.specs.declared.rule.Rule.{Rule}
 use Rattle.bank_terms.specs.declared.rule.Rule.TheVariants as rule
 use Rattle.bank_policy.proofs.Tested.{certified_tested, certified_told, held_for, held_up_to, none_held, not_held_for, some_held}
 use Rattle.bank_books.specs.WorldLists.{WorldLists}
-use Rattle.bank_run.specs.PolicyRules.{Grounds, first_of_policy, grounds, is_identified, is_in_limit, is_released, leave_by_policy, leave_by_triples, leave_of, leave_sought, unless_denied, used_by}
+use Rattle.bank_run.specs.PolicyRules.{Grounds, first_of_policy, grounds, is_identified, is_in_limit, is_released, leave_by_policy, leave_by_triples, leave_of, leave_sought, unless_denied}
 use Rattle.bank_run.specs.Meaning.{by_books}
 use Rattle.bank_run.specs.Requests.{executes, first}
 use Rattle.bank_run.specs.Executions.{books_meaning}
@@ -168,8 +168,3 @@ rule_of_leave g r is = go (first_of_policy g) refl is
 
 pub leave_refused : (w : WorldLists) (q : Execution) (r : Rule) → leave_by_policy (grounds w q) ≡ Err r → first w (executes q) ≡ Some r
 leave_refused w q r is = policy_decides w q r (rule_of_leave (grounds w q) r is)
-
--- what a leave takes of the policy: nothing
-pub used_keeps_policy : (l : Leave) (user : ℕ) (w : WorldLists) → (used_by l user w).policy ≡ w.policy
-used_keeps_policy leave.Triple user w = refl
-used_keeps_policy (leave.Release number) user w = refl

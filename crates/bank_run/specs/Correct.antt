@@ -1,7 +1,6 @@
 -- A correction as an operation: its reply and its meaning. The rest of it is that of its plan.
 use Rattle.std.specs.Prelude.{ℕ, List, []}
 use Rattle.std.specs.Option.{option_map_or}
-use Rattle.serde_json.specs.Data.{Data}
 use Rattle.bank_books.specs.WorldLists.{WorldLists}
 use Rattle.bank_books.specs.declared.signature.Signature.{Signature}
 use Rattle.counter_ops.specs.declared.correct.Correct.{Correct}
@@ -9,18 +8,13 @@ use Rattle.postings.specs.Correct.{correct_denies, correct_effect, correct_rows,
 use Rattle.postings.specs.declared.correct.Corrected.{Corrected}
 use Rattle.postings.specs.declared.correct.Corrected.TheVariants as corrected
 use Rattle.bank_run.specs.Meaning.{Meaning, json}
-use Rattle.bank_run.specs.Post.{posted_data, posted_text}
-use Rattle.bank_run.specs.Transfer.{transferred_data, transferred_text}
+use Rattle.bank_run.specs.Post.{posted_text}
+use Rattle.bank_run.specs.Transfer.{transferred_text}
 
 -- that of a post as a post, that of a transfer as a transfer
 abbrev pub corrected_text : Corrected → List ℕ
 corrected_text (corrected.OfPost p) = posted_text p
 corrected_text (corrected.OfTransfer t) = transferred_text t
-
--- the value of JSON behind it
-abbrev pub corrected_data : Corrected → Data
-corrected_data (corrected.OfPost p) = posted_data p
-corrected_data (corrected.OfTransfer t) = transferred_data t
 
 abbrev pub correct_meaning : Correct → Signature → WorldLists → Meaning
 correct_meaning correct by w = record {

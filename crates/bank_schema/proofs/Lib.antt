@@ -10,7 +10,6 @@ pub mod ProcedureNumbers
 pub mod ReadLemmas
 pub mod ReadableLemmas
 pub mod ScanLemmas
-pub mod SchemaTexts
 pub mod StepLemmas
 pub mod WorldLemmas
 pub mod WriteLemmas

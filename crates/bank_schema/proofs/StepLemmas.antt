@@ -12,9 +12,8 @@ use Rattle.sqlite.specs.Order.{Row}
 use Rattle.sqlite.specs.Effect.{Database}
 use Rattle.sqlite.specs.State.{ShowsRows, IsTooLate, State, Shown, FailsToQuery, FailsToShow, IsNotRun, HasCleanDisk, KeepsCommit, IsUnchanged, IsRolledBack, Executes, ExecutesInside, Survives}
 use Rattle.sqlite.specs.Tree.{Trees}
-use Rattle.bank_books.specs.WorldLists.{WorldLists}
-use Rattle.kept_rows.specs.Sheets.{Sheets, sheets_of}
-use Rattle.bank_schema.specs.Held.{HoldsTables, HoldsWorld}
+use Rattle.kept_rows.specs.Sheets.{Sheets}
+use Rattle.bank_schema.specs.Held.{HoldsTables}
 use Rattle.bank_schema.specs.Schema.{bank_schema}
 
 -- a query leaves the connection as it was
@@ -81,9 +80,6 @@ query_open sql params old new (Err e) ok (inr late) = (tt, λ _. late.5.0.was_op
 abbrev pub Stepped : {X E : Type 0} → State → State → Result X E → Sheets → Type 0
 Stepped old new result s = OnOk result (IsTrue new.in_transaction × HoldsTables new.now s) × KeepsCommit old new
 
-pub kept_itself : (s : State) → KeepsCommit s s
-kept_itself s = record { was_open = λ h. h; committed = λ _. refl }
-
 pub query_steps : (sql : List ℕ) (params : Row) (old new : State) (result : Result (Vec Row Global) Error) → IsPlain (understood bank_schema sql)
     → IfOk result (λ rows. Shown sql params old new rows.items) → IfErr result (λ e. FailsToQuery sql params old new e ⊎ IsTooLate sql params old new e)
     → IsTrue old.in_transaction → (s : Sheets) → HoldsTables old.now s → Stepped old new result s
@@ -102,12 +98,6 @@ pub write_steps : (sql : List ℕ) (params : Row) (old new : State) (result : Re
     → ((count : ℕ) → Executes sql params old new (Ok count) → HoldsTables new.now s) → Stepped old new result s
 write_steps sql params old new (Err e) s h does = (tt, refused sql params old new e h)
 write_steps sql params old new (Ok count) s h does = ((h.1.mode, does count h.0), record { was_open = λ _. h.1.was_open; committed = λ _. h.1.committed_is })
-
--- what a write that went through tells
-pub write_tells : (sql : List ℕ) (params : Row) (old new : State) (result : Result ℕ Error) (P : Type 0) → ExecutesInside 0 sql params old new result
-    → ((count : ℕ) → Executes sql params old new (Ok count) → P) → OnOk result P
-write_tells sql params old new (Err e) P h tells = tt
-write_tells sql params old new (Ok count) P h tells = tells count h.0
 
 -- ---- the first row of an answer
 
@@ -136,14 +126,6 @@ early a b P s clean = omega (arith, s.clean)
 pub ok_weaker : {A E : Type 0} (r : Result A E) (P Q : Type 0) → (P → Q) → OnOk r P → OnOk r Q
 ok_weaker (Ok x) P Q f h = f h
 ok_weaker (Err e) P Q f h = tt
-
--- a query leaves the World as it is
-pub query_moves : (sql : List ℕ) (params : Row) (old new : State) (result : Result (Vec Row Global) Error) → IsPlain (understood bank_schema sql)
-    → IfOk result (λ rows. Shown sql params old new rows.items) → IfErr result (λ e. FailsToQuery sql params old new e ⊎ IsTooLate sql params old new e)
-    → IsTrue old.in_transaction → (w : WorldLists) → HoldsWorld old.now w → OnOk result (IsTrue new.in_transaction × HoldsWorld new.now w) × KeepsCommit old new
-query_moves sql params old new result plain ok err inside w holds =
-    let it = query_steps sql params old new result plain ok err inside (sheets_of w) (record { schema = holds.schema; sound = holds.sound; rows = holds.world.rows }) in
-    (ok_weaker result _ _ (λ h. (h.0, record { schema = h.1.schema; sound = h.1.sound; world = record { rows = h.1.rows; keepable = holds.world.keepable } })) it.0, it.1)
 
 -- what a crash may leave after a call that commits nothing, it could before
 pub survived : (a b : State) → Survives a b (λ _. ⊥) → HasCleanDisk b → (db : Trees) → b.may_leave db → a.may_leave db

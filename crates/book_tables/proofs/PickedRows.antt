@@ -1,5 +1,5 @@
 -- Rows that pass a test: how many there are, in which order they come, and the first.
-use Rattle.std.proofs.Common.{not, Contains, ◌≡◌, ◌≤◌, ◌<◌, ◌+◌, ◌*◌, ◌^◌, ◌==◌, ◌&&◌, ℕ, zero, suc, ◌++◌, get_or, pos, List, [], ◌∷◌, map, filter, take, length, slice_get, Bool, true, false, cond, Option, Some, None, Result, Ok, Err, OnOk, refl, sym, ap, arith, ◌∙◌, subst, int_cmp}
+use Rattle.std.proofs.Common.{not, ◌≡◌, ◌≤◌, ◌<◌, ◌+◌, ◌*◌, ◌^◌, ◌==◌, ◌&&◌, ℕ, zero, suc, ◌++◌, get_or, pos, List, [], ◌∷◌, map, filter, take, length, slice_get, Bool, true, false, cond, Some, Result, Ok, Err, OnOk, refl, sym, ap, arith, ◌∙◌, subst, int_cmp}
 use Rattle.std.proofs.lemmas.List.{take_more}
 use Rattle.std.specs.Prelude.{option_map, nat_le, nat_lt}
 use Rattle.std.specs.List.{find, list_any}
@@ -15,7 +15,6 @@ use Rattle.sqlite_sql.specs.Ops.{binary, from_truth, is_true}
 use Rattle.sqlite_value.proofs.OrderLemmas.{value_cmp-Int}
 use Rattle.sqlite_keyed.proofs.ListLemmas.{none_counted}
 use Rattle.keyed_rows.specs.Ordered.{AreDistinct}
-use Rattle.book_growth.proofs.Rows.{find-found}
 use Rattle.bank_schema.specs.HeldRows.{HoldsRows, all_but_rowid}
 use Rattle.bank_schema.proofs.HeldLemmas.{picked_alike}
 use Rattle.bank_schema.proofs.KeyTests.{at_most_one, few_mapped, length-mapped, two_parts}
@@ -80,15 +79,6 @@ read_more shown rows there before made k row read below is reads are so_far made
     let within : k < length there = subst (λ n. k < n) (ap length are ∙ length-mapped shown there) below in
     let here : row ≡ shown (get_or there k read) = is ∙ ap (λ rs. get_or rs k row) are ∙ shown_at shown there k read row within in
     made_is ∙ (λ i. so_far i ++ reads (get_or there k read) here i ∷ []) ∙ sym (take_more there k read within)
-
--- the row that was found is that of the one that is there, where rows that fit tell theirs
-pub decoded_fitting : {X : Type 0} (shown : X → Row) (Fits : X → Type 0) (p : X → Bool) (xs : List X) (row : Row) (read : X) → ((x : X) → Contains xs x → Fits x) → Some row ≡ option_map shown (find p xs)
-    → ((x : X) → Fits x → row ≡ shown x → read ≡ x) → Some read ≡ find p xs
-decoded_fitting {X} shown Fits p xs row read fit is reads = go (find p xs) refl is
-  where
-    go : (o : Option X) → find p xs ≡ o → Some row ≡ option_map shown o → Some read ≡ o
-    go None found same = absurd cc
-    go (Some x) found same = ap (λ y. Some y) (reads x (fit x (find-found p xs x found).0) cc)
 
 -- ---- tests of whole numbers
 

@@ -6,7 +6,6 @@ use Rattle.std.proofs.lemmas.List.{length-map}
 use Rattle.std.proofs.lemmas.List.Sums.{length-filter}
 use Rattle.bank_policy.specs.HeldRows.{certified_set, held_triple, is_relation_of, is_triple_of, relations_of, standing, triples_of}
 use Rattle.bank_policy.specs.Policy.{PolicyLists}
-use Rattle.bank_policy.specs.SetRow.{SetRow}
 use Rattle.bank_policy.specs.declared.policy_write.RelationKey.{RelationKey}
 use Rattle.bank_policy.specs.declared.policy_write.TripleKey.{TripleKey}
 use Rattle.bank_policy.specs.declared.rows.Certifier.{Certifier}
@@ -14,11 +13,9 @@ use Rattle.bank_policy.specs.declared.rows.Triple.{Triple}
 use Rattle.bank_terms.specs.Procedure.{number_of, procedures}
 use Rattle.bank_terms.specs.declared.procedure.Procedure.{Procedure}
 use Rattle.bank_terms.specs.declared.procedure.Procedure.TheVariants as procedure
-use Rattle.policy_ops.specs.declared.policy_op.Enrolment.{Enrolment}
 use Rattle.policy_ops.specs.declared.policy_op.PolicyOp.TheVariants as asked
-use Rattle.policy_ops.specs.declared.policy_op.UserKey.{UserKey}
 use Rattle.certify.specs.CommandRows.{certifies_any, command_rows, executes, has_certified, has_relation, has_set, has_triple, is_certifier, is_officer, of_certifier, of_officer}
-use Rattle.certify.specs.StoredRows.{appoint_rows, certify_rows, define_set_rows, dismiss_rows, enrol_rows, grant_rows, has_one_by, is_among, is_held_on, revoke_rows, suspension_rows, withdraw_rows}
+use Rattle.certify.specs.StoredRows.{appoint_rows, certify_rows, grant_rows, has_one_by, is_among, is_held_on, revoke_rows, withdraw_rows}
 use Rattle.certify.specs.declared.command_rows.CommandRows.{CommandRows}
 
 -- ---- tests over what is made of the rows that pass another test
@@ -114,10 +111,6 @@ certifies_some policy user = some_procedure user policy.certifiers
 
 -- ---- the rows of each command are those of the policy
 
-pub define_set_told : (policy : PolicyLists) (by : ℕ) (set : SetRow) →
-    define_set_rows (certifies_any policy by) (has_set policy set.set) (length policy.sets) ≡ command_rows policy by (asked.DefineSet set)
-define_set_told policy by set = refl
-
 pub certify_told : (policy : PolicyLists) (by : ℕ) (k : RelationKey) →
     certify_rows (is_certifier policy by k.procedure) (has_set policy k.set) (relations_of policy k.procedure) k ≡ command_rows policy by (asked.Certify k)
 certify_told policy by k =
@@ -154,16 +147,3 @@ pub appoint_told : (policy : PolicyLists) (by : ℕ) (c : Certifier) →
 appoint_told policy by c =
     ap (λ executes. record (of_officer (is_officer policy by)) { user = standing policy c.user; executes = executes; is_there = is_certifier policy c.user c.procedure })
     (executes_some policy c.user c.procedure)
-
-pub dismiss_told : (policy : PolicyLists) (by : ℕ) (c : Certifier) →
-    dismiss_rows (standing policy by) (is_certifier policy c.user c.procedure) ≡ command_rows policy by (asked.Dismiss c)
-dismiss_told policy by c = refl
-
-pub enrol_told : (policy : PolicyLists) (by : ℕ) (e : Enrolment) → enrol_rows (standing policy by) (standing policy e.user) ≡ command_rows policy by (asked.Enrol e)
-enrol_told policy by e = refl
-
-pub suspend_told : (policy : PolicyLists) (by : ℕ) (k : UserKey) → suspension_rows (standing policy by) (standing policy k.user) ≡ command_rows policy by (asked.Suspend k)
-suspend_told policy by k = refl
-
-pub restore_told : (policy : PolicyLists) (by : ℕ) (k : UserKey) → suspension_rows (standing policy by) (standing policy k.user) ≡ command_rows policy by (asked.Restore k)
-restore_told policy by k = refl

@@ -1,13 +1,10 @@
--- The value behind a denial has no float, and its compact text is the reply.
-use Rattle.std.proofs.Common.{◌≡◌, false, refl}
-use Rattle.serde_json.specs.Written.{compact_text, has_float}
+-- The compact text of the value behind a denial is the reply.
+use Rattle.std.proofs.Common.{◌≡◌, refl}
+use Rattle.serde_json.specs.Written.{compact_text}
 use Rattle.serde_json.proofs.OnLiterals.{serde_json_on_literals}
 use Rattle.bank_terms.specs.declared.rule.Rule.{Rule}
 use Rattle.bank_terms.specs.declared.rule.Rule.TheVariants.{Identity, NotCertified, NoTriple, Limit, Release, Unknown, Branch, Drawer, SecondPerson, Entry, Floor, Cash, Range, Taken, Day, Full, Officer, Certifier, Separation, PolicyUnknown, PolicyState}
 use Rattle.bank_run.specs.Denial.{denial_data, denial_text}
-
-pub denial_has_no_float : (r : Rule) → has_float (denial_data r) ≡ false
-denial_has_no_float r = refl
 
 pub denial_text_is : (r : Rule) → compact_text (denial_data r) ≡ denial_text r
 unfolding serde_json_on_literals denial_text

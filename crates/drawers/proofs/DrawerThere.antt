@@ -4,8 +4,8 @@ use Rattle.std.specs.Prelude.{is_none, option_map}
 use Rattle.std.proofs.lemmas.Bool.{eqb-true, or_parts}
 use Rattle.counter_ops.specs.Ranges.{IsKey}
 use Rattle.bank_books.specs.Balances.{branch_row, teller_row}
-use Rattle.bank_books.specs.Keys.{branch_key, teller_key}
-use Rattle.bank_books.specs.Range.{IsBranch, IsTellerOf}
+use Rattle.bank_books.specs.Keys.{teller_key}
+use Rattle.bank_books.specs.Range.{IsTellerOf}
 use Rattle.bank_books.specs.Records.{branch_record, branch_record_of, teller_record_of}
 use Rattle.bank_books.specs.WorldLists.{WorldLists}
 use Rattle.bank_books.specs.declared.rows.Branch.{Branch}
@@ -47,9 +47,6 @@ rows_of w teller branch = record {
 
 pub rows_are : (w : WorldLists) (teller branch : ℕ) (there : AreThere w teller branch) → drawer_rows w teller branch ≡ rows_of w (Some there.holder) (Some there.home)
 rows_are w teller branch there = ap (λ o. rows_of w o (branch_row branch w.branches)) there.holder_is ∙ ap (λ o. rows_of w (Some there.holder) o) there.home_is
-
-pub branch_is : (w : WorldLists) (teller branch : ℕ) → AreThere w teller branch → IsBranch w.branches branch
-branch_is w teller branch there = (there.home, found_row branch_key branch w.branches there.home there.home_is)
 
 -- a teller of this branch, where the rule says so
 pub teller_is : (w : WorldLists) (teller branch : ℕ) (there : AreThere w teller branch) → (there.holder.branch == branch) ≡ true → IsTellerOf w.tellers branch teller

@@ -35,9 +35,6 @@ Rises-from_order key (x ∷ xs) order distinct = (
 weaker : (a b : ℕ) → a < b → a ≤ b
 weaker a b low = omega arith
 
-same_key : (a b : ℕ) → a ≡ b → a ≤ b
-same_key a b same = omega arith
-
 in_order : {X : Type 0} (key : X → ℕ) (xs : List X) → Rises key xs → IsNonDecreasingBy key xs
 in_order key [] rises i j d low within = absurd (omega arith)
 in_order key (x ∷ xs) rises zero zero d low within = omega arith

@@ -1,12 +1,9 @@
--- The value behind the reply to the question for a balance has no float, and its compact text is the reply.
-use Rattle.std.proofs.Common.{◌≡◌, ℤ, false, append_assoc}
-use Rattle.serde_json.specs.Written.{compact_text, has_float}
+-- The compact text of the value behind the reply to the question for a balance is the reply.
+use Rattle.std.proofs.Common.{◌≡◌, ℤ, append_assoc}
+use Rattle.serde_json.specs.Written.{compact_text}
 use Rattle.serde_json.proofs.OnLiterals.{serde_json_on_literals}
 use Rattle.bank_run.specs.Balance.{balance_data, balance_text}
-use Rattle.op_plans.proofs.WholeNumbers.{text_of_whole, whole}
-
-pub balance_no_float : (z : ℤ) → has_float (balance_data z) ≡ false
-balance_no_float z = simp whole
+use Rattle.op_plans.proofs.WholeNumbers.{text_of_whole}
 
 pub balance_text_is : (z : ℤ) → compact_text (balance_data z) ≡ balance_text z
 unfolding serde_json_on_literals balance_text

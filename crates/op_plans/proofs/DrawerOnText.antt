@@ -1,13 +1,10 @@
--- The value behind the reply to a drawer that is put on has no float, and its compact text is the reply.
-use Rattle.std.proofs.Common.{◌≡◌, false, append_assoc}
-use Rattle.serde_json.specs.Written.{compact_text, has_float}
+-- The compact text of the value behind the reply to a drawer that is put on is the reply.
+use Rattle.std.proofs.Common.{◌≡◌, append_assoc}
+use Rattle.serde_json.specs.Written.{compact_text}
 use Rattle.serde_json.proofs.OnLiterals.{serde_json_on_literals}
 use Rattle.drawers.specs.declared.drawer_on.PutOn.{PutOn}
 use Rattle.bank_run.specs.DrawerOn.{put_on_data, put_on_text}
-use Rattle.op_plans.proofs.WholeNumbers.{text_of_whole, whole}
-
-pub put_on_no_float : (v : PutOn) → has_float (put_on_data v) ≡ false
-put_on_no_float v = simp whole
+use Rattle.op_plans.proofs.WholeNumbers.{text_of_whole}
 
 pub put_on_text_is : (v : PutOn) → compact_text (put_on_data v) ≡ put_on_text v
 unfolding serde_json_on_literals put_on_text

@@ -1,13 +1,10 @@
--- The value behind the reply to a move of cash has no float, and its compact text is the reply.
-use Rattle.std.proofs.Common.{◌≡◌, false, append_assoc}
-use Rattle.serde_json.specs.Written.{compact_text, has_float}
+-- The compact text of the value behind the reply to a move of cash is the reply.
+use Rattle.std.proofs.Common.{◌≡◌, append_assoc}
+use Rattle.serde_json.specs.Written.{compact_text}
 use Rattle.serde_json.proofs.OnLiterals.{serde_json_on_literals}
 use Rattle.drawers.specs.declared.move_cash.Moved.{Moved}
 use Rattle.bank_run.specs.MoveCash.{moved_data, moved_text}
-use Rattle.op_plans.proofs.WholeNumbers.{text_of_whole, whole}
-
-pub moved_no_float : (v : Moved) → has_float (moved_data v) ≡ false
-moved_no_float v = simp whole
+use Rattle.op_plans.proofs.WholeNumbers.{text_of_whole}
 
 pub moved_text_is : (v : Moved) → compact_text (moved_data v) ≡ moved_text v
 unfolding serde_json_on_literals moved_text

@@ -1,13 +1,10 @@
--- The value behind the reply to a post has no float, and its compact text is the reply.
-use Rattle.std.proofs.Common.{◌≡◌, false, append_assoc}
-use Rattle.serde_json.specs.Written.{compact_text, has_float}
+-- The compact text of the value behind the reply to a post is the reply.
+use Rattle.std.proofs.Common.{◌≡◌, append_assoc}
+use Rattle.serde_json.specs.Written.{compact_text}
 use Rattle.serde_json.proofs.OnLiterals.{serde_json_on_literals}
 use Rattle.postings.specs.declared.post.Posted.{Posted}
 use Rattle.bank_run.specs.Post.{posted_data, posted_text}
-use Rattle.op_plans.proofs.WholeNumbers.{text_of_whole, whole}
-
-pub posted_no_float : (p : Posted) → has_float (posted_data p) ≡ false
-posted_no_float p = simp whole
+use Rattle.op_plans.proofs.WholeNumbers.{text_of_whole}
 
 pub posted_text_is : (p : Posted) → compact_text (posted_data p) ≡ posted_text p
 unfolding serde_json_on_literals posted_text

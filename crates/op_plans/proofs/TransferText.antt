@@ -1,13 +1,10 @@
--- The value behind the reply to a transfer has no float, and its compact text is the reply.
-use Rattle.std.proofs.Common.{◌≡◌, false, append_assoc}
-use Rattle.serde_json.specs.Written.{compact_text, has_float}
+-- The compact text of the value behind the reply to a transfer is the reply.
+use Rattle.std.proofs.Common.{◌≡◌, append_assoc}
+use Rattle.serde_json.specs.Written.{compact_text}
 use Rattle.serde_json.proofs.OnLiterals.{serde_json_on_literals}
 use Rattle.postings.specs.declared.transfer.Transferred.{Transferred}
 use Rattle.bank_run.specs.Transfer.{transferred_data, transferred_text}
-use Rattle.op_plans.proofs.WholeNumbers.{text_of_whole, whole}
-
-pub transferred_no_float : (v : Transferred) → has_float (transferred_data v) ≡ false
-transferred_no_float v = simp whole
+use Rattle.op_plans.proofs.WholeNumbers.{text_of_whole}
 
 pub transferred_text_is : (v : Transferred) → compact_text (transferred_data v) ≡ transferred_text v
 unfolding serde_json_on_literals transferred_text

@@ -93,13 +93,6 @@ from_next s kind.Member next is = ap (lines_from s) (the_kind next kind.Relation
 from_next s kind.Relation next is = ap (lines_from s) (the_kind next kind.Triple is) ∙ behind_last s
 from_next s kind.Triple next is = absurd cc
 
-pub nothing_behind : (s : Sheets) (k : LineKind) → ◌≡◌ {A = Option LineKind} None (following k) → lines_behind s k ≡ []
-nothing_behind s kind.User is = absurd cc
-nothing_behind s kind.Certifier is = absurd cc
-nothing_behind s kind.Member is = absurd cc
-nothing_behind s kind.Relation is = absurd cc
-nothing_behind s kind.Triple is = refl
-
 -- the first line of the kinds behind one is that of the next kind, or else of those behind that
 pub first_behind : (s : Sheets) (k next : LineKind) → ◌≡◌ {A = Option LineKind} (Some next) (following k) → or_first (find (is_past None) (lines_in s next)) (lines_behind s next) ≡ slice_get (lines_behind s k) 0
 first_behind s k next is = first_of_all (lines_in s next) (lines_behind s next) ∙ ap (λ l. slice_get l 0) (from_next s k next is)
@@ -111,13 +104,6 @@ left_of kind.Certifier = 3
 left_of kind.Member = 2
 left_of kind.Relation = 1
 left_of kind.Triple = 0
-
-pub fewer_left : (k next : LineKind) → ◌≡◌ {A = Option LineKind} (Some next) (following k) → left_of next < left_of k
-fewer_left kind.User next is = let e : next ≡ kind.Certifier = cc in rw e (omega arith)
-fewer_left kind.Certifier next is = let e : next ≡ kind.Member = cc in rw e (omega arith)
-fewer_left kind.Member next is = let e : next ≡ kind.Relation = cc in rw e (omega arith)
-fewer_left kind.Relation next is = let e : next ≡ kind.Triple = cc in rw e (omega arith)
-fewer_left kind.Triple next is = absurd cc
 
 -- ---- of a kind that is known
 

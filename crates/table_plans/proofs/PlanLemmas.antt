@@ -38,11 +38,6 @@ room_before plan w room = subst (λ v. IsTrue (has_version_for plan v)) (version
 pub room_unasked : (plan : List RowWrite) (version : ℕ) → changes_policy plan ≡ false → IsTrue (has_version_for plan version)
 room_unasked plan version still = subst (λ b. IsTrue (not b || nat_lt version max_version)) (sym still) refl
 
--- a plan that leaves the policy as it is
-pub applied_still : (plan : List RowWrite) (w : WorldLists) → changes_policy plan ≡ false → all_written plan w ≡ applied plan w
-applied_still plan w still =
-    sym (ap (λ b. if not b || nat_lt w.version max_version then with_version b (all_written plan w) else w) still)
-
 -- a plan that changes it, and finds a version for that
 pub applied_raised : (plan : List RowWrite) (w : WorldLists) → changes_policy plan ≡ true → has_version_for plan (all_written plan w).version ≡ true → with_version true (all_written plan w) ≡ applied plan w
 applied_raised plan w raised room =

@@ -1,6 +1,5 @@
 -- Reads of whole tables, one after another.
-use Rattle.std.proofs.Common.{◌≡◌, ◌≢◌, Ok, Err, IfErr, IsErr, IsErrAnd, IsTrue, Result, refl, sym, ap, ◌∙◌, subst}
-use Rattle.std.specs.Prelude.{⊤}
+use Rattle.std.proofs.Common.{◌≡◌, ◌≢◌, Ok, Err, IfErr, IsErr, IsErrAnd, Result, refl, sym, ap, ◌∙◌, subst}
 use Rattle.money.specs.declared.fault.Fault.{Fault}
 use Rattle.money.specs.declared.fault.Fault.TheVariants.{Disk, Memory, Size, Stopped}
 use Rattle.sqlite.specs.Effect.{Database, IsDatabase}
@@ -23,14 +22,6 @@ unchanged_then a b c p q = (
   record { was_open = p.0.was_open; is_open = q.0.is_open; now_is = q.0.now_is ∙ p.0.now_is; committed_is = q.0.committed_is ∙ p.0.committed_is; mode = q.0.mode ∙ p.0.mode },
   record { changes = q.1.changes ∙ p.1.changes; last_rowid = q.1.last_rowid ∙ p.1.last_rowid },
   q.2 ∙ p.2,
-)
-
--- nothing was read yet, on a connection that is open
-pub done_itself : (s : State) → IsTrue s.is_open → Done s s (λ _. ⊤)
-done_itself s is_open clean has = (
-  tt,
-  (record { was_open = is_open; is_open = is_open; now_is = refl; committed_is = refl; mode = refl }, record { changes = refl; last_rowid = refl }, refl),
-  record { was_open = λ h. h; committed = λ _. refl },
 )
 
 -- the tables are those of a bank still
