@@ -2,8 +2,6 @@
 #![tactic(auto)]
 
 mod ends;
-#[cfg(test)]
-mod tests;
 
 pub use ends::{DONE, FAILED, fail, line_of, show, tell, tell_end};
 pub use messages::{ServeFault, Served};

@@ -4,6 +4,7 @@
 //! such a call the prover shows anew that they give what is asked of them, which takes half a minute.
 
 use crate::bank::{last_command, work};
+use crate::runtime::Runtime;
 use crate::serving::answered;
 use crate::streams::Exchange;
 use crate::tellings::{Tale, told};
@@ -13,7 +14,6 @@ use open_sql::{OpenFault, make_bank};
 use sample_bank::sample_world;
 use sqlite::{Alter, Connection, FileStore};
 use sqlite_disk::Disk;
-use std::alloc::Global;
 use std::process::Abort;
 use store_rows::Bank;
 use store_sql::SqlStore;
@@ -63,10 +63,10 @@ pub enum Outcome {
     Told(Tale),
 }
 
-fn made<S: Alter>(rt: &impl Abort, alloc: Global, conn: &mut Connection<S>) -> Outcome {
+fn made<S: Alter>(rt: &impl Runtime, conn: &mut Connection<S>) -> Outcome {
     assert!(rt; conn.is_autocommit());
-    let world = sample_world(alloc).expect(rt, "memory");
-    let outcome = make_bank(alloc, conn, &world);
+    let world = sample_world(rt.alloc()).expect(rt, "memory");
+    let outcome = make_bank(rt.alloc(), conn, &world);
     assert!(rt; outcome.is_ok() || outcome == Err(OpenFault::Fault(Fault::Disk)));
     Outcome::Made(outcome.is_ok())
 }
@@ -80,47 +80,44 @@ fn changed<S: Alter>(rt: &impl Abort, conn: &mut Connection<S>, change: &str) ->
 
 /// Does this with the bank of a store.
 fn done_over<S: Alter>(
-    rt: &impl Abort,
-    alloc: Global,
+    rt: &impl Runtime,
     store: SqlStore<S>,
     act: Act<'_>,
 ) -> (Outcome, Connection<S>) {
     let mut bank = Bank { store };
     let outcome = match act {
         Act::Work => {
-            work(rt, alloc, &mut bank.store);
+            work(rt, &mut bank);
             Outcome::Done
         }
-        Act::Serve(stream) => Outcome::Served(answered(rt, alloc, &mut bank, stream)),
-        Act::Command => Outcome::Commanded(last_command(rt, alloc, &mut bank)),
-        Act::Tell => Outcome::Told(told(rt, alloc, &mut bank.store)),
+        Act::Serve(stream) => Outcome::Served(answered(rt, &mut bank, stream)),
+        Act::Command => Outcome::Commanded(last_command(rt, &mut bank)),
+        Act::Tell => Outcome::Told(told(rt, &mut bank.store)),
     };
     (outcome, bank.store.into_connection())
 }
 
 /// Does this with a database. Where its bank is not adopted, the connection is gone.
 fn done<S: Alter + Drop>(
-    rt: &impl Abort,
-    alloc: Global,
+    rt: &impl Runtime,
     mut conn: Connection<S>,
     deed: Deed<'_>,
 ) -> Result<(Outcome, Connection<S>), AdoptFault> {
     assert!(rt; conn.is_autocommit());
     match deed {
-        Deed::Make => Ok((made(rt, alloc, &mut conn), conn)),
+        Deed::Make => Ok((made(rt, &mut conn), conn)),
         Deed::Change(change) => Ok((changed(rt, &mut conn, change), conn)),
-        Deed::Find => Ok((Outcome::Found(adopt_bank(alloc, &mut conn)), conn)),
-        Deed::Open(act) => Ok(done_over(rt, alloc, SqlStore::over(conn), act)),
-        Deed::Adopt(act) => Ok(done_over(rt, alloc, adopt(alloc, conn)?, act)),
+        Deed::Find => Ok((Outcome::Found(adopt_bank(rt.alloc(), &mut conn)), conn)),
+        Deed::Open(act) => Ok(done_over(rt, SqlStore::over(conn), act)),
+        Deed::Adopt(act) => Ok(done_over(rt, adopt(rt.alloc(), conn)?, act)),
     }
 }
 
 /// Does this with files, and answers what came of it, and the connection. It is lost where their bank is not adopted.
 pub fn done_with<D: Disk + Drop>(
-    rt: &impl Abort,
-    alloc: Global,
+    rt: &impl Runtime,
     conn: Connection<FileStore<D>>,
     deed: Deed<'_>,
 ) -> Result<(Outcome, Connection<FileStore<D>>), AdoptFault> {
-    done(rt, alloc, conn, deed)
+    done(rt, conn, deed)
 }

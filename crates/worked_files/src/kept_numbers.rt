@@ -17,7 +17,6 @@ const CASH: AdoptFault = AdoptFault::Books(BooksFault::Cash { branch: 1 });
 fn numbers_of_a_branch_are_compared(rt: HostRuntime) {
     refused(
         &rt,
-        rt.alloc(),
         &[
             (
                 "UPDATE branches SET balance = 62501 WHERE branch = 1",
@@ -45,7 +44,6 @@ fn numbers_of_a_branch_are_compared(rt: HostRuntime) {
 fn numbers_of_a_teller_are_compared(rt: HostRuntime) {
     refused(
         &rt,
-        rt.alloc(),
         &[
             (
                 "UPDATE tellers SET balance = 62501 WHERE teller = 11",
@@ -65,7 +63,6 @@ fn numbers_of_a_teller_are_compared(rt: HostRuntime) {
 fn numbers_of_an_account_an_entry_and_a_user_are_compared(rt: HostRuntime) {
     refused(
         &rt,
-        rt.alloc(),
         &[
             (
                 "UPDATE accounts SET balance = 52501 WHERE account = 101",

@@ -1,15 +1,14 @@
 //! Files that hold no bank, or a bank in other tables, and which fault is told first.
 
 use crate::disks::nothing;
-use crate::refusals::{judged, refused};
+use crate::refusals::{judged, refused, refused_for};
 use adopt_sql::AdoptFault;
 use book_check::BooksFault;
 use policy_check::PolicyFault;
 
 #[test]
 fn an_empty_file_is_no_bank(rt: HostRuntime) {
-    let alloc = rt.alloc();
-    let answer = judged(&rt, alloc, &nothing(alloc), "");
+    let answer = judged(&rt, &nothing(&rt), "");
     assert!(rt; answer == Err(AdoptFault::NotABank));
 }
 
@@ -17,7 +16,6 @@ fn an_empty_file_is_no_bank(rt: HostRuntime) {
 fn a_bank_has_one_row_of_its_own(rt: HostRuntime) {
     refused(
         &rt,
-        rt.alloc(),
         &[
             ("DELETE FROM bank", AdoptFault::NotABank),
             (
@@ -33,41 +31,35 @@ fn a_bank_has_one_row_of_its_own(rt: HostRuntime) {
 
 #[test]
 fn a_bank_has_its_tables_of_the_books(rt: HostRuntime) {
-    refused(
+    refused_for(
         &rt,
-        rt.alloc(),
+        AdoptFault::NotABank,
         &[
-            ("DROP TABLE bank", AdoptFault::NotABank),
-            ("DROP TABLE branches", AdoptFault::NotABank),
-            ("DROP TABLE tellers", AdoptFault::NotABank),
-            ("DROP TABLE accounts", AdoptFault::NotABank),
-            ("DROP TABLE entries", AdoptFault::NotABank),
-            ("DROP TABLE lines", AdoptFault::NotABank),
-            ("DROP TABLE proofs", AdoptFault::NotABank),
-            ("DROP TABLE releases", AdoptFault::NotABank),
+            "DROP TABLE bank",
+            "DROP TABLE branches",
+            "DROP TABLE tellers",
+            "DROP TABLE accounts",
+            "DROP TABLE entries",
+            "DROP TABLE lines",
+            "DROP TABLE proofs",
+            "DROP TABLE releases",
         ],
     );
 }
 
 #[test]
 fn a_bank_has_its_tables_of_the_policy(rt: HostRuntime) {
-    refused(
+    refused_for(
         &rt,
-        rt.alloc(),
+        AdoptFault::NotABank,
         &[
-            ("DROP TABLE users", AdoptFault::NotABank),
-            (
-                "DROP TABLE users; CREATE TABLE users (user_no INTEGER PRIMARY KEY, name TEXT NOT NULL) STRICT",
-                AdoptFault::NotABank,
-            ),
-            ("DROP TABLE sets", AdoptFault::NotABank),
-            ("DROP TABLE members", AdoptFault::NotABank),
-            (
-                "DROP TABLE triples; DROP TABLE relations",
-                AdoptFault::NotABank,
-            ),
-            ("DROP TABLE triples", AdoptFault::NotABank),
-            ("DROP TABLE certifiers", AdoptFault::NotABank),
+            "DROP TABLE users",
+            "DROP TABLE users; CREATE TABLE users (user_no INTEGER PRIMARY KEY, name TEXT NOT NULL) STRICT",
+            "DROP TABLE sets",
+            "DROP TABLE members",
+            "DROP TABLE triples; DROP TABLE relations",
+            "DROP TABLE triples",
+            "DROP TABLE certifiers",
         ],
     );
 }
@@ -76,7 +68,6 @@ fn a_bank_has_its_tables_of_the_policy(rt: HostRuntime) {
 fn the_version_is_told_before_the_tables_the_books_and_the_policy(rt: HostRuntime) {
     refused(
         &rt,
-        rt.alloc(),
         &[
             (
                 "UPDATE bank SET version = 7; DROP TABLE lines",
@@ -102,7 +93,6 @@ fn the_version_is_told_before_the_tables_the_books_and_the_policy(rt: HostRuntim
 fn a_table_that_is_not_there_is_told_before_any_value(rt: HostRuntime) {
     refused(
         &rt,
-        rt.alloc(),
         &[
             (
                 "UPDATE bank SET policy = -1; DROP TABLE lines",

@@ -21,6 +21,8 @@ mod policies;
 #[cfg(test)]
 mod refusals;
 #[cfg(test)]
+mod runtime;
+#[cfg(test)]
 mod serving;
 #[cfg(test)]
 mod sound;

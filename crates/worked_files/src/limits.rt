@@ -1,6 +1,6 @@
 //! Rows of the books that are out of their limits, or name one that is not there.
 
-use crate::refusals::refused;
+use crate::refusals::refused_for;
 use adopt_sql::AdoptFault;
 use book_check::BooksFault;
 
@@ -8,70 +8,64 @@ const RANGE: AdoptFault = AdoptFault::Books(BooksFault::Range);
 
 #[test]
 fn versions_of_the_policy_have_limits(rt: HostRuntime) {
-    refused(
+    refused_for(
         &rt,
-        rt.alloc(),
+        RANGE,
         &[
-            ("UPDATE bank SET policy = -1", RANGE),
-            ("UPDATE bank SET policy = 1000000000000", RANGE),
+            "UPDATE bank SET policy = -1",
+            "UPDATE bank SET policy = 1000000000000",
         ],
     );
 }
 
 #[test]
 fn rows_of_a_branch_have_limits(rt: HostRuntime) {
-    refused(
+    refused_for(
         &rt,
-        rt.alloc(),
+        RANGE,
         &[
-            ("UPDATE branches SET day = 0 WHERE branch = 2", RANGE),
-            ("UPDATE branches SET cash = -1 WHERE branch = 2", RANGE),
-            ("UPDATE branches SET branch = 3 WHERE branch = 2", RANGE),
-            ("UPDATE tellers SET branch = 3 WHERE teller = 12", RANGE),
-            ("UPDATE tellers SET holder = 10000 WHERE teller = 11", RANGE),
-            ("UPDATE accounts SET floor = 1 WHERE account = 201", RANGE),
-            (
-                "INSERT INTO proofs (branch, day, entries, balance, cash) VALUES (1, 1, 1, 62500, 55000)",
-                RANGE,
-            ),
+            "UPDATE branches SET day = 0 WHERE branch = 2",
+            "UPDATE branches SET cash = -1 WHERE branch = 2",
+            "UPDATE branches SET branch = 3 WHERE branch = 2",
+            "UPDATE tellers SET branch = 3 WHERE teller = 12",
+            "UPDATE tellers SET holder = 10000 WHERE teller = 11",
+            "UPDATE accounts SET floor = 1 WHERE account = 201",
+            "INSERT INTO proofs (branch, day, entries, balance, cash) VALUES (1, 1, 1, 62500, 55000)",
         ],
     );
 }
 
 #[test]
 fn rows_of_the_history_have_limits(rt: HostRuntime) {
-    refused(
+    refused_for(
         &rt,
-        rt.alloc(),
+        RANGE,
         &[
-            ("UPDATE entries SET delta = 1000000", RANGE),
-            ("UPDATE entries SET moment = 100000000000", RANGE),
-            ("UPDATE entries SET form = 4", RANGE),
-            ("UPDATE entries SET user_no = 99", RANGE),
-            ("UPDATE entries SET partner = 2", RANGE),
-            ("UPDATE lines SET form = 6 WHERE number = 1", RANGE),
-            ("UPDATE lines SET place = 21 WHERE number = 5", RANGE),
+            "UPDATE entries SET delta = 1000000",
+            "UPDATE entries SET moment = 100000000000",
+            "UPDATE entries SET form = 4",
+            "UPDATE entries SET user_no = 99",
+            "UPDATE entries SET partner = 2",
+            "UPDATE lines SET form = 6 WHERE number = 1",
+            "UPDATE lines SET place = 21 WHERE number = 5",
         ],
     );
 }
 
 #[test]
 fn rows_of_users_and_their_releases_have_limits(rt: HostRuntime) {
-    refused(
+    refused_for(
         &rt,
-        rt.alloc(),
+        RANGE,
         &[
-            ("UPDATE users SET officer = 2 WHERE user_no = 1", RANGE),
-            (
-                "UPDATE users SET session = 1000000000 WHERE user_no = 7",
-                RANGE,
-            ),
-            ("UPDATE releases SET giver = 99", RANGE),
-            ("UPDATE releases SET number = 2", RANGE),
-            ("UPDATE releases SET form = 9", RANGE),
-            ("UPDATE releases SET form = 14", RANGE),
-            ("UPDATE releases SET member5 = 1", RANGE),
-            ("UPDATE releases SET used = 2", RANGE),
+            "UPDATE users SET officer = 2 WHERE user_no = 1",
+            "UPDATE users SET session = 1000000000 WHERE user_no = 7",
+            "UPDATE releases SET giver = 99",
+            "UPDATE releases SET number = 2",
+            "UPDATE releases SET form = 9",
+            "UPDATE releases SET form = 14",
+            "UPDATE releases SET member5 = 1",
+            "UPDATE releases SET used = 2",
         ],
     );
 }

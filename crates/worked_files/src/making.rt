@@ -5,18 +5,16 @@ use crate::disks::{
     Failers, Failing, Frail, Held, closed_by, failing_files, left_by, let_go, may_have_failed,
     nothing, open_frail, reopened, seen,
 };
+use crate::runtime::Runtime;
 use crate::tellings::{Tale, told_anew};
 use adopt_sql::AdoptFault;
 use money::Fault;
-use std::alloc::Global;
 use std::process::Abort;
 
 /// Makes the sample bank in a database, or looks for it there. Answers whether that was done, and the files.
-fn tried(rt: &impl Abort, alloc: Global, conn: Frail, deed: Deed<'_>) -> (bool, Failers) {
-    match done_with(rt, alloc, conn, deed) {
-        Ok((outcome, conn)) => (is_done(rt, outcome), let_go(conn)),
-        Err(fault) => panic!(rt; "{fault}"),
-    }
+fn tried(rt: &impl Runtime, conn: Frail, deed: Deed<'_>) -> (bool, Failers) {
+    let (outcome, conn) = done_with(rt, conn, deed).expect(rt, "the connection");
+    (is_done(rt, outcome), let_go(conn))
 }
 
 /// Whether a bank was made, or found. It is the disk's fault where it was not.
@@ -32,31 +30,31 @@ fn is_done(rt: &impl Abort, outcome: Outcome) -> bool {
 }
 
 /// What files hold behind the making of the sample bank. It is in the log, and was not copied into the database file.
-fn made_over(rt: &impl Abort, alloc: Global, held: &Held) -> Held {
-    let (was_made, files) = tried(rt, alloc, reopened(rt, alloc, held), Deed::Make);
+fn made_over(rt: &impl Runtime, held: &Held) -> Held {
+    let (was_made, files) = tried(rt, reopened(rt, held), Deed::Make);
     assert!(rt; was_made);
-    seen(rt, alloc, &files)
+    seen(rt, &files)
 }
 
 /// What new files hold in which the sample bank was made.
-pub fn sample_held(rt: &impl Abort, alloc: Global) -> Held {
-    made_over(rt, alloc, &nothing(alloc))
+pub fn sample_held(rt: &impl Runtime) -> Held {
+    made_over(rt, &nothing(rt))
 }
 
 /// Makes the sample bank in files that fail. Answers whether it was made, and the files.
-fn make_in(rt: &impl Abort, alloc: Global, files: Failers) -> (bool, Failers) {
-    match open_frail(rt, alloc, files) {
-        Ok(conn) => tried(rt, alloc, conn, Deed::Make),
+fn make_in(rt: &impl Runtime, files: Failers) -> (bool, Failers) {
+    match open_frail(rt, files) {
+        Ok(conn) => tried(rt, conn, Deed::Make),
         Err(files) => (false, files),
     }
 }
 
 /// Looks for the bank in files that fail. Answers whether it was found, or none where the files failed as they were
 /// opened, and the files.
-fn find_in(rt: &impl Abort, alloc: Global, files: Failers) -> (Option<bool>, Failers) {
-    match open_frail(rt, alloc, files) {
+fn find_in(rt: &impl Runtime, files: Failers) -> (Option<bool>, Failers) {
+    match open_frail(rt, files) {
         Ok(conn) => {
-            let (was_found, files) = tried(rt, alloc, conn, Deed::Find);
+            let (was_found, files) = tried(rt, conn, Deed::Find);
             (Some(was_found), files)
         }
         Err(files) => (None, files),
@@ -64,49 +62,46 @@ fn find_in(rt: &impl Abort, alloc: Global, files: Failers) -> (Option<bool>, Fai
 }
 
 /// Whether the bank that files hold is the sample bank.
-fn is_whole(rt: &impl Abort, alloc: Global, held: &Held, whole: &Tale) -> bool {
-    match told_anew(rt, alloc, held) {
+fn is_whole(rt: &impl Runtime, held: &Held, whole: &Tale) -> bool {
+    match told_anew(rt, held) {
         Ok(tale) => tale == *whole,
         Err(_) => false,
     }
 }
 
 /// Asks that files hold the whole bank, or none and then one can be made there, and answers which of these.
-fn is_there(rt: &impl Abort, alloc: Global, held: &Held, whole: &Tale) -> bool {
-    match told_anew(rt, alloc, held) {
+fn is_there(rt: &impl Runtime, held: &Held, whole: &Tale) -> bool {
+    match told_anew(rt, held) {
         Ok(tale) => {
             assert!(rt; tale == *whole);
             true
         }
         Err(fault) => {
             assert!(rt; fault == AdoptFault::NotABank);
-            assert!(rt; is_whole(rt, alloc, &made_over(rt, alloc, held), whole));
+            assert!(rt; is_whole(rt, &made_over(rt, held), whole));
             false
         }
     }
 }
 
 /// What the sample bank tells.
-fn whole_tale(rt: &impl Abort, alloc: Global) -> Tale {
-    match told_anew(rt, alloc, &sample_held(rt, alloc)) {
-        Ok(tale) => tale,
-        Err(fault) => panic!(rt; "{fault}"),
-    }
+fn whole_tale(rt: &impl Runtime) -> Tale {
+    told_anew(rt, &sample_held(rt)).expect(rt, "a bank")
 }
 
 /// Makes the bank on a disk that fails at its first call, then on one that fails at its second, and so on until one has
 /// not failed. A bank that was told to be made is there. Answers how often no bank was there, and how often one was of
 /// which it was told that the disk had failed.
-fn make_at_each_call(rt: &impl Abort, alloc: Global, which: Failing, whole: &Tale) -> (u32, u32) {
+fn make_at_each_call(rt: &impl Runtime, which: Failing, whole: &Tale) -> (u32, u32) {
     let mut absent = 0u32;
     let mut untold = 0u32;
     for calls in 0..10_000u64 {
-        let files = failing_files(rt, alloc, &nothing(alloc), which, calls);
-        let (was_made, mut files) = make_in(rt, alloc, files);
+        let files = failing_files(rt, &nothing(rt), which, calls);
+        let (was_made, mut files) = make_in(rt, files);
         let failed = may_have_failed(&mut files);
-        let left = left_by(rt, alloc, files);
+        let left = left_by(rt, files);
         for held in [&left.written, &left.synced] {
-            let there = is_there(rt, alloc, held, whole);
+            let there = is_there(rt, held, whole);
             assert!(rt; there || !was_made);
             absent = absent.saturating_add(u32::from(!there));
             untold = untold.saturating_add(u32::from(there && !was_made));
@@ -121,31 +116,24 @@ fn make_at_each_call(rt: &impl Abort, alloc: Global, which: Failing, whole: &Tal
 
 #[test]
 fn a_bank_is_made_whole_or_not(rt: HostRuntime) {
-    let alloc = rt.alloc();
-    let whole = whole_tale(&rt, alloc);
-    let (absent, untold) = make_at_each_call(&rt, alloc, Failing::Log, &whole);
+    let whole = whole_tale(&rt);
+    let (absent, untold) = make_at_each_call(&rt, Failing::Log, &whole);
     assert!(rt; absent > 0 && untold > 0);
-    let (absent, _) = make_at_each_call(&rt, alloc, Failing::Database, &whole);
+    let (absent, _) = make_at_each_call(&rt, Failing::Database, &whole);
     assert!(rt; absent > 0);
 }
 
 /// Looks for the bank on a disk that fails at its first call, then on one that fails at its second, and so on until one
 /// has not failed. Nothing is changed. Answers how often the disk failed behind the opening of the files.
-fn find_at_each_call(
-    rt: &impl Abort,
-    alloc: Global,
-    held: &Held,
-    which: Failing,
-    whole: &Tale,
-) -> u32 {
+fn find_at_each_call(rt: &impl Runtime, held: &Held, which: Failing, whole: &Tale) -> u32 {
     let mut refused = 0u32;
     for calls in 0..10_000u64 {
-        let files = failing_files(rt, alloc, held, which, calls);
-        let (was_found, mut files) = find_in(rt, alloc, files);
+        let files = failing_files(rt, held, which, calls);
+        let (was_found, mut files) = find_in(rt, files);
         let failed = may_have_failed(&mut files);
-        let left = left_by(rt, alloc, files);
-        assert!(rt; is_whole(rt, alloc, &left.written, whole));
-        assert!(rt; is_whole(rt, alloc, &left.synced, whole));
+        let left = left_by(rt, files);
+        assert!(rt; is_whole(rt, &left.written, whole));
+        assert!(rt; is_whole(rt, &left.synced, whole));
         refused = refused.saturating_add(u32::from(was_found == Some(false)));
         if !failed {
             assert!(rt; was_found == Some(true));
@@ -157,10 +145,9 @@ fn find_at_each_call(
 
 #[test]
 fn a_bank_is_found_or_left_as_it_is(rt: HostRuntime) {
-    let alloc = rt.alloc();
-    let whole = whole_tale(&rt, alloc);
-    let held = sample_held(&rt, alloc);
-    assert!(rt; find_at_each_call(&rt, alloc, &held, Failing::Log, &whole) > 0);
-    let closed = closed_by(&rt, alloc, reopened(&rt, alloc, &held));
-    assert!(rt; find_at_each_call(&rt, alloc, &closed, Failing::Database, &whole) > 0);
+    let whole = whole_tale(&rt);
+    let held = sample_held(&rt);
+    assert!(rt; find_at_each_call(&rt, &held, Failing::Log, &whole) > 0);
+    let closed = closed_by(&rt, reopened(&rt, &held));
+    assert!(rt; find_at_each_call(&rt, &closed, Failing::Database, &whole) > 0);
 }

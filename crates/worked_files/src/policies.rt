@@ -1,6 +1,6 @@
 //! Policies that dangle, in which an officer holds something, or in which one may execute what he certifies.
 
-use crate::refusals::refused;
+use crate::refusals::{refused, refused_for};
 use adopt_sql::AdoptFault;
 use bank_terms::Procedure;
 use book_check::BooksFault;
@@ -24,7 +24,6 @@ fn posts(user: u32) -> AdoptFault {
 fn nobody_executes_what_he_certifies(rt: HostRuntime) {
     refused(
         &rt,
-        rt.alloc(),
         &[
             ("INSERT INTO triples VALUES (3, 1, 2, 500)", posts(3)),
             (
@@ -41,68 +40,47 @@ fn nobody_executes_what_he_certifies(rt: HostRuntime) {
 
 #[test]
 fn an_officer_holds_nothing(rt: HostRuntime) {
-    refused(
+    refused_for(
         &rt,
-        rt.alloc(),
+        OFFICER,
         &[
-            ("INSERT INTO triples VALUES (1, 9, 2, 0)", OFFICER),
-            ("INSERT INTO certifiers VALUES (1, 9)", OFFICER),
-            (
-                "UPDATE relations SET by_user = 1 WHERE procedure = 9 AND set_no = 2",
-                OFFICER,
-            ),
+            "INSERT INTO triples VALUES (1, 9, 2, 0)",
+            "INSERT INTO certifiers VALUES (1, 9)",
+            "UPDATE relations SET by_user = 1 WHERE procedure = 9 AND set_no = 2",
         ],
     );
 }
 
 #[test]
 fn rows_of_users_and_sets_do_not_dangle(rt: HostRuntime) {
-    refused(
+    refused_for(
         &rt,
-        rt.alloc(),
+        DANGLING,
         &[
-            ("UPDATE users SET name = '' WHERE user_no = 9", DANGLING),
-            (
-                "INSERT INTO users VALUES (10000, 'Zoe', 0, 0, 1, 1, 0)",
-                DANGLING,
-            ),
-            ("INSERT INTO sets VALUES (6)", DANGLING),
-            ("DELETE FROM sets WHERE set_no = 5", DANGLING),
-            (
-                "UPDATE members SET kind = 9 WHERE set_no = 1 AND place = 1",
-                DANGLING,
-            ),
-            (
-                "UPDATE members SET place = 3 WHERE set_no = 5 AND place = 2",
-                DANGLING,
-            ),
-            (
-                "UPDATE members SET low = 151 WHERE set_no = 5 AND place = 1",
-                DANGLING,
-            ),
+            "UPDATE users SET name = '' WHERE user_no = 9",
+            "INSERT INTO users VALUES (10000, 'Zoe', 0, 0, 1, 1, 0)",
+            "INSERT INTO sets VALUES (6)",
+            "DELETE FROM sets WHERE set_no = 5",
+            "UPDATE members SET kind = 9 WHERE set_no = 1 AND place = 1",
+            "UPDATE members SET place = 3 WHERE set_no = 5 AND place = 2",
+            "UPDATE members SET low = 151 WHERE set_no = 5 AND place = 1",
         ],
     );
 }
 
 #[test]
 fn rows_of_relations_triples_and_certifiers_do_not_dangle(rt: HostRuntime) {
-    refused(
+    refused_for(
         &rt,
-        rt.alloc(),
+        DANGLING,
         &[
-            (
-                "UPDATE relations SET by_user = 99 WHERE procedure = 11",
-                DANGLING,
-            ),
-            ("INSERT INTO relations VALUES (13, 6, 2)", DANGLING),
-            ("INSERT INTO relations VALUES (14, 1, 2)", DANGLING),
-            ("INSERT INTO triples VALUES (99, 1, 1, 0)", DANGLING),
-            (
-                "UPDATE triples SET ceiling = 1000000000 WHERE user_no = 8 AND procedure = 2",
-                DANGLING,
-            ),
-            ("INSERT INTO certifiers VALUES (99, 1)", DANGLING),
-            ("INSERT INTO certifiers VALUES (2, 0)", DANGLING),
+            "UPDATE relations SET by_user = 99 WHERE procedure = 11",
+            "INSERT INTO relations VALUES (13, 6, 2)",
+            "INSERT INTO relations VALUES (14, 1, 2)",
+            "INSERT INTO triples VALUES (99, 1, 1, 0)",
+            "UPDATE triples SET ceiling = 1000000000 WHERE user_no = 8 AND procedure = 2",
+            "INSERT INTO certifiers VALUES (99, 1)",
+            "INSERT INTO certifiers VALUES (2, 0)",
         ],
     );
 }
@@ -111,7 +89,6 @@ fn rows_of_relations_triples_and_certifiers_do_not_dangle(rt: HostRuntime) {
 fn numbers_and_names_of_users_are_told_behind_all_rows_of_the_books(rt: HostRuntime) {
     refused(
         &rt,
-        rt.alloc(),
         &[
             ("UPDATE users SET user_no = -1 WHERE user_no = 9", DANGLING),
             (
@@ -142,7 +119,6 @@ fn numbers_and_names_of_users_are_told_behind_all_rows_of_the_books(rt: HostRunt
 fn nobody_is_a_user_twice(rt: HostRuntime) {
     refused(
         &rt,
-        rt.alloc(),
         &[(
             "CREATE TABLE copies (user_no INTEGER NOT NULL, name TEXT NOT NULL, officer INTEGER NOT NULL, suspended INTEGER NOT NULL, session INTEGER NOT NULL, is_on INTEGER NOT NULL, releases INTEGER NOT NULL) STRICT; INSERT INTO copies SELECT * FROM users; DROP TABLE users; CREATE TABLE users (user_no INTEGER NOT NULL, name TEXT NOT NULL, officer INTEGER NOT NULL, suspended INTEGER NOT NULL, session INTEGER NOT NULL, is_on INTEGER NOT NULL, releases INTEGER NOT NULL) STRICT; INSERT INTO users SELECT * FROM copies; INSERT INTO users SELECT * FROM copies WHERE user_no = 9; DROP TABLE copies",
             DANGLING,

@@ -7,10 +7,12 @@ use crate::disks::{
     Failers, Failing, Frail, Held, failing_files, left_by, let_go, may_have_failed, open_frail,
 };
 use crate::making::sample_held;
-use crate::streams::{CLOSING, Exchange, FAILED, POST, RELEASED, STOPPED, TRANSFER, reply};
+use crate::runtime::Runtime;
+use crate::streams::{
+    CLOSING, Exchange, FAILED, POST, RELEASED, STOPPED, TRANSFER, is_reply, reply,
+};
 use crate::tellings::{Tale, told, told_anew};
 use sample_bank::sample_world;
-use std::alloc::Global;
 use std::process::Abort;
 use store_rows::{Bank, ListStore, Store};
 
@@ -23,29 +25,24 @@ struct Found {
 }
 
 /// What a bank tells before these requests, and behind each of them. It answers them as is due.
-fn states_of<S: Store>(
-    rt: &impl Abort,
-    alloc: Global,
-    bank: &mut Bank<S>,
-    stream: &[Exchange],
-) -> Vec<Tale> {
-    let mut states = Vec::new(alloc);
-    push(rt, &mut states, told(rt, alloc, &mut bank.store));
+fn states_of<S: Store>(rt: &impl Runtime, bank: &mut Bank<S>, stream: &[Exchange]) -> Vec<Tale> {
+    let mut states = Vec::new(rt.alloc());
+    push(rt, &mut states, told(rt, &mut bank.store));
     for exchange in stream {
-        let answer = reply(rt, alloc, bank, exchange.request);
-        assert!(rt; answer.as_slice() == exchange.reply);
-        push(rt, &mut states, told(rt, alloc, &mut bank.store));
+        let answer = reply(rt, bank, exchange);
+        assert!(rt; is_reply(rt, answer.as_slice(), exchange.told));
+        push(rt, &mut states, told(rt, &mut bank.store));
     }
     states
 }
 
 /// What the sample bank tells so, in lists.
-fn listed_states(rt: &impl Abort, alloc: Global, stream: &[Exchange]) -> Vec<Tale> {
-    let world = sample_world(alloc).expect(rt, "memory");
+fn listed_states(rt: &impl Runtime, stream: &[Exchange]) -> Vec<Tale> {
+    let world = sample_world(rt.alloc()).expect(rt, "memory");
     let mut bank = Bank {
         store: ListStore::new(world),
     };
-    states_of(rt, alloc, &mut bank, stream)
+    states_of(rt, &mut bank, stream)
 }
 
 fn push(rt: &impl Abort, states: &mut Vec<Tale>, state: Tale) {
@@ -53,27 +50,22 @@ fn push(rt: &impl Abort, states: &mut Vec<Tale>, state: Tale) {
 }
 
 /// Asks that a bank which is stopped answers each request by that.
-fn stopped<S: Store>(rt: &impl Abort, alloc: Global, bank: &mut Bank<S>, stream: &[Exchange]) {
+fn stopped<S: Store>(rt: &impl Runtime, bank: &mut Bank<S>, stream: &[Exchange]) {
     for exchange in stream {
-        let answer = reply(rt, alloc, bank, exchange.request);
-        assert!(rt; answer.as_slice() == STOPPED);
+        let answer = reply(rt, bank, exchange);
+        assert!(rt; is_reply(rt, answer.as_slice(), STOPPED));
     }
 }
 
 /// How many of these requests were answered by their reply. The one behind them is answered by the fault of the disk,
 /// and from then on the bank is stopped.
-pub fn answered<S: Store>(
-    rt: &impl Abort,
-    alloc: Global,
-    bank: &mut Bank<S>,
-    stream: &[Exchange],
-) -> usize {
+pub fn answered<S: Store>(rt: &impl Runtime, bank: &mut Bank<S>, stream: &[Exchange]) -> usize {
     let mut count = 0usize;
     for exchange in stream {
-        let answer = reply(rt, alloc, bank, exchange.request);
-        if answer.as_slice() != exchange.reply {
-            assert!(rt; answer.as_slice() == FAILED);
-            stopped(rt, alloc, bank, stream);
+        let answer = reply(rt, bank, exchange);
+        if !is_reply(rt, answer.as_slice(), exchange.told) {
+            assert!(rt; is_reply(rt, answer.as_slice(), FAILED));
+            stopped(rt, bank, stream);
             return count;
         }
         count = count.saturating_add(1);
@@ -82,21 +74,9 @@ pub fn answered<S: Store>(
 }
 
 /// Asks that the files hold the bank of that state or of the next, and counts which it is where they differ.
-fn check(
-    rt: &impl Abort,
-    alloc: Global,
-    held: &Held,
-    states: &[Tale],
-    count: usize,
-    found: &mut Found,
-) {
-    let tale = match told_anew(rt, alloc, held) {
-        Ok(tale) => tale,
-        Err(fault) => panic!(rt; "{fault}"),
-    };
-    let Some(before) = states.get(count) else {
-        panic!(rt; "a state");
-    };
+fn check(rt: &impl Runtime, held: &Held, states: &[Tale], count: usize, found: &mut Found) {
+    let tale = told_anew(rt, held).expect(rt, "a bank");
+    let before = states.get(count).expect(rt, "a state");
     let behind = states.get(count.saturating_add(1)).unwrap_or(before);
     if tale == *before {
         if before != behind {
@@ -109,11 +89,9 @@ fn check(
 }
 
 /// Serves requests over the bank in a database. Answers how many got their reply, and the files.
-fn served(rt: &impl Abort, alloc: Global, conn: Frail, stream: &[Exchange]) -> (usize, Failers) {
-    match done_with(rt, alloc, conn, Deed::Open(Act::Serve(stream))) {
-        Ok((outcome, conn)) => (count_of(rt, outcome), let_go(conn)),
-        Err(fault) => panic!(rt; "{fault}"),
-    }
+fn served(rt: &impl Runtime, conn: Frail, stream: &[Exchange]) -> (usize, Failers) {
+    let (outcome, conn) = done_with(rt, conn, Deed::Open(Act::Serve(stream))).expect(rt, "a bank");
+    (count_of(rt, outcome), let_go(conn))
 }
 
 fn count_of(rt: &impl Abort, outcome: Outcome) -> usize {
@@ -126,25 +104,24 @@ fn count_of(rt: &impl Abort, outcome: Outcome) -> usize {
 /// Serves requests over the sample bank with a disk that fails at its first call behind those by which the files are
 /// opened, then over one that fails at its second, and so on until one has not failed. Answers at how many it failed.
 fn fail_each_call(
-    rt: &impl Abort,
-    alloc: Global,
+    rt: &impl Runtime,
     stream: &[Exchange],
     which: Failing,
     found: &mut Found,
 ) -> u32 {
-    let held = sample_held(rt, alloc);
-    let states = listed_states(rt, alloc, stream);
+    let held = sample_held(rt);
+    let states = listed_states(rt, stream);
     let mut failures = 0u32;
     for calls in 0..10_000u64 {
         // (a disk that fails while the files are opened is for the tests of making)
-        let Ok(conn) = open_frail(rt, alloc, failing_files(rt, alloc, &held, which, calls)) else {
+        let Ok(conn) = open_frail(rt, failing_files(rt, &held, which, calls)) else {
             continue;
         };
-        let (count, mut files) = served(rt, alloc, conn, stream);
+        let (count, mut files) = served(rt, conn, stream);
         let failed = may_have_failed(&mut files);
-        let left = left_by(rt, alloc, files);
-        check(rt, alloc, &left.written, &states, count, found);
-        check(rt, alloc, &left.synced, &states, count, found);
+        let left = left_by(rt, files);
+        check(rt, &left.written, &states, count, found);
+        check(rt, &left.synced, &states, count, found);
         if !failed {
             assert!(rt; count == stream.len());
             return failures;
@@ -155,36 +132,32 @@ fn fail_each_call(
 }
 
 /// Asks that the disk failed, and that behind that the bank was found as it was before a request, and as behind one.
-fn fail_both(rt: &impl Abort, alloc: Global, stream: &[Exchange]) {
+fn fail_both(rt: &impl Runtime, stream: &[Exchange]) {
     let mut found = Found {
         before: 0,
         behind: 0,
     };
-    assert!(rt; fail_each_call(rt, alloc, stream, Failing::Log, &mut found) > 0);
+    assert!(rt; fail_each_call(rt, stream, Failing::Log, &mut found) > 0);
     assert!(rt; found.before > 0 && found.behind > 0);
-    assert!(rt; fail_each_call(rt, alloc, stream, Failing::Database, &mut found) > 0);
+    assert!(rt; fail_each_call(rt, stream, Failing::Database, &mut found) > 0);
 }
 
 #[test]
 fn a_post_is_made_or_not(rt: HostRuntime) {
-    let alloc = rt.alloc();
-    fail_both(&rt, alloc, &POST);
+    fail_both(&rt, &POST);
 }
 
 #[test]
 fn a_transfer_is_made_or_not(rt: HostRuntime) {
-    let alloc = rt.alloc();
-    fail_both(&rt, alloc, &TRANSFER);
+    fail_both(&rt, &TRANSFER);
 }
 
 #[test]
 fn a_release_is_used_with_its_post_or_not(rt: HostRuntime) {
-    let alloc = rt.alloc();
-    fail_both(&rt, alloc, &RELEASED);
+    fail_both(&rt, &RELEASED);
 }
 
 #[test]
 fn a_day_is_closed_or_not(rt: HostRuntime) {
-    let alloc = rt.alloc();
-    fail_both(&rt, alloc, &CLOSING);
+    fail_both(&rt, &CLOSING);
 }

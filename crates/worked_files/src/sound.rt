@@ -3,15 +3,14 @@
 use crate::deeds::{Act, Deed, Outcome};
 use crate::disks::Held;
 use crate::refusals::{changed, done_in, judged, tried_in, untouched, worked_files};
+use crate::runtime::Runtime;
 use crate::tellings::Tale;
 use adopt_sql::AdoptFault;
 use money::Fault;
-use std::alloc::Global;
-use std::process::Abort;
 
 /// What the bank of these files tells, and how it leaves them.
-fn tale(rt: &impl Abort, alloc: Global, held: &Held, deed: Deed<'_>) -> (Tale, Held) {
-    let (outcome, after) = done_in(rt, alloc, held, deed);
+fn tale(rt: &impl Runtime, held: &Held, deed: Deed<'_>) -> (Tale, Held) {
+    let (outcome, after) = done_in(rt, held, deed);
     match outcome {
         Outcome::Told(tale) => (tale, after),
         _ => panic!(rt; "a tale"),
@@ -19,8 +18,8 @@ fn tale(rt: &impl Abort, alloc: Global, held: &Held, deed: Deed<'_>) -> (Tale, H
 }
 
 /// What one more command answers in the bank of these files, and how it leaves them.
-fn commanded(rt: &impl Abort, alloc: Global, held: &Held) -> (Result<bool, Fault>, Held) {
-    let (outcome, after) = done_in(rt, alloc, held, Deed::Adopt(Act::Command));
+fn commanded(rt: &impl Runtime, held: &Held) -> (Result<bool, Fault>, Held) {
+    let (outcome, after) = done_in(rt, held, Deed::Adopt(Act::Command));
     match outcome {
         Outcome::Commanded(answer) => (answer, after),
         _ => panic!(rt; "an answer"),
@@ -29,21 +28,19 @@ fn commanded(rt: &impl Abort, alloc: Global, held: &Held) -> (Result<bool, Fault
 
 #[test]
 fn a_bank_answers_as_before(rt: HostRuntime) {
-    let alloc = rt.alloc();
-    let files = worked_files(&rt, alloc);
-    let (before, _) = tale(&rt, alloc, &files, Deed::Open(Act::Tell));
-    let (again, after) = tale(&rt, alloc, &files, Deed::Adopt(Act::Tell));
+    let files = worked_files(&rt);
+    let (before, _) = tale(&rt, &files, Deed::Open(Act::Tell));
+    let (again, after) = tale(&rt, &files, Deed::Adopt(Act::Tell));
     assert!(rt; before.balance == Some(52_500));
     assert!(rt; again == before);
-    assert!(rt; untouched(&rt, alloc, &files) == after);
+    assert!(rt; untouched(&rt, &files) == after);
 }
 
 #[test]
 fn a_bank_of_other_tables_is_refused(rt: HostRuntime) {
-    let alloc = rt.alloc();
-    let files = worked_files(&rt, alloc);
-    let other = changed(&rt, alloc, &files, "UPDATE bank SET version = 7");
-    match tried_in(&rt, alloc, &other, Deed::Adopt(Act::Tell)) {
+    let files = worked_files(&rt);
+    let other = changed(&rt, &files, "UPDATE bank SET version = 7");
+    match tried_in(&rt, &other, Deed::Adopt(Act::Tell)) {
         Ok(_) => panic!(rt; "version 7 is adopted"),
         Err(fault) => assert!(rt; fault == AdoptFault::Version, "{fault}"),
     }
@@ -51,33 +48,30 @@ fn a_bank_of_other_tables_is_refused(rt: HostRuntime) {
 
 #[test]
 fn a_release_may_be_for_an_account_that_is_not_there(rt: HostRuntime) {
-    let alloc = rt.alloc();
-    let files = worked_files(&rt, alloc);
+    let files = worked_files(&rt);
     let change = "UPDATE releases SET member1 = 999";
-    assert!(rt; judged(&rt, alloc, &files, change) == Ok(()));
-    let other = changed(&rt, alloc, &files, change);
-    let (told, _) = tale(&rt, alloc, &other, Deed::Adopt(Act::Tell));
+    assert!(rt; judged(&rt, &files, change) == Ok(()));
+    let other = changed(&rt, &files, change);
+    let (told, _) = tale(&rt, &other, Deed::Adopt(Act::Tell));
     assert!(rt; told.released == Some(999));
 }
 
 #[test]
 fn a_command_leads_to_the_last_version(rt: HostRuntime) {
-    let alloc = rt.alloc();
     let change = "UPDATE bank SET policy = 999999999998";
-    let files = changed(&rt, alloc, &worked_files(&rt, alloc), change);
-    let (answer, _) = commanded(&rt, alloc, &files);
+    let files = changed(&rt, &worked_files(&rt), change);
+    let (answer, _) = commanded(&rt, &files);
     assert!(rt; answer == Ok(true));
 }
 
 #[test]
 fn no_command_leads_behind_the_last_version(rt: HostRuntime) {
-    let alloc = rt.alloc();
     let change = "UPDATE bank SET policy = 999999999999";
-    let files = changed(&rt, alloc, &worked_files(&rt, alloc), change);
-    let (before, _) = tale(&rt, alloc, &files, Deed::Open(Act::Tell));
-    let (answer, after) = commanded(&rt, alloc, &files);
+    let files = changed(&rt, &worked_files(&rt), change);
+    let (before, _) = tale(&rt, &files, Deed::Open(Act::Tell));
+    let (answer, after) = commanded(&rt, &files);
     assert!(rt; answer == Err(Fault::Size));
-    assert!(rt; untouched(&rt, alloc, &files) == after);
-    let (behind, _) = tale(&rt, alloc, &after, Deed::Open(Act::Tell));
+    assert!(rt; untouched(&rt, &files) == after);
+    let (behind, _) = tale(&rt, &after, Deed::Open(Act::Tell));
     assert!(rt; behind == before);
 }

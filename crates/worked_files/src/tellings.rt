@@ -2,11 +2,10 @@
 
 use crate::deeds::{Act, Deed, Outcome, done_with};
 use crate::disks::{Held, let_go, reopened};
+use crate::runtime::Runtime;
 use adopt_sql::AdoptFault;
 use money::Fault;
-use std::alloc::Global;
 use std::fmt::Debug;
-use std::process::Abort;
 use store_rows::Store;
 
 /// What a bank tells.
@@ -21,83 +20,78 @@ pub struct Tale {
 }
 
 /// Tells an answer in a line of its own.
-fn tell<A: Debug + Drop>(
-    rt: &impl Abort,
-    alloc: Global,
-    text: &mut String,
-    answer: Result<A, Fault>,
-) {
+fn tell<A: Debug + Drop>(rt: &impl Runtime, text: &mut String, answer: Result<A, Fault>) {
     let answer = answer.expect(rt, "no fault");
-    let line = format!(in alloc; "{answer:?}\n").expect(rt, "memory");
+    let line = format!(in rt.alloc(); "{answer:?}\n").expect(rt, "memory");
     assert!(rt; text.push_str(line.as_str()).is_ok());
 }
 
 /// Tells the balances, the cash and the counts of entries of the sample's accounts, tellers and branches, the days of
 /// these, and who holds which drawer.
-fn tell_places<S: Store>(rt: &impl Abort, alloc: Global, bank: &mut S, text: &mut String) {
+fn tell_places<S: Store>(rt: &impl Runtime, bank: &mut S, text: &mut String) {
     for account in [101, 102, 201] {
-        tell(rt, alloc, text, bank.account(alloc, account));
+        tell(rt, text, bank.account(rt.alloc(), account));
     }
     for teller in [11, 12, 21] {
-        tell(rt, alloc, text, bank.teller(alloc, teller));
+        tell(rt, text, bank.teller(rt.alloc(), teller));
     }
     for branch in [1, 2] {
-        tell(rt, alloc, text, bank.branch(alloc, branch));
+        tell(rt, text, bank.branch(rt.alloc(), branch));
     }
     for teller in [11, 12] {
-        tell(rt, alloc, text, bank.drawer(alloc, teller));
+        tell(rt, text, bank.drawer(rt.alloc(), teller));
     }
 }
 
 /// Tells the first entries of branch 1, which of them are undone, and those of account 101.
-fn tell_history<S: Store>(rt: &impl Abort, alloc: Global, bank: &mut S, text: &mut String) {
+fn tell_history<S: Store>(rt: &impl Runtime, bank: &mut S, text: &mut String) {
     for number in [1, 2, 3] {
-        tell(rt, alloc, text, bank.entry(alloc, 1, number));
-        tell(rt, alloc, text, bank.undone(alloc, 1, number));
+        tell(rt, text, bank.entry(rt.alloc(), 1, number));
+        tell(rt, text, bank.undone(rt.alloc(), 1, number));
     }
-    tell(rt, alloc, text, bank.entries_of(alloc, 101, 1, 9));
+    tell(rt, text, bank.entries_of(rt.alloc(), 101, 1, 9));
 }
 
 /// Tells who has a session open, the first releases of Tess and Tom, the rows of the policy, and what Tess may do.
-fn tell_policy<S: Store>(rt: &impl Abort, alloc: Global, bank: &mut S, text: &mut String) {
+fn tell_policy<S: Store>(rt: &impl Runtime, bank: &mut S, text: &mut String) {
     for user in [7, 8, 9] {
-        tell(rt, alloc, text, bank.user(alloc, user));
+        tell(rt, text, bank.user(rt.alloc(), user));
     }
     for user in [7, 8] {
-        tell(rt, alloc, text, bank.release(alloc, user, 1));
+        tell(rt, text, bank.release(rt.alloc(), user, 1));
     }
-    tell(rt, alloc, text, bank.policy_rows(alloc));
-    tell(rt, alloc, text, bank.shown(alloc, 7, 0, 9));
+    tell(rt, text, bank.policy_rows(rt.alloc()));
+    tell(rt, text, bank.shown(rt.alloc(), 7, 0, 9));
 }
 
 /// What account 101 holds.
-fn balance<S: Store>(rt: &impl Abort, alloc: Global, bank: &mut S) -> Option<i128> {
-    let account = bank.account(alloc, 101).expect(rt, "no fault")?;
+fn balance<S: Store>(rt: &impl Runtime, bank: &mut S) -> Option<i128> {
+    let account = bank.account(rt.alloc(), 101).expect(rt, "no fault")?;
     Some(account.balance)
 }
 
 /// Which account the first release of Tess is for.
-fn released<S: Store>(rt: &impl Abort, alloc: Global, bank: &mut S) -> Option<i64> {
-    let release = bank.release(alloc, 7, 1).expect(rt, "no fault")?;
+fn released<S: Store>(rt: &impl Runtime, bank: &mut S) -> Option<i64> {
+    let release = bank.release(rt.alloc(), 7, 1).expect(rt, "no fault")?;
     Some(release.operation.members[0])
 }
 
 /// What a bank tells.
-pub fn told<S: Store>(rt: &impl Abort, alloc: Global, bank: &mut S) -> Tale {
-    let mut text = String::new(alloc);
-    tell_places(rt, alloc, bank, &mut text);
-    tell_history(rt, alloc, bank, &mut text);
-    tell_policy(rt, alloc, bank, &mut text);
+pub fn told<S: Store>(rt: &impl Runtime, bank: &mut S) -> Tale {
+    let mut text = String::new(rt.alloc());
+    tell_places(rt, bank, &mut text);
+    tell_history(rt, bank, &mut text);
+    tell_policy(rt, bank, &mut text);
     Tale {
         text,
-        balance: balance(rt, alloc, bank),
-        released: released(rt, alloc, bank),
+        balance: balance(rt, bank),
+        released: released(rt, bank),
     }
 }
 
 /// What the bank tells that these files hold, opened anew and adopted.
-pub fn told_anew(rt: &impl Abort, alloc: Global, held: &Held) -> Result<Tale, AdoptFault> {
-    let (outcome, conn) = done_with(rt, alloc, reopened(rt, alloc, held), Deed::Adopt(Act::Tell))?;
+pub fn told_anew(rt: &impl Runtime, held: &Held) -> Result<Tale, AdoptFault> {
+    let (outcome, conn) = done_with(rt, reopened(rt, held), Deed::Adopt(Act::Tell))?;
     let _ = let_go(conn);
     match outcome {
         Outcome::Told(tale) => Ok(tale),

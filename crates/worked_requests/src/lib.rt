@@ -7,8 +7,6 @@ mod amounts;
 #[cfg(test)]
 mod asking;
 #[cfg(test)]
-mod by_rows;
-#[cfg(test)]
 mod closings;
 #[cfg(test)]
 mod corrections;

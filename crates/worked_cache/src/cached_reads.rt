@@ -1,10 +1,9 @@
 //! What of the policy two equal questions read, with a cache and without.
 
 use crate::counting::Counting;
-use crate::who::user;
 use cached::Cached;
 use counter_ops::Balance;
-use decide::{Decision, Op, Reply, carry_out, decide};
+use decide::{Decision, Op, Reply, Who, carry_out, decide};
 use sample_bank::sample_world;
 use std::alloc::Global;
 use std::process::Abort;
@@ -17,8 +16,13 @@ fn counted_sample(rt: &impl Abort, alloc: Global) -> Counting<ListStore> {
 
 /// Asks, as Tess, for the balance of account 101, which has to be told.
 fn balance_is_told<S: Store>(rt: &impl Abort, alloc: Global, bank: &mut Bank<S>) {
+    let tess = Who {
+        user: Some(7),
+        session: 1,
+        release: 0,
+    };
     let op = Op::Balance(Balance { account: 101 });
-    match decide(bank, alloc, user(7), 700, &op) {
+    match decide(bank, alloc, tess, 700, &op) {
         Ok(Decision::Allowed(permit)) => match carry_out(permit) {
             Ok(Reply::Done(done)) => {
                 let body = done.into_body();

@@ -1,4 +1,6 @@
-use crate::{ServeFault, line_of};
+//! What a program writes to standard error where serving a stream ended with a fault.
+
+use ends::{ServeFault, line_of};
 
 #[test]
 fn each_fault_has_its_line(rt: HostRuntime) {
