@@ -6,6 +6,7 @@ mod adopting;
 mod bank_rows;
 mod item_sets;
 mod judging;
+pub mod laws;
 mod made;
 mod opening;
 mod reading;
