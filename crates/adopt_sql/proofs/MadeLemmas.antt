@@ -1,6 +1,6 @@
 -- What is made of rows, one after another.
-use Rattle.std.proofs.Common.{◌≡◌, ◌<◌, ◌≤◌, ◌+◌, ℕ, List, [], ◌∷◌, ◌++◌, map, take, length, get_or, sym, ap, ◌∙◌}
-use Rattle.std.proofs.lemmas.List.{map-append, take_all, take_more}
+use Rattle.std.proofs.Common.{◌≡◌, ◌<◌, ◌+◌, ℕ, List, [], ◌∷◌, ◌++◌, map, take, length, get_or, sym, ap, ◌∙◌}
+use Rattle.std.proofs.lemmas.List.{map-append, take_more}
 
 module _ {X Y : Type 0} (f : X → Y) where
   -- what was made of the rows before the i-th
@@ -11,6 +11,3 @@ module _ {X Y : Type 0} (f : X → Y) where
   made_more rows i row y ys new below at is before made = record {
     same = made ∙ ap (λ z. ys ++ z ∷ []) (is ∙ ap f at) ∙ ap (λ l. l ++ f (get_or rows i row) ∷ []) before.same ∙ sym (map-append f (take i rows) (get_or rows i row ∷ [])) ∙ ap (map f) (sym (take_more rows i row below));
   }
-
-  pub made_all : (rows : List X) (i : ℕ) (ys : List Y) → length rows ≤ i → AreMade rows i ys → ys ≡ map f rows
-  made_all rows i ys past are = are.same ∙ ap (map f) (take_all i rows past)

@@ -13,9 +13,6 @@ use Rattle.sqlite_sql.specs.Program.{IsProgramAnswer}
 use Rattle.sqlite.specs.Program.{overlay}
 use Rattle.sqlite.specs.Tree.{Trees}
 use Rattle.sqlite.proofs.Callers.{one_permutation}
-use Rattle.sqlite_sql.proofs.QueryLemmas.{output_cmp_total}
-use Rattle.sqlite_keyed.specs.Lists.{sort_by}
-use Rattle.sqlite_keyed.proofs.SortLemmas.{sorted_is-sort_by, HasNoTies}
 
 pub picked : {A B : Type 0} (p : A → Bool) (f : A → B) (xs : List A) → flat_map (λ x. cond (p x) (f x ∷ []) []) xs ≡ map f (filter p xs)
 picked p f [] = refl
@@ -59,15 +56,3 @@ few_permutation [] [] few same = refl
 few_permutation [] (y ∷ ys) few same = absurd (omega (arith, length_permutation _ _ same))
 few_permutation (x ∷ []) ys few same = one_permutation x ys same
 few_permutation (x ∷ z ∷ xs) ys few same = absurd (omega arith)
-
--- with ORDER BY on what no two rows share, there is one answer
-module _ (t : ℕ) (terms project : List Term) (order : List (Term × Key)) (limit offset : Term) where
-  abbrev s : Query
-  s = scan t terms project order limit offset
-
-  pub sorted_scan : (db : Trees) (params : Row) (rows : List Row) → overlay db [] t ≡ db t → IsProgramAnswer [] s db params rows
-      → HasNoTies (output_cmp s) (output_cmp_total s) (map (output s) (map (λ r. params ∷ r ∷ []) (filter (passes terms params) (db t))))
-      → rows ≡ page s params (map (λ (o : Output). o.1) (sort_by (output_cmp s) (map (output s) (map (λ r. params ∷ r ∷ []) (filter (passes terms params) (db t))))))
-  sorted_scan db params rows over h apart =
-      let it = scanned t terms project order limit offset db params rows over h in
-      it.3 ∙ ap (λ os. page s params (map (λ (o : Output). o.1) os)) (sorted_is-sort_by (output_cmp s) (output_cmp_total s) _ it.0 apart it.1 it.2)
