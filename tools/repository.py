@@ -5,6 +5,9 @@ import subprocess
 TOP = os.path.dirname(os.path.dirname(os.path.abspath(__file__)))
 # The programs that take times over banks made up, and what makes these up. tools/bench and tools/check-bench prove them.
 BENCHES = ("made_up_bank", "check_bench", "post_bench")
+# The bank program, and the one that serves the sample in a store of one's choice, which tools/rows-over proves and builds.
+BANK_PROGRAM = "bank_cli"
+ROWS_OVER = "rows_over"
 
 
 def words_of_all():
