@@ -9,7 +9,7 @@ use bank_terms::Procedure;
 use row_reads::PolicyKey;
 
 /// The numbers in the key columns of a line, in order; 0 where its table has fewer of them.
-#[derive(Clone, Copy, Debug, PartialEq, Eq)]
+#[derive(Clone, Copy)]
 pub(crate) struct Columns {
     pub(crate) first: u32,
     pub(crate) second: u32,

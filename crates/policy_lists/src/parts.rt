@@ -7,7 +7,7 @@ use crate::columns::Columns;
 
 /// The rows of a table behind these columns, in order of key, at most so many; all of them from the
 /// first on with -1 in the first column, and however many there are with a count of -1.
-#[derive(Clone, Copy, Debug)]
+#[derive(Clone, Copy)]
 pub(crate) struct Part {
     pub(crate) first: i64,
     pub(crate) second: u32,

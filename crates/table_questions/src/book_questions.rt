@@ -15,7 +15,7 @@ use sqlite::{Alter, Transaction};
 use std::alloc::Global;
 
 /// The account of this number with its balance and turns, or none where it isn't there.
-#[derive(Clone, Copy, Debug)]
+#[derive(Clone, Copy)]
 pub struct AccountRow {
     /// The number.
     pub account: u32,
@@ -36,7 +36,7 @@ impl Question for AccountRow {
 }
 
 /// The branch of this number with its balance, its cash and its totals, or none where it isn't there.
-#[derive(Clone, Copy, Debug)]
+#[derive(Clone, Copy)]
 pub struct BranchRow {
     /// The number.
     pub branch: u32,
@@ -67,7 +67,7 @@ fn record_of(found: Option<KeptTeller>) -> Option<TellerRecord>
 }
 
 /// The teller of this number with its balance, or none where it isn't there.
-#[derive(Clone, Copy, Debug)]
+#[derive(Clone, Copy)]
 pub struct TellerRow {
     /// The number.
     pub teller: u32,
@@ -100,7 +100,7 @@ fn vault_of(found: Option<BranchRecord>) -> Option<i128>
 }
 
 /// The cash of a branch's vault in cents, or none where the branch isn't there.
-#[derive(Clone, Copy, Debug)]
+#[derive(Clone, Copy)]
 pub struct VaultCash {
     /// The branch.
     pub branch: u32,
@@ -136,7 +136,7 @@ fn drawer_of(found: Option<TellerRecord>) -> Option<DrawerRecord>
 }
 
 /// The cash of a teller's drawer and who holds it, or none where the teller isn't there.
-#[derive(Clone, Copy, Debug)]
+#[derive(Clone, Copy)]
 pub struct DrawerRow {
     /// The teller.
     pub teller: u32,
@@ -171,7 +171,7 @@ fn records_of(alloc: Global, kept: &[KeptTeller]) -> Result<Vec<TellerRecord>, F
 }
 
 /// The tellers of a branch, by number.
-#[derive(Clone, Copy, Debug)]
+#[derive(Clone, Copy)]
 pub struct Roster {
     /// The branch.
     pub branch: u32,
@@ -204,7 +204,7 @@ fn row_of(found: Option<EntryRecord>) -> Option<Entry>
 }
 
 /// The entry of this number in the history of a branch, or none where it isn't there.
-#[derive(Clone, Copy, Debug)]
+#[derive(Clone, Copy)]
 pub struct EntryRow {
     /// The branch.
     pub branch: u32,
@@ -237,7 +237,7 @@ fn is_of_one(number: u32, found: bool) -> bool
 }
 
 /// Whether an entry of the branch corrects the one of this number.
-#[derive(Clone, Copy, Debug)]
+#[derive(Clone, Copy)]
 pub struct IsUndone {
     /// The branch.
     pub branch: u32,

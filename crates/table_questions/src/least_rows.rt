@@ -7,7 +7,7 @@ use bank_books::AccountRecord;
 use bank_policy::{Kind, Member};
 
 /// Numbers from one to another, both with it, and none where the second is below the first.
-#[derive(Clone, Copy, Debug)]
+#[derive(Clone, Copy)]
 pub struct Interval {
     /// The least.
     pub low: u32,

@@ -10,7 +10,7 @@ use sqlite::{Alter, Transaction};
 use std::alloc::Global;
 
 /// All lines of the policy, in listing order.
-#[derive(Clone, Copy, Debug)]
+#[derive(Clone, Copy)]
 pub struct PolicyRows;
 
 impl Question for PolicyRows {
@@ -29,7 +29,7 @@ impl Question for PolicyRows {
 
 /// The line of the policy that is listed behind the one of a key, or the first where there is none;
 /// none where no line is listed there.
-#[derive(Clone, Copy, Debug)]
+#[derive(Clone, Copy)]
 pub struct NextPolicy {
     /// The key of the line before it.
     pub after: Option<PolicyKey>,

@@ -35,7 +35,7 @@ fn record_of(found: Option<KeptUser>) -> Option<UserRecord>
 }
 
 /// The user of this number and how many releases he was given, or none where he isn't there.
-#[derive(Clone, Copy, Debug)]
+#[derive(Clone, Copy)]
 pub struct UserRow {
     /// The number.
     pub user: u32,
@@ -59,7 +59,7 @@ impl Question for UserRow {
 }
 
 /// The triples of this user for this procedure, each with the members of its set.
-#[derive(Clone, Copy, Debug)]
+#[derive(Clone, Copy)]
 pub struct TriplesFor {
     /// The user.
     pub user: u32,
@@ -82,7 +82,7 @@ impl Question for TriplesFor {
 }
 
 /// The relations of this procedure, each with the members of its set.
-#[derive(Clone, Copy, Debug)]
+#[derive(Clone, Copy)]
 pub struct RelationsOf {
     /// The procedure.
     pub procedure: Procedure,
@@ -103,7 +103,7 @@ impl Question for RelationsOf {
 }
 
 /// How many triples a user has.
-#[derive(Clone, Copy, Debug)]
+#[derive(Clone, Copy)]
 pub struct TripleCount {
     /// The user.
     pub user: u32,
@@ -120,7 +120,7 @@ impl Question for TripleCount {
 }
 
 /// How many sets there are.
-#[derive(Clone, Copy, Debug)]
+#[derive(Clone, Copy)]
 pub struct SetCount;
 
 impl Question for SetCount {
@@ -134,7 +134,7 @@ impl Question for SetCount {
 }
 
 /// Whether there is a set of this number.
-#[derive(Clone, Copy, Debug)]
+#[derive(Clone, Copy)]
 pub struct HasSet {
     /// The number.
     pub number: u32,
@@ -151,7 +151,7 @@ impl Question for HasSet {
 }
 
 /// Whether this user may certify this procedure.
-#[derive(Clone, Copy, Debug)]
+#[derive(Clone, Copy)]
 pub struct IsCertifier {
     /// The user.
     pub user: u32,
@@ -170,7 +170,7 @@ impl Question for IsCertifier {
 }
 
 /// The release of this number of a user, or none where it isn't there.
-#[derive(Clone, Copy, Debug)]
+#[derive(Clone, Copy)]
 pub struct ReleaseRow {
     /// The user.
     pub user: u32,
@@ -194,7 +194,7 @@ impl Question for ReleaseRow {
 }
 
 /// The version of the policy: how many plans have changed it.
-#[derive(Clone, Copy, Debug)]
+#[derive(Clone, Copy)]
 pub struct PolicyVersion;
 
 impl Question for PolicyVersion {

@@ -14,7 +14,7 @@ use sqlite::{Alter, Transaction};
 use std::alloc::Global;
 
 /// The entry of an account that is its turn of this number, or none where it isn't there.
-#[derive(Clone, Copy, Debug)]
+#[derive(Clone, Copy)]
 pub struct EntryAt {
     /// The account.
     pub account: u32,
@@ -37,7 +37,7 @@ impl Question for EntryAt {
 }
 
 /// The next teller of a branch above a number, or none where there is no other.
-#[derive(Clone, Copy, Debug)]
+#[derive(Clone, Copy)]
 pub struct NextTeller {
     /// The branch.
     pub branch: u32,
@@ -64,7 +64,7 @@ impl Question for NextTeller {
 
 /// The entries of an account that are its turns from a first one on, as long as they are there, at
 /// most so many, each with the balance after it.
-#[derive(Clone, Copy, Debug)]
+#[derive(Clone, Copy)]
 pub struct EntriesOf {
     /// The account.
     pub account: u32,
@@ -90,7 +90,7 @@ impl Question for EntriesOf {
 }
 
 /// The next account above a number that a user is shown, or none where there is no other.
-#[derive(Clone, Copy, Debug)]
+#[derive(Clone, Copy)]
 pub struct NextShown {
     /// The user.
     pub user: u32,
@@ -114,7 +114,7 @@ impl Question for NextShown {
 }
 
 /// The accounts above a number that a user is shown, by number, each once, at most so many.
-#[derive(Clone, Copy, Debug)]
+#[derive(Clone, Copy)]
 pub struct Shown {
     /// The user.
     pub user: u32,
