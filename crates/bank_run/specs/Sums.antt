@@ -13,8 +13,11 @@ use Rattle.bank_books.specs.WorldLists.{WorldLists}
 use Rattle.book_growth.specs.Kept.{OnlyAdds}
 use Rattle.counter_ops.specs.Op.{procedure_of}
 use Rattle.counter_ops.specs.Operations.{IsOp}
+use Rattle.counter_ops.specs.declared.correct.Correct.{Correct}
 use Rattle.counter_ops.specs.declared.op.Op.{Op}
 use Rattle.counter_ops.specs.declared.op.Op.TheVariants as op
+use Rattle.counter_ops.specs.declared.post.Post.{Post}
+use Rattle.counter_ops.specs.declared.transfer.Transfer.{Transfer}
 use Rattle.postings.specs.Correct.{is_of_post, undoing}
 use Rattle.postings.specs.Transfer.{given, taken}
 use Rattle.bank_run.specs.PolicyRules.{asker}
@@ -49,72 +52,8 @@ pub record IsProper (r : Request) : Type 0 where
 abbrev pub AreProper : List Marked → Type 0
 AreProper requests = All (λ m. m.mark ≡ None → IsProper m.request) requests
 
--- What an operation that is carried out adds to the balance of a branch: the delta of a post at a teller of it, and minus that of a post that is corrected. The
--- two legs of a transfer come to nothing.
-abbrev pub moved_by : ℕ → Op → ℤ
-moved_by branch (op.Post post) = if post.branch == branch then post.delta else pos 0
-moved_by branch (op.Transfer transfer) = pos 0
-moved_by branch (op.Correct correct) = if is_of_post correct && correct.branch == branch then undoing correct else pos 0
-moved_by branch (op.DrawerOn form) = pos 0
-moved_by branch (op.DrawerOff form) = pos 0
-moved_by branch (op.MoveCash form) = pos 0
-moved_by branch (op.NewAccount form) = pos 0
-moved_by branch (op.Release form) = pos 0
-moved_by branch (op.Balance form) = pos 0
-moved_by branch (op.Statement form) = pos 0
-moved_by branch (op.Accounts form) = pos 0
-moved_by branch (op.Proof form) = pos 0
-moved_by branch (op.CloseDay form) = pos 0
-
--- to that of a teller
-abbrev pub teller_moved_by : ℕ → Op → ℤ
-teller_moved_by teller (op.Post post) = if post.teller == teller then post.delta else pos 0
-teller_moved_by teller (op.Transfer transfer) = pos 0
-teller_moved_by teller (op.Correct correct) = if is_of_post correct && correct.teller == teller then undoing correct else pos 0
-teller_moved_by teller (op.DrawerOn form) = pos 0
-teller_moved_by teller (op.DrawerOff form) = pos 0
-teller_moved_by teller (op.MoveCash form) = pos 0
-teller_moved_by teller (op.NewAccount form) = pos 0
-teller_moved_by teller (op.Release form) = pos 0
-teller_moved_by teller (op.Balance form) = pos 0
-teller_moved_by teller (op.Statement form) = pos 0
-teller_moved_by teller (op.Accounts form) = pos 0
-teller_moved_by teller (op.Proof form) = pos 0
-teller_moved_by teller (op.CloseDay form) = pos 0
-
--- to that of an account
-abbrev pub account_moved_by : ℕ → Op → ℤ
-account_moved_by account (op.Post post) = if post.account == account then post.delta else pos 0
-account_moved_by account (op.Transfer transfer) = (if transfer.source == account then taken transfer else pos 0) +ℤ (if transfer.target == account then given transfer else pos 0)
-account_moved_by account (op.Correct correct) = (if correct.account == account then undoing correct else pos 0) +ℤ (if not (is_of_post correct) && correct.other == account then correct.delta else pos 0)
-account_moved_by account (op.DrawerOn form) = pos 0
-account_moved_by account (op.DrawerOff form) = pos 0
-account_moved_by account (op.MoveCash form) = pos 0
-account_moved_by account (op.NewAccount form) = pos 0
-account_moved_by account (op.Release form) = pos 0
-account_moved_by account (op.Balance form) = pos 0
-account_moved_by account (op.Statement form) = pos 0
-account_moved_by account (op.Accounts form) = pos 0
-account_moved_by account (op.Proof form) = pos 0
-account_moved_by account (op.CloseDay form) = pos 0
-
--- and to the history of a branch: one entry for each leg
-abbrev pub entries_by : ℕ → Op → ℕ
-entries_by branch (op.Post post) = if post.branch == branch then 1 else 0
-entries_by branch (op.Transfer transfer) = if transfer.branch == branch then 2 else 0
-entries_by branch (op.Correct correct) = if correct.branch == branch then (if is_of_post correct then 1 else 2) else 0
-entries_by branch (op.DrawerOn form) = 0
-entries_by branch (op.DrawerOff form) = 0
-entries_by branch (op.MoveCash form) = 0
-entries_by branch (op.NewAccount form) = 0
-entries_by branch (op.Release form) = 0
-entries_by branch (op.Balance form) = 0
-entries_by branch (op.Statement form) = 0
-entries_by branch (op.Accounts form) = 0
-entries_by branch (op.Proof form) = 0
-entries_by branch (op.CloseDay form) = 0
-
--- what an operation moves
+-- What an operation that is carried out adds to the balance of each branch, each teller and each account, and how many entries to the history of each branch:
+-- one for each leg.
 pub record Moves : Type 0 where
   pub branches : ℕ → ℤ
   pub tellers : ℕ → ℤ
@@ -124,13 +63,47 @@ pub record Moves : Type 0 where
 abbrev pub moves_nothing : Moves
 moves_nothing = record { branches = λ branch. pos 0; tellers = λ teller. pos 0; accounts = λ account. pos 0; entries = λ branch. 0 }
 
-abbrev pub moves_of : Op → Moves
-moves_of o = record {
-  branches = λ branch. moved_by branch o;
-  tellers = λ teller. teller_moved_by teller o;
-  accounts = λ account. account_moved_by account o;
-  entries = λ branch. entries_by branch o;
+-- a post: its delta
+abbrev pub post_moves : Post → Moves
+post_moves post = record {
+  branches = λ branch. if post.branch == branch then post.delta else pos 0;
+  tellers = λ teller. if post.teller == teller then post.delta else pos 0;
+  accounts = λ account. if post.account == account then post.delta else pos 0;
+  entries = λ branch. if post.branch == branch then 1 else 0;
 }
+
+-- a transfer: what each leg takes or gives. At their branch the two come to nothing.
+abbrev pub transfer_moves : Transfer → Moves
+transfer_moves transfer = record {
+  branches = λ branch. pos 0;
+  tellers = λ teller. pos 0;
+  accounts = λ account. (if transfer.source == account then taken transfer else pos 0) +ℤ (if transfer.target == account then given transfer else pos 0);
+  entries = λ branch. if transfer.branch == branch then 2 else 0;
+}
+
+-- a correction: minus what the post brought, or what each leg of the transfer did
+abbrev pub correct_moves : Correct → Moves
+correct_moves correct = record {
+  branches = λ branch. if is_of_post correct && correct.branch == branch then undoing correct else pos 0;
+  tellers = λ teller. if is_of_post correct && correct.teller == teller then undoing correct else pos 0;
+  accounts = λ account. (if correct.account == account then undoing correct else pos 0) +ℤ (if not (is_of_post correct) && correct.other == account then correct.delta else pos 0);
+  entries = λ branch. if correct.branch == branch then (if is_of_post correct then 1 else 2) else 0;
+}
+
+abbrev pub moves_of : Op → Moves
+moves_of (op.Post post) = post_moves post
+moves_of (op.Transfer transfer) = transfer_moves transfer
+moves_of (op.Correct correct) = correct_moves correct
+moves_of (op.DrawerOn form) = moves_nothing
+moves_of (op.DrawerOff form) = moves_nothing
+moves_of (op.MoveCash form) = moves_nothing
+moves_of (op.NewAccount form) = moves_nothing
+moves_of (op.Release form) = moves_nothing
+moves_of (op.Balance form) = moves_nothing
+moves_of (op.Statement form) = moves_nothing
+moves_of (op.Accounts form) = moves_nothing
+moves_of (op.Proof form) = moves_nothing
+moves_of (op.CloseDay form) = moves_nothing
 
 -- the same of all that may be asked for: operations alone move anything
 abbrev pub moves_of_asked : Asked → Moves
