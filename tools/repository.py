@@ -66,5 +66,5 @@ def words_of_check(uses, crate, source, libraries, home):
 
 def kit():
     """The folder of the toolchain's kit."""
-    ran = subprocess.run(["rt", "doc"], cwd=TOP, stdout=subprocess.PIPE, check=True)
+    ran = subprocess.run(["rt", "doc"], cwd=TOP, stdin=subprocess.DEVNULL, stdout=subprocess.PIPE, check=True)
     return os.path.dirname(ran.stdout.decode().strip())

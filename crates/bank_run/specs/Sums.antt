@@ -52,8 +52,7 @@ pub record IsProper (r : Request) : Type 0 where
 abbrev pub AreProper : List Marked → Type 0
 AreProper requests = All (λ m. m.mark ≡ None → IsProper m.request) requests
 
--- What an operation that is carried out adds to the balance of each branch, each teller and each account, and how many entries to the history of each branch:
--- one for each leg.
+-- What an operation that is carried out adds to the balance of each branch, each teller and each account, and how many entries to the history of each branch.
 pub record Moves : Type 0 where
   pub branches : ℕ → ℤ
   pub tellers : ℕ → ℤ
@@ -72,7 +71,7 @@ post_moves post = record {
   entries = λ branch. if post.branch == branch then 1 else 0;
 }
 
--- a transfer: what each leg takes or gives. At their branch the two come to nothing.
+-- a transfer: what each of its two legs takes or gives. At their branch they come to nothing, and no teller has a part in it.
 abbrev pub transfer_moves : Transfer → Moves
 transfer_moves transfer = record {
   branches = λ branch. pos 0;
@@ -81,7 +80,7 @@ transfer_moves transfer = record {
   entries = λ branch. if transfer.branch == branch then 2 else 0;
 }
 
--- a correction: minus what the post brought, or what each leg of the transfer did
+-- a correction: minus what the post brought, at the teller that it names; or minus what each leg of the transfer did
 abbrev pub correct_moves : Correct → Moves
 correct_moves correct = record {
   branches = λ branch. if is_of_post correct && correct.branch == branch then undoing correct else pos 0;

@@ -2,7 +2,7 @@ ghost use Rattle.std.specs.Prelude.{◌≡◌, ◌≤◌, [], length, IfOk, IfEr
 ghost use Rattle.bank_books.specs.WorldLists.{WorldLists};
 ghost use Rattle.cached.specs.Standing.{below, cached_status, remembered};
 
-use crate::policy_cache::{MAX_ENTRIES, PolicyCache};
+use crate::policy_cache::PolicyCache;
 use std::alloc::Global;
 use store_rows::{Stands, Store};
 
@@ -41,7 +41,7 @@ impl<S: Store> Cached<S> {
     /// How many entries it keeps.
     pub fn entry_count(&self) -> usize
         ensures count { result ≡ length (remembered self.now) }
-        ensures bounded { result ≤ MAX_ENTRIES }
+        ensures bounded { result ≤ 64 }
     {
         self.cache.len()
     }

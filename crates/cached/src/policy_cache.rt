@@ -46,7 +46,7 @@ impl PolicyCache {
     /// How many entries it has.
     pub fn len(&self) -> usize
         ensures count { result ≡ length self.now }
-        ensures bounded { result ≤ MAX_ENTRIES }
+        ensures bounded { result ≤ 64 }
     {
         self.entries.len()
     }

@@ -54,6 +54,7 @@ impl<S: Alter> SqlStore<S> {
     fn refuse(&mut self, fault: Fault) -> Fault
         ensures conn { self.new.conn ≡ self.old.conn }
         ensures named { result ≢ Stopped }
+        ensures told { fault ≢ Stopped → result ≡ fault }
         ensures state { self.new.is_stopped ≡ stops (Some result) self.old.is_stopped }
         ensures counted { self.new.faults ≡ count_after (Some result) self.old.faults }
         ensures rose { RoseBy (counts (Some result)) self.old.faults self.new.faults }
