@@ -6,7 +6,7 @@ use crate::disks::{
     nothing, open_frail, reopened, seen,
 };
 use crate::runtime::Runtime;
-use crate::tellings::{Tale, told_anew};
+use crate::tellings::{Tale, tale_of, told_anew};
 use adopt_sql::AdoptFault;
 use money::Fault;
 use std::process::Abort;
@@ -61,14 +61,6 @@ fn find_in(rt: &impl Runtime, files: Failers) -> (Option<bool>, Failers) {
     }
 }
 
-/// Whether the bank that files hold is the sample bank.
-fn is_whole(rt: &impl Runtime, held: &Held, whole: &Tale) -> bool {
-    match told_anew(rt, held) {
-        Ok(tale) => tale == *whole,
-        Err(_) => false,
-    }
-}
-
 /// Asks that files hold the whole bank, or none and then one can be made there, and answers which of these.
 fn is_there(rt: &impl Runtime, held: &Held, whole: &Tale) -> bool {
     match told_anew(rt, held) {
@@ -78,15 +70,10 @@ fn is_there(rt: &impl Runtime, held: &Held, whole: &Tale) -> bool {
         }
         Err(fault) => {
             assert!(rt; fault == AdoptFault::NotABank);
-            assert!(rt; is_whole(rt, &made_over(rt, held), whole));
+            assert!(rt; told_anew(rt, &made_over(rt, held)).expect(rt, "a bank") == *whole);
             false
         }
     }
-}
-
-/// What the sample bank tells.
-fn whole_tale(rt: &impl Runtime) -> Tale {
-    told_anew(rt, &sample_held(rt)).expect(rt, "a bank")
 }
 
 /// Makes the bank on a disk that fails at its first call, then on one that fails at its second, and so on until one has
@@ -116,7 +103,7 @@ fn make_at_each_call(rt: &impl Runtime, which: Failing, whole: &Tale) -> (u32, u
 
 #[test]
 fn a_bank_is_made_whole_or_not(rt: HostRuntime) {
-    let whole = whole_tale(&rt);
+    let whole = told_anew(&rt, &sample_held(&rt)).expect(&rt, "a bank");
     let (absent, untold) = make_at_each_call(&rt, Failing::Log, &whole);
     assert!(rt; absent > 0 && untold > 0);
     let (absent, _) = make_at_each_call(&rt, Failing::Database, &whole);
@@ -126,14 +113,15 @@ fn a_bank_is_made_whole_or_not(rt: HostRuntime) {
 /// Looks for the bank on a disk that fails at its first call, then on one that fails at its second, and so on until one
 /// has not failed. Nothing is changed. Answers how often the disk failed behind the opening of the files.
 fn find_at_each_call(rt: &impl Runtime, held: &Held, which: Failing, whole: &Tale) -> u32 {
+    let mut seen = Vec::new(rt.alloc());
     let mut refused = 0u32;
     for calls in 0..10_000u64 {
         let files = failing_files(rt, held, which, calls);
         let (was_found, mut files) = find_in(rt, files);
         let failed = may_have_failed(&mut files);
         let left = left_by(rt, files);
-        assert!(rt; is_whole(rt, &left.written, whole));
-        assert!(rt; is_whole(rt, &left.synced, whole));
+        assert!(rt; tale_of(rt, &mut seen, left.written) == whole);
+        assert!(rt; tale_of(rt, &mut seen, left.synced) == whole);
         refused = refused.saturating_add(u32::from(was_found == Some(false)));
         if !failed {
             assert!(rt; was_found == Some(true));
@@ -145,8 +133,8 @@ fn find_at_each_call(rt: &impl Runtime, held: &Held, which: Failing, whole: &Tal
 
 #[test]
 fn a_bank_is_found_or_left_as_it_is(rt: HostRuntime) {
-    let whole = whole_tale(&rt);
     let held = sample_held(&rt);
+    let whole = told_anew(&rt, &held).expect(&rt, "a bank");
     assert!(rt; find_at_each_call(&rt, &held, Failing::Log, &whole) > 0);
     let closed = closed_by(&rt, reopened(&rt, &held));
     assert!(rt; find_at_each_call(&rt, &closed, Failing::Database, &whole) > 0);

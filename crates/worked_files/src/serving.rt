@@ -11,17 +11,18 @@ use crate::runtime::Runtime;
 use crate::streams::{
     CLOSING, Exchange, FAILED, POST, RELEASED, STOPPED, TRANSFER, is_reply, reply,
 };
-use crate::tellings::{Tale, told, told_anew};
+use crate::tellings::{Tale, tale_of, told};
 use sample_bank::sample_world;
 use std::process::Abort;
 use store_rows::{Bank, ListStore, Store};
 
 /// How often the bank was found that was there before the request at which the disk failed, and how often the one
-/// behind it.
-#[derive(Clone, Copy, Debug, PartialEq, Eq)]
+/// behind it; and what was looked at for that, by the files.
+#[derive(Drop)]
 struct Found {
     before: u32,
     behind: u32,
+    seen: Vec<(Held, Tale)>,
 }
 
 /// What a bank tells before these requests, and behind each of them. It answers them as is due.
@@ -74,16 +75,16 @@ pub fn answered<S: Store>(rt: &impl Runtime, bank: &mut Bank<S>, stream: &[Excha
 }
 
 /// Asks that the files hold the bank of that state or of the next, and counts which it is where they differ.
-fn check(rt: &impl Runtime, held: &Held, states: &[Tale], count: usize, found: &mut Found) {
-    let tale = told_anew(rt, held).expect(rt, "a bank");
+fn check(rt: &impl Runtime, held: Held, states: &[Tale], count: usize, found: &mut Found) {
+    let tale = tale_of(rt, &mut found.seen, held);
     let before = states.get(count).expect(rt, "a state");
     let behind = states.get(count.saturating_add(1)).unwrap_or(before);
-    if tale == *before {
+    if tale == before {
         if before != behind {
             found.before = found.before.saturating_add(1);
         }
     } else {
-        assert!(rt; tale == *behind);
+        assert!(rt; tale == behind);
         found.behind = found.behind.saturating_add(1);
     }
 }
@@ -120,8 +121,8 @@ fn fail_each_call(
         let (count, mut files) = served(rt, conn, stream);
         let failed = may_have_failed(&mut files);
         let left = left_by(rt, files);
-        check(rt, &left.written, &states, count, found);
-        check(rt, &left.synced, &states, count, found);
+        check(rt, left.written, &states, count, found);
+        check(rt, left.synced, &states, count, found);
         if !failed {
             assert!(rt; count == stream.len());
             return failures;
@@ -136,6 +137,7 @@ fn fail_both(rt: &impl Runtime, stream: &[Exchange]) {
     let mut found = Found {
         before: 0,
         behind: 0,
+        seen: Vec::new(rt.alloc()),
     };
     assert!(rt; fail_each_call(rt, stream, Failing::Log, &mut found) > 0);
     assert!(rt; found.before > 0 && found.behind > 0);

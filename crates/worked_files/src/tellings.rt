@@ -98,3 +98,14 @@ pub fn told_anew(rt: &impl Runtime, held: &Held) -> Result<Tale, AdoptFault> {
         _ => panic!(rt; "a tale"),
     }
 }
+
+/// What the bank in these files tells. Files that hold the same are looked at once.
+pub fn tale_of<'a>(rt: &impl Runtime, seen: &'a mut Vec<(Held, Tale)>, held: Held) -> &'a Tale {
+    let known = seen.iter().position(|(it, _)| *it == held);
+    let place = known.unwrap_or(seen.len());
+    if known.is_none() {
+        let tale = told_anew(rt, &held).expect(rt, "a bank");
+        assert!(rt; seen.push((held, tale)).is_ok());
+    }
+    &seen.get(place).expect(rt, "files").1
+}
