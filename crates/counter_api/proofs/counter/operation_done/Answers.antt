@@ -33,3 +33,7 @@ returns-in-Ok-Done g c =
       refused = search rules;
       stranger = search rules;
     }
+
+-- What search finds for itself, asked for here so that a mistake is refused soon.
+pub returns-in-Err-carry_out : goal.returns-in-Err-carry_out
+returns-in-Err-carry_out g c = search rules
