@@ -1,8 +1,8 @@
 -- The commands of the program, as `clap` reads them, and the action that words name.
-use Rattle.std.specs.Prelude.{◌≡◌, ◌⊎◌, ℕ, List, [], Option, Some, None, codes, option_map, true}
+use Rattle.std.specs.Prelude.{◌≡◌, ◌≤◌, ◌⊎◌, ℕ, List, [], IsSomeAnd, Option, Some, None, codes, true}
 use Rattle.bank_terms.specs.Limits.{max_moment}
-use Rattle.std.specs.Str.Parse.{digits_value, without_leading_plus}
-use Rattle.clap.specs.Words.{App, HasKind, Row, Rule, Text, fault_of, kind_of, new_app, new_rule, one_of, with_rule, with_subcommand}
+use Rattle.std.specs.Str.Parse.{IsNumeral, digits_value, without_leading_plus}
+use Rattle.clap.specs.Words.{App, HasKind, Row, Rule, Text, fault_of, kind_of, new_app, new_rule, one_of, subcommand_of, with_rule, with_subcommand}
 use Rattle.clap.specs.declared.builder.ValueParser.TheVariants as parser
 use Rattle.clap.specs.declared.error.Error.{Error}
 use Rattle.clap.specs.declared.error.ErrorKind.TheVariants as kind
@@ -36,21 +36,30 @@ top_app = record {
 abbrev pub bank_app : App
 bank_app = with_subcommand top_app sample_app.top
 
--- the number that the matches have for an option, in decimal; a plus sign may stand before it
-abbrev pub number_in : List Row → Text → Option ℕ
-number_in rows id = option_map (λ text. digits_value 10 (without_leading_plus text)) (one_of id rows)
+-- the text writes this number in decimal digits; a plus sign may stand before them
+abbrev pub Writes : Text → ℕ → Type 0
+Writes text n =
+    IsNumeral 10 (without_leading_plus text) × (digits_value 10 (without_leading_plus text) ≡ n)
+
+-- the matches have this number for an option
+abbrev pub HasNumber : List Row → Text → ℕ → Type 0
+HasNumber rows id n = IsSomeAnd (one_of id rows) (λ text. Writes text n)
 
 -- the command of this name, with these matches, asks for the action
 abbrev pub IsNamedIn : Text → List Row → Action → Type 0
 IsNamedIn name rows (action.Sample moment) =
-    (name ≡ codes "sample") × (number_in rows (codes "moment") ≡ Some moment)
+    (name ≡ codes "sample") × HasNumber rows (codes "moment") moment × (moment ≤ max_moment)
 
 -- the command that was met asks for the action
 abbrev pub IsNamedBy : Option (Text × List Row) → Action → Type 0
 IsNamedBy None action = ⊥
 IsNamedBy (Some met) action = IsNamedIn met.0 met.1 action
 
--- why words are refused: memory is, or they have this fault, or an argument is missing
+-- the command that was met, if any, asks for no action
+abbrev pub NamesNone : Option (Text × List Row) → Type 0
+NamesNone met = (action : Action) → ¬ (IsNamedBy met action)
+
+-- why words are refused: memory is, or they have this fault, or they name no action
 abbrev pub IsRefusal : List Text → Error → Type 0
-IsRefusal words error =
-    HasKind (fault_of bank_app words) error ⊎ (kind_of error ≡ kind.MissingRequiredArgument)
+IsRefusal words error = HasKind (fault_of bank_app words) error
+    ⊎ ((kind_of error ≡ kind.MissingRequiredArgument) × NamesNone (subcommand_of bank_app words))

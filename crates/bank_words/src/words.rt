@@ -1,7 +1,7 @@
-ghost use Rattle.std.specs.Prelude.{◌≡◌, [], IfOk, IfErr, IfSome, Some, map, false};
-ghost use Rattle.clap.specs.Words.{app_of, fault_of, found_of, rows_of, rule_of, subcommand_of};
+ghost use Rattle.std.specs.Prelude.{◌≡◌, ◌<◌, ◌^◌, ℕ, [], IfOk, IfErr, IfSome, IsNone, map, false};
+ghost use Rattle.clap.specs.Words.{app_of, fault_of, found_of, rows_of, rule_of, subcommand_of, subcommand_rows_of};
 ghost use Rattle.clap.specs.declared.builder.Command.TheViews.{out-Command as fields_of};
-ghost use Rattle.bank_words.specs.Commands.{IsNamedBy, IsNamedIn, IsRefusal, bank_app, number_in, number_rule, sample_app, top_app};
+ghost use Rattle.bank_words.specs.Commands.{HasNumber, IsNamedBy, IsNamedIn, IsRefusal, NamesNone, bank_app, number_rule, sample_app, top_app};
 
 use clap::builder::ValueParser;
 use clap::error::ErrorKind;
@@ -59,16 +59,18 @@ fn bank_command<'a>(alloc: Global) -> Result<Command<'a>, AllocError>
     top_command(alloc).subcommand(sample_command(alloc)?)
 }
 
-/// A number among the matches.
+/// The number among the matches, or none where there is none below 2^64.
 fn number_of(found: &ArgMatches<'_>, id: &str) -> Option<u64>
-    ensures { IfSome result (λ n. number_in (rows_of (found_of found.now)) id.now ≡ Some n) }
+    ensures given { IfSome result (HasNumber (rows_of (found_of found.now)) id.now) }
+    ensures missing { IsNone result → (n : ℕ) → n < 2 ^ 64 → ¬ (HasNumber (rows_of (found_of found.now)) id.now n) }
 {
     found.get_one::<u64>(id)
 }
 
-/// The action of the subcommand of this name with these matches.
+/// The action of the subcommand of this name with these matches, or none where they ask for none.
 fn action_in(name: &str, found: &ArgMatches<'_>) -> Option<Action>
-    ensures { IfSome result (IsNamedIn name.now (rows_of (found_of found.now))) }
+    ensures named { IfSome result (IsNamedIn name.now (rows_of (found_of found.now))) }
+    ensures missing { IsNone result → (action : Action) → ¬ (IsNamedIn name.now (rows_of (found_of found.now)) action) }
 {
     match name {
         "sample" => Some(Action::Sample {
@@ -78,8 +80,17 @@ fn action_in(name: &str, found: &ArgMatches<'_>) -> Option<Action>
     }
 }
 
+/// The action of the command that was met, or none where none was met that asks for one.
+fn action_of(matches: &ArgMatches<'_>) -> Option<Action>
+    ensures named { IfSome result (IsNamedBy (subcommand_rows_of matches.now)) }
+    ensures missing { IsNone result → NamesNone (subcommand_rows_of matches.now) }
+{
+    let (name, found) = matches.subcommand()?;
+    action_in(name, found)
+}
+
 /// The action that the words behind the program's name ask for. The error is that the words are refused, that help is
-/// asked for, or that memory is refused.
+/// asked for, or that memory is refused: words that are without fault, and name an action, meet the last alone.
 pub fn read_words<'a>(alloc: Global, words: &'a [&'a str]) -> Result<Action, Error>
     ensures named { IfOk result (IsNamedBy (subcommand_of bank_app (map (λ w. w.now) words.now))) }
     ensures taken { IfOk result (λ _. fault_of bank_app (map (λ w. w.now) words.now) ≡ []) }
@@ -87,10 +98,8 @@ pub fn read_words<'a>(alloc: Global, words: &'a [&'a str]) -> Result<Action, Err
 {
     let mut command = bank_command(alloc)?;
     let matches = command.try_get_matches_from_mut(words)?;
-    if let Some((name, found)) = matches.subcommand() {
-        if let Some(action) = action_in(name, found) {
-            return Ok(action);
-        }
+    match action_of(&matches) {
+        Some(action) => Ok(action),
+        None => Err(command.error(ErrorKind::MissingRequiredArgument, "an argument is missing")?),
     }
-    Err(command.error(ErrorKind::MissingRequiredArgument, "an argument is missing")?)
 }

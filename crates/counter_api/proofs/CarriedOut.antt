@@ -1,17 +1,23 @@
--- What a crash may leave of a request that was decided and carried out.
-use Rattle.std.proofs.Common.{◌≡◌, ◌&&◌, Bool, true, false, is_none, inl, inr, Option, None, Some, Err, refl, ap, sym, ◌∙◌}
+-- What a request comes to that was decided, and carried out where it was allowed.
+use Rattle.std.proofs.Common.{◌≡◌, ◌&&◌, ℕ, Bool, true, false, is_none, inl, inr, Option, None, Some, Result, Ok, Err, IfOk, OnOk, IsNone, IsSome, refl, ap, subst, sym, ◌∙◌, arith}
+use Rattle.std.specs.Global.{Vec}
 use Rattle.bank_terms.specs.declared.rule.Rule.{Rule}
+use Rattle.bank_terms.specs.declared.rule.Rule.TheVariants.{Identity}
 use Rattle.money.specs.declared.fault.Fault.{Fault}
+use Rattle.money.specs.declared.fault.Fault.TheVariants.{Memory}
 use Rattle.bank_books.specs.WorldLists.{WorldLists}
-use Rattle.store_rows.specs.Status.{Keeps, Status, Tells}
+use Rattle.store_rows.specs.Status.{Answers, Keeps, Refuses, StaysWhole, Status, Tells, mark_of}
 use Rattle.decide.specs.Permit.{CarriesOut, IsLeave, IsPermitOf, IsReplied}
+use Rattle.bank_run.specs.LastWord.{finds_room}
 use Rattle.bank_run.specs.Requests.{effect, executes, first, reply_text}
 use Rattle.bank_run.specs.Run.{if_allowed, is_accepted, reply, step, told}
 use Rattle.decide.specs.declared.permit.Permit.{Permit}
 use Rattle.decide.specs.declared.permit.Reply.{Reply}
 use Rattle.bank_run.specs.declared.request.Request.{Request}
-use Rattle.decide.specs.OneRequest.{Settles}
-use Rattle.counter_api.specs.Run.{FindsRoom}
+use Rattle.decide.specs.OneRequest.{IsToldInJson, LeavesBoth, Moves, Replies, Settles}
+use Rattle.counter_api.specs.CarriedOut.{IsCarriedOut, IsResponded}
+use Rattle.counter_api.specs.Response.{ResponseParts}
+use Rattle.counter_api.specs.Run.{FindsRoom, told_parts}
 
 module _ {S : Type 0} where
   -- the effect of what was permitted is the step of what was asked
@@ -49,3 +55,89 @@ not_accepted w r rule mark = go (first w r) (is_none mark)
 -- so nothing is asked of one that is denied
 pub denied_finds : (old new : Status) (r : Request) (rule : Rule) (mark : Option Fault) → Tells old new (λ w. reply w r ≡ Err rule) → Tells old new (FindsRoom r mark)
 denied_finds old new r rule mark denied honest w holds accepted = absurd (not_accepted w r rule mark (denied honest w holds) accepted)
+
+-- What deciding a request says of its store and of what it told, where it was carried out or denied in one call.
+pub record IsDecided (old new : Status) (r : Request) (made : Result (Result (Vec ℕ) Rule) Fault) : Type 0 where
+  pub answers : Answers old new (mark_of made)
+  pub moved : Moves old new r (mark_of made)
+  pub replied : Replies old new r IsToldInJson made
+  pub room : Tells old new (λ w. IfOk made (λ done. OnOk done (finds_room w r.asked ≡ true)))
+  pub crash : LeavesBoth old new r
+  pub whole : StaysWhole old new
+  pub settled : Settles old new r (mark_of made)
+  pub refused : IsSome r.who.user → Refuses old (mark_of made)
+  pub stranger : IsNone r.who.user → made ≡ Ok (Err Identity)
+
+-- want of memory for a reply is no fault of the store
+forgotten : (old new : Status) → Answers old new None → Answers old new (Some Memory)
+forgotten old new a = record {
+  honest = a.honest;
+  state = a.state;
+  was_stopped = λ is. cc;
+  counted = a.counted;
+  no_more = let none = a.no_more in omega arith;
+  failed = a.failed;
+}
+
+-- so much is said of the response to it
+pub responds : (old new : Status) (r : Request) (made : Result (Result (Vec ℕ) Rule) Fault) (response : Result ResponseParts Fault)
+    → IsDecided old new r made → IsResponded made response → IsCarriedOut old new r response
+responds old new r (Ok (Ok text)) response d is = rw is (record {
+  answers = d.answers;
+  moved = d.moved;
+  replied = λ honest w holds. sym (ap told_parts (d.replied honest w holds));
+  room = λ honest w holds accepted. d.room honest w holds;
+  crash = d.crash;
+  whole = d.whole;
+  settled = d.settled;
+  refused = λ known stopped. inl (d.refused known stopped);
+  stranger = λ nobody. tt;
+})
+responds old new r (Ok (Err rule)) response d is = elim is [
+  | inl denied ↦ rw denied (record {
+    answers = d.answers;
+    moved = d.moved;
+    replied = λ honest w holds. sym (ap told_parts (d.replied honest w holds));
+    room = denied_finds old new r rule None d.replied;
+    crash = d.crash;
+    whole = d.whole;
+    settled = d.settled;
+    refused = λ known stopped. inl (d.refused known stopped);
+    stranger = λ nobody. tt;
+  })
+  | inr failed ↦ rw failed (record {
+    answers = forgotten old new d.answers;
+    moved = λ honest w holds. subst new.holds (denied_stays w r rule (d.replied honest w holds)) (d.moved honest w holds);
+    replied = λ honest w holds. tt;
+    room = denied_finds old new r rule (Some Memory) d.replied;
+    crash = d.crash;
+    whole = d.whole;
+    settled = λ none. cc;
+    refused = λ known stopped. inr refl;
+    stranger = λ nobody. refl;
+  })
+]
+responds old new r (Err fault) response d is = rw is (record {
+  answers = d.answers;
+  moved = d.moved;
+  replied = λ honest w holds. tt;
+  room = λ honest w holds accepted. cc;
+  crash = d.crash;
+  whole = d.whole;
+  settled = λ none. cc;
+  refused = λ known stopped. inl (d.refused known stopped);
+  stranger = λ nobody.
+      let same : Err fault ≡ Ok (Err Identity) = d.stranger nobody in
+      cc;
+})
+
+-- what holds of whatever was done
+pub of_done : {A B E : Type 0} {P Q : Type 0} (made : Result (Result A B) E) → (P → Q) → IfOk made (λ done. OnOk done P) → IfOk made (λ done. OnOk done Q)
+of_done (Ok (Ok done)) then p = then p
+of_done (Ok (Err rule)) then p = tt
+of_done (Err fault) then p = tt
+
+pub always : {A B E : Type 0} {P : Type 0} (made : Result (Result A B) E) → P → IfOk made (λ done. OnOk done P)
+always (Ok (Ok done)) p = p
+always (Ok (Err rule)) p = tt
+always (Err fault) p = tt

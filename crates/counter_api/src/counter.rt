@@ -6,14 +6,14 @@ ghost use Rattle.bank_run.specs.Sums.{IsProper};
 ghost use Rattle.messages.specs.Failures.{CountsByCall};
 ghost use Rattle.store_rows.specs.Status.{mark_of};
 ghost use Rattle.requests.specs.Request.{IsServedAsked};
-ghost use Rattle.counter_api.specs.CarriedOut.{IsCarriedOut};
+ghost use Rattle.counter_api.specs.CarriedOut.{IsCarriedOut, IsResponded};
 ghost use Rattle.counter_api.specs.Run.{IsHandled, framed, parts_or_fault};
 
 use crate::clock::Clock;
 use crate::response::Response;
 use decide::{
-    Asked, Decision, Op, PolicyOp, Reply, Request, Who, begin, carry_out, decide, decide_policy,
-    end,
+    Asked, Decision, Op, PolicyOp, Reply, Request, Rule, Who, begin, carry_out, decide,
+    decide_policy, end,
 };
 use messages::{AnswerFault, Engine, Message};
 use money::{Fault, Tallied, WriteStopped};
@@ -76,6 +76,16 @@ fn operation_done<S: Store>(
     }
 }
 
+/// The response to what a request came to: its reply, or the rule against it.
+fn responded(alloc: Global, told: Result<Result<Vec<u8>, Rule>, Fault>) -> Result<Response, Fault>
+    ensures { IsResponded told result }
+{
+    match told? {
+        Ok(body) => Ok(Response::done(body)),
+        Err(rule) => Ok(Response::denied(alloc, rule)?),
+    }
+}
+
 /// Opens a session for who asks, or tells the rule against that. The moment is not looked at.
 fn session_opened<S: Store>(
     bank: &mut Bank<S>,
@@ -85,11 +95,7 @@ fn session_opened<S: Store>(
 ) -> Result<Response, Fault>
     ensures { IsCarriedOut (S.status bank.old.store) (S.status bank.new.store) (record { who = who; moment = moment; asked = Asked.Opening }) result }
 {
-    match begin(bank, alloc, who.user) {
-        Ok(Ok(body)) => Ok(Response::done(body)),
-        Ok(Err(rule)) => Ok(Response::denied(alloc, rule)?),
-        Err(fault) => Err(fault),
-    }
+    responded(alloc, begin(bank, alloc, who.user))
 }
 
 /// Ends the session of who asks, or tells the rule against that. The moment is not looked at.
@@ -101,11 +107,7 @@ fn session_ended<S: Store>(
 ) -> Result<Response, Fault>
     ensures { IsCarriedOut (S.status bank.old.store) (S.status bank.new.store) (record { who = who; moment = moment; asked = Asked.Ending }) result }
 {
-    match end(bank, alloc, who) {
-        Ok(Ok(body)) => Ok(Response::done(body)),
-        Ok(Err(rule)) => Ok(Response::denied(alloc, rule)?),
-        Err(fault) => Err(fault),
-    }
+    responded(alloc, end(bank, alloc, who))
 }
 
 /// Carries a command of the policy out, or tells the rule against it. The moment is not looked at.
@@ -118,11 +120,7 @@ fn command_done<S: Store>(
 ) -> Result<Response, Fault>
     ensures { IsCarriedOut (S.status bank.old.store) (S.status bank.new.store) (record { who = who; moment = moment; asked = Asked.Command command }) result }
 {
-    match decide_policy(bank, alloc, who, command) {
-        Ok(Ok(body)) => Ok(Response::done(body)),
-        Ok(Err(rule)) => Ok(Response::denied(alloc, rule)?),
-        Err(fault) => Err(fault),
-    }
+    responded(alloc, decide_policy(bank, alloc, who, command))
 }
 
 /// Does what a message asks for at a moment: the reply to it, or the fault that kept it from one.

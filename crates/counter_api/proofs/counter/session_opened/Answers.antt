@@ -1,6 +1,18 @@
--- What search finds for itself, asked for here so that a mistake is refused soon.
-use Rattle.std.proofs.Common.{rules}
+use Rattle.std.proofs.Common.{refl}
+use Rattle.counter_api.proofs.CarriedOut.{always, responds}
 use Rattle.counter_api.proofs.counter.session_opened.Goals as goal
 
-pub returns-in_err-denied-in-Ok-Err : goal.returns-in_err-denied-in-Ok-Err
-returns-in_err-denied-in-Ok-Err g c = search rules
+pub returns : goal.returns
+returns g c =
+    let d = c.begin.ensures in
+    responds _ _ _ c.begin.result c.responded.result (record {
+      answers = d.answers;
+      moved = d.moved;
+      replied = d.replied;
+      room = λ honest w holds. always c.begin.result refl;
+      crash = d.crash;
+      whole = d.whole;
+      settled = d.settled;
+      refused = d.refused;
+      stranger = d.stranger;
+    }) c.responded.ensures
