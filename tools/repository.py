@@ -1,5 +1,7 @@
 """What the tools know of the repository and of the toolchain: the crates, what each uses, and the kit's folder."""
 import os
+import re
+import shutil
 import subprocess
 
 TOP = os.path.dirname(os.path.dirname(os.path.abspath(__file__)))
@@ -8,6 +10,8 @@ BENCHES = ("made_up_bank", "check_bench", "post_bench")
 # The bank program, and the one that serves the sample in a store of one's choice, which tools/rows-over proves and builds.
 BANK_PROGRAM = "bank_cli"
 ROWS_OVER = "rows_over"
+# What rt ci says of a crate that is proved.
+PROVED = re.compile(rb"rt: (\w+) (?:proved$|is kept: )")
 
 
 def words_of_all():
@@ -39,6 +43,21 @@ def below(uses, names):
 def tests_to_run(uses):
     """The crates of tests alone that tools/worked runs, and that the gate does not prove."""
     return [it for it in uses if it.startswith("worked_")]
+
+
+def copy_crates(folder, names):
+    """Copies the repository with these crates alone, and without the mistakes that their contracts have to refuse, into a
+    folder that isn't there yet."""
+    def left_out(within, found):
+        of_crates = set(found) - set(names) if within == os.path.join(TOP, "crates") else set()
+        return of_crates | {".git", "out", "must-fail"}
+
+    shutil.copytree(TOP, folder, ignore=left_out)
+    crates = os.path.join(folder, "crates.txt")
+    with open(crates, encoding="utf-8") as file:
+        lines = file.readlines()
+    with open(crates, "w", encoding="utf-8") as file:
+        file.writelines(it for it in lines if ":" not in it.partition("#")[0] or it.partition(":")[0] in names)
 
 
 def source_of(crate):
