@@ -61,7 +61,6 @@ pub record IsDecided (old new : Status) (r : Request) (made : Result (Result (Ve
   pub answers : Answers old new (mark_of made)
   pub moved : Moves old new r (mark_of made)
   pub replied : Replies old new r IsToldInJson made
-  pub room : Tells old new (λ w. IfOk made (λ done. OnOk done (finds_room w r.asked ≡ true)))
   pub crash : LeavesBoth old new r
   pub whole : StaysWhole old new
   pub settled : Settles old new r (mark_of made)
@@ -81,19 +80,20 @@ forgotten old new a = record {
 
 -- so much is said of the response to it
 pub responds : (old new : Status) (r : Request) (made : Result (Result (Vec ℕ) Rule) Fault) (response : Result ResponseParts Fault)
-    → IsDecided old new r made → IsResponded made response → IsCarriedOut old new r response
-responds old new r (Ok (Ok text)) response d is = rw is (record {
+    → IsDecided old new r made
+    → Tells old new (λ w. IfOk made (λ done. OnOk done (finds_room w r.asked ≡ true))) → IsResponded made response → IsCarriedOut old new r response
+responds old new r (Ok (Ok text)) response d room is = rw is (record {
   answers = d.answers;
   moved = d.moved;
   replied = λ honest w holds. sym (ap told_parts (d.replied honest w holds));
-  room = λ honest w holds accepted. d.room honest w holds;
+  room = λ honest w holds accepted. room honest w holds;
   crash = d.crash;
   whole = d.whole;
   settled = d.settled;
   refused = λ known stopped. inl (d.refused known stopped);
   stranger = λ nobody. tt;
 })
-responds old new r (Ok (Err rule)) response d is = elim is [
+responds old new r (Ok (Err rule)) response d room is = elim is [
   | inl denied ↦ rw denied (record {
     answers = d.answers;
     moved = d.moved;
@@ -117,7 +117,7 @@ responds old new r (Ok (Err rule)) response d is = elim is [
     stranger = λ nobody. refl;
   })
 ]
-responds old new r (Err fault) response d is = rw is (record {
+responds old new r (Err fault) response d room is = rw is (record {
   answers = d.answers;
   moved = d.moved;
   replied = λ honest w holds. tt;
