@@ -15,7 +15,7 @@ abbrev pub IsActed : Action → Streams → Streams → Stream → Stream → �
 IsActed (action.Sample moment) old new errors_old errors_new status =
     IsSampleEnd cached_sql_status moment old new errors_old errors_new status
 
--- The words name an action, which was carried out; or they name none, and why was told.
+-- The words name an action, which was carried out; or they are refused, or memory for them is, and why was told.
 abbrev pub IsAnswered : List Text → Streams → Streams → Stream → Stream → ℕ → Type 0
 IsAnswered words old new errors_old errors_new status =
     ((action : Action) × IsNamedBy (subcommand_of bank_app words) action × (fault_of bank_app words ≡ [])
