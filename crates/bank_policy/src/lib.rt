@@ -1,4 +1,8 @@
-//! Who may do what: items under integrity control, sets of them, the rows of the policy, and its changes.
+//! The rows of the policy of Clark and Wilson: users, sets of items, relations, triples, certifiers.
+//! `Policy` keeps each kind in order of its key, and a writer adds one row or changes nothing.
+//! `PolicyRows::write` carries out one change in room that was made before, and cannot fail. `covers`,
+//! `best_limit` and `is_certified` are exact, and never join several triples. `triples_of`, `relations_of`
+//! and `standing` are the rows that an operation is judged by. Soundness is checked in policy_check.
 #![tactic(auto)]
 
 mod coverage;

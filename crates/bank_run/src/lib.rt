@@ -1,4 +1,8 @@
-//! What a request means in a World, and what holds along every list of requests.
+//! What each request means in a World: the rules against it in their order, its effect and its reply.
+//! `laws` has what holds along every list of requests: when an operation is allowed, that both checks pass,
+//! that sums agree, that no one executes what he certifies, and that the policy is the one by last word.
+//! The code here is data alone: `Request`, `Execution`, `Who`, `ReplyKind`. Requests are carried out in
+//! decide.
 #![tactic(auto)]
 
 mod execution;

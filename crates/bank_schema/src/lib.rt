@@ -1,4 +1,8 @@
-//! The tables in which a bank is kept, and what statements on them mean.
+//! The SQL tables of a bank's file. By the SQL port's own reading, the texts that make them give exactly
+//! the schema of the definitions. `HoldsWorld` says that tables hold the rows of a World with its kept
+//! numbers, and lemmas say what statements on such tables mean. `number_at`, `cents_at` and other readers
+//! answer what a column has; `fault_of` names the fault of an error. Which fault a bad column gives is not
+//! said.
 #![tactic(auto)]
 
 mod cells;

@@ -1,4 +1,7 @@
-//! The check of a bank's books: whether its rows, and the numbers kept beside them, hold.
+//! `check_books` is Ok exactly where the books of a World hold and the numbers kept beside it are those
+//! that its rows give. Otherwise it answers the first fault: the range, the sums of tellers, the history,
+//! the cash or the totals, with the least branch that fails. Only memory keeps it from an answer. It sorts
+//! once and looks up by halving; that this is quick is measured, and not proved.
 #![tactic(auto)]
 
 mod amounts;

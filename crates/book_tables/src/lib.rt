@@ -1,4 +1,7 @@
-//! The tables of the books: rows of them read, added and set inside a transaction.
+//! The row of the bank, branches, tellers, accounts and entries in SQL tables, inside a transaction. Reads
+//! such as `account_of`, `entry_at` and `roster` tell exactly the rows of their key or range. Writes such
+//! as `add_entry`, `set_account` and `set_version` leave exactly the rows that they say, and all others.
+//! Nothing is committed. That a call goes through, and which fault it gives, is not said.
 #![tactic(auto)]
 
 mod accounts;

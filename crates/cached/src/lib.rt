@@ -1,4 +1,7 @@
-//! A store that keeps the rows of the policy that it read last.
+//! `Cached` is a store over any other, which keeps the triples of a user for a procedure and the relations
+//! of a procedure, 64 entries at most. It promises what every store does. What it keeps of the present
+//! version of the policy is what the World has; after `triples_of` or `relations_of` the entry stands
+//! first, or memory for it was refused. That a read is saved is only tested. All else is handed on.
 #![tactic(auto)]
 
 mod book_reads;

@@ -1,4 +1,7 @@
-//! From the bytes of messages to the bytes of replies: the answers to requests and the service of a bank.
+//! From the bytes of messages to the bytes of replies. `serve` answers the messages of a stream over any
+//! store, gate and clock. For each way to end it says which requests were read and answered, what was
+//! written, and that the store stands for the World after them; a request that a fault kept from being made
+//! changed nothing. It gives `most` replies at most, and says which calls of the streams failed.
 #![tactic(auto)]
 
 mod clock;

@@ -1,4 +1,8 @@
-//! Plans of the operations that move cash between the vault and the drawers of a branch, and that close its day.
+//! Plans of putting a drawer on or off, of moving cash, and of closing a day, from the rows that they
+//! touch. `rule_against_drawer_on` and its like answer the first rule of the books that denies, or none.
+//! `plan_drawer_on`, `plan_drawer_off`, `plan_move` and `plan_close_day` answer that rule, or exactly the
+//! changes and what they leave. `laws` says that books which hold still hold after what no rule denies.
+//! op_plans loads the rows.
 #![tactic(auto)]
 
 mod amounts;

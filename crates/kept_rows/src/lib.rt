@@ -1,4 +1,8 @@
-//! The rows of a bank with the numbers that are kept beside them, and what one change makes of them.
+//! The rows of a bank with the numbers that a store keeps beside them. `with_entry`, `with_drawer_line`,
+//! `with_vault_line`, `with_posting`, `with_account` and `with_release` make exactly the rows that a change
+//! leaves from those that it names, whatever World these are of. They answer so wherever the change comes
+//! next and the old sums are in range. `laws` says that such rows tell their World. They are written by
+//! table_plans.
 #![tactic(auto)]
 
 mod account;

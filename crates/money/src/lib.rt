@@ -1,4 +1,8 @@
-//! Money in whole cents, and the streams and faults that every layer above shares.
+//! Money in whole cents, and the faults and streams that every crate above shares. `Cents::new`,
+//! `Delta::new`, `plus` and `add` are exact, and none exactly out of range. `cents_text` is the text of an
+//! amount, in a fixed room. `Tallied` counts each call of a stream that failed. `write_whole`,
+//! `write_parts` and `write_cents` write everything, or a beginning, and then count one failure. Sums over
+//! rows are in keyed_rows.
 #![tactic(auto)]
 
 mod cents;

@@ -1,5 +1,7 @@
-//! Worked books over the library crates. It holds tests alone: what the contracts of the crates below say
-//! of rows, plans and their checks, seen on values that were worked out by hand.
+//! Tests alone: the books of the sample and books made up, their checks, the reads of a World and what a
+//! store in lists answers of them, on values that were worked out by hand. They show what the contracts of
+//! the crates below say of rows, plans and checks, in examples. Nothing here is proved or used by a
+//! program.
 #![tactic(auto)]
 
 #[cfg(test)]

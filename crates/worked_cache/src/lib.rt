@@ -1,4 +1,7 @@
-//! What a cache reads and tells. It holds tests alone.
+//! Tests alone: what a cache reads of the store below it and what it tells. A store that counts its reads
+//! shows that the second of two equal questions for a balance reads no triples and no relations of it,
+//! which no contract says; and that a change of the policy ends that. Nothing here is proved or used by a
+//! program.
 #![tactic(auto)]
 
 #[cfg(test)]

@@ -1,4 +1,6 @@
-//! Worked changes: what a plan makes of the rows of a bank and of their neighbours. It holds tests alone.
+//! Tests alone: what a plan makes of the rows of a bank and of their neighbours, rows that are added, plans
+//! for which memory is refused, and versions of the policy up to the greatest, behind which a store in
+//! lists answers Size. The values were worked out by hand. Nothing here is proved or used by a program.
 #![tactic(auto)]
 
 #[cfg(test)]

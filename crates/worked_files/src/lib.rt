@@ -1,5 +1,7 @@
-//! Banks in SQL tables of files in memory. It holds tests alone: which tables are adopted as a bank, with what another
-//! connection changed in them, and what is answered and found where a disk fails at some call, or a program dies there.
+//! Tests alone: banks in SQL tables of files in memory. They show which tables are adopted and which fault
+//! is told of tables that were changed by hand, with every file left as it was; and what is answered, and
+//! found afterwards, where a disk fails at each call in turn or a program dies there. Nothing here is
+//! proved or used by a program.
 #![tactic(auto)]
 
 #[cfg(test)]

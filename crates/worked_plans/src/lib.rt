@@ -1,5 +1,7 @@
-//! Worked plans of operations over the library crates. It holds tests alone: the rules of the books over rows made up,
-//! what a plan makes of a bank, without a store, and commands of the policy.
+//! Tests alone: plans of posts, transfers, corrections, drawers, moves of cash, closings of days and
+//! commands of the policy, without a store. They show the rules of the books over rows made up, up to the
+//! limits that the sample bank never meets, and what a plan makes of a bank. The values were worked out by
+//! hand. Nothing here is proved or used by a program.
 #![tactic(auto)]
 
 #[cfg(test)]

@@ -1,5 +1,7 @@
-//! Worked sessions, worked commands of the policy and the limits that they meet, releases by rows that the sample never has,
-//! and the first rule over rows that were loaded. It holds tests alone.
+//! Tests alone: sessions, commands of the policy and the limits that they meet, who asks, releases by rows
+//! that the sample never has, and the first rule over rows that were loaded. The values were worked out by
+//! hand, from the rules and not from what the program answered. Nothing here is proved or used by a
+//! program.
 #![tactic(auto)]
 
 #[cfg(test)]

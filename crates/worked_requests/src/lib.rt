@@ -1,5 +1,7 @@
-//! Worked requests over the library crates. It holds tests alone: what the contracts of the crates below
-//! say of requests, seen on values that were worked out by hand.
+//! Tests alone: requests that are decided and carried out over the sample bank in lists, with their
+//! replies, their denials and the books behind them, for posts, transfers, corrections, drawers, moves of
+//! cash, closings and new accounts. The values were worked out by hand, from the rules and not from what
+//! the program answered. Nothing here is proved or used by a program.
 #![tactic(auto)]
 
 #[cfg(test)]

@@ -1,5 +1,6 @@
-//! Worked streams over the library crates. It holds tests alone: what `serve` makes of posts over streams that give them
-//! in pieces, end within them or fail, and the line that a program writes of a fault.
+//! Tests alone: what `serve` makes of posts over streams that give them in pieces, end within them or fail
+//! at any call, and the line that a program writes of a fault. They run over the sample bank in lists,
+//! beside the contract that says the same of all streams. Nothing here is proved or used by a program.
 #![tactic(auto)]
 
 #[cfg(test)]

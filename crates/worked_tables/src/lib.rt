@@ -1,5 +1,7 @@
-//! Worked rows over the tables of a bank's file, in memory. It holds tests alone: what the contracts of the crates below say of rows that
-//! are read, added, set and taken away, seen on values that were worked out by hand.
+//! Tests alone: rows of a bank's SQL tables in memory that are read, added, set and taken away, banks that
+//! are made and asked there, and files that are closed and opened again. They compare the store in tables,
+//! read by read, with the store in lists. The values were worked out by hand. Nothing here is proved or
+//! used by a program.
 #![tactic(auto)]
 
 #[cfg(test)]

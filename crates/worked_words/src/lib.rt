@@ -1,5 +1,7 @@
-//! Amounts, rows, operations, commands and the policy, each library by itself, on values that were worked out by hand. It holds
-//! tests alone.
+//! Tests alone: amounts and streams, keyed rows, limits, rows of operations, commands, items that are
+//! touched, and checks of the policy, each library by itself, on values that were worked out by hand. They
+//! show in plain examples what the definitions of these crates mean, and what happens at the limits.
+//! Nothing here is proved or used by a program.
 #![tactic(auto)]
 
 #[cfg(test)]
