@@ -1,7 +1,7 @@
 //! Finds a bank in a SQL database. `adopt_bank` goes through only where the tables hold a World with its
 //! kept numbers, whose books hold and whose policy is sound and separated; and it refuses such a bank for a
 //! fault of the database alone. Nothing is changed, whatever it answers. `adopt` answers the store of the
-//! bank, or hands the connection back with the fault. open_sql makes banks.
+//! bank, or hands the connection back with the fault. `open_sql` makes banks.
 #![tactic(auto)]
 
 mod adopt_fault;

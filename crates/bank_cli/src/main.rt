@@ -1,7 +1,7 @@
 //! The bank program. `main` reads the words of the command line and counts the failed calls of its three
 //! streams. `answer` carries out the action that the words name, or tells why they name none, and answers
 //! the status. The sample is served in SQL tables in memory, behind a cache. That `main` hands its own
-//! streams and words on is only tested. bank_words has the words, and ends the statuses.
+//! streams and words on is only tested. `bank_words` reads the words, and `ends` has the statuses.
 #![tactic(auto)]
 
 mod act;

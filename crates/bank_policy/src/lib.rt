@@ -2,7 +2,7 @@
 //! `Policy` keeps each kind in order of its key, and a writer adds one row or changes nothing.
 //! `PolicyRows::write` carries out one change in room that was made before, and cannot fail. `covers`,
 //! `best_limit` and `is_certified` are exact, and never join several triples. `triples_of`, `relations_of`
-//! and `standing` are the rows that an operation is judged by. Soundness is checked in policy_check.
+//! and `standing` are the rows that an operation is judged by. Soundness is checked in `policy_check`.
 #![tactic(auto)]
 
 mod coverage;

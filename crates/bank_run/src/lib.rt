@@ -2,7 +2,7 @@
 //! `laws` has what holds along every list of requests: when an operation is allowed, that both checks pass,
 //! that sums agree, that no one executes what he certifies, and that the policy is the one by last word.
 //! The code here is data alone: `Request`, `Execution`, `Who`, `ReplyKind`. Requests are carried out in
-//! decide.
+//! `decide`.
 #![tactic(auto)]
 
 mod execution;

@@ -1,7 +1,7 @@
 //! Reads the body of a request as the operation that its bytes state, for all thirteen forms and for the
 //! operation inside a release. `read_op` answers the operation exactly where the bytes are a JSON object
 //! with exactly the members of the form, each in its range, and nothing otherwise. Its only error is
-//! refused memory, which an empty body never meets. The value of a JSON text is what serde_json says.
+//! refused memory, which an empty body never meets. The value of a JSON text is what `serde_json` says.
 #![tactic(auto)]
 
 mod accounts;

@@ -2,7 +2,7 @@
 //! `with_vault_line`, `with_posting`, `with_account` and `with_release` make exactly the rows that a change
 //! leaves from those that it names, whatever World these are of. They answer so wherever the change comes
 //! next and the old sums are in range. `laws` says that such rows tell their World. They are written by
-//! table_plans.
+//! `table_plans`.
 #![tactic(auto)]
 
 mod account;

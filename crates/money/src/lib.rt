@@ -2,7 +2,7 @@
 //! `Delta::new`, `plus` and `add` are exact, and none exactly out of range. `cents_text` is the text of an
 //! amount, in a fixed room. `Tallied` counts each call of a stream that failed. `write_whole`,
 //! `write_parts` and `write_cents` write everything, or a beginning, and then count one failure. Sums over
-//! rows are in keyed_rows.
+//! rows are in `keyed_rows`.
 #![tactic(auto)]
 
 mod cents;

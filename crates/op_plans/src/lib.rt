@@ -1,7 +1,7 @@
 //! Each operation by the books alone, one file a form. `prepare_by_books` loads the rows that an operation
 //! is judged on. It answers the first rule of the books against it, or the plan that is its effect with the
 //! bytes of its reply, and changes nothing. `first_of_books` is that rule by rows that were loaded, and
-//! `is_served` tells which forms are served. The rules of the policy and releases are left to decide.
+//! `is_served` tells which forms are served. The rules of the policy and releases are left to `decide`.
 #![tactic(auto)]
 
 mod balance;

@@ -1,7 +1,7 @@
 //! The lines of the policy, in the order in which they are listed, read from its tables inside a
 //! transaction. `policy_rows` answers all of them and `next_policy` the first behind a key, exactly as the
 //! rows that the tables hold say. Neither changes anything. That a call goes through, and which fault it
-//! gives, is not said. The tables themselves are policy_tables.
+//! gives, is not said. The tables themselves are `policy_tables`.
 #![tactic(auto)]
 
 mod columns;

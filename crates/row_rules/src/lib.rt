@@ -1,7 +1,7 @@
 //! What the rules of the books ask of one row: the floor of an account, the range of an amount, room for
 //! one more number, the branch of a teller, the holder of a drawer. Each test is exact, and passes where
 //! the row is not there. `cents_of`, `cents_after` and `cents_between` are exact, and none exactly out of
-//! range. Nothing takes memory. Which rules an operation meets is said in postings and drawers.
+//! range. Nothing takes memory. Which rules an operation meets is said in `postings` and `drawers`.
 #![tactic(auto)]
 
 mod accounts;

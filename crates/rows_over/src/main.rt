@@ -1,7 +1,7 @@
 //! Serves standard input to standard output over the sample bank in a store of one's choice, so that tests
 //! can compare stores: `rows_over STORE MOMENT`. STORE is `list`, `cached` or `sql`, and every message
-//! bears the moment. It calls `answer_in` of sample_sql and ends with its status, or with 2 where its words
-//! are refused. How the words are read is only tested.
+//! bears the moment. It calls `answer_in` of `sample_sql` and ends with its status, or with 2 where its
+//! words are refused. How the words are read is only tested.
 #![tactic(auto)]
 
 mod words;

@@ -1,6 +1,6 @@
 //! The sample bank in SQL tables in memory. `sql_sample` stands for the sample's opening and for no other
 //! books, and passes both checks. `answer_in` serves the sample in the store that a `StoreName` names
-//! (lists, lists behind a cache, or tables) and ends as `answer_sample` of sample_service says. That only
+//! (lists, lists behind a cache, or tables) and ends as `answer_sample` of `sample_service` says. That only
 //! memory keeps one from such a store is only tested.
 #![tactic(auto)]
 

@@ -1,7 +1,7 @@
 //! Each read of a store as a `Question` to SQL tables, inside a transaction: one struct for each read of
 //! the policy, of the books and of reports. `Question::ask` answers exactly what the definition says of
 //! each World whose rows the tables hold, and changes nothing. That no account outside a user's sets is
-//! read is so by the code, as no contract sees a read. The transactions are opened in store_sql.
+//! read is so by the code, as no contract sees a read. The transactions are opened in `store_sql`.
 #![tactic(auto)]
 
 mod book_questions;
