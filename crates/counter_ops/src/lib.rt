@@ -1,7 +1,7 @@
 //! The operations that a counter asks of the bank, as data: `Op` with its thirteen forms, and `Releasable`
 //! with the five that a release may be for. `Op::procedure` is the procedure of the form. `Op::to_row` is
 //! the row of an operation, and `Op::from_row` the one operation, with its members in their ranges, whose
-//! row it is, or none. What an operation x, and what it means in `bank_run`.
+//! row it is, or none. What an operation touches is in `touched`, and what it means in `bank_run`.
 #![tactic(auto)]
 
 mod accounts;
