@@ -211,19 +211,22 @@ class Group:
         self.mark = mark
         self.lines = [line]
 
+    def goes_on(self, number, mark):
+        """Whether a line of this number and mark is one more of these."""
+        return mark in MARKS and self.mark == mark and self.number + len(self.lines) == number
+
 
 def grouped(lines):
     """The lines, each with its number, in groups. Empty lines and comments end a group and are left out."""
-    groups, last = [], 0
+    groups = []
     for number, line in lines:
         if line != line.rstrip() or "\t" in line:
             raise BadRow(rf"line {number}: a space at the end is written \s, and a tab \t")
         mark, _, text = line.partition(" ")
-        if mark in MARKS and groups and groups[-1].mark == mark and last == number - 1:
+        if groups and groups[-1].goes_on(number, mark):
             groups[-1].lines.append(text)
         elif line and not line.startswith("#"):
             groups.append(Group(number, mark, text) if mark in MARKS else Group(number, "", line))
-        last = number
     return groups
 
 
@@ -245,6 +248,8 @@ class RowReader:
                 self.take(group)
             if self.row.runs and (self.row.changes or not self.row.steps):
                 self.step()
+            if any(not it.compares_output and (it.output or it.errors) for it in self.row.steps):
+                raise BadRow("output any stands beside output")
         except (BadRow, ValueError) as why:
             raise BadRow(f"{self.row.place}, {self.row.name}, line {group.number if group else 1}: {why}") from None
         return self.row
@@ -283,7 +288,7 @@ class RowReader:
     def step(self):
         """The run that a line is about."""
         row = self.row
-        if row.runs and not self.has_own_words and not row.steps and self.words is not None:
+        if not self.has_own_words and not row.steps and self.words is not None:
             self.begin(self.words)
         if not row.steps or row.changes:
             raise BadRow("no run comes before this line")
@@ -291,6 +296,8 @@ class RowReader:
 
     def begin(self, words):
         """Begins a run, behind the changes that were read."""
+        if not self.row.runs:
+            raise BadRow("files run nothing")
         self.row.steps.append(Step(words, self.row.changes))
         self.row.changes = []
 
