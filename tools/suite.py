@@ -396,6 +396,8 @@ class Subject:
         """Reads a row."""
         number, text = line
         word, name = text.split(" ", 1)
+        if not re.fullmatch(r"\w+", name):
+            raise BadRow(f"line {number}: a name has letters, digits and underscores: {name}")
         row = Row(name, f"{self.place}:{number}", word == "row")
         self.rows.append(RowReader(row, groups, self.words).read())
 
