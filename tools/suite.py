@@ -1,0 +1,442 @@
+"""Reads the acceptance suite: rows/*.rows, text files whose rows say what the program is given and what it must answer.
+
+docs/CHECKING.md says how a row is written. `read_suite` reads all files. A row is a list of steps, each a run of the program
+with what is done in its folder before.
+"""
+import glob
+import os
+import re
+import shutil
+import sqlite3
+
+TOP = os.path.dirname(os.path.dirname(os.path.abspath(__file__)))
+ROWS = os.path.join(TOP, "rows")
+PHRASES = {
+    200: "OK",
+    400: "Bad Request",
+    403: "Forbidden",
+    404: "Not Found",
+    409: "Conflict",
+    413: "Payload Too Large",
+    422: "Unprocessable Entity",
+    431: "Request Header Fields Too Large",
+    501: "Not Implemented",
+    503: "Service Unavailable",
+}
+# The fields that a request in one line may name, in the order in which they are sent.
+FIELDS = {"session": "Bank-Session", "release": "Bank-Release", "slip": "Bank-Slip"}
+REQUEST = re.compile(r"([A-Za-z]+)((?: [a-z]+=\S+)*) ([A-Z]+) (/\S*)(?: (.+))?")
+REPLY = re.compile(r"([0-9]{3})( text)?( close)?(?: (.+))?")
+# What begins a line of bytes, or one of two that an edit has.
+MARKS = {">", "<", "|", "!", "-", "+"}
+ESCAPES = {"n": b"\n", "r": b"\r", "t": b"\t", "s": b" ", "\\": b"\\"}
+TOKEN = re.compile(r"\\x([0-9a-f]{2})|\\\{([0-9]+)\*([^}]+)\}|\\([nrts\\])|([^\\]+)")
+# A backslash behind all else, and not one that is written as two.
+OPEN_END = re.compile(r"(?<!\\)(?:\\\\)*\\$")
+LENGTH = r"\{length}"
+
+
+class BadRow(Exception):
+    """Text that is no row."""
+
+
+def bytes_of(text):
+    """The bytes that a text stands for."""
+    made, at = [], 0
+    while at < len(text):
+        token = TOKEN.match(text, at)
+        if not token:
+            raise BadRow(f"there is no such escape: {text[at:at + 10]}")
+        number, times, repeated, letter, plain = token.groups()
+        if number:
+            made.append(bytes([int(number, 16)]))
+        elif times:
+            made.append(int(times) * bytes_of(repeated))
+        else:
+            made.append(ESCAPES[letter] if letter else plain.encode("ascii"))
+        at = token.end()
+    return b"".join(made)
+
+
+def bytes_of_lines(lines, end=b"\n"):
+    """The bytes of lines that have this end. A backslash behind a line takes its end away."""
+    return b"".join(bytes_of(it[:-1]) if OPEN_END.search(it) else bytes_of(it) + end for it in lines)
+
+
+def spelled(lines):
+    """The bytes of lines that end with CR LF. Where a length is asked for, it is that of all behind the next empty line."""
+    counted = []
+    for number, line in enumerate(lines):
+        if LENGTH in line:
+            behind = lines[lines.index("", number) + 1:] if "" in lines[number:] else []
+            line = line.replace(LENGTH, str(len(bytes_of_lines(behind, b"\r\n"))))
+        counted.append(line)
+    return bytes_of_lines(counted, b"\r\n")
+
+
+def message(head, body):
+    """The bytes of a message."""
+    return "\r\n".join([*head, "", ""]).encode("ascii") + body
+
+
+def request(badge, named, method, path, body):
+    """The bytes of a request in one line."""
+    values = {"session": "none" if path == "/session" else "1", **dict(it.split("=", 1) for it in named.split())}
+    if set(values) - set(FIELDS):
+        raise BadRow(f"a request in one line names no such field: {' '.join(sorted(set(values) - set(FIELDS)))}")
+    fields = [f"{FIELDS[it]}: {values[it]}" for it in FIELDS if values.get(it, "none") != "none"]
+    text = bytes_of(body or "")
+    length = [f"Content-Length: {len(text)}"] if text else []
+    return message([f"{method} {path} HTTP/1.1", "Host: bank", f"Bank-Badge: {badge}", *fields, *length], text)
+
+
+def reply(status, is_text, closes, body):
+    """The bytes of a reply in one line."""
+    if int(status) not in PHRASES:
+        raise BadRow(f"no reply has the status {status}")
+    head = [
+        f"HTTP/1.1 {status} {PHRASES[int(status)]}",
+        f"Content-Type: {'text/plain' if is_text else 'application/json'}",
+        f"Content-Length: {len(body)}",
+    ]
+    return message([*head, "Connection: close"] if closes else head, body)
+
+
+class Written:
+    """A file that is written before a run."""
+
+    def __init__(self, path, text):
+        self.path = path
+        self.text = text
+
+    def make(self, room):
+        """Writes it, in a folder of the row's own."""
+        path = os.path.join(room, self.path)
+        os.makedirs(os.path.dirname(path), exist_ok=True)
+        with open(path, "wb") as file:
+            file.write(self.text)
+
+
+class Edited:
+    """Lines of a file that are replaced before a run."""
+
+    def __init__(self, path, old, new):
+        self.path = path
+        self.old = old
+        self.new = new
+
+    def make(self, room):
+        """Replaces them. They have to stand there once."""
+        path = os.path.join(room, self.path)
+        with open(path, "rb") as file:
+            text = b"\n" + file.read()
+        if text.count(b"\n" + self.old) != 1:
+            raise BadRow(f"the lines to be replaced do not stand in {self.path} once")
+        with open(path, "wb") as file:
+            file.write(text.replace(b"\n" + self.old, b"\n" + self.new)[1:])
+
+
+class Copied:
+    """A file that is copied before a run."""
+
+    def __init__(self, path, target):
+        self.path = path
+        self.target = target
+
+    def make(self, room):
+        """Copies it."""
+        shutil.copyfile(os.path.join(room, self.path), os.path.join(room, self.target))
+
+
+class Statements:
+    """SQL that is carried out on a file before a run. The file is made where it is not there."""
+
+    def __init__(self, path, text):
+        self.path = path
+        self.text = text
+
+    def make(self, room):
+        """Carries it out, and leaves no file beside this one."""
+        connection = sqlite3.connect(os.path.join(room, self.path))
+        try:
+            connection.executescript(self.text)
+            connection.commit()
+        finally:
+            connection.close()
+
+
+class Step:
+    """A run of the program: what is done before it, its words and input, and what has to come of it."""
+
+    def __init__(self, words, changes):
+        self.changes = changes
+        self.words = words
+        self.given = b""
+        self.output = b""
+        self.errors = b""
+        self.status = 0
+        self.compares_output = True
+        self.unchanged = []
+        self.absent = []
+
+
+class Row:
+    """A row: its steps, and the row in whose folder it begins. Files that rows begin with have changes and no step."""
+
+    def __init__(self, name, place, runs):
+        self.name = name
+        self.place = place
+        self.runs = runs
+        self.after = None
+        self.changes = []
+        self.steps = []
+        self.shows = []
+
+    def is_plain(self):
+        """Whether it is one run in an empty folder whose output is compared."""
+        return self.after is None and len(self.steps) == 1 and self.only().compares_output and not self.only().changes
+
+    def only(self):
+        """Its one run."""
+        if len(self.steps) != 1:
+            raise BadRow(f"{self.name} has {len(self.steps)} runs")
+        return self.steps[0]
+
+
+class Group:
+    """Lines one behind the other with the same mark, or one line that has none."""
+
+    def __init__(self, number, mark, line):
+        self.number = number
+        self.mark = mark
+        self.lines = [line]
+
+    def goes_on(self, number, mark):
+        """Whether a line of this number and mark is one more of these."""
+        return mark in MARKS and self.mark == mark and self.number + len(self.lines) == number
+
+
+def grouped(lines):
+    """The lines, each with its number, in groups. Empty lines and comments end a group and are left out."""
+    groups = []
+    for number, line in lines:
+        if line != line.rstrip() or "\t" in line:
+            raise BadRow(rf"line {number}: a space at the end is written \s, and a tab \t")
+        mark, _, text = line.partition(" ")
+        if groups and groups[-1].goes_on(number, mark):
+            groups[-1].lines.append(text)
+        elif line and not line.startswith("#"):
+            groups.append(Group(number, mark, text) if mark in MARKS else Group(number, "", line))
+    return groups
+
+
+class RowReader:
+    """Reads the lines of one row."""
+
+    def __init__(self, row, groups, words):
+        self.row = row
+        self.groups = groups
+        self.words = words
+        self.has_own_words = any(it.mark == "" and it.lines[0].split(" ")[0] == "run" for it in groups)
+
+    def read(self):
+        """Reads all of them, and returns the row."""
+        group = None
+        try:
+            while self.groups:
+                group = self.groups.pop(0)
+                self.take(group)
+            if self.row.runs and (self.row.changes or not self.row.steps):
+                self.step()
+            if any(not it.compares_output and (it.output or it.errors) for it in self.row.steps):
+                raise BadRow("output any stands beside output")
+        except (BadRow, ValueError) as why:
+            raise BadRow(f"{self.row.place}, {self.row.name}, line {group.number if group else 1}: {why}") from None
+        return self.row
+
+    def take(self, group):
+        """Takes a group, with those behind it that belong to it."""
+        if group.mark == ">":
+            self.step().given += spelled(group.lines)
+        elif group.mark == "<":
+            self.step().output += spelled(group.lines)
+        elif group.mark == "|":
+            self.step().output += bytes_of_lines(group.lines)
+        elif group.mark == "!":
+            self.step().errors += bytes_of_lines(group.lines)
+        else:
+            self.take_line(group.lines[0])
+
+    def take_line(self, line):
+        """Takes a line without a mark: one that begins with a word, a request, or a reply."""
+        word, _, text = line.partition(" ")
+        asked, answered = REQUEST.fullmatch(line), REPLY.fullmatch(line)
+        if word in WORDS:
+            WORDS[word](self, text)
+        elif asked:
+            self.step().given += request(*asked.groups())
+        elif answered:
+            *head, body = answered.groups()
+            self.step().output += reply(*head, bytes_of(body) if body else bytes_of_lines(self.behind("|")))
+        else:
+            raise BadRow(f"no line begins so: {line[:40]}")
+
+    def behind(self, mark):
+        """The lines with this mark that come next."""
+        return self.groups.pop(0).lines if self.groups and self.groups[0].mark == mark else []
+
+    def step(self):
+        """The run that a line is about."""
+        row = self.row
+        if not self.has_own_words and not row.steps and self.words is not None:
+            self.begin(self.words)
+        if not row.steps or row.changes:
+            raise BadRow("no run comes before this line")
+        return row.steps[-1]
+
+    def begin(self, words):
+        """Begins a run, behind the changes that were read."""
+        if not self.row.runs:
+            raise BadRow("files run nothing")
+        self.row.steps.append(Step(words, self.row.changes))
+        self.row.changes = []
+
+    def take_run(self, text):
+        self.begin(words_of(text))
+
+    def take_status(self, text):
+        self.step().status = int(text)
+
+    def take_output(self, text):
+        if text != "any":
+            raise BadRow("output is any, where it is not compared")
+        self.step().compares_output = False
+
+    def take_unchanged(self, text):
+        self.step().unchanged.append(text)
+
+    def take_absent(self, text):
+        self.step().absent.append(text)
+
+    def take_after(self, text):
+        self.row.after = text
+
+    def take_shows(self, text):
+        self.row.shows.append(text)
+
+    def take_file(self, text):
+        self.row.changes.append(Written(text, bytes_of_lines(self.behind("|"))))
+
+    def take_edit(self, text):
+        old, new = bytes_of_lines(self.behind("-")), bytes_of_lines(self.behind("+"))
+        self.row.changes.append(Edited(text, old, new))
+
+    def take_copy(self, text):
+        self.row.changes.append(Copied(*text.split(" ")))
+
+    def take_sql(self, text):
+        self.row.changes.append(Statements(text, "\n".join(self.behind("|"))))
+
+
+# What a line of a row may begin with, beside bytes, a request and a reply.
+WORDS = {
+    "run": RowReader.take_run,
+    "status": RowReader.take_status,
+    "output": RowReader.take_output,
+    "unchanged": RowReader.take_unchanged,
+    "absent": RowReader.take_absent,
+    "after": RowReader.take_after,
+    "shows": RowReader.take_shows,
+    "file": RowReader.take_file,
+    "edit": RowReader.take_edit,
+    "copy": RowReader.take_copy,
+    "sql": RowReader.take_sql,
+}
+
+
+def words_of(text):
+    """The words of a run."""
+    return [b"" if it == '""' else bytes_of(it) for it in text.split(" ")] if text else []
+
+
+class Subject:
+    """One file: its rows, and what its head says of cases that no row shows."""
+
+    def __init__(self, path):
+        self.name = os.path.basename(path)[: -len(".rows")]
+        self.place = os.path.relpath(path, TOP)
+        self.rules = []
+        self.cases = []
+        self.rows = []
+        self.words = None
+        with open(path, encoding="ascii", newline="") as file:
+            lines = list(enumerate(file.read().split("\n"), 1))
+        firsts = [at for at, (_, line) in enumerate(lines) if line.startswith(("row ", "files "))]
+        try:
+            self.read_head(grouped(lines[: firsts[0] if firsts else len(lines)]))
+            for first, end in zip(firsts, [*firsts[1:], len(lines)]):
+                self.read_row(lines[first], grouped(lines[first + 1 : end]))
+        except BadRow as why:
+            raise BadRow(f"{self.place}: {why}") from None
+
+    def read_head(self, groups):
+        """Reads the lines before the first row."""
+        for group in groups:
+            word, _, text = group.lines[0].partition(" ")
+            if group.mark or word not in ("run", "rules", "test", "none"):
+                raise BadRow(f"line {group.number}: no line before the first row begins so: {word}")
+            if word == "run":
+                self.words = words_of(text)
+            elif word == "rules":
+                self.rules = text.split(", ")
+            else:
+                self.cases.append((word, *text.split(": ", 1)))
+
+    def read_row(self, line, groups):
+        """Reads a row."""
+        number, text = line
+        word, name = text.split(" ", 1)
+        if not re.fullmatch(r"\w+", name):
+            raise BadRow(f"line {number}: a name has letters, digits and underscores: {name}")
+        row = Row(name, f"{self.place}:{number}", word == "row")
+        self.rows.append(RowReader(row, groups, self.words).read())
+
+
+class Suite:
+    """All rows, by their names, in the order of their files."""
+
+    def __init__(self, folder=ROWS):
+        self.subjects = [Subject(it) for it in sorted(glob.glob(os.path.join(folder, "*.rows")))]
+        self.rows = {}
+        for row in (row for subject in self.subjects for row in subject.rows):
+            if row.name in self.rows:
+                raise BadRow(f"{row.place}: {row.name} stands in {self.rows[row.name].place} too")
+            self.rows[row.name] = row
+        for row in self.rows.values():
+            self.way_to(row)
+
+    def way_to(self, row):
+        """The rows whose steps come before those of a row, in their order."""
+        way = []
+        while row.after is not None:
+            if row.after not in self.rows:
+                raise BadRow(f"{row.place}: there is no row {row.after}")
+            row = self.rows[row.after]
+            if row in way:
+                raise BadRow(f"{row.place}: {row.name} comes before itself")
+            way.insert(0, row)
+        return way
+
+    def names(self):
+        """The names of the rows that are run."""
+        return [name for name, row in self.rows.items() if row.runs]
+
+    def row(self, name):
+        """The row of this name."""
+        if name not in self.rows:
+            raise BadRow(f"there is no row {name}")
+        return self.rows[name]
+
+    def only(self, name):
+        """The one run of the row of this name."""
+        return self.row(name).only()
