@@ -1,6 +1,6 @@
 """Reads the acceptance suite: rows/*.rows, text files whose rows say what the program is given and what it must answer.
 
-docs/CHECKING.md says how a row is written. `read_suite` reads all files. A row is a list of steps, each a run of the program
+docs/TESTING.md says how a row is written. `read_suite` reads all files. A row is a list of steps, each a run of the program
 with what is done in its folder before.
 """
 import glob
