@@ -1,14 +1,14 @@
-//! Tests alone: heads of messages, streams of messages that come whole, in pieces or broken, and the bodies
-//! of operations and of commands, each library by itself, on bytes that were worked out by hand. They show
-//! in examples which bytes are taken and which fault answers the others. Nothing here is proved or used by
+//! Tests alone: streams of messages that come in pieces, end within a message or fail at any call, by an
+//! engine made for this and by posts over the sample in lists; how often a stream is called; and the bodies
+//! of operations and of commands, on bytes that were worked out by hand. Nothing here is proved or used by
 //! a program.
 #![tactic(auto)]
 
 #[cfg(test)]
 mod command_bodies_read;
 #[cfg(test)]
-mod message_heads;
-#[cfg(test)]
 mod message_streams;
 #[cfg(test)]
 mod operation_bodies;
+#[cfg(test)]
+mod posts_over_streams;

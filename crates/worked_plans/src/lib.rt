@@ -1,7 +1,7 @@
-//! Tests alone: plans of posts, transfers, corrections, drawers, moves of cash, closings of days and
-//! commands of the policy, without a store. They show the rules of the books over rows made up, up to the
-//! limits that the sample bank never meets, and what a plan makes of a bank. The values were worked out by
-//! hand. Nothing here is proved or used by a program.
+//! Tests alone: plans of posts, transfers, corrections, drawers, moves of cash and closings of days,
+//! without a store. They show the rules of the books over rows made up, up to the limits that the sample
+//! bank never meets, the order of these rules, and which lines and proofs a plan writes. The values were
+//! worked out by hand. Nothing here is proved or used by a program.
 #![tactic(auto)]
 
 #[cfg(test)]
@@ -9,15 +9,9 @@ mod closings;
 #[cfg(test)]
 mod corrections;
 #[cfg(test)]
-mod drawer_plans;
-#[cfg(test)]
 mod moves;
 #[cfg(test)]
 mod plans;
-#[cfg(test)]
-mod policy_commands;
-#[cfg(test)]
-mod posting_plans;
 #[cfg(test)]
 mod posts;
 #[cfg(test)]

@@ -6,7 +6,6 @@ use bank_terms::Rule;
 use money::Fault;
 use row_rules::Planned;
 use std::alloc::Global;
-use std::fmt::Debug;
 use std::process::Abort;
 
 /// A line of branch 1 on its first day.
@@ -45,18 +44,6 @@ pub(crate) fn plan_of<T: Drop>(
     answer: Result<Result<Planned<T>, Rule>, Fault>,
 ) -> Plan {
     undenied(rt, answer).plan
-}
-
-/// Asks for a plan of so many changes, which leaves this.
-pub(crate) fn plans<T: Debug + Drop + PartialEq>(
-    rt: &impl Abort,
-    answer: Result<Result<Planned<T>, Rule>, Fault>,
-    count: usize,
-    left: T,
-) {
-    let planned = undenied(rt, answer);
-    assert!(rt; planned.plan.len() == count);
-    assert!(rt; planned.left == left);
 }
 
 /// Has a bank apply a plan.

@@ -10,7 +10,7 @@ use decide::{
 };
 use money::Fault;
 use policy_ops::UserKey;
-use sample_bank::{sample_policy, sample_world};
+use sample_bank::sample_policy;
 use std::alloc::Global;
 use std::process::Abort;
 use store_rows::{Bank, ListStore, PolicyReads, Stands};
@@ -99,36 +99,6 @@ impl Desk {
         let tess = self.bank.store.user(self.alloc, 7).expect(rt, "no fault");
         assert!(rt; tess.expect(rt, "Tess").standing == standing(false));
     }
-}
-
-/// Has Sue granted a triple, which can't be done again, and not by Tess.
-fn grant_once(rt: &impl Abort, desk: &mut Desk) {
-    desk.done(rt, user(2), grant_sue(), r#"{"done":"grant"}"#);
-    desk.triples_of_sue_are(rt, 5);
-    desk.denied(rt, user(2), grant_sue(), Rule::PolicyState);
-    desk.denied(rt, user(7), grant_sue(), Rule::Certifier);
-}
-
-/// Has Tess suspended, who then is as little as nobody.
-fn suspend_once(rt: &impl Abort, desk: &mut Desk) {
-    desk.done(rt, user(1), suspend_tess(), r#"{"done":"suspend"}"#);
-    desk.denied(rt, user(7), grant_sue(), Rule::Identity);
-    let nobody = Who {
-        user: None,
-        ..user(1)
-    };
-    desk.denied(rt, nobody, grant_sue(), Rule::Identity);
-}
-
-#[test]
-fn commands_change_the_policy(rt: HostRuntime) {
-    let alloc = rt.alloc();
-    let mut desk = Desk::over(alloc, sample_world(alloc).expect(&rt, "memory"));
-    let before = desk.version(&rt);
-    grant_once(&rt, &mut desk);
-    suspend_once(&rt, &mut desk);
-    assert!(rt; desk.version(&rt) == before.saturating_add(2));
-    desk.has_faults(&rt, 0);
 }
 
 /// Asks for a policy of the greatest version in which Tess and Sue stand as in the sample.

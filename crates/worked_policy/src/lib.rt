@@ -1,6 +1,6 @@
-//! Tests alone: sessions, commands of the policy and the limits that they meet, who asks, releases by rows
-//! that the sample never has, and the first rule over rows that were loaded. The values were worked out by
-//! hand, from the rules and not from what the program answered. Nothing here is proved or used by a
+//! Tests alone: the limits that sessions, commands of the policy, releases and new accounts meet, the
+//! greatest version of a policy, and releases by rows that the sample never has. The values were worked out
+//! by hand, from the rules and not from what the program answered. Nothing here is proved or used by a
 //! program.
 #![tactic(auto)]
 
@@ -12,5 +12,7 @@ mod commands;
 mod releases;
 #[cfg(test)]
 mod sessions;
+#[cfg(test)]
+mod versions;
 #[cfg(test)]
 mod who;

@@ -113,22 +113,6 @@ fn does_not_count(rt: &impl Abort, alloc: Global, named: NamedRelease) {
     first_is(rt, alloc, Some(named), Some(Rule::Release));
 }
 
-#[test]
-fn a_release_has_to_be_there(rt: HostRuntime) {
-    first_is(&rt, rt.alloc(), None, Some(Rule::Release));
-}
-
-#[test]
-fn a_release_counts_by_its_own_row(rt: HostRuntime) {
-    let alloc = rt.alloc();
-    let mut used = given(&rt, alloc);
-    used.row.used = true;
-    does_not_count(&rt, alloc, used);
-    let mut of_a_smaller_post = given(&rt, alloc);
-    of_a_smaller_post.row.operation.members[2] = 59_999;
-    does_not_count(&rt, alloc, of_a_smaller_post);
-}
-
 /// The day of yesterday doesn't count, nor that of a branch that isn't there.
 #[test]
 fn a_release_counts_on_its_day(rt: HostRuntime) {

@@ -58,12 +58,6 @@ impl Door {
         let given = end(&mut self.bank, self.alloc, who);
         replied(rt, given.expect(rt, "no fault"), body);
     }
-
-    /// An ending that is denied, since the session isn't that of who asks.
-    fn ends_nothing(&mut self, rt: &impl Abort, who: Who) {
-        let given = end(&mut self.bank, self.alloc, who);
-        assert!(rt; given.expect(rt, "no fault") == Err(Rule::Identity));
-    }
 }
 
 /// Asks for a reply of this body.
@@ -72,17 +66,6 @@ fn replied(rt: &impl Abort, given: Result<Vec<u8>, Rule>, body: &str) {
         Ok(given) => assert!(rt; given.as_slice() == body.as_bytes(), "{body}"),
         Err(rule) => panic!(rt; "{}", rule.name()),
     }
-}
-
-#[test]
-fn sessions_are_opened_and_ended(rt: HostRuntime) {
-    let mut door = Door::of_sample(&rt, rt.alloc());
-    door.opens(&rt, 7, r#"{"session":2}"#);
-    door.ends_nothing(&rt, tess(1));
-    door.ends(&rt, tess(2), r#"{"ended":2}"#);
-    door.ends_nothing(&rt, tess(2));
-    door.opens(&rt, 7, r#"{"session":3}"#);
-    door.opens(&rt, 8, r#"{"session":2}"#);
 }
 
 #[test]

@@ -1,42 +1,12 @@
 //! The closing of a day: when it may end, and what stands of it in the next.
 
 use crate::amounts::delta;
-use crate::asking::{Desk, SAMPLE_LEDGER, SUE, TESS, TOM};
+use crate::asking::{Desk, SUE, TESS, TOM};
 use crate::forms::{CLOSE, correct, first_post, off, on, post};
 use bank_books::Entry;
 use decide::Rule;
-use row_rules::Ledger;
 use std::alloc::Global;
 use std::process::Abort;
-
-/// Has both drawers of the sample put off. While one is held, its day doesn't end.
-fn put_both_off(rt: &impl Abort, desk: &mut Desk) {
-    let body = r#"{"difference":-100,"teller":12,"vault":59900}"#;
-    desk.done(rt, TOM, off(rt, 12, 4_900), body);
-    desk.denied(rt, SUE, CLOSE, Rule::Day);
-    let body = r#"{"difference":0,"teller":11,"vault":99900}"#;
-    desk.done(rt, TESS, off(rt, 11, 40_000), body);
-}
-
-/// Has a day ended with this reply, and asks for the day that follows.
-fn next_day_is(rt: &impl Abort, desk: &mut Desk, body: &str, day: u32) {
-    desk.done(rt, SUE, CLOSE, body);
-    let ledger = Ledger {
-        day,
-        ..SAMPLE_LEDGER
-    };
-    desk.ledger_is(rt, 1, ledger);
-}
-
-#[test]
-fn a_day_ends_when_no_drawer_is_held(rt: HostRuntime) {
-    let mut desk = Desk::of_sample(&rt, rt.alloc());
-    put_both_off(&rt, &mut desk);
-    let body = r#"{"balance":60000,"cash":99900,"closed":1,"entries":0}"#;
-    next_day_is(&rt, &mut desk, body, 2);
-    let body = r#"{"balance":60000,"cash":99900,"closed":2,"entries":0}"#;
-    next_day_is(&rt, &mut desk, body, 3);
-}
 
 /// The sample bank after a first post, when its day has ended.
 fn after_first_day(rt: &impl Abort, alloc: Global) -> Desk {

@@ -49,21 +49,6 @@ fn a_post_is_undone_at_another_teller(rt: HostRuntime) {
     stays_undone(&rt, &mut desk);
 }
 
-/// The first names an entry that is missing, and the others another account, one account too many and another amount.
-#[test]
-fn an_entry_that_is_undone_is_as_it_is_named(rt: HostRuntime) {
-    let mut desk = Desk::after_first_post(&rt, rt.alloc());
-    for (entry, account, other, added) in [
-        (2, 101, 0, 2_500),
-        (1, 102, 0, 2_500),
-        (1, 101, 102, 2_500),
-        (1, 101, 0, 2_501),
-    ] {
-        let undoing = correct(&rt, entry, account, other, 12, added);
-        desk.denied(&rt, TOM, undoing, Rule::Entry);
-    }
-}
-
 /// Asks for the cash of the post in drawer 11, and for as much less in drawer 12.
 fn cash_is_elsewhere(rt: &impl Abort, desk: &mut Desk) {
     desk.teller_is(rt, 11, 62_500);
@@ -139,18 +124,6 @@ fn a_transfer_is_undone_as_a_whole(rt: HostRuntime) {
     desk.entry_is(&rt, other);
     let of_other_leg = correct(&rt, 2, 102, 101, 11, 20_000);
     desk.denied(&rt, TESS, of_other_leg, Rule::Entry);
-}
-
-#[test]
-fn a_transfer_that_is_undone_leaves_two_entries_more(rt: HostRuntime) {
-    let mut desk = after_undone_transfer(&rt, rt.alloc());
-    let ledger = Ledger {
-        entries: 4,
-        ..SAMPLE_LEDGER
-    };
-    desk.ledger_is(&rt, 1, ledger);
-    desk.cash_is(&rt, SAMPLE_CASH_BOOK, 55_000);
-    desk.teller_is(&rt, 11, 60_000);
 }
 
 /// Has Tess undo the transfer by its second leg, with the account of the first named.

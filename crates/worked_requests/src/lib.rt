@@ -1,7 +1,7 @@
-//! Tests alone: requests that are decided and carried out over the sample bank in lists, with their
-//! replies, their denials and the books behind them, for posts, transfers, corrections, drawers, moves of
-//! cash, closings and new accounts. The values were worked out by hand, from the rules and not from what
-//! the program answered. Nothing here is proved or used by a program.
+//! Tests alone: requests that are decided and carried out over the sample bank, or a bank at an end of the
+//! range of money, in lists: the entries, the tellers' balances and the cash behind them, which no reply
+//! tells, and what is denied for the range. The values were worked out by hand, from the rules and not from
+//! what the program answered. Nothing here is proved or used by a program.
 #![tactic(auto)]
 
 #[cfg(test)]

@@ -1,7 +1,7 @@
 //! Transfers, whose two entries stand at one teller: what they move, and what stays in range.
 
 use crate::amounts::{MOST, delta};
-use crate::asking::{Desk, SAMPLE_CASH_BOOK, SAMPLE_LEDGER, TOM};
+use crate::asking::{Desk, SAMPLE_LEDGER, TOM};
 use crate::forms::transfer;
 use crate::opening::{TARGET_AT_MOST, teller_12_at, with_drawers_on};
 use bank_books::{Entry, EntryForm};
@@ -38,33 +38,6 @@ fn a_transfer_makes_two_entries(rt: HostRuntime) {
     };
     desk.entry_is(&rt, first);
     desk.entry_is(&rt, second);
-}
-
-/// Has Tom transfer 200.00 twice.
-fn transfer_twice(rt: &impl Abort, desk: &mut Desk) {
-    for body in [
-        r#"{"branch":1,"first":1,"second":2,"source":30000,"target":20000}"#,
-        r#"{"branch":1,"first":3,"second":4,"source":10000,"target":40000}"#,
-    ] {
-        desk.done(rt, TOM, transfer(101, 102, 20_000), body);
-    }
-    desk.account_is(rt, 101, 10_000, 2);
-    desk.account_is(rt, 102, 40_000, 2);
-}
-
-#[test]
-fn a_transfer_moves_no_cash(rt: HostRuntime) {
-    let mut desk = Desk::of_sample(&rt, rt.alloc());
-    transfer_twice(&rt, &mut desk);
-    desk.teller_is(&rt, 12, 0);
-    desk.drawer_is(&rt, 12, 5_000, Some(8));
-    let ledger = Ledger {
-        entries: 4,
-        ..SAMPLE_LEDGER
-    };
-    desk.ledger_is(&rt, 1, ledger);
-    desk.cash_is(&rt, SAMPLE_CASH_BOOK, 55_000);
-    desk.denied(&rt, TOM, transfer(101, 102, 20_000), Rule::Floor);
 }
 
 #[test]

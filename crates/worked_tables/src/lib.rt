@@ -5,17 +5,11 @@
 #![tactic(auto)]
 
 #[cfg(test)]
-mod books;
-#[cfg(test)]
 mod cells;
 #[cfg(test)]
 mod compare;
 #[cfg(test)]
 mod files;
-#[cfg(test)]
-mod history;
-#[cfg(test)]
-mod kept;
 #[cfg(test)]
 mod opening;
 #[cfg(test)]

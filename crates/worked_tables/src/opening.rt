@@ -10,7 +10,6 @@ use sample_bank::sample_world;
 use sqlite::{Alter, Connection};
 use std::alloc::Global;
 use std::process::Abort;
-use store_rows::Store;
 
 /// What making a bank of this World in a database answers.
 fn made<S: Alter>(
@@ -34,36 +33,6 @@ fn unsound_world(rt: &impl Abort, alloc: Global) -> World {
     };
     assert!(rt; world.add_account(beside).is_ok());
     world
-}
-
-/// Asks the sample bank for its accounts and its tellers.
-fn rows_told<S: Store>(rt: &impl Abort, alloc: Global, store: &mut S) {
-    let account = store
-        .account(alloc, 101)
-        .expect(rt, "the accounts")
-        .expect(rt, "account 101");
-    assert!(rt; account.balance == 50_000 && account.turns == 0);
-    let teller = store
-        .teller(alloc, 11)
-        .expect(rt, "the tellers")
-        .expect(rt, "teller 11");
-    assert!(rt; teller.cash == 40_000 && teller.holder == Some(7));
-}
-
-/// Asks the sample bank for its numbers.
-fn numbers_told<S: Store>(rt: &impl Abort, alloc: Global, store: &mut S) {
-    same(rt, store.vault(alloc, 1), Ok(Some(55_000)));
-    same(rt, store.sets(alloc), Ok(5));
-    same(rt, store.version(alloc), Ok(0));
-    same(rt, store.faults(), 0);
-}
-
-#[test]
-fn a_bank_is_made_and_asked(rt: HostRuntime) {
-    let alloc = rt.alloc();
-    let mut store = sample_tables(&rt, alloc);
-    rows_told(&rt, alloc, &mut store);
-    numbers_told(&rt, alloc, &mut store);
 }
 
 #[test]

@@ -1,7 +1,4 @@
-use money::{
-    Cents, Delta, Fault, MAX_CENTS, MAX_DELTA, Tallied, add, cents_text, plus, write_cents,
-    write_parts, write_whole,
-};
+use money::{Cents, Fault, Tallied, cents_text, write_cents, write_parts, write_whole};
 use std::alloc::{AllocError, Global};
 use std::io;
 use std::io::{ErrorKind, Read, Write};
@@ -60,10 +57,6 @@ fn cents(rt: &impl Abort, amount: i64) -> Cents {
     Cents::new(amount).expect(rt, "an amount of money")
 }
 
-fn delta(rt: &impl Abort, amount: i64) -> Delta {
-    Delta::new(amount).expect(rt, "an amount to add")
-}
-
 /// Gives one byte, then fails once, then is at its end.
 #[derive(Drop)]
 struct Hiccup(u32);
@@ -80,53 +73,6 @@ impl Read for Hiccup {
         buf[0] = b'x';
         Ok(1)
     }
-}
-
-#[test]
-fn amounts_end_at_their_edges(rt: HostRuntime) {
-    assert!(rt; MAX_CENTS == 999_999_999_999);
-    for (value, stands) in [
-        (999_999_999_999, true),
-        (-999_999_999_999, true),
-        (1_000_000_000_000, false),
-        (-1_000_000_000_000, false),
-        (i64::MIN, false),
-    ] {
-        assert!(rt; Cents::new(value).map(Cents::get) == stands.then_some(value));
-    }
-}
-
-#[test]
-fn amounts_to_add_end_at_their_edges(rt: HostRuntime) {
-    assert!(rt; MAX_DELTA == 999_999);
-    for (value, stands) in [
-        (999_999, true),
-        (-999_999, true),
-        (1_000_000, false),
-        (-1_000_000, false),
-    ] {
-        assert!(rt; Delta::new(value).map(Delta::get) == stands.then_some(value));
-    }
-}
-
-#[test]
-fn a_balance_ends_at_its_edges(rt: HostRuntime) {
-    for (balance, change, sum) in [
-        (999_999_999_999, 1, None),
-        (999_999_999_999, -1, Some(999_999_999_998)),
-        (-999_999_999_999, -1, None),
-    ] {
-        let sum_now = plus(cents(&rt, balance), delta(&rt, change));
-        assert!(rt; sum_now.map(Cents::get) == sum);
-    }
-}
-
-#[test]
-fn a_sum_ends_at_its_edges(rt: HostRuntime) {
-    let (most, least) = (cents(&rt, 999_999_999_999), cents(&rt, -999_999_999_999));
-    assert!(rt; add(most, least).map(Cents::get) == Some(0));
-    assert!(rt; add(most, Cents::from(delta(&rt, 1))).is_none());
-    assert!(rt; add(least, Cents::from(delta(&rt, -1))).is_none());
 }
 
 #[test]
