@@ -12,4 +12,3 @@ mod store;
 
 pub use cached::Cached;
 pub use policy_cache::MAX_ENTRIES;
-pub use policy_reads::Answered;
