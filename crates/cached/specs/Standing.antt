@@ -1,7 +1,8 @@
 -- What a store with a cache stands for.
-use Rattle.std.specs.Prelude.{List}
+use Rattle.std.specs.Prelude.{◌≡◌, ℕ, ◌⊎◌, List}
+use Rattle.money.specs.Counted.{counted_once_more}
 use Rattle.store_rows.specs.Status.{Status}
-use Rattle.cached.specs.Fresh.{AreFresh}
+use Rattle.cached.specs.Fresh.{AreFresh, IsFirst}
 use Rattle.cached.specs.declared.cached.Cached.{Cached}
 use Rattle.cached.specs.declared.entry.Kept.{Kept}
 use Rattle.cached.specs.declared.entry.Key.{Key}
@@ -19,6 +20,15 @@ module _ {S : Type 0} where
   -- what it keeps, the last used first
   abbrev pub remembered : Cached S → List (Key × Kept)
   remembered c = c.cache
+
+  -- how many times memory for an entry was refused
+  abbrev pub unkept_count : Cached S → ℕ
+  unkept_count c = c.unkept
+
+  -- an entry of this key and this version is the last used, or memory for it was refused once, and this was counted
+  abbrev pub IsKept : Key → ℕ → Cached S → Cached S → Type 0
+  IsKept key version old new =
+      (IsFirst key version (remembered new) × (unkept_count new ≡ unkept_count old)) ⊎ (unkept_count new ≡ counted_once_more (unkept_count old))
 
   abbrev pub cached_status : (S → Status) → Cached S → Status
   cached_status status c = with_entries (status (below c)) (remembered c)

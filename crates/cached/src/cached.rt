@@ -1,6 +1,6 @@
 ghost use Rattle.std.specs.Prelude.{◌≡◌, ◌≤◌, [], length, IfOk, IfErr};
 ghost use Rattle.bank_books.specs.WorldLists.{WorldLists};
-ghost use Rattle.cached.specs.Standing.{below, cached_status, remembered};
+ghost use Rattle.cached.specs.Standing.{below, cached_status, remembered, unkept_count};
 
 use crate::policy_cache::PolicyCache;
 use std::alloc::Global;
@@ -14,6 +14,7 @@ use store_rows::{Stands, Store};
 pub struct Cached<S> {
     pub(crate) store: S,
     pub(crate) cache: PolicyCache,
+    pub(crate) unkept: u64,
 }
 
 impl<S: Store> Cached<S> {
@@ -22,11 +23,16 @@ impl<S: Store> Cached<S> {
     pub fn new(alloc: Global, store: S) -> Result<Cached<S>, S>
         ensures below { IfOk result (λ c. below c ≡ store) }
         ensures empty { IfOk result (λ c. remembered c ≡ []) }
+        ensures none { IfOk result (λ c. unkept_count c ≡ 0) }
         ensures holds { IfOk result (λ c. (w : WorldLists) → (S.status store).holds w → (cached_status S.status c).holds w) }
         ensures returned { IfErr result (λ s. s ≡ store) }
     {
         match PolicyCache::new(alloc) {
-            Ok(cache) => Ok(Cached { store, cache }),
+            Ok(cache) => Ok(Cached {
+                store,
+                cache,
+                unkept: 0,
+            }),
             Err(_) => Err(store),
         }
     }
@@ -38,12 +44,26 @@ impl<S: Store> Cached<S> {
         &self.store
     }
 
+    /// The store below, without what is kept of it.
+    pub fn into_below(self) -> S
+        ensures { result ≡ below self }
+    {
+        self.store
+    }
+
     /// How many entries it keeps.
     pub fn entry_count(&self) -> usize
         ensures count { result ≡ length (remembered self.now) }
         ensures bounded { result ≤ 64 }
     {
         self.cache.len()
+    }
+
+    /// How many times memory for an entry was refused. It stays at the greatest `u64`.
+    pub fn unkept_count(&self) -> u64
+        ensures { result ≡ unkept_count self.now }
+    {
+        self.unkept
     }
 }
 

@@ -15,4 +15,3 @@ mod store;
 
 pub use cached::Cached;
 pub use policy_cache::MAX_ENTRIES;
-pub use policy_reads::Answered;

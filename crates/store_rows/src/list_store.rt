@@ -1,7 +1,14 @@
-ghost use Rattle.std.specs.Prelude.{◌≡◌, false, IfOk, OnErr, Ok, Err};
+ghost use Rattle.std.specs.Prelude.{◌≡◌, ◌↔◌, ◌⊎◌, false, IfOk, IsTrue, OnErr, OnOk, Ok, Err};
+ghost use Rattle.bank_books.specs.Effects.{applied};
+ghost use Rattle.bank_books.specs.Records.{account_record, branch_record, teller_record};
+ghost use Rattle.bank_books.specs.Version.{has_version_for};
 ghost use Rattle.bank_books.specs.WorldLists.{WorldLists};
-ghost use Rattle.store_rows.specs.ListStore.{list_status};
-ghost use Rattle.store_rows.specs.Status.{count_after, mark_of};
+ghost use Rattle.bank_policy.specs.HeldRows.{relations_of, triples_of};
+ghost use Rattle.row_reads.specs.BookReads.{drawer, entries_of, entry, entry_at, next_shown, next_teller, release, roster, shown, undone, vault};
+ghost use Rattle.row_reads.specs.PolicyListing.{next_policy, policy_rows};
+ghost use Rattle.row_reads.specs.PolicyReads.{is_certifier, is_set, set_count, triple_count, user_record};
+ghost use Rattle.store_rows.specs.ListStore.{ReadsList, list_status};
+ghost use Rattle.store_rows.specs.Status.{Changes, Refuses, Tells, count_after, mark_of};
 
 use crate::store::{BookReads, PolicyReads, ReportReads, Stands, Store};
 use bank_books::{
@@ -74,7 +81,9 @@ impl Stands for ListStore {
 }
 
 impl PolicyReads for ListStore {
-    fn user(&mut self, _alloc: Global, user: u32) -> Result<Option<UserRecord>, Fault> {
+    fn user(&mut self, _alloc: Global, user: u32) -> Result<Option<UserRecord>, Fault>
+        ensures { ReadsList self.old self.new result (λ w row. row ≡ user_record w user) }
+    {
         Ok(user_record(&self.world, user))
     }
 
@@ -83,7 +92,9 @@ impl PolicyReads for ListStore {
         alloc: Global,
         user: u32,
         procedure: Procedure,
-    ) -> Result<Vec<HeldRow>, Fault> {
+    ) -> Result<Vec<HeldRow>, Fault>
+        ensures { ReadsList self.old self.new result (λ w rows. rows.items ≡ triples_of w.policy user procedure) }
+    {
         let rows = triples_of(alloc, self.world.policy(), user, procedure);
         self.counted(rows)
     }
@@ -92,77 +103,97 @@ impl PolicyReads for ListStore {
         &mut self,
         alloc: Global,
         procedure: Procedure,
-    ) -> Result<Vec<CertifiedRow>, Fault> {
+    ) -> Result<Vec<CertifiedRow>, Fault>
+        ensures { ReadsList self.old self.new result (λ w rows. rows.items ≡ relations_of w.policy procedure) }
+    {
         let rows = relations_of(alloc, self.world.policy(), procedure);
         self.counted(rows)
     }
 
-    fn triples(&mut self, _alloc: Global, user: u32) -> Result<u64, Fault> {
+    fn triples(&mut self, _alloc: Global, user: u32) -> Result<u64, Fault>
+        ensures { ReadsList self.old self.new result (λ w n. n ≡ triple_count w user) }
+    {
         Ok(triple_count(&self.world, user))
     }
 
-    fn sets(&mut self, _alloc: Global) -> Result<u64, Fault> {
+    fn sets(&mut self, _alloc: Global) -> Result<u64, Fault>
+        ensures { ReadsList self.old self.new result (λ w n. n ≡ set_count w) }
+    {
         Ok(set_count(&self.world))
     }
 
-    fn set(&mut self, _alloc: Global, number: u32) -> Result<bool, Fault> {
+    fn set(&mut self, _alloc: Global, number: u32) -> Result<bool, Fault>
+        ensures { ReadsList self.old self.new result (λ w is. is ≡ is_set w number) }
+    {
         Ok(is_set(&self.world, number))
     }
 
-    fn certifier(
-        &mut self,
-        _alloc: Global,
-        user: u32,
-        procedure: Procedure,
-    ) -> Result<bool, Fault> {
+    fn certifier(&mut self, _alloc: Global, user: u32, procedure: Procedure) -> Result<bool, Fault>
+        ensures { ReadsList self.old self.new result (λ w is. is ≡ is_certifier w user procedure) }
+    {
         Ok(is_certifier(&self.world, user, procedure))
     }
 
-    fn release(
-        &mut self,
-        _alloc: Global,
-        user: u32,
-        number: u32,
-    ) -> Result<Option<Release>, Fault> {
+    fn release(&mut self, _alloc: Global, user: u32, number: u32) -> Result<Option<Release>, Fault>
+        ensures { ReadsList self.old self.new result (λ w row. row ≡ release w user number) }
+    {
         Ok(release(&self.world, user, number))
     }
 
-    fn version(&mut self, _alloc: Global) -> Result<u64, Fault> {
+    fn version(&mut self, _alloc: Global) -> Result<u64, Fault>
+        ensures { ReadsList self.old self.new result (λ w n. n ≡ w.version) }
+    {
         Ok(self.world.version())
     }
 }
 
 impl BookReads for ListStore {
-    fn account(&mut self, _alloc: Global, account: u32) -> Result<Option<AccountRecord>, Fault> {
+    fn account(&mut self, _alloc: Global, account: u32) -> Result<Option<AccountRecord>, Fault>
+        ensures { ReadsList self.old self.new result (λ w row. row ≡ account_record w account) }
+    {
         Ok(account_record(&self.world, account))
     }
 
-    fn teller(&mut self, _alloc: Global, teller: u32) -> Result<Option<TellerRecord>, Fault> {
+    fn teller(&mut self, _alloc: Global, teller: u32) -> Result<Option<TellerRecord>, Fault>
+        ensures { ReadsList self.old self.new result (λ w row. row ≡ teller_record w teller) }
+    {
         Ok(teller_record(&self.world, teller))
     }
 
-    fn branch(&mut self, _alloc: Global, branch: u32) -> Result<Option<BranchRecord>, Fault> {
+    fn branch(&mut self, _alloc: Global, branch: u32) -> Result<Option<BranchRecord>, Fault>
+        ensures { ReadsList self.old self.new result (λ w row. row ≡ branch_record w branch) }
+    {
         Ok(branch_record(&self.world, branch))
     }
 
-    fn roster(&mut self, alloc: Global, branch: u32) -> Result<Vec<TellerRecord>, Fault> {
+    fn roster(&mut self, alloc: Global, branch: u32) -> Result<Vec<TellerRecord>, Fault>
+        ensures { ReadsList self.old self.new result (λ w rows. rows.items ≡ roster w branch) }
+    {
         let rows = roster(alloc, &self.world, branch);
         self.counted(rows)
     }
 
-    fn entry(&mut self, _alloc: Global, branch: u32, number: u32) -> Result<Option<Entry>, Fault> {
+    fn entry(&mut self, _alloc: Global, branch: u32, number: u32) -> Result<Option<Entry>, Fault>
+        ensures { ReadsList self.old self.new result (λ w row. row ≡ entry w branch number) }
+    {
         Ok(entry(&self.world, branch, number))
     }
 
-    fn undone(&mut self, _alloc: Global, branch: u32, number: u32) -> Result<bool, Fault> {
+    fn undone(&mut self, _alloc: Global, branch: u32, number: u32) -> Result<bool, Fault>
+        ensures { ReadsList self.old self.new result (λ w is. is ≡ undone w branch number) }
+    {
         Ok(undone(&self.world, branch, number))
     }
 
-    fn drawer(&mut self, _alloc: Global, teller: u32) -> Result<Option<DrawerRecord>, Fault> {
+    fn drawer(&mut self, _alloc: Global, teller: u32) -> Result<Option<DrawerRecord>, Fault>
+        ensures { ReadsList self.old self.new result (λ w row. row ≡ drawer w teller) }
+    {
         Ok(drawer(&self.world, teller))
     }
 
-    fn vault(&mut self, _alloc: Global, branch: u32) -> Result<Option<i128>, Fault> {
+    fn vault(&mut self, _alloc: Global, branch: u32) -> Result<Option<i128>, Fault>
+        ensures { ReadsList self.old self.new result (λ w cash. cash ≡ vault w branch) }
+    {
         Ok(vault(&self.world, branch))
     }
 }
@@ -174,7 +205,9 @@ impl ReportReads for ListStore {
         account: u32,
         start: u32,
         count: u32,
-    ) -> Result<Vec<EntryRecord>, Fault> {
+    ) -> Result<Vec<EntryRecord>, Fault>
+        ensures { ReadsList self.old self.new result (λ w rows. rows.items ≡ entries_of w account start count) }
+    {
         let rows = entries_of(alloc, &self.world, account, start, count);
         self.counted(rows)
     }
@@ -184,7 +217,9 @@ impl ReportReads for ListStore {
         _alloc: Global,
         account: u32,
         turn: u32,
-    ) -> Result<Option<EntryRecord>, Fault> {
+    ) -> Result<Option<EntryRecord>, Fault>
+        ensures { ReadsList self.old self.new result (λ w row. row ≡ entry_at w account turn) }
+    {
         Ok(entry_at(&self.world, account, turn))
     }
 
@@ -194,7 +229,9 @@ impl ReportReads for ListStore {
         user: u32,
         after: u32,
         count: u32,
-    ) -> Result<Vec<AccountRecord>, Fault> {
+    ) -> Result<Vec<AccountRecord>, Fault>
+        ensures { ReadsList self.old self.new result (λ w rows. rows.items ≡ shown w user after count) }
+    {
         let rows = shown(alloc, &self.world, user, after, count);
         self.counted(rows)
     }
@@ -204,7 +241,9 @@ impl ReportReads for ListStore {
         alloc: Global,
         user: u32,
         after: u32,
-    ) -> Result<Option<AccountRecord>, Fault> {
+    ) -> Result<Option<AccountRecord>, Fault>
+        ensures { ReadsList self.old self.new result (λ w row. row ≡ next_shown w user after) }
+    {
         let row = next_shown(alloc, &self.world, user, after);
         self.counted(row)
     }
@@ -214,11 +253,15 @@ impl ReportReads for ListStore {
         _alloc: Global,
         branch: u32,
         after: u32,
-    ) -> Result<Option<TellerRecord>, Fault> {
+    ) -> Result<Option<TellerRecord>, Fault>
+        ensures { ReadsList self.old self.new result (λ w row. row ≡ next_teller w branch after) }
+    {
         Ok(next_teller(&self.world, branch, after))
     }
 
-    fn policy_rows(&mut self, alloc: Global) -> Result<Vec<PolicyRow>, Fault> {
+    fn policy_rows(&mut self, alloc: Global) -> Result<Vec<PolicyRow>, Fault>
+        ensures { ReadsList self.old self.new result (λ w rows. rows.items ≡ policy_rows w) }
+    {
         let rows = policy_rows(alloc, &self.world);
         self.counted(rows)
     }
@@ -227,14 +270,25 @@ impl ReportReads for ListStore {
         &mut self,
         alloc: Global,
         after: Option<PolicyKey>,
-    ) -> Result<Option<PolicyRow>, Fault> {
+    ) -> Result<Option<PolicyRow>, Fault>
+        ensures { ReadsList self.old self.new result (λ w row. row ≡ next_policy w after) }
+    {
         let row = next_policy(alloc, &self.world, after);
         self.counted(row)
     }
 }
 
 impl Store for ListStore {
-    fn apply(&mut self, alloc: Global, plan: Plan) -> Result<(), Fault> {
+    /// It has room for every plan but one that changes the policy at the greatest version, of which it
+    /// says `Fault::Size`. Otherwise only memory keeps it from carrying out the plan.
+    fn apply(&mut self, alloc: Global, plan: Plan) -> Result<(), Fault>
+        ensures changed { Changes (list_status self.old) (list_status self.new) (applied plan.items) (mark_of result) }
+        ensures room { Tells (list_status self.old) (list_status self.new) (λ w. OnOk result (IsTrue (has_version_for plan.items w.version))) }
+        ensures refused { Refuses (list_status self.old) (mark_of result) }
+        ensures counted { (list_status self.new).fault_count ≡ count_after (mark_of result) (list_status self.old).fault_count }
+        ensures full { Tells (list_status self.old) (list_status self.new) (λ w. (result ≡ Err Fault.Size) ↔ (has_version_for plan.items w.version ≡ false)) }
+        ensures memory { OnErr result ((result ≡ Err Fault.Memory) ⊎ (result ≡ Err Fault.Size)) }
+    {
         if !self.world.has_version_for(&plan) {
             self.faults = self.faults.saturating_add(1);
             self.failures = self.failures.saturating_add(1);
