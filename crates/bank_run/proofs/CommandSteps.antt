@@ -10,7 +10,7 @@ use Rattle.bank_books.specs.WorldLists.{WorldLists}
 use Rattle.book_growth.proofs.Kept.{kept_same}
 use Rattle.book_growth.proofs.RuleTests.{passed_by}
 use Rattle.certify.specs.CommandRows.{command_rows}
-use Rattle.certify.specs.Commands.{command_effect, commanded, first_against_command}
+use Rattle.certify.specs.Commands.{command_changes, command_effect, commanded, first_against_command}
 use Rattle.certify.proofs.CommandBooks.{command_keeps_books}
 use Rattle.certify.proofs.SeparatedPolicy.{command_keeps_separation}
 use Rattle.certify.proofs.SoundPolicy.{command_keeps_soundness}
@@ -22,6 +22,7 @@ use Rattle.bank_run.specs.Sessions.{standing_of_asker}
 use Rattle.bank_run.specs.Sums.{PassesChecks, moves_nothing}
 use Rattle.bank_run.specs.declared.who.Who.{Who}
 use Rattle.bank_run.proofs.AllowedRequest.{user_there}
+use Rattle.bank_run.proofs.KeptOrder.{in_order_all_written, in_order_with_version}
 use Rattle.bank_run.proofs.Steps.{IsStep, none_more, plus_zero, stands}
 
 -- with its change, where the version has room
@@ -29,6 +30,7 @@ changed : (w : WorldLists) (by : ℕ) (command : PolicyOp) → PassesChecks w �
     → w.version < max_version → IsStep w (commanded w by command) moves_nothing
 changed w by command checks there proper is room = record {
   checks = record {
+    in_order = in_order_with_version true _ (in_order_all_written (command_changes command by) w checks.in_order);
     books = command_keeps_books w by command checks.books room;
     sound = command_keeps_soundness w by command checks.sound there proper is;
     separated = command_keeps_separation w by command checks.sound checks.separated is;

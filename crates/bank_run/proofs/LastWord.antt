@@ -9,14 +9,15 @@ use Rattle.bank_books.specs.WorldLists.{WorldLists}
 use Rattle.bank_policy.specs.Policy.{PolicyLists}
 use Rattle.policy_check.specs.Soundness.{IsPolicySound}
 use Rattle.bank_run.specs.InForce.{IsInForce}
-use Rattle.bank_run.specs.LastWord.{IsInOrder, LastWord, finds_room, heard, is_command, is_heard}
+use Rattle.bank_run.specs.LastWord.{LastWord, finds_room, heard, is_command, is_heard}
+use Rattle.bank_run.specs.Order.{IsPolicyInOrder}
 use Rattle.bank_run.specs.Requests.{first}
 use Rattle.bank_run.specs.Run.{Marked, accepted, after_request, is_accepted, world_after}
 use Rattle.bank_run.specs.Sums.{AreProper, IsProper, PassesChecks}
 use Rattle.bank_run.specs.declared.request.Asked.{Asked}
 use Rattle.bank_run.specs.declared.request.Asked.TheVariants as asked
 use Rattle.bank_run.specs.declared.request.Request.{Request}
-use Rattle.bank_run.proofs.LastWordAlone.{one_in_force, stays_in_order}
+use Rattle.bank_run.proofs.LastWordAlone.{one_in_force}
 use Rattle.bank_run.proofs.LastWordSaid.{first_said, none_more, opening_in_force}
 use Rattle.bank_run.proofs.LastWordSteps.{IsNext, leaves_alone, one_request}
 use Rattle.bank_run.proofs.RunSums.{sums_always_agree}
@@ -49,14 +50,11 @@ in_force_along w (m ∷ ms) checks proper =
     go true here rest = first_said m.request (heard (after_request w m) ms) w.policy (after_request w m).policy (world_after (after_request w m) ms).policy here.said rest
     go false here rest = subst (λ p. IsInForce p (heard (after_request w m) ms) (world_after (after_request w m) ms).policy) here.policy rest
 
-order_along : (w : WorldLists) (ms : List Marked) → IsInOrder w.policy → IsInOrder (world_after w ms).policy
-order_along w [] order = order
-order_along w (m ∷ ms) order = order_along (after_request w m) ms (stays_in_order w m order)
-
-alone : (w : WorldLists) (ms : List Marked) → PassesChecks w → AreProper ms → IsInOrder w.policy → (p : PolicyLists) → IsPolicySound p → IsInOrder p → IsInForce w.policy (heard w ms) p
+alone : (w : WorldLists) (ms : List Marked) → PassesChecks w → AreProper ms → (p : PolicyLists) → IsPolicySound p → IsPolicyInOrder p → IsInForce w.policy (heard w ms) p
     → p ≡ (world_after w ms).policy
-alone w ms checks proper order p sound order' rows =
-    one_in_force w.policy (heard w ms) p (world_after w ms).policy sound order' rows (last_checks w ms checks proper).sound (order_along w ms order) (in_force_along w ms checks proper)
+alone w ms checks proper p sound order rows =
+    let last = last_checks w ms checks proper in
+    one_in_force w.policy (heard w ms) p (world_after w ms).policy sound order rows last.sound last.in_order.policy (in_force_along w ms checks proper)
 
 -- ---- the version, and who is heard
 
@@ -123,7 +121,7 @@ last_word = (
     version = version_along w ms checks proper;
     all_heard = all_heard w ms checks proper;
     alone = alone w ms checks proper;
-    rules = λ order p sound order' rows q. ap (λ policy. first (record (world_after w ms) { policy = policy }) q) (alone w ms checks proper order p sound order' rows);
+    rules = λ p sound order rows q. ap (λ policy. first (record (world_after w ms) { policy = policy }) q) (alone w ms checks proper p sound order rows);
   },
   leaves_alone,
 )

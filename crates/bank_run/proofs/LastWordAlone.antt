@@ -1,140 +1,23 @@
--- Each request keeps the lists of the policy in order, and no two sound policies in order are in force after the same requests.
-use Rattle.std.proofs.Common.{◌≡◌, ℕ, ◌+◌, ◌*◌, ◌^◌, ◌==◌, ◌&&◌, Bool, true, false, not, List, map, Contains, Option, Some, None, refl, ap, sym, subst, ◌∙◌}
-use Rattle.std.specs.Prelude.{nat_lt, option_map, if◌then◌else◌}
+-- No two sound policies in order are in force after the same requests.
+use Rattle.std.proofs.Common.{◌≡◌, ℕ, ◌+◌, ◌*◌, ◌^◌, ◌==◌, ◌&&◌, Bool, false, List, Contains, Option, Some, None, refl, ap, sym, ◌∙◌}
+use Rattle.std.specs.Prelude.{option_map}
 use Rattle.std.specs.Option.{option_map_or}
 use Rattle.std.proofs.lemmas.Bool.{and_from, and_parts, eq-eqb, eqb-true}
-use Rattle.std.proofs.lemmas.List.Kept.{IsNonDecreasingBy-filter}
-use Rattle.keyed_rows.proofs.AddRow.{IsNonDecreasingBy-add_row}
-use Rattle.keyed_rows.proofs.MadeRows.{IsNonDecreasingBy-made, key-changed}
-use Rattle.bank_terms.specs.Limits.{max_version}
 use Rattle.bank_terms.specs.Procedure.{number_of}
-use Rattle.bank_terms.specs.declared.rule.Rule.{Rule}
 use Rattle.bank_policy.specs.HeldRows.{is_relation_of, is_triple_of, user_row}
 use Rattle.bank_policy.specs.Policy.{PolicyLists}
-use Rattle.bank_policy.specs.PolicyKeys.{certifier_key, relation_key, relation_number, set_key, triple_key, triple_number, user_key}
-use Rattle.bank_policy.specs.PolicyWrites.{in_session, in_suspension, is_triple_on, policy_written, with_session}
+use Rattle.bank_policy.specs.PolicyKeys.{certifier_key, relation_key, set_key, triple_key, user_key}
 use Rattle.bank_policy.specs.SetRow.{SetRow}
-use Rattle.bank_policy.specs.declared.policy_write.PolicyWrite.{PolicyWrite}
-use Rattle.bank_policy.specs.declared.policy_write.PolicyWrite.TheVariants as change
-use Rattle.bank_policy.specs.declared.policy_write.Session.{Session}
 use Rattle.bank_policy.specs.declared.rows.Certifier.{Certifier}
 use Rattle.bank_policy.specs.declared.rows.Relation.{Relation}
 use Rattle.bank_policy.specs.declared.rows.Triple.{Triple}
 use Rattle.bank_policy.specs.declared.rows.User.{User}
-use Rattle.bank_books.specs.WorldLists.{WorldLists}
-use Rattle.money.specs.declared.fault.Fault.{Fault}
-use Rattle.certify.specs.Commands.{change_of, commanded}
 use Rattle.policy_check.specs.Soundness.{IsPolicySound}
 use Rattle.policy_ops.specs.declared.policy_op.Enrolment.{Enrolment}
-use Rattle.policy_ops.specs.declared.policy_op.PolicyOp.{PolicyOp}
-use Rattle.store_rows.specs.Status.{after_mark}
 use Rattle.bank_run.specs.InForce.{IsInForce, enrolment_of}
-use Rattle.bank_run.specs.LastWord.{IsInOrder}
-use Rattle.bank_run.specs.PolicyRules.{asker}
-use Rattle.bank_run.specs.Requests.{effect, first}
-use Rattle.bank_run.specs.Run.{Marked, after_request, if_allowed}
-use Rattle.bank_run.specs.Sessions.{latest, session_of, standing_of_asker}
-use Rattle.bank_run.specs.declared.request.Asked.{Asked}
-use Rattle.bank_run.specs.declared.request.Asked.TheVariants as asked
+use Rattle.bank_run.specs.Order.{IsPolicyInOrder}
 use Rattle.bank_run.specs.declared.request.Request.{Request}
-use Rattle.bank_run.specs.declared.who.Who.{Who}
-use Rattle.bank_run.proofs.LastWordKept.{operation_kept}
 use Rattle.bank_run.proofs.LastWordRows.{found_among, same_rows}
-use Rattle.bank_run.proofs.LastWordSteps.{asks}
-
--- ---- the order of the lists
-
--- of users who are made anew
-users_made : (p : PolicyLists) (made : User → User) → ((u : User) → user_key (made u) ≡ user_key u) → IsInOrder p → IsInOrder (record p { users = map made p.users })
-users_made p made same was = record {
-  users_in_order = IsNonDecreasingBy-made user_key made same p.users was.users_in_order;
-  sets_in_order = was.sets_in_order;
-  relations_in_order = was.relations_in_order;
-  triples_in_order = was.triples_in_order;
-  certifiers_in_order = was.certifiers_in_order;
-}
-
-change_in_order : (p : PolicyLists) (c : PolicyWrite) → IsInOrder p → IsInOrder (policy_written c p)
-change_in_order p (change.User row) was = record {
-  users_in_order = IsNonDecreasingBy-add_row user_key row p.users was.users_in_order;
-  sets_in_order = was.sets_in_order;
-  relations_in_order = was.relations_in_order;
-  triples_in_order = was.triples_in_order;
-  certifiers_in_order = was.certifiers_in_order;
-}
-change_in_order p (change.Set row) was = record {
-  users_in_order = was.users_in_order;
-  sets_in_order = IsNonDecreasingBy-add_row set_key row p.sets was.sets_in_order;
-  relations_in_order = was.relations_in_order;
-  triples_in_order = was.triples_in_order;
-  certifiers_in_order = was.certifiers_in_order;
-}
-change_in_order p (change.Relation row) was = record {
-  users_in_order = was.users_in_order;
-  sets_in_order = was.sets_in_order;
-  relations_in_order = IsNonDecreasingBy-add_row relation_key row p.relations was.relations_in_order;
-  triples_in_order = was.triples_in_order;
-  certifiers_in_order = was.certifiers_in_order;
-}
-change_in_order p (change.NoRelation k) was = record {
-  users_in_order = was.users_in_order;
-  sets_in_order = was.sets_in_order;
-  relations_in_order = IsNonDecreasingBy-filter relation_key (λ r. not (relation_key r == relation_number k.procedure k.set)) p.relations was.relations_in_order;
-  triples_in_order = IsNonDecreasingBy-filter triple_key (λ t. not (is_triple_on k t)) p.triples was.triples_in_order;
-  certifiers_in_order = was.certifiers_in_order;
-}
-change_in_order p (change.Triple row) was = record {
-  users_in_order = was.users_in_order;
-  sets_in_order = was.sets_in_order;
-  relations_in_order = was.relations_in_order;
-  triples_in_order = IsNonDecreasingBy-add_row triple_key row p.triples was.triples_in_order;
-  certifiers_in_order = was.certifiers_in_order;
-}
-change_in_order p (change.NoTriple k) was = record {
-  users_in_order = was.users_in_order;
-  sets_in_order = was.sets_in_order;
-  relations_in_order = was.relations_in_order;
-  triples_in_order = IsNonDecreasingBy-filter triple_key (λ t. not (triple_key t == triple_number k.user k.procedure k.set)) p.triples was.triples_in_order;
-  certifiers_in_order = was.certifiers_in_order;
-}
-change_in_order p (change.Certifier row) was = record {
-  users_in_order = was.users_in_order;
-  sets_in_order = was.sets_in_order;
-  relations_in_order = was.relations_in_order;
-  triples_in_order = was.triples_in_order;
-  certifiers_in_order = IsNonDecreasingBy-add_row certifier_key row p.certifiers was.certifiers_in_order;
-}
-change_in_order p (change.NoCertifier row) was = record {
-  users_in_order = was.users_in_order;
-  sets_in_order = was.sets_in_order;
-  relations_in_order = was.relations_in_order;
-  triples_in_order = was.triples_in_order;
-  certifiers_in_order = IsNonDecreasingBy-filter certifier_key (λ c. not (certifier_key c == certifier_key row)) p.certifiers was.certifiers_in_order;
-}
-change_in_order p (change.Suspended s) was =
-    users_made p (λ u. if user_key u == s.user then in_suspension s u else u) (key-changed user_key (in_suspension s) s.user (λ u. refl)) was
-
-session_in_order : (p : PolicyLists) (s : Session) → IsInOrder p → IsInOrder (record p { users = with_session s p.users })
-session_in_order p s was = users_made p (λ u. if user_key u == s.user then in_session s u else u) (key-changed user_key (in_session s) s.user (λ u. refl)) was
-
-command_in_order : (w : WorldLists) (c : PolicyOp) (by : ℕ) → IsInOrder w.policy → (b : Bool) → IsInOrder (if b then commanded w by c else w).policy
-command_in_order w c by was true = change_in_order w.policy (change_of c by) was
-command_in_order w c by was false = was
-
-asked_in_order : (w : WorldLists) (a : Asked) (who : Who) (moment : ℕ) → IsInOrder w.policy → IsInOrder (effect w (asks a who moment)).policy
-asked_in_order w (asked.Operation op) who moment was = subst IsInOrder (sym (operation_kept w (record { who = who; moment = moment; op = op })).policy) was
-asked_in_order w asked.Opening who moment was = session_in_order w.policy (session_of who (latest (standing_of_asker who w) + 1) true) was
-asked_in_order w asked.Ending who moment was = session_in_order w.policy (session_of who (latest (standing_of_asker who w)) false) was
-asked_in_order w (asked.Command c) who moment was = command_in_order w c (asker who) was (nat_lt w.version max_version)
-asked_in_order w asked.Listing who moment was = was
-
-pub stays_in_order : (w : WorldLists) (m : Marked) → IsInOrder w.policy → IsInOrder (after_request w m).policy
-stays_in_order w m was = go m.mark (first w m.request)
-  where
-    go : (mark : Option Fault) (r : Option Rule) → IsInOrder (after_mark mark (if_allowed r (effect w m.request) w) w).policy
-    go None None = asked_in_order w m.request.asked m.request.who m.request.moment was
-    go None (Some r) = was
-    go (Some f) r = was
 
 -- ---- one policy is in force
 
@@ -161,7 +44,7 @@ same_user_row (Some a) (Some b) who suspended on session =
 -- of two policies in force, one's rows are among the other's
 record IsForced (opening : PolicyLists) (requests : List Request) (p : PolicyLists) : Type 0 where
   sound : IsPolicySound p
-  order : IsInOrder p
+  order : IsPolicyInOrder p
   rows : IsInForce opening requests p
 
 module _ (opening : PolicyLists) (requests : List Request) (p q : PolicyLists) (forced : IsForced opening requests p) (other : IsForced opening requests q) where
@@ -220,8 +103,8 @@ same_lists p q users sets relations triples certifiers =
     ∙ ap (λ rows. record p { users = q.users; sets = q.sets; relations = q.relations; triples = rows }) triples
     ∙ ap (λ rows. record q { certifiers = rows }) certifiers
 
-pub one_in_force : (opening : PolicyLists) (requests : List Request) (p q : PolicyLists) → IsPolicySound p → IsInOrder p → IsInForce opening requests p
-    → IsPolicySound q → IsInOrder q → IsInForce opening requests q → p ≡ q
+pub one_in_force : (opening : PolicyLists) (requests : List Request) (p q : PolicyLists) → IsPolicySound p → IsPolicyInOrder p → IsInForce opening requests p
+    → IsPolicySound q → IsPolicyInOrder q → IsInForce opening requests q → p ≡ q
 one_in_force opening requests p q sound order rows sound' order' rows' =
     let here : IsForced opening requests p = record { sound = sound; order = order; rows = rows } in
     let there : IsForced opening requests q = record { sound = sound'; order = order'; rows = rows' } in

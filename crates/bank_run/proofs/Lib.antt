@@ -4,6 +4,7 @@ pub mod CountingRelease
 pub mod FirstRule
 pub mod GivenRelease
 pub mod JudgedPolicy
+pub mod KeptOrder
 pub mod LastWord
 pub mod LastWordAlone
 pub mod LastWordCommands
@@ -14,6 +15,7 @@ pub mod LastWordSteps
 pub mod LastWordUsers
 pub mod OpenedAccount
 pub mod OperationSteps
+pub mod PolicyFirst
 pub mod PolicyLemmas
 pub mod RunSums
 pub mod SessionSteps

@@ -1,5 +1,5 @@
 -- What an operation that no rule denies makes of a World that passes its checks, form by form.
-use Rattle.std.proofs.Common.{◌≡◌, ℕ, ◌≤◌, ℤ, ◌+ℤ◌, None, refl, ap, arith, sym, subst, ◌∙◌, inl, inr}
+use Rattle.std.proofs.Common.{◌≡◌, ℕ, ◌+◌, ◌≤◌, ℤ, ◌+ℤ◌, [], ◌∷◌, None, refl, ap, arith, sym, subst, ◌∙◌, inl, inr}
 use Rattle.std.proofs.lemmas.Bool.{cases_Bool}
 use Rattle.std.proofs.lemmas.Int.{ints}
 use Rattle.std.proofs.lemmas.List.Elements.{All-contains}
@@ -76,6 +76,7 @@ use Rattle.bank_run.specs.declared.who.Who.{Who}
 use Rattle.bank_run.proofs.AllowedRequest.{allowed_by_books, allowed_user}
 use Rattle.bank_run.proofs.CommandSteps.{commands_step}
 use Rattle.bank_run.proofs.GivenRelease as release_given
+use Rattle.bank_run.proofs.KeptOrder.{in_order_all_written, in_order_written}
 use Rattle.bank_run.proofs.OpenedAccount.{new_account_keeps_books, opened_is_next}
 use Rattle.bank_run.proofs.SessionSteps.{ends_session, opens_session}
 use Rattle.bank_run.proofs.Shares.{moved_sums, post_sums, put_off_sums, put_on_sums, transfer_sums, undone_post_sums, undone_transfer_sums}
@@ -169,7 +170,7 @@ opens : (w : WorldLists) (form : NewAccount) → PassesChecks w → IsOp (op.New
 opens w form checks proper is =
     let nothing = (account_moves w (opened form) (opened_is_next w form proper is) ((books_parts w).0 checks.books).0.rows).nothing in
     record {
-      checks = passes w (new_account_effect w form) checks refl (new_account_keeps_books w form checks.books proper is);
+      checks = passes w (new_account_effect w form) checks (in_order_written (write.Account (opened form)) w checks.in_order) refl (new_account_keeps_books w form checks.books proper is);
       branches = λ key. nothing.branch_balances key ∙ plus_zero (branch_balance w key);
       tellers = λ key. nothing.teller_balances key ∙ plus_zero (teller_balance w key);
       accounts = λ key. nothing.account_balances key ∙ plus_zero (account_balance w key);
@@ -190,7 +191,7 @@ gives w form by checks proper signed is =
     let effect = release_given.effect_is w form by there in
     let nothing = release_moves_nothing w row in
     subst (λ after. IsStep w after moves_nothing) (sym effect) (record {
-      checks = passes w (written (write.Release row) w) checks refl (subst Books effect (release_given.release_keeps_books w form by checks.books signed proper is));
+      checks = passes w (written (write.Release row) w) checks (in_order_written (write.Release row) w checks.in_order) refl (subst Books effect (release_given.release_keeps_books w form by checks.books signed proper is));
       branches = λ key. nothing.branch_balances key ∙ plus_zero (branch_balance w key);
       tellers = λ key. nothing.teller_balances key ∙ plus_zero (teller_balance w key);
       accounts = λ key. nothing.account_balances key ∙ plus_zero (account_balance w key);
@@ -210,7 +211,7 @@ proves : (w : WorldLists) (p : Proof) → PassesChecks w → Books (with_proof p
 proves w p checks books =
     let nothing = proof_and_day_move_nothing w p in
     record {
-      checks = passes w (with_proof p w) checks refl books;
+      checks = passes w (with_proof p w) checks (in_order_all_written (write.Proof p ∷ write.Day (record { branch = p.branch; day = p.day + 1 }) ∷ []) w checks.in_order) refl books;
       branches = λ key. nothing.branch_balances key ∙ plus_zero (branch_balance w key);
       tellers = λ key. nothing.teller_balances key ∙ plus_zero (teller_balance w key);
       accounts = λ key. nothing.account_balances key ∙ plus_zero (account_balance w key);

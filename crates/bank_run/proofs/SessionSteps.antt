@@ -37,6 +37,7 @@ use Rattle.bank_run.specs.declared.request.Asked.TheVariants as asked
 use Rattle.bank_run.specs.declared.request.Request.{Request}
 use Rattle.bank_run.specs.declared.who.Who.{Who}
 use Rattle.bank_run.proofs.FirstRule.{none_denies}
+use Rattle.bank_run.proofs.KeptOrder.{in_order_written}
 use Rattle.bank_run.proofs.Steps.{IsStep, none_more, plus_zero}
 
 -- ---- the policy, where a user's row has another session
@@ -109,6 +110,7 @@ keeps_separated s p was = record { officers = λ user both. was.officers user (o
 sets_session : (w : WorldLists) (s : Session) → s.session ≤ max_key → PassesChecks w → IsStep w (written (write.Session s) w) moves_nothing
 sets_session w s high checks = record {
   checks = record {
+    in_order = in_order_written (write.Session s) w checks.in_order;
     books = session_keeps_books w s high checks.books;
     sound = keeps_sound s w.policy checks.sound;
     separated = keeps_separated s w.policy checks.separated;

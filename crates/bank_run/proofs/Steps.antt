@@ -16,7 +16,9 @@ use Rattle.book_growth.specs.Kept.{OnlyAdds}
 use Rattle.book_growth.specs.PlanMoves.{IsPosting, account_share, branch_share, cash_entry_share, entry_share, teller_share}
 use Rattle.book_growth.proofs.Kept.{adds_nothing}
 use Rattle.book_growth.proofs.PlanMoves.{plan_moves}
+use Rattle.bank_run.specs.Order.{IsInOrder}
 use Rattle.bank_run.specs.Sums.{Moves, PassesChecks, moves_nothing}
+use Rattle.bank_run.proofs.KeptOrder.{in_order_all_written}
 
 pub plus_zero : (z : ℤ) → z ≡ z +ℤ pos 0
 plus_zero z = omega (arith, ints)
@@ -50,9 +52,10 @@ stands w checks = record {
   added = adds_nothing w;
 }
 
--- a World with the same policy and with books that hold
-pub passes : (before after : WorldLists) → PassesChecks before → after.policy ≡ before.policy → Books after → PassesChecks after
-passes before after checks same books = record { books = books; sound = subst IsPolicySound (sym same) checks.sound; separated = subst Separated (sym same) checks.separated }
+-- a World in order with the same policy and with books that hold
+pub passes : (before after : WorldLists) → PassesChecks before → IsInOrder after → after.policy ≡ before.policy → Books after → PassesChecks after
+passes before after checks order same books =
+    record { in_order = order; books = books; sound = subst IsPolicySound (sym same) checks.sound; separated = subst Separated (sym same) checks.separated }
 
 -- what the changes of a plan add is what an operation is said to move
 pub record IsSumOf (changes : List RowWrite) (m : Moves) : Type 0 where
@@ -68,7 +71,7 @@ pub plan_step : (w : WorldLists) (changes : List RowWrite) (m : Moves) → Passe
 plan_step w changes m checks postings sums books =
     let moved = plan_moves w changes postings in
     record {
-      checks = passes w (all_written changes w) checks moved.policy books;
+      checks = passes w (all_written changes w) checks (in_order_all_written changes w checks.in_order) moved.policy books;
       branches = λ key. moved.branch_balances key ∙ ap (λ z. branch_balance w key +ℤ z) (sums.branches key);
       tellers = λ key. moved.teller_balances key ∙ ap (λ z. teller_balance w key +ℤ z) (sums.tellers key);
       accounts = λ key. moved.account_balances key ∙ ap (λ z. account_balance w key +ℤ z) (sums.accounts key);

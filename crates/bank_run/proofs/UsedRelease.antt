@@ -5,6 +5,7 @@ use Rattle.std.specs.List.{find}
 use Rattle.std.proofs.lemmas.Bool.{and_parts, eq-eqb, eqb-true, false≢true}
 use Rattle.keyed_rows.specs.Changed.{change_rows}
 use Rattle.bank_books.specs.Effects.{used_up}
+use Rattle.bank_books.specs.declared.row_write.RowWrite.TheVariants as write
 use Rattle.bank_books.specs.Keys.{release_key, release_number}
 use Rattle.bank_books.specs.WorldLists.{WorldLists}
 use Rattle.bank_books.specs.declared.rows.Release.{Release}
@@ -19,6 +20,7 @@ use Rattle.bank_run.specs.declared.execution.Execution.{Execution}
 use Rattle.bank_run.specs.declared.leave.Leave.{Leave}
 use Rattle.bank_run.specs.declared.leave.Leave.TheVariants as leave
 use Rattle.bank_run.proofs.JudgedPolicy.{leave_in_limit, leave_past_limit}
+use Rattle.bank_run.proofs.KeptOrder.{in_order_written}
 use Rattle.bank_run.proofs.Steps.{IsStep}
 
 -- ---- the step
@@ -26,7 +28,12 @@ use Rattle.bank_run.proofs.Steps.{IsStep}
 pub used_step : (w after : WorldLists) (m : Moves) (l : Leave) (user : ℕ) → IsStep w after m → IsStep w (used_by l user after) m
 used_step w after m leave.Triple user step = step
 used_step w after m (leave.Release number) user step = record {
-  checks = record { books = used_keeps_books after (record { user = user; number = number }) step.checks.books; sound = step.checks.sound; separated = step.checks.separated };
+  checks = record {
+    in_order = in_order_written (write.Used (record { user = user; number = number })) after step.checks.in_order;
+    books = used_keeps_books after (record { user = user; number = number }) step.checks.books;
+    sound = step.checks.sound;
+    separated = step.checks.separated;
+  };
   branches = step.branches;
   tellers = step.tellers;
   accounts = step.accounts;

@@ -2,10 +2,10 @@
 use Rattle.std.specs.Prelude.{◌≡◌, ◌≤◌, ◌+◌, ◌&&◌, ℕ, Bool, true, false, nat_lt, List, [], ◌∷◌, take, count_by, if◌then◌else◌}
 use Rattle.bank_terms.specs.Limits.{max_version}
 use Rattle.bank_policy.specs.Policy.{PolicyLists}
-use Rattle.bank_policy.specs.PolicyKeys.{ArePolicyRowsInOrder}
 use Rattle.bank_books.specs.WorldLists.{WorldLists}
 use Rattle.policy_check.specs.Soundness.{IsPolicySound}
 use Rattle.bank_run.specs.InForce.{IsInForce}
+use Rattle.bank_run.specs.Order.{IsPolicyInOrder}
 use Rattle.bank_run.specs.Requests.{first}
 use Rattle.bank_run.specs.Run.{Marked, accepted, after_request, is_accepted, world_after}
 use Rattle.bank_run.specs.Sums.{AreProper, PassesChecks}
@@ -32,10 +32,6 @@ abbrev pub heard : WorldLists → List Marked → List Request
 heard w [] = []
 heard w (m ∷ ms) = if is_heard w m then m.request ∷ heard (after_request w m) ms else heard (after_request w m) ms
 
--- each list stands in order of its key
-abbrev pub IsInOrder : PolicyLists → Type 0
-IsInOrder p = ArePolicyRowsInOrder p.users p.sets p.relations p.triples p.certifiers
-
 -- after the requests
 pub record HasLastWord (w : WorldLists) (requests : List Marked) : Type 0 where
   -- after each of them, too
@@ -45,9 +41,9 @@ pub record HasLastWord (w : WorldLists) (requests : List Marked) : Type 0 where
   -- until the versions are used up, each request that is accepted is heard
   pub all_heard : w.version + count_by (λ r. is_command r.asked) (accepted w requests) ≤ max_version → heard w requests ≡ accepted w requests
   -- no other policy is in force
-  pub alone : IsInOrder w.policy → (p : PolicyLists) → IsPolicySound p → IsInOrder p → IsInForce w.policy (heard w requests) p → p ≡ (world_after w requests).policy
+  pub alone : (p : PolicyLists) → IsPolicySound p → IsPolicyInOrder p → IsInForce w.policy (heard w requests) p → p ≡ (world_after w requests).policy
   -- so each rule says the same of a request, be it read over that
-  pub rules : IsInOrder w.policy → (p : PolicyLists) → IsPolicySound p → IsInOrder p → IsInForce w.policy (heard w requests) p
+  pub rules : (p : PolicyLists) → IsPolicySound p → IsPolicyInOrder p → IsInForce w.policy (heard w requests) p
       → (q : Request) → first (record (world_after w requests) { policy = p }) q ≡ first (world_after w requests) q
 
 -- What a request leaves alone: an operation the policy and its version, and every other one all lists of the books.

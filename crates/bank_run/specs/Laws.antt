@@ -27,12 +27,13 @@ use Rattle.policy_ops.specs.declared.policy_op.PolicyOp.{PolicyOp}
 use Rattle.row_reads.specs.BookReads.{release}
 use Rattle.row_rules.specs.Signed.{IsSigned}
 use Rattle.touched.specs.Touched.{amount, touched}
+use Rattle.bank_run.specs.NamedRelease.{release_grounds}
 use Rattle.bank_run.specs.NewAccount.{first_against_new_account, new_account_effect, opening_rows}
 use Rattle.bank_run.specs.Release.{first_against_release, release_effect, release_rows}
 use Rattle.bank_run.specs.PolicyRules.{asker}
 use Rattle.bank_run.specs.Meaning.{by_books}
 use Rattle.bank_run.specs.Requests.{commands, denies, effect, ends_session, executes, first, opens_session, rules}
-use Rattle.bank_run.specs.Executions.{books_meaning}
+use Rattle.bank_run.specs.Executions.{books_meaning, is_of_policy}
 use Rattle.bank_run.specs.declared.execution.Execution.{Execution}
 use Rattle.bank_run.specs.declared.request.Request.{Request}
 use Rattle.bank_run.specs.declared.who.Who.{Who}
@@ -121,6 +122,17 @@ pub record IsPolicyJudged (w : WorldLists) (x : Execution) : Type 0 where
 
 abbrev pub PolicyIsJudged : Type 0
 PolicyIsJudged = (w : WorldLists) (x : Execution) → IsPolicyJudged w x
+
+-- What a rule of the policy judges an operation by is the same in both Worlds: the policy and, where it is the rule on releases, the release that is named, with the
+-- present day of its branch.
+pub record IsJudgedAlike (r : Rule) (w v : WorldLists) (x : Execution) : Type 0 where
+  pub policy : v.policy ≡ w.policy
+  pub release : r ≡ rule.Release → release_grounds v (asker x.who) x.who.release ≡ release_grounds w (asker x.who) x.who.release
+
+-- Where a rule of the policy is the first in one World, it is the first in each one in which it judges by the same, be the books what they are. So who may not touch an
+-- item does not learn whether it is there.
+abbrev pub DeniedBeforeTheBooks : Type 0
+DeniedBeforeTheBooks = (w v : WorldLists) (x : Execution) (r : Rule) → is_of_policy r ≡ true → IsJudgedAlike r w v x → first w (executes x) ≡ Some r → first v (executes x) ≡ Some r
 
 -- some one triple of his holds all that is touched: up to the amount at least, or a release that is named counts
 abbrev pub InLimitOrReleased : WorldLists → Execution → Type 0

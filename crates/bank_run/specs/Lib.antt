@@ -14,6 +14,7 @@ pub mod MoveCash
 pub mod NamedRelease
 pub mod NewAccount
 pub mod Operations
+pub mod Order
 pub mod PolicyRules
 pub mod Post
 pub mod Release

@@ -31,9 +31,9 @@ pub record Meaning : Type 0 where
 abbrev pub no_meaning : WorldLists → Meaning
 no_meaning w = record { denies = λ r. false; effect = w; reply = json [] }
 
--- the rules that come behind those of the policy, in their order
-abbrev pub rules_of_books : List Rule
-rules_of_books =
+-- The rules that come behind those of the policy, in their order: those of the books, and behind them those on commands, of which none denies an operation.
+abbrev pub rules_behind_policy : List Rule
+rules_behind_policy =
     rule.Unknown ∷ rule.Branch ∷ rule.Drawer ∷ rule.SecondPerson ∷ rule.Entry ∷ rule.Floor ∷ rule.Cash ∷ rule.Range ∷ rule.Taken ∷ rule.Day ∷ rule.Full
     ∷ rule.Officer ∷ rule.Certifier ∷ rule.Separation ∷ rule.PolicyUnknown ∷ rule.PolicyState ∷ []
 
@@ -43,6 +43,6 @@ pub record Verdict : Type 0 where
   pub effect : WorldLists
   pub reply : ReplyText
 
--- by the rules of the books alone
+-- by the rules behind those of the policy alone: of an operation, by its books
 abbrev pub by_books : Meaning → Verdict
-by_books m = record { first = find (λ r. m.denies r) rules_of_books; effect = m.effect; reply = m.reply }
+by_books m = record { first = find (λ r. m.denies r) rules_behind_policy; effect = m.effect; reply = m.reply }

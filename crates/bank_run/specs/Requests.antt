@@ -6,7 +6,7 @@ use Rattle.bank_terms.specs.declared.rule.Rule.TheVariants as rule
 use Rattle.bank_books.specs.WorldLists.{WorldLists}
 use Rattle.bank_run.specs.Commands.{command_meaning}
 use Rattle.bank_run.specs.Executions.{execution_meaning}
-use Rattle.bank_run.specs.Meaning.{Meaning, ReplyText, Verdict, no_meaning, rules_of_books}
+use Rattle.bank_run.specs.Meaning.{Meaning, ReplyText, Verdict, no_meaning, rules_behind_policy}
 use Rattle.bank_run.specs.Sessions.{ending_meaning, opening_meaning}
 use Rattle.policy_ops.specs.declared.policy_op.PolicyOp.{PolicyOp}
 use Rattle.bank_run.specs.declared.execution.Execution.{Execution}
@@ -48,7 +48,7 @@ denies r w q = (meaning w q).denies r
 
 -- All rules, in their order. Which of two comes first is said by their places in this list, and not by their numbers.
 abbrev pub rules : List Rule
-rules = rule.Identity ∷ rule.NotCertified ∷ rule.NoTriple ∷ rule.Limit ∷ rule.Release ∷ rules_of_books
+rules = rule.Identity ∷ rule.NotCertified ∷ rule.NoTriple ∷ rule.Limit ∷ rule.Release ∷ rules_behind_policy
 
 -- the first rule that denies a request, or none
 abbrev pub first : WorldLists → Request → Option Rule

@@ -20,6 +20,7 @@ use Rattle.counter_ops.specs.declared.post.Post.{Post}
 use Rattle.counter_ops.specs.declared.transfer.Transfer.{Transfer}
 use Rattle.postings.specs.Correct.{is_of_post, undoing}
 use Rattle.postings.specs.Transfer.{given, taken}
+use Rattle.bank_run.specs.Order.{IsInOrder}
 use Rattle.bank_run.specs.PolicyRules.{asker}
 use Rattle.bank_run.specs.Requests.{executes, first}
 use Rattle.bank_run.specs.Run.{Marked, accepted, world_after}
@@ -29,8 +30,10 @@ use Rattle.bank_run.specs.declared.request.Asked.{Asked}
 use Rattle.bank_run.specs.declared.request.Asked.TheVariants as asked
 use Rattle.bank_run.specs.declared.request.Request.{Request}
 
--- The World passes both checks: its books hold, no row of its policy dangles, and no one may execute what he certifies.
+-- The World passes both checks: its books hold, no row of its policy dangles, and no one may execute what he certifies. Its lists stand in order, as every World
+-- keeps them.
 pub record PassesChecks (w : WorldLists) : Type 0 where
+  pub in_order : IsInOrder w
   pub books : Books w
   pub sound : IsPolicySound w.policy
   pub separated : Separated w.policy

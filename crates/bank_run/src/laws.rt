@@ -1,8 +1,30 @@
-//! What holds of every decision, of releases, of a new account, of sessions, and along every list of requests. The functions do nothing; their contracts are the laws.
+//! What holds of every World, of every decision, of releases, of a new account, of sessions, and along every list of requests. The functions change nothing; their contracts are the laws.
 
 ghost use Rattle.bank_run.specs.LastWord.{LastWord};
-ghost use Rattle.bank_run.specs.Laws.{AllowedExactlyWhenHeld, FirstByPlace, IdentityIsJudged, NewAccountKeepsBooks, PolicyIsJudged, ReleaseKeepsBooks, ReleasesAreUsedOnce, SessionsChangeNoMore};
+ghost use Rattle.bank_run.specs.Laws.{AllowedExactlyWhenHeld, DeniedBeforeTheBooks, FirstByPlace, IdentityIsJudged, NewAccountKeepsBooks, PolicyIsJudged, ReleaseKeepsBooks, ReleasesAreUsedOnce, SessionsChangeNoMore};
+ghost use Rattle.bank_run.specs.Order.{IsInOrder};
 ghost use Rattle.bank_run.specs.Sums.{NoOneExecutesWhatHeCertifies, SumsAlwaysAgree};
+
+use bank_books::World;
+
+/// Each list of a World stands in order of its key. It only looks at the World's lists.
+pub fn world_is_in_order(world: &World)
+    ensures { IsInOrder world.now }
+{
+    let _branches = world.branches();
+    let _tellers = world.tellers();
+    let _accounts = world.accounts();
+    let _entries = world.entries();
+    let _lines = world.lines();
+    let _proofs = world.proofs();
+    let _releases = world.releases();
+    let policy = world.policy();
+    let _users = policy.users();
+    let _sets = policy.sets();
+    let _relations = policy.relations();
+    let _triples = policy.triples();
+    let _certifiers = policy.certifiers();
+}
 
 /// The rule that a denial names is the first that denies, by its place in the list of rules, in which each stands once, and
 /// which today goes by their numbers; and where none is named, none denies.
@@ -20,6 +42,12 @@ pub fn policy_is_judged()
 /// and the opening of one exactly where he is there and not suspended.
 pub fn identity_is_judged()
     ensures { IdentityIsJudged }
+{}
+
+/// An operation that a rule of the policy denies is denied by it in every World of the same policy, and, where it is the rule
+/// on releases, of the same release: of the books nothing but the present day of that release's branch was looked at.
+pub fn denied_before_the_books()
+    ensures { DeniedBeforeTheBooks }
 {}
 
 /// An operation is allowed exactly when its user is known, some one triple of his holds all that it
