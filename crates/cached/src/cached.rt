@@ -38,6 +38,13 @@ impl<S: Store> Cached<S> {
         &self.store
     }
 
+    /// The store below, without its cache.
+    pub fn into_below(self) -> S
+        ensures { result ≡ below self }
+    {
+        self.store
+    }
+
     /// How many entries it keeps.
     pub fn entry_count(&self) -> usize
         ensures count { result ≡ length (remembered self.now) }
