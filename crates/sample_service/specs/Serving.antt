@@ -8,9 +8,9 @@ use Rattle.messages.specs.declared.serving.ServeFault.TheVariants.{Cut, Memory, 
 use Rattle.messages.specs.declared.serving.Served.{Served}
 use Rattle.sample_bank.specs.Badges.{badge_user}
 use Rattle.sample_bank.specs.Opening.{sample_opening}
-use Rattle.sample_service.specs.Standing.{gives_its_own, standing_at}
+use Rattle.counter_clocks.specs.Standing.{gives_its_own, standing_at}
 use Rattle.ends.specs.Streams.{FailsNever, FailsOnce, Streams}
-use Rattle.sample_service.specs.declared.clock.Fixed.{Fixed}
+use Rattle.counter_clocks.specs.declared.clock.Fixed.{Fixed}
 use Rattle.store_rows.specs.Status.{Status}
 
 -- how many messages are answered on one stream at most

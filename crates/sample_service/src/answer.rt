@@ -4,9 +4,9 @@ ghost use Rattle.ends.specs.Streams.{stream_at, streams_at};
 ghost use Rattle.sample_service.specs.Ends.{IsSampleEnd};
 ghost use Rattle.sample_service.specs.Serving.{IsOpening};
 
-use crate::moment::Moment;
 use crate::service::serve_sample;
 use crate::stores::behind_cache;
+use counter_clocks::Moment;
 use ends::tell_end;
 use money::Tallied;
 use std::alloc::{AllocError, Global};

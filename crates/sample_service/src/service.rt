@@ -3,9 +3,8 @@ ghost use Rattle.sample_service.specs.Serving.{IsOpening, IsSampleServed};
 ghost use Rattle.ends.specs.Streams.{streams_at};
 
 use crate::badges::SampleBadges;
-use crate::clock::Fixed;
-use crate::moment::Moment;
 use counter_api::{ServeFault, Served, serve};
+use counter_clocks::{Fixed, Moment};
 use money::Tallied;
 use std::alloc::{AllocError, Global};
 use std::io::{Read, Write};
