@@ -9,6 +9,7 @@ mod act;
 use crate::act::answer;
 use bank_words::unread;
 use money::Tallied;
+use std::io::BufWriter;
 use std::process::ExitCode;
 use std::{env, io};
 
@@ -20,8 +21,9 @@ fn main(rt: HostRuntime) -> ExitCode {
     ExitCode::from(status)
 }
 
-/// Reads the words of the command line, does what they ask for, and answers the status. The error is that they are no
-/// text, or that memory is refused for them.
+/// Reads the words of the command line, does what they ask for, and answers the status. What standard output gets is
+/// gathered, so that a reply goes out in one write. The error is that the words are no text, or that memory is refused
+/// for them or for that room.
 fn run(rt: &HostRuntime) -> io::Result<u8> {
     let alloc = rt.alloc();
     let given: Vec<String> = env::args(rt)?.collect(alloc)?;
@@ -31,7 +33,7 @@ fn run(rt: &HostRuntime) -> io::Result<u8> {
         .map(|word| word.as_str())
         .collect(alloc)?;
     let mut input = Tallied::new(rt.stdin());
-    let mut output = Tallied::new(rt.stdout());
+    let mut output = Tallied::new(BufWriter::new(alloc, rt.stdout())?);
     let mut errors = Tallied::new(rt.stderr());
     Ok(answer(
         alloc,

@@ -3,10 +3,11 @@ ghost use Rattle.clap.specs.Words.{app_of, fault_of, found_of, rows_of, rule_of,
 ghost use Rattle.clap.specs.declared.builder.Command.TheViews.{out-Command as fields_of};
 ghost use Rattle.bank_words.specs.Commands.{HasNumber, IsNamedBy, IsNamedIn, IsRefusal, NamesNone, bank_app, number_rule, sample_app, top_app};
 
+use bank_terms::MAX_MOMENT;
 use clap::builder::ValueParser;
 use clap::error::ErrorKind;
 use clap::{Arg, ArgMatches, Command, Error};
-use sample_service::{MAX_MOMENT, Moment};
+use counter_clocks::Moment;
 use std::alloc::{AllocError, Global};
 
 /// What the program is asked to do.

@@ -15,7 +15,8 @@ abbrev pub IsTold : {A : Type 0} → Result A ServeFault → Stream → Stream �
 IsTold (Ok done) errors_old errors_new status = (errors_new ≡ errors_old) × (status ≡ 0)
 IsTold (Err fault) errors_old errors_new status = IsFailed fault errors_old errors_new status
 
--- a text was shown whole, and the status is 0; or a beginning of it, and that was told
+-- A text was shown whole, and the status is 0. Or a call of standard output failed, and that was told: then a beginning of the text
+-- was shown, which is all of it where the flush behind it failed.
 abbrev pub IsShown : Stream → Stream → Stream → Stream → List ℕ → ℕ → Type 0
 IsShown old new errors_old errors_new text status =
     (GetsAll old new text × (errors_new ≡ errors_old) × (status ≡ 0))

@@ -1,10 +1,11 @@
 ghost use Rattle.std.specs.Prelude.{◌≡◌};
+ghost use Rattle.money.specs.Counted.{Sends};
 ghost use Rattle.ends.specs.Ends.{IsFailed, IsShown, IsTold};
 ghost use Rattle.ends.specs.Lines.{line, text_of};
 ghost use Rattle.ends.specs.Streams.{IsWritten, stream_at};
 
 use messages::{ServeFault, Served};
-use money::{Tallied, write_whole};
+use money::{Tallied, WriteStopped, write_whole};
 use std::io::Write;
 
 /// The status of a program that did what it was asked for.
@@ -13,15 +14,27 @@ pub const DONE: u8 = 0;
 /// The status of a program that was kept from it by a stream or by want of memory.
 pub const FAILED: u8 = 3;
 
-/// Writes a text to standard output, and answers `DONE`; or where it can't be written whole `FAILED`, behind the line of
-/// a broken stream.
+/// Writes a text to standard output and flushes it, and answers `DONE`; or where it can't be written whole, or the flush
+/// fails, `FAILED`, behind the line of a broken stream.
 pub fn show<W: Write, E: Write>(output: &mut Tallied<W>, errors: &mut Tallied<E>, text: &str) -> u8
     ensures { IsShown (stream_at W.contents output.old) (stream_at W.contents output.new)
         (stream_at E.contents errors.old) (stream_at E.contents errors.new) text.now result }
 {
-    match write_whole(output, text.as_bytes()) {
+    match send(output, text) {
         Ok(()) => DONE,
         Err(_) => fail(errors, ServeFault::Write),
+    }
+}
+
+/// Writes a text whole, and flushes behind it. Where a call fails a beginning of the text is written, which is all of it
+/// where that is the flush.
+fn send<W: Write>(output: &mut Tallied<W>, text: &str) -> Result<(), WriteStopped>
+    ensures { Sends W.contents output.old output.new text.now result }
+{
+    write_whole(output, text.as_bytes())?;
+    match output.flush() {
+        Ok(()) => Ok(()),
+        Err(_) => Err(WriteStopped),
     }
 }
 

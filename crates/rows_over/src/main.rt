@@ -10,6 +10,7 @@ use crate::words::words_of;
 use money::Tallied;
 use sample_service::{ServeFault, fail, tell};
 use sample_sql::answer_in;
+use std::io::BufWriter;
 use std::process::ExitCode;
 use std::{env, io};
 
@@ -32,7 +33,7 @@ fn main(rt: HostRuntime) -> ExitCode {
 }
 
 /// Reads the words, serves as they say, and answers the status; none where they are refused. The error is that they are
-/// no text, or that memory is refused for them.
+/// no text, or that memory is refused for them or for the room in which a reply is gathered.
 fn run(rt: &HostRuntime) -> io::Result<Option<u8>> {
     let alloc = rt.alloc();
     let given: Vec<String> = env::args(rt)?.collect(alloc)?;
@@ -45,7 +46,7 @@ fn run(rt: &HostRuntime) -> io::Result<Option<u8>> {
         return Ok(None);
     };
     let mut input = Tallied::new(rt.stdin());
-    let mut output = Tallied::new(rt.stdout());
+    let mut output = Tallied::new(BufWriter::new(alloc, rt.stdout())?);
     let mut errors = Tallied::new(rt.stderr());
     let (store, moment) = (words.store, words.moment);
     Ok(Some(answer_in(alloc, store, moment, &mut input, &mut output, &mut errors)))

@@ -1,11 +1,15 @@
 -- Stores of the sample bank's opening books.
-use Rattle.std.proofs.Common.{◌≡◌, ◌∙◌, subst}
+use Rattle.std.proofs.Common.{◌≡◌, ◌∙◌, [], ℕ, Option, Some, None, Result, arith, inl, inr, subst, sym}
 use Rattle.bank_books.specs.WorldLists.{WorldLists}
 use Rattle.bank_run.specs.Sums.{PassesChecks}
-use Rattle.cached.specs.Standing.{below, cached_status}
+use Rattle.cached.specs.Fresh.{AreFresh}
+use Rattle.cached.specs.Standing.{below, cached_status, remembered}
 use Rattle.cached.specs.declared.cached.Cached.{Cached}
+use Rattle.ends.specs.Streams.{Streams}
+use Rattle.messages.specs.declared.serving.ServeFault.{ServeFault}
+use Rattle.messages.specs.declared.serving.Served.{Served}
 use Rattle.sample_bank.specs.Opening.{sample_opening}
-use Rattle.sample_service.specs.Serving.{IsOpening}
+use Rattle.sample_service.specs.Serving.{IsOpening, IsSampleServed, IsSampleServedBehindCache}
 use Rattle.store_rows.specs.ListStore.{list_status}
 use Rattle.store_rows.specs.Status.{Status}
 use Rattle.store_rows.specs.declared.list_store.ListStore.{ListStore}
@@ -19,11 +23,23 @@ opens_with store world same passes holds only = record {
   only = λ w h. only w h ∙ same;
 }
 
--- one with a cache over such a store
-pub opens_behind : {S : Type 0} (status : S → Status) (cached : Cached S) (store : S) → below cached ≡ store
-    → ((w : WorldLists) → (status store).holds w → (cached_status status cached).holds w) → IsOpening status store → IsOpening (cached_status status) cached
-opens_behind status cached store same holds opens = record {
+-- one with a cache over such a store that keeps nothing yet
+pub opens_behind : {S : Type 0} (status : S → Status) (cached : Cached S) (store : S) → below cached ≡ store → remembered cached ≡ []
+    → IsOpening status store → IsOpening (cached_status status) cached
+opens_behind status cached store same empty opens = record {
   passes = opens.passes;
-  holds = holds sample_opening opens.holds;
+  holds = (
+    subst (λ s. (status s).holds sample_opening) (sym same) opens.holds,
+    λ _. subst (AreFresh sample_opening) (sym empty) (λ entry has. absurd (omega (arith, has.1))),
+  );
   only = λ w h. opens.only w (subst (λ s. (status s).holds w) same h.0);
 }
+
+-- What was served behind a cache was served over a store with its cache.
+pub served_through : {S : Type 0} (status : S → Status) (moment : ℕ) (old new : Streams) (left : Option S) (result : Result Served ServeFault)
+    → IsSampleServedBehindCache status moment old new left result
+    → (ended : Option (Cached S)) × IsSampleServed (cached_status status) moment old new ended result
+served_through status moment old new None result served = (None, served)
+served_through status moment old new (Some left) result (opened, opens, inl through) =
+    (Some through.ended, (through.began, opens_behind status through.began opened through.over through.empty opens, through.served))
+served_through status moment old new (Some left) result (opened, opens, inr (refused, same, unread)) = (None, (refused, unread))

@@ -1,5 +1,5 @@
 -- How serving the sample bank ends: what standard error got, and the status.
-use Rattle.std.specs.Prelude.{ℕ, Result}
+use Rattle.std.specs.Prelude.{ℕ, Option, Result}
 use Rattle.messages.specs.declared.serving.ServeFault.{ServeFault}
 use Rattle.messages.specs.declared.serving.Served.{Served}
 use Rattle.ends.specs.Ends.{IsTold}
@@ -7,8 +7,10 @@ use Rattle.ends.specs.Streams.{Stream, Streams}
 use Rattle.sample_service.specs.Serving.{IsSampleServed}
 use Rattle.store_rows.specs.Status.{Status}
 
--- a stream was served over the sample bank, in a store that stands for what this says, and it was told how that ended
+-- A stream was served over the sample bank, in a store that stands for what this says; it was told how that ended, and what was left
+-- of the store was let go.
 pub record IsSampleEnd {S : Type 0} (stands : S → Status) (moment : ℕ) (old new : Streams) (errors_old errors_new : Stream) (status : ℕ) : Type 0 where
+  pub left : Option S
   pub result : Result Served ServeFault
-  pub served : IsSampleServed stands moment old new result
+  pub served : IsSampleServed stands moment old new left result
   pub told : IsTold result errors_old errors_new status

@@ -4,9 +4,8 @@ ghost use Rattle.ends.specs.Streams.{stream_at, streams_at};
 ghost use Rattle.sample_service.specs.Ends.{IsSampleEnd};
 ghost use Rattle.sample_service.specs.Serving.{IsOpening};
 
-use crate::moment::Moment;
-use crate::service::serve_sample;
-use crate::stores::behind_cache;
+use crate::service::{serve_sample, serve_sample_behind_cache};
+use counter_service::Moment;
 use ends::tell_end;
 use money::Tallied;
 use std::alloc::{AllocError, Global};
@@ -29,7 +28,7 @@ pub fn answer_sample<S: Store + Drop, R: Read, W: Write, E: Write>(
         (streams_at R.remaining W.contents input.new output.new)
         (stream_at E.contents errors.old) (stream_at E.contents errors.new) result }
 {
-    let served = serve_sample(alloc, store, moment, input, output);
+    let (_, served) = serve_sample(alloc, store, moment, input, output);
     tell_end(errors, served)
 }
 
@@ -48,6 +47,6 @@ pub fn answer_behind_cache<S: Store + Drop, R: Read, W: Write, E: Write>(
         (streams_at R.remaining W.contents input.new output.new)
         (stream_at E.contents errors.old) (stream_at E.contents errors.new) result }
 {
-    let cached = behind_cache(alloc, store);
-    answer_sample(alloc, cached, moment, input, output, errors)
+    let (_, served) = serve_sample_behind_cache(alloc, store, moment, input, output);
+    tell_end(errors, served)
 }

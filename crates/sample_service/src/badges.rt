@@ -1,4 +1,4 @@
-use counter_api::Gate;
+use counter_service::Gate;
 use sample_bank::badge_user;
 
 /// The gate of the sample bank, which knows its six users by their badges.

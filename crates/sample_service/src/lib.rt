@@ -7,17 +7,12 @@
 
 mod answer;
 mod badges;
-mod clock;
-mod moment;
 mod service;
 mod stores;
 
 pub use answer::{answer_behind_cache, answer_sample};
 pub use badges::SampleBadges;
-pub use bank_terms::MAX_MOMENT;
-pub use clock::Fixed;
-pub use counter_api::{ServeFault, Served};
+pub use counter_service::{Moment, ServeFault, Served};
 pub use ends::{DONE, FAILED, fail, line_of, show, tell};
-pub use moment::Moment;
-pub use service::serve_sample;
-pub use stores::{behind_cache, listed_sample};
+pub use service::{serve_sample, serve_sample_behind_cache};
+pub use stores::listed_sample;

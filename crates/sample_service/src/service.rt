@@ -1,47 +1,57 @@
 ghost use Rattle.std.specs.Prelude.{◌≡◌, ◌≤◌, IfOk, Err};
-ghost use Rattle.sample_service.specs.Serving.{IsOpening, IsSampleServed};
+ghost use Rattle.counter_service.specs.Serving.{most_messages};
+ghost use Rattle.sample_service.specs.Serving.{IsOpening, IsSampleServed, IsSampleServedBehindCache};
 ghost use Rattle.ends.specs.Streams.{streams_at};
 
 use crate::badges::SampleBadges;
-use crate::clock::Fixed;
-use crate::moment::Moment;
-use counter_api::{ServeFault, Served, serve};
+use counter_service::{Moment, ServeFault, Served, serve_behind_cache, serve_stream};
 use money::Tallied;
 use std::alloc::{AllocError, Global};
 use std::io::{Read, Write};
-use store_rows::{Bank, Store};
+use store_rows::Store;
 
-/// The most messages that are answered on one stream.
-const MOST_MESSAGES: u32 = 1_000_000;
-
-/// Serves a stream over a store of the sample bank as its books are opened, with one moment for every message. Where
-/// memory was refused for that store, nothing is read.
-pub fn serve_sample<S: Store + Drop, R: Read, W: Write>(
+/// Serves a stream over a store of the sample bank as its books are opened, with one moment for every message, and hands
+/// back the store as that left it. Where memory was refused for that store, there is none, and nothing is read.
+pub fn serve_sample<S: Store, R: Read, W: Write>(
     alloc: Global,
     store: Result<S, AllocError>,
     moment: Moment,
     input: &mut Tallied<R>,
     output: &mut Tallied<W>,
-) -> Result<Served, ServeFault>
+) -> (Option<S>, Result<Served, ServeFault>)
     requires opened { IfOk store (IsOpening S.status) }
     ensures served { IsSampleServed S.status moment
         (streams_at R.remaining W.contents input.old output.old)
-        (streams_at R.remaining W.contents input.new output.new) result }
-    ensures memory { result ≡ Err ServeFault.Memory → (input.new ≡ input.old) × (output.new ≡ output.old) }
-    ensures most { IfOk result (λ served. served.messages ≤ 1000000) }
+        (streams_at R.remaining W.contents input.new output.new) result.0 result.1 }
+    ensures memory { result.1 ≡ Err ServeFault.Memory → (input.new ≡ input.old) × (output.new ≡ output.old) }
+    ensures most { IfOk result.1 (λ served. served.messages ≤ most_messages) }
 {
     let Ok(store) = store else {
-        return Err(ServeFault::Memory);
+        return (None, Err(ServeFault::Memory));
     };
-    let mut bank = Bank { store };
-    let mut clock = Fixed { moment };
-    serve(
-        alloc,
-        input,
-        output,
-        &mut bank,
-        &SampleBadges,
-        &mut clock,
-        MOST_MESSAGES,
-    )
+    let (left, served) = serve_stream(alloc, store, &SampleBadges, moment, input, output);
+    (Some(left), served)
+}
+
+/// Serves a stream as `serve_sample` does, with a cache of the rows of its policy before the store, and hands back the
+/// store without it.
+pub fn serve_sample_behind_cache<S: Store, R: Read, W: Write>(
+    alloc: Global,
+    store: Result<S, AllocError>,
+    moment: Moment,
+    input: &mut Tallied<R>,
+    output: &mut Tallied<W>,
+) -> (Option<S>, Result<Served, ServeFault>)
+    requires opened { IfOk store (IsOpening S.status) }
+    ensures served { IsSampleServedBehindCache S.status moment
+        (streams_at R.remaining W.contents input.old output.old)
+        (streams_at R.remaining W.contents input.new output.new) result.0 result.1 }
+    ensures memory { result.1 ≡ Err ServeFault.Memory → (input.new ≡ input.old) × (output.new ≡ output.old) }
+    ensures most { IfOk result.1 (λ served. served.messages ≤ most_messages) }
+{
+    let Ok(store) = store else {
+        return (None, Err(ServeFault::Memory));
+    };
+    let (left, served) = serve_behind_cache(alloc, store, &SampleBadges, moment, input, output);
+    (Some(left), served)
 }

@@ -1,17 +1,15 @@
 ghost use Rattle.std.specs.Prelude.{IfOk, OnOk};
 ghost use Rattle.bank_run.specs.Sums.{PassesChecks};
-ghost use Rattle.cached.specs.Standing.{cached_status};
 ghost use Rattle.store_rows.specs.ListStore.{list_status};
 ghost use Rattle.sample_service.specs.Serving.{IsOpening};
 
 use bank_books::World;
 use book_check::check_books;
 use book_sums::Kept;
-use cached::Cached;
 use policy_check::check_policy;
 use sample_bank::sample_world;
 use std::alloc::{AllocError, Global};
-use store_rows::{ListStore, Store};
+use store_rows::ListStore;
 
 /// The sample bank as its books are opened, in lists. They pass both checks, which are made; so only memory keeps
 /// it from one.
@@ -36,20 +34,6 @@ fn require_checks(alloc: Global, world: &World) -> Result<(), AllocError>
     }
     match check_policy(world.policy()) {
         Ok(()) => Ok(()),
-        Err(_) => Err(AllocError),
-    }
-}
-
-/// A store of the sample bank behind a cache of the rows of its policy. Only memory keeps it from one.
-pub fn behind_cache<S: Store + Drop>(
-    alloc: Global,
-    store: Result<S, AllocError>,
-) -> Result<Cached<S>, AllocError>
-    requires opened { IfOk store (IsOpening S.status) }
-    ensures { IfOk result (IsOpening (cached_status S.status)) }
-{
-    match Cached::new(alloc, store?) {
-        Ok(cached) => Ok(cached),
         Err(_) => Err(AllocError),
     }
 }

@@ -2,8 +2,9 @@
 
 use crate::runtime::Runtime;
 use counter_api::serve;
+use counter_clocks::{Fixed, Moment};
 use money::Tallied;
-use sample_service::{Fixed, Moment, SampleBadges};
+use sample_service::SampleBadges;
 use std::io;
 use std::io::Write;
 use store_rows::{Bank, Store};

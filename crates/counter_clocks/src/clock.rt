@@ -9,7 +9,7 @@ pub struct Fixed {
 }
 
 impl Clock for Fixed {
-    ghost use Rattle.sample_service.specs.Standing.{gives_its_own};
+    ghost use Rattle.counter_clocks.specs.Standing.{gives_its_own};
 
     ghost may_give = { gives_its_own };
 
