@@ -1,7 +1,7 @@
-//! The opening lists of a bank, and the list of its badges, read from bytes in memory. `read_lists` promises the World that
-//! the records of the eight lists state, or the first bad record of the first list that has one, or that memory was refused.
-//! `read_badges` promises the same of badges and their users. A row is a function of the texts of its record. What the rows
-//! of a bank have to be together, as that their sums agree, is for the checks of the books and of the policy.
+//! The opening lists of a bank, read from bytes. `read_lists` answers exactly the World that the eight lists
+//! state, or the list and the number of the first bad record; memory may be refused at any point.
+//! `read_badges` does so for the list of badges, and `Badges` tells whose a badge is. Whether the books hold
+//! and the policy is sound is not looked at: the checks do that.
 #![tactic(auto)]
 
 mod badges;
