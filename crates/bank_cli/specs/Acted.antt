@@ -1,24 +1,51 @@
 -- What the program comes to, by its words.
-use Rattle.std.specs.Prelude.{◌≡◌, ◌⊎◌, ℕ, List, []}
+use Rattle.std.specs.Prelude.{◌≡◌, ◌⊎◌, ℕ, List, [], Result, codes}
+use Rattle.sqlite_disk.specs.declared.Disk.{Ghosts}
+use Rattle.sqlite_wal.specs.Recovery.{Image}
 use Rattle.clap.specs.Words.{Text, fault_of, subcommand_of}
 use Rattle.clap.specs.declared.error.Error.{Error}
 use Rattle.bank_words.specs.Commands.{IsNamedBy, IsRefusal, bank_app}
 use Rattle.bank_words.specs.Explained.{IsExplained}
 use Rattle.bank_words.specs.declared.words.Action.{Action}
 use Rattle.bank_words.specs.declared.words.Action.TheVariants as action
+use Rattle.cli_file.specs.Actions.{IsChecked, IsInited, IsRun}
+use Rattle.cli_file.specs.Telling.{IsEnded, IsSaid}
+use Rattle.cli_file.specs.declared.fault.ActionFault.{ActionFault}
+use Rattle.ends.specs.Lines.{line}
 use Rattle.ends.specs.Streams.{Stream, Streams}
 use Rattle.sample_service.specs.Ends.{IsSampleEnd}
 use Rattle.sample_sql.specs.Stores.{cached_sql_status}
 
--- the action was carried out, and the status and standard error tell how that ended
-abbrev pub IsActed : Action → Streams → Streams → Stream → Stream → ℕ → Type 0
-IsActed (action.Sample moment) old new errors_old errors_new status =
+-- A file was dealt with, and what came of it is told by this line, or by that of a fault; nothing was read.
+pub record IsToldOf (did : Result Unit ActionFault → Type 0) (text : List ℕ) (old new : Streams) (errors_old errors_new : Stream) (status : ℕ) : Type 0 where
+  pub result : Result Unit ActionFault
+  pub done : did result
+  pub said : IsSaid result (line text) old.output new.output errors_old errors_new status
+  pub unread : new.input ≡ old.input
+
+-- A stream was served over a file, and a fault that ended it is told.
+pub record IsRunToEnd (did : Streams → Result Unit ActionFault → Type 0) (new : Streams) (errors_old errors_new : Stream) (status : ℕ) : Type 0 where
+  pub result : Result Unit ActionFault
+  pub served : Streams
+  pub done : did served result
+  pub ended : IsEnded result served.output new.output errors_old errors_new status
+  pub read : new.input ≡ served.input
+
+-- the action was carried out, and the status, standard output and standard error tell how that ended
+abbrev pub IsActed : {D : Type 0} → Ghosts D → Image → Action → Streams → Streams → Stream → Stream → ℕ → Type 0
+IsActed g image (action.Sample moment) old new errors_old errors_new status =
     IsSampleEnd cached_sql_status moment old new errors_old errors_new status
+IsActed g image (action.Init file dir) old new errors_old errors_new status =
+    IsToldOf (IsInited g image) (codes "made") old new errors_old errors_new status
+IsActed g image (action.Check file) old new errors_old errors_new status =
+    IsToldOf (IsChecked g image) (codes "books hold") old new errors_old errors_new status
+IsActed g image (action.Run file badges moment) old new errors_old errors_new status =
+    IsRunToEnd (IsRun g image badges.now moment old) new errors_old errors_new status
 
 -- The words name an action, which was carried out; or they are refused, or memory for them is, and why was told.
-abbrev pub IsAnswered : List Text → Streams → Streams → Stream → Stream → ℕ → Type 0
-IsAnswered words old new errors_old errors_new status =
+abbrev pub IsAnswered : {D : Type 0} → Ghosts D → Image → List Text → Streams → Streams → Stream → Stream → ℕ → Type 0
+IsAnswered g image words old new errors_old errors_new status =
     ((action : Action) × IsNamedBy (subcommand_of bank_app words) action × (fault_of bank_app words ≡ [])
-    × IsActed action old new errors_old errors_new status)
+    × IsActed g image action old new errors_old errors_new status)
     ⊎ ((error : Error) × IsRefusal words error × (new.input ≡ old.input)
     × IsExplained error old.output new.output errors_old errors_new status)

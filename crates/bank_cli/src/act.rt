@@ -3,49 +3,70 @@ ghost use Rattle.bank_cli.specs.Acted.{IsActed, IsAnswered};
 ghost use Rattle.ends.specs.Streams.{stream_at, streams_at};
 
 use bank_words::{Action, explain, read_words};
+use cli_file::{Opener, Progress, check_file, end, init_file, run_file, say_done};
 use money::Tallied;
 use sample_service::answer_behind_cache;
 use sample_sql::sql_sample;
-use std::alloc::Global;
+use sqlite_disk::Disk;
 use std::io::{Read, Write};
 
 /// Does what the words behind the program's name ask for, and answers the status. Help goes to `output`, and why words
-/// are refused to `errors`.
-pub fn answer<R: Read, W: Write, E: Write>(
-    alloc: Global,
+/// are refused to `errors`. A file is opened by the opener. How far long work is goes to `progress`.
+pub fn answer<D: Disk + Drop, O: Opener<D>, R: Read, W: Write, E: Write, P: Write + Drop>(
+    rt: &HostRuntime,
     words: &[&str],
+    opener: O,
     input: &mut Tallied<R>,
     output: &mut Tallied<W>,
     errors: &mut Tallied<E>,
+    progress: &mut Progress<P>,
 ) -> u8
-    ensures { IsAnswered (map (λ w. w.now) words.now)
+    ensures { IsAnswered D.Disk O.image (map (λ w. w.now) words.now)
         (streams_at R.remaining W.contents input.old output.old)
         (streams_at R.remaining W.contents input.new output.new)
         (stream_at E.contents errors.old) (stream_at E.contents errors.new) result }
 {
-    match read_words(alloc, words) {
-        Ok(action) => act(alloc, action, input, output, errors),
-        Err(error) => explain(alloc, &error, output, errors),
+    match read_words(rt.alloc(), words) {
+        Ok(action) => act(rt, action, opener, input, output, errors, progress),
+        Err(error) => explain(rt.alloc(), &error, output, errors),
     }
 }
 
-/// Does what the program is asked for, and answers its status: `DONE`, or `FAILED` after one line on `errors` that says
-/// what failed.
-fn act<R: Read, W: Write, E: Write>(
-    alloc: Global,
-    action: Action,
+/// Does what the program is asked for, and answers its status.
+fn act<D: Disk + Drop, O: Opener<D>, R: Read, W: Write, E: Write, P: Write + Drop>(
+    rt: &HostRuntime,
+    action: Action<'_>,
+    opener: O,
     input: &mut Tallied<R>,
     output: &mut Tallied<W>,
     errors: &mut Tallied<E>,
+    progress: &mut Progress<P>,
 ) -> u8
-    ensures { IsActed action
+    ensures { IsActed D.Disk O.image action
         (streams_at R.remaining W.contents input.old output.old)
         (streams_at R.remaining W.contents input.new output.new)
         (stream_at E.contents errors.old) (stream_at E.contents errors.new) result }
 {
     match action {
         Action::Sample { moment } => {
+            let alloc = rt.alloc();
             answer_behind_cache(alloc, sql_sample(alloc), moment, input, output, errors)
+        }
+        Action::Init { file, dir } => {
+            let done = init_file(rt, file, dir, opener, progress);
+            say_done(done, "made\n", output, errors)
+        }
+        Action::Check { file } => {
+            let done = check_file(rt, file, opener, progress);
+            say_done(done, "books hold\n", output, errors)
+        }
+        Action::Run {
+            file,
+            badges,
+            moment,
+        } => {
+            let done = run_file(rt, file, badges, moment, opener, input, output, progress);
+            end(done, output, errors)
         }
     }
 }

@@ -1,15 +1,17 @@
-//! The bank program. `main` reads the words of the command line and counts the failed calls of its three
-//! streams. `answer` carries out the action that the words name, or tells why they name none, and answers
-//! the status. The sample is served in SQL tables in memory, behind a cache. That `main` hands its own
-//! streams and words on is only tested. `bank_words` reads the words, and `ends` has the statuses.
+//! The bank program. `main` takes the words of the command line, the standard streams and the machine's files,
+//! and hands them to `answer`, which does what the words ask for and answers the status. What each action
+//! promises is said by `IsActed`, over every stream and every start of a file; that the program hands the
+//! right ones on is seen by reading `run`.
 #![tactic(auto)]
 
 mod act;
 
 use crate::act::answer;
 use bank_words::unread;
+use cli_file::{Machine, Progress};
 use money::Tallied;
-use std::io::BufWriter;
+use sqlite::Unknown;
+use std::io::{BufWriter, IsTerminal};
 use std::process::ExitCode;
 use std::{env, io};
 
@@ -22,8 +24,8 @@ fn main(rt: HostRuntime) -> ExitCode {
 }
 
 /// Reads the words of the command line, does what they ask for, and answers the status. What standard output gets is
-/// gathered, so that a reply goes out in one write. The error is that the words are no text, or that memory is refused
-/// for them or for that room.
+/// gathered, so that a reply goes out in one write. How far long work is is told where standard error is a terminal. The
+/// error is that the words are no text, or that memory is refused for them or for that room.
 fn run(rt: &HostRuntime) -> io::Result<u8> {
     let alloc = rt.alloc();
     let given: Vec<String> = env::args(rt)?.collect(alloc)?;
@@ -35,11 +37,15 @@ fn run(rt: &HostRuntime) -> io::Result<u8> {
     let mut input = Tallied::new(rt.stdin());
     let mut output = Tallied::new(BufWriter::new(alloc, rt.stdout())?);
     let mut errors = Tallied::new(rt.stderr());
+    let is_watched = rt.stderr().is_terminal();
+    let mut progress = Progress::on(if is_watched { Some(rt.stderr()) } else { None });
     Ok(answer(
-        alloc,
+        rt,
         words.as_slice(),
+        Machine { start: Unknown },
         &mut input,
         &mut output,
         &mut errors,
+        &mut progress,
     ))
 }

@@ -2,10 +2,10 @@
 use Rattle.std.proofs.Common.{◌≡◌, ◌<◌, ◌^◌, ◌∙◌, true, ℕ, List, Option, Some, None, refl, sym, ap, subst, IfSome, IsNone, IsSomeAnd, option_map}
 use Rattle.std.specs.Str.Parse.{ParsesUnsigned}
 use Rattle.std.specs.Prelude.{Result, Ok, Err, Box}
-use Rattle.clap.specs.Words.{App, FailsBy, HasMatchesOf, Row, Text, subcommand_name_of, subcommand_rows_of, is_simple, is_simple_and_free, found_of, one_text, rows_of, ReadsOne, fault_of, subcommand_of}
+use Rattle.clap.specs.Words.{App, FailsBy, HasMatchesOf, Row, Text, subcommand_name_of, subcommand_rows_of, is_simple, is_simple_and_free, found_of, first_of, first_value, one_text, rows_of, ReadsOne, fault_of, subcommand_of}
 use Rattle.clap.specs.declared.error.Error.{Error}
 use Rattle.clap.specs.declared.ArgMatches.{ArgMatches}
-use Rattle.clap.proofs.WalkLemmas.{one_text-rows}
+use Rattle.clap.proofs.WalkLemmas.{first_value-rows, one_text-rows}
 use Rattle.std.specs.Box.{box_value}
 use Rattle.clap.specs.Simple.{subcommand_rows}
 use Rattle.clap.specs.declared.parser.matches.SubCommand.{SubCommand}
@@ -80,3 +80,7 @@ met_by app words m is matches = (matches (ap is_simple is ∙ bank_is_simple)).1
 pub fails_by : {T : Type 0} (app : App) (words : List Text) (result : Result T Error) → app ≡ bank_app
     → (is_simple_and_free app ≡ true → FailsBy (fault_of app words) result) → FailsBy (fault_of bank_app words) result
 fails_by app words result is kinds = subst (λ a. FailsBy (fault_of a words) result) is (kinds (ap is_simple_and_free is ∙ bank_is_free))
+
+-- the text that a caller reads
+pub text_is : (m : ArgMatches) (id : Text) (r : Option Text) → r ≡ first_value (found_of m) id → r ≡ first_of id (rows_of (found_of m))
+text_is m id r e = e ∙ first_value-rows (found_of m) id

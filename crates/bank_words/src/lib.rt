@@ -4,6 +4,7 @@
 //! answer the status for it: 0 for help, 2 for refused words, 3 for refused memory.
 #![tactic(auto)]
 
+mod commands;
 mod explaining;
 mod words;
 

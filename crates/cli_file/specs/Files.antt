@@ -1,0 +1,83 @@
+-- A bank in a file: found, made, and closed. What is said of the file holds where its disk returned what was written.
+use Rattle.std.specs.Prelude.{◌≡◌, ◌×◌, false, IsTrue}
+use Rattle.sqlite_disk.specs.declared.Disk.{Ghosts}
+use Rattle.sqlite_disk.specs.declared.Files.{Files}
+use Rattle.sqlite_wal.specs.Reads.{AreClean}
+use Rattle.sqlite.specs.declared.FileStore.{FileStore}
+use Rattle.sqlite.specs.Closing.{IsCopied}
+use Rattle.sqlite.specs.Files as closing
+use Rattle.sqlite.specs.Files.{file_state}
+use Rattle.sqlite.specs.Held.{Held}
+use Rattle.sqlite.specs.State.{HasCleanDisk, KeepsCommit, Survives}
+use Rattle.bank_books.specs.WorldLists.{WorldLists}
+use Rattle.bank_schema.specs.Held.{AreOfWorld, HoldsSheets}
+use Rattle.bank_schema.specs.Readable.{AreReadable}
+use Rattle.kept_rows.specs.Sheets.{Sheets}
+use Rattle.open_sql.specs.Blank.{no_schema}
+use Rattle.open_sql.specs.Made.{IsBank, IsKeptAs, IsRefusal}
+use Rattle.open_sql.specs.declared.open_fault.OpenFault.{OpenFault}
+use Rattle.adopt_sql.specs.Adopted.{Adopts, IsBankFile, IsLeft}
+use Rattle.adopt_sql.specs.Refused.{HoldsSoundBank, IsNamedBy, IsOfStore, IsRefused}
+use Rattle.adopt_sql.specs.declared.adopt_fault.AdoptFault.{AdoptFault}
+use Rattle.store_rows.specs.Status.{Status}
+use Rattle.store_sql.specs.Bank.{sql_status}
+use Rattle.store_sql.specs.declared.sql_store.SqlStore.{SqlStore}
+use Rattle.cli_file.specs.Faults.{IsOfFile, fault_of_adopting, fault_of_making}
+use Rattle.cli_file.specs.declared.fault.ActionFault.{ActionFault}
+
+module _ {D : Type 0} {g : Ghosts D} where
+  -- what the store of a bank in a file stands for
+  abbrev pub file_status : SqlStore (FileStore D g) → Status
+  file_status store = sql_status (file_state store.conn) store.is_stopped store.faults store.failures
+
+  -- the store has met no fault, and is not stopped
+  pub record IsNewStore (store : SqlStore (FileStore D g)) : Type 0 where
+    pub works : store.is_stopped ≡ false
+    pub no_fault : store.faults ≡ 0
+    pub no_failure : store.failures ≡ 0
+
+  -- Where the tables of the file were those of a bank, they hold a World whose books hold and whose policy is sound and separated, and
+  -- hold it still. A crash leaves nothing that it could not leave before.
+  pub record IsFound (opened : Held (FileStore D g)) (store : SqlStore (FileStore D g)) : Type 0 where
+    pub adopts : HasCleanDisk (file_state store.conn) → IsBankFile (file_state opened) → Adopts (file_state opened) (file_state store.conn)
+    pub unchanged : HasCleanDisk (file_state store.conn) → IsBankFile (file_state opened) → IsLeft (file_state opened) (file_state store.conn)
+    pub survives : Survives (file_state opened) (file_state store.conn) (λ _. ⊥)
+    pub begins : IsNewStore store
+
+  -- Where they were those of a bank, this is the first fault of it, and nothing was changed. A sound bank is refused for a fault of the
+  -- file, or for want of memory.
+  pub record IsNotFound (opened : Held (FileStore D g)) (told : ActionFault) (left : Held (FileStore D g)) : Type 0 where
+    pub why : AdoptFault
+    pub told_so : told ≡ fault_of_adopting why
+    pub refused : HasCleanDisk (file_state left) → IsBankFile (file_state opened) → IsRefused (file_state opened).now.trees why
+    pub sound : HasCleanDisk (file_state left) → IsBankFile (file_state opened) → HoldsSoundBank (file_state opened).now → IsOfStore why
+    pub named : HasCleanDisk (file_state left) → IsBankFile (file_state opened) → (s : Sheets) → HoldsSheets (file_state opened).now.trees s → AreReadable s → IsNamedBy s why
+    pub unchanged : HasCleanDisk (file_state left) → IsBankFile (file_state opened) → IsLeft (file_state opened) (file_state left)
+    pub survives : Survives (file_state opened) (file_state left) (λ _. ⊥)
+
+  -- The file held no table, and holds the World, whose books hold and whose policy is sound and separated.
+  pub record IsMade (opened : Held (FileStore D g)) (w : WorldLists) (store : SqlStore (FileStore D g)) : Type 0 where
+    pub bank : IsBank w
+    pub was_empty : (file_state opened).now.schema ≡ no_schema
+    pub kept : HasCleanDisk (file_state store.conn) → IsKeptAs (file_state store.conn) w
+    pub is_open : HasCleanDisk (file_state store.conn) → IsTrue (file_state store.conn).is_open
+    pub crash : Survives (file_state opened) (file_state store.conn) (AreOfWorld w)
+    pub begins : IsNewStore store
+
+  -- It is the first fault of the books, else of the policy, else the file was not empty; a fault of the file, and want of memory, may
+  -- come at any point. Nothing was committed.
+  pub record IsNotMade (opened : Held (FileStore D g)) (w : WorldLists) (told : ActionFault) (left : Held (FileStore D g)) : Type 0 where
+    pub why : OpenFault
+    pub told_so : told ≡ fault_of_making why
+    pub refused : IsRefusal (file_state opened).now.schema w why
+    pub unmade : HasCleanDisk (file_state left) → KeepsCommit (file_state opened) (file_state left)
+    pub crash : Survives (file_state opened) (file_state left) (AreOfWorld w)
+
+  -- where it could not be closed, nothing is lost that stood in the file and its log
+  pub record IsNotClosed (conn : Held (FileStore D g)) (told : ActionFault) (left : FileStore D g) : Type 0 where
+    pub of_file : IsOfFile told
+    pub closed : closing.IsClosed conn left
+
+-- The last commit is in the file itself, as it reads with its log and without, and as a crash leaves it.
+abbrev pub IsClosed : {D : Type 0} (g : Ghosts D) → Held (FileStore D g) → Files D → Type 0
+IsClosed g conn files = AreClean g files.log files.db → IsCopied conn files

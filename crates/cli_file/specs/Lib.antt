@@ -1,0 +1,9 @@
+pub mod Actions
+pub mod Checking
+pub mod Faults
+pub mod Files
+pub mod Lists
+pub mod Making
+pub mod Opened
+pub mod Serving
+pub mod Telling

@@ -1,0 +1,72 @@
+ghost use Rattle.ends.specs.Streams.{streams_at};
+ghost use Rattle.cli_file.specs.Actions.{IsChecked, IsInited, IsRun};
+
+use crate::checking::check_in;
+use crate::fault::ActionFault;
+use crate::gate::BadgeGate;
+use crate::lists::{read_badge_list, read_opening};
+use crate::making::make_in;
+use crate::opening::{Opener, open_existing};
+use crate::progress::Progress;
+use crate::serving::serve_in;
+use counter_clocks::Moment;
+use money::Tallied;
+use sqlite_disk::Disk;
+use std::io::{Read, Write};
+
+/// Makes a bank in a file from the opening lists in a folder. The lists are read before the file is opened, or made.
+pub fn init_file<D: Disk + Drop, O: Opener<D>, P: Write + Drop>(
+    rt: &HostRuntime,
+    file: &str,
+    dir: &str,
+    opener: O,
+    progress: &mut Progress<P>,
+) -> Result<(), ActionFault<'static>>
+    ensures { IsInited D.Disk O.image result }
+{
+    progress.begin("reading the lists");
+    let world = read_opening(rt, dir)?;
+    progress.begin("opening the file");
+    let conn = opener.open(rt, file)?;
+    let (_left, done) = make_in(rt.alloc(), conn, &world, progress);
+    done
+}
+
+/// Whether a bank whose books hold and whose policy is sound stands in a file that is there. Nothing is changed.
+pub fn check_file<D: Disk + Drop, O: Opener<D>, P: Write + Drop>(
+    rt: &HostRuntime,
+    file: &str,
+    opener: O,
+    progress: &mut Progress<P>,
+) -> Result<(), ActionFault<'static>>
+    ensures { IsChecked D.Disk O.image result }
+{
+    progress.begin("opening the file");
+    let conn = open_existing(rt, file, opener)?;
+    let (_conn, done) = check_in(rt.alloc(), conn, progress);
+    done
+}
+
+/// Serves a stream over the bank that stands in a file that is there, to the users of a list of badges, with one moment for
+/// every message. The list is read before the file is opened.
+pub fn run_file<'a, D: Disk + Drop, O: Opener<D>, R: Read, W: Write, P: Write + Drop>(
+    rt: &HostRuntime,
+    file: &str,
+    badges: &'a str,
+    moment: Moment,
+    opener: O,
+    input: &mut Tallied<R>,
+    output: &mut Tallied<W>,
+    progress: &mut Progress<P>,
+) -> Result<(), ActionFault<'a>>
+    ensures { IsRun D.Disk O.image badges.now moment
+        (streams_at R.remaining W.contents input.old output.old)
+        (streams_at R.remaining W.contents input.new output.new) result }
+{
+    let list = read_badge_list(rt, badges)?;
+    progress.begin("opening the file");
+    let conn = open_existing(rt, file, opener)?;
+    let gate = BadgeGate(&list);
+    let (_left, done) = serve_in(rt.alloc(), conn, &gate, moment, input, output, progress);
+    done
+}

@@ -1,0 +1,136 @@
+ghost use Rattle.std.specs.Prelude.{◌≡◌};
+ghost use Rattle.cli_file.specs.Faults.{IsOfBadges, fault_of_adopting, fault_of_lists, fault_of_making, fault_of_serving, fault_of_store, is_refusal};
+
+use adopt_sql::AdoptFault;
+use book_check::BooksFault;
+use messages::ServeFault;
+use money::Fault;
+use open_sql::OpenFault;
+use opening_lists::{ListFault, RecordFault};
+use policy_check::PolicyFault;
+use thiserror::Error;
+
+/// Why an action is not carried out, or not to its end. Its text is the line that tells it.
+#[derive(Clone, Copy, Debug, PartialEq, Eq, Drop, Error)]
+pub enum ActionFault<'a> {
+    /// A record of an opening list is bad.
+    #[error("lists: {0}")]
+    List(ListFault),
+    /// A record of the list of badges is bad.
+    #[error("lists: {list}, record {row}")]
+    Badge {
+        /// The list, as it was given.
+        list: &'a str,
+        /// The number of the record, that of the heading being 1.
+        row: u64,
+    },
+    /// The books do not hold.
+    #[error("books: {0}")]
+    Books(BooksFault),
+    /// The books hold, and the policy is refused.
+    #[error("policy: {0}")]
+    Policy(PolicyFault),
+    /// A file is not there or can't be read, is in use, or its disk failed.
+    #[error("file: not read")]
+    NotRead,
+    /// The tables of the file are not those of a bank.
+    #[error("file: not a bank")]
+    NotABank,
+    /// They are those of another version.
+    #[error("file: other version")]
+    OtherVersion,
+    /// A bank is to be made in a file that holds something already.
+    #[error("file: not empty")]
+    NotEmpty,
+    /// The input ended inside a message.
+    #[error("stream: cut")]
+    Cut,
+    /// A read or a write of a stream failed.
+    #[error("stream: broken")]
+    Broken,
+    /// Memory was refused.
+    #[error("memory")]
+    Memory,
+}
+
+impl<'a> ActionFault<'a> {
+    /// Whether what was handed in is refused: books, a policy or lists. That is told on standard output, with status 1.
+    /// Every other fault is told on standard error, with status 3.
+    pub fn is_refusal(&self) -> bool
+        ensures { result ≡ is_refusal self.now }
+    {
+        matches!(
+            self,
+            ActionFault::List(_)
+                | ActionFault::Badge { .. }
+                | ActionFault::Books(_)
+                | ActionFault::Policy(_)
+        )
+    }
+
+    /// Why a store did not do what it was asked for.
+    pub fn of_store(fault: Fault) -> ActionFault<'a>
+        ensures { result ≡ fault_of_store fault }
+    {
+        match fault {
+            Fault::Memory => ActionFault::Memory,
+            Fault::Size | Fault::Disk | Fault::Stopped => ActionFault::NotRead,
+        }
+    }
+
+    /// Why no bank is made in a file.
+    pub fn of_making(fault: OpenFault) -> ActionFault<'a>
+        ensures { result ≡ fault_of_making fault }
+    {
+        match fault {
+            OpenFault::Books(fault) => ActionFault::Books(fault),
+            OpenFault::Policy(fault) => ActionFault::Policy(fault),
+            OpenFault::NotEmpty => ActionFault::NotEmpty,
+            OpenFault::Fault(fault) => ActionFault::of_store(fault),
+        }
+    }
+
+    /// Why the bank in a file is not adopted.
+    pub fn of_adopting(fault: AdoptFault) -> ActionFault<'a>
+        ensures { result ≡ fault_of_adopting fault }
+    {
+        match fault {
+            AdoptFault::NotABank => ActionFault::NotABank,
+            AdoptFault::Version => ActionFault::OtherVersion,
+            AdoptFault::Books(fault) => ActionFault::Books(fault),
+            AdoptFault::Policy(fault) => ActionFault::Policy(fault),
+            AdoptFault::Fault(fault) => ActionFault::of_store(fault),
+        }
+    }
+
+    /// Why opening lists state no World.
+    pub fn of_lists(fault: ListFault) -> ActionFault<'a>
+        ensures { result ≡ fault_of_lists fault }
+    {
+        match fault {
+            ListFault::Memory => ActionFault::Memory,
+            bad => ActionFault::List(bad),
+        }
+    }
+
+    /// Why a list of badges, of this name, states none.
+    pub fn of_badges(list: &'a str, fault: RecordFault) -> ActionFault<'a>
+        ensures { IsOfBadges list.now fault result }
+    {
+        match fault {
+            RecordFault::Memory => ActionFault::Memory,
+            RecordFault::Bad(row) => ActionFault::Badge { list, row },
+        }
+    }
+
+    /// Why a stream was not served to its end.
+    pub fn of_serving(fault: ServeFault) -> ActionFault<'a>
+        ensures { result ≡ fault_of_serving fault }
+    {
+        match fault {
+            ServeFault::Cut => ActionFault::Cut,
+            ServeFault::Memory => ActionFault::Memory,
+            ServeFault::Read | ServeFault::Write | ServeFault::Report => ActionFault::Broken,
+        }
+    }
+}

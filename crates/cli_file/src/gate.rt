@@ -1,0 +1,16 @@
+use counter_api::Gate;
+use opening_lists::Badges;
+
+/// The gate that knows the users of a list of badges.
+#[derive(Clone, Copy)]
+pub struct BadgeGate<'a>(pub &'a Badges);
+
+impl<'a> Gate for BadgeGate<'a> {
+    ghost use Rattle.opening_lists.specs.Badges.{user_of};
+
+    ghost users = { λ gate badge. user_of gate.0.now badge };
+
+    fn user_of(&self, badge: &[u8]) -> Option<u32> {
+        self.0.user_of(badge)
+    }
+}

@@ -1,0 +1,14 @@
+use crate::file::FileConnection;
+use sqlite::{FileStore, Files};
+use sqlite_disk::Disk;
+
+/// What an action leaves of an open file.
+#[derive(Drop)]
+pub enum FileLeft<D: Disk + Drop> {
+    /// The connection: no bank was found or made there.
+    Open(FileConnection<D>),
+    /// The file and its log, closed.
+    Closed(Files<D>),
+    /// What could not be closed.
+    Unclosed(FileStore<D>),
+}

@@ -1,0 +1,68 @@
+"""Banks in files, made by the built program from the sample's opening lists."""
+import json
+import os
+import shutil
+import subprocess
+
+TOP = os.path.dirname(os.path.dirname(os.path.abspath(__file__)))
+LISTS = os.path.join(TOP, "sample")
+BADGES = os.path.join(LISTS, "badges.csv")
+# A bank is a file and the log that may stand beside it.
+ENDINGS = ("", "-wal")
+SECONDS = 60
+
+
+class Wrong(Exception):
+    """What a run did that it must not do."""
+
+
+def message(badge, path, body=None, session=1):
+    """The bytes of a request by the user of a badge in a session."""
+    text = "" if body is None else json.dumps(body)
+    fields = [f"POST {path} HTTP/1.1", "Host: bank", f"Bank-Badge: {badge}", f"Bank-Session: {session}", f"Content-Length: {len(text)}"]
+    return ("\r\n".join(fields) + "\r\n\r\n" + text).encode()
+
+
+# What opens the bank that `sample` serves: a session of each user, and two drawers.
+OPENED = b"".join(
+    [
+        *(message(badge, "/session") for badge in ("olga", "carl", "cora", "tess", "tom", "sue")),
+        message("tess", "/do/drawer-on", {"branch": 1, "cash": 40000, "teller": 11}),
+        message("tom", "/do/drawer-on", {"branch": 1, "cash": 5000, "teller": 12}),
+    ]
+)
+
+
+def run_words(file, moment):
+    """The words by which a bank in a file is served."""
+    return ["run", file, "--badges", BADGES, "--moment", str(moment)]
+
+
+def ended(program, words, given=b""):
+    """What a run wrote to standard output. It has to end well."""
+    ran = subprocess.run([program, *words], input=given, capture_output=True, timeout=SECONDS, check=False)
+    if (ran.returncode, ran.stderr) != (0, b""):
+        raise Wrong(f"{words[0]} ended with status {ran.returncode} and wrote {ran.stdout[-200:]!r} and {ran.stderr!r}")
+    return ran.stdout
+
+
+def make_sample(program, file):
+    """Makes the bank that `sample` serves in a file, by `init` and by one `run` that opens its sessions and drawers."""
+    if ended(program, ["init", file, LISTS]) != b"made\n":
+        raise Wrong("init did not say that the bank was made")
+    if ended(program, run_words(file, 0), OPENED).count(b" 200 OK") != 8:
+        raise Wrong("the bank was not opened")
+
+
+def copy_bank(file, target):
+    """Copies a bank."""
+    for ending in ENDINGS:
+        if os.path.exists(file + ending):
+            shutil.copyfile(file + ending, target + ending)
+
+
+def require_sound(program, file):
+    """Goes through where `check` says that the books of a bank hold."""
+    said = ended(program, ["check", file])
+    if said != b"books hold\n":
+        raise Wrong(f"check said {said!r}")
