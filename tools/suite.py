@@ -1,7 +1,7 @@
 """Reads the acceptance suite: rows/*.rows, text files whose rows say what the program is given and what it must answer.
 
-docs/TESTING.md says how a row is written. `read_suite` reads all files. A row is a list of steps, each a run of the program
-with what is done in its folder before.
+docs/TESTING.md says how a row is written. `Suite` has all of them. A row is a list of steps, each a run of the program with
+what is done in its folder before.
 """
 import glob
 import os
