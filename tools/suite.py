@@ -11,6 +11,9 @@ import sqlite3
 
 TOP = os.path.dirname(os.path.dirname(os.path.abspath(__file__)))
 ROWS = os.path.join(TOP, "rows")
+# The opening lists of the sample bank, and among them its badges.
+SAMPLE = os.path.join(TOP, "sample")
+BADGES = "badges.csv"
 PHRASES = {
     200: "OK",
     400: "Bad Request",
@@ -146,6 +149,39 @@ class Copied:
     def make(self, room):
         """Copies it."""
         shutil.copyfile(os.path.join(room, self.path), os.path.join(room, self.target))
+
+
+class Removed:
+    """A file that is taken away before a run."""
+
+    def __init__(self, path):
+        self.path = path
+
+    def make(self, room):
+        """Takes it away."""
+        os.remove(os.path.join(room, self.path))
+
+
+class SampleLists:
+    """A folder that the opening lists of the sample bank are copied to before a run."""
+
+    def __init__(self, folder):
+        self.folder = folder
+
+    def make(self, room):
+        """Makes the folder, and copies them."""
+        shutil.copytree(SAMPLE, os.path.join(room, self.folder), ignore=shutil.ignore_patterns(BADGES))
+
+
+class SampleBadges:
+    """A file that the badges of the sample bank are copied to before a run."""
+
+    def __init__(self, path):
+        self.path = path
+
+    def make(self, room):
+        """Copies them."""
+        shutil.copyfile(os.path.join(SAMPLE, BADGES), os.path.join(room, self.path))
 
 
 class Statements:
@@ -334,6 +370,15 @@ class RowReader:
     def take_copy(self, text):
         self.row.changes.append(Copied(*text.split(" ")))
 
+    def take_remove(self, text):
+        self.row.changes.append(Removed(text))
+
+    def take_lists(self, text):
+        self.row.changes.append(SampleLists(text))
+
+    def take_badges(self, text):
+        self.row.changes.append(SampleBadges(text))
+
     def take_sql(self, text):
         self.row.changes.append(Statements(text, "\n".join(self.behind("|"))))
 
@@ -350,6 +395,9 @@ WORDS = {
     "file": RowReader.take_file,
     "edit": RowReader.take_edit,
     "copy": RowReader.take_copy,
+    "remove": RowReader.take_remove,
+    "lists": RowReader.take_lists,
+    "badges": RowReader.take_badges,
     "sql": RowReader.take_sql,
 }
 
