@@ -4,7 +4,6 @@ use Rattle.cached.proofs.Standing.{reads_then, reads_with}
 use Rattle.cached.specs.Standing.{cached_status, with_entries}
 use Rattle.store_rows.specs.Status.{ReadsRow}
 use Rattle.cached.proofs.policy_reads.CachedPolicyReads.relations_of.Goals as goal
-use Rattle.cached.proofs.policy_reads.CachedPolicyReads.relations_of.Goals.{else-is_err, then-is_err}
 
 pub returns-in_err-version-clause-reads : goal.returns-in_err-version-clause-reads
 returns-in_err-version-clause-reads g c =
@@ -35,4 +34,4 @@ returns-clause-reads g c =
         refl
         (c.deref.ensures.value ∙ c.in_ok-rows.ensures.told clean w (c.in_ok-version.ensures.kept.kept w holds)))
         (λ clean w holds fresh. c.in_ok-rows.ensures.told clean w (c.in_ok-version.ensures.kept.kept w holds)) in
-    elim c.if-is_err.branch [ then-is_err w ↦ rw w.self-is read | else-is_err w ↦ rw w.self-is read ]
+    elim c.if-is_err.branch [ goal.then-is_err w ↦ rw w.self-is read | goal.else-is_err w ↦ rw w.self-is read ]

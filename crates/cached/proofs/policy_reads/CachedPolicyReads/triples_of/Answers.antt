@@ -4,7 +4,6 @@ use Rattle.cached.proofs.Standing.{reads_beside, reads_then, reads_with}
 use Rattle.cached.specs.Standing.{cached_status, with_entries}
 use Rattle.store_rows.specs.Status.{ReadsRow}
 use Rattle.cached.proofs.policy_reads.CachedPolicyReads.triples_of.Goals as goal
-use Rattle.cached.proofs.policy_reads.CachedPolicyReads.triples_of.Goals.{else-is_err, then-is_err}
 
 pub returns-then-user-eq0-clause-reads : goal.returns-then-user-eq0-clause-reads
 returns-then-user-eq0-clause-reads g c = reads_beside _ _ _ _ _ c.triples_of.ensures
@@ -38,4 +37,4 @@ returns-clause-reads g c =
         (omega arith)
         (c.deref.ensures.value ∙ c.in_ok-rows.ensures.told clean w (c.in_ok-version.ensures.kept.kept w holds)))
         (λ clean w holds fresh. c.in_ok-rows.ensures.told clean w (c.in_ok-version.ensures.kept.kept w holds)) in
-    elim c.if-is_err.branch [ then-is_err w ↦ rw w.self-is read | else-is_err w ↦ rw w.self-is read ]
+    elim c.if-is_err.branch [ goal.then-is_err w ↦ rw w.self-is read | goal.else-is_err w ↦ rw w.self-is read ]
