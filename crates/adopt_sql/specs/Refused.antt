@@ -1,7 +1,7 @@
 -- What it tells of a file that it is refused.
 use Rattle.std.specs.Prelude.{ℕ, ℤ, pos, ◌≡◌, ◌≢◌, [], ◌∷◌, IfErr, Ok, Err, Result, ⊤}
 use Rattle.sqlite.specs.Effect.{Database}
-use Rattle.sqlite.specs.State.{HasCleanDisk, State, Survives}
+use Rattle.sqlite.specs.State.{HasCleanDisk, State}
 use Rattle.sqlite.specs.Tree.{Trees}
 use Rattle.bank_policy.specs.Policy.{PolicyLists}
 use Rattle.bank_books.specs.Books.{Books as BooksHold}
@@ -10,7 +10,7 @@ use Rattle.bank_books.specs.WorldLists.{WorldLists}
 use Rattle.book_check.specs.Verdict.{IsVerdict}
 use Rattle.book_check.specs.declared.check.BooksFault.{BooksFault}
 use Rattle.book_check.specs.declared.check.BooksFault.TheVariants.{Range}
-use Rattle.bank_schema.specs.Held.{HoldsSheets, HoldsWorld}
+use Rattle.bank_schema.specs.Held.{HoldsWorld}
 use Rattle.bank_schema.specs.Readable.{AreReadable}
 use Rattle.kept_rows.specs.Keepable.{IsPolicyKeepable}
 use Rattle.kept_rows.specs.Sheets.{Sheets, sheets_of}
@@ -20,7 +20,7 @@ use Rattle.policy_check.specs.declared.policy_fault.PolicyFault.TheVariants.{Dan
 use Rattle.whole_tables.specs.BankRow.{bank_row_cells}
 use Rattle.whole_tables.specs.Whole.{HasBankTables}
 use Rattle.whole_tables.specs.declared.bank.BankRow.{BankRow}
-use Rattle.adopt_sql.specs.Adopted.{IsBankFile, IsBankNumber, IsBankRow, IsLeft}
+use Rattle.adopt_sql.specs.Adopted.{IsBankNumber, IsBankRow}
 use Rattle.adopt_sql.specs.declared.adopt_fault.AdoptFault.{AdoptFault}
 use Rattle.adopt_sql.specs.Told.{AreBooksJudged, IsPolicyIn}
 use Rattle.adopt_sql.specs.declared.adopt_fault.AdoptFault.TheVariants.{Books, Fault, NotABank, Policy, Version}
@@ -108,12 +108,3 @@ IsNamedBy s (Books fault) = AreBooksJudged s (Err fault)
 IsNamedBy s (Policy fault) = IsOfPolicyIn s fault
 IsNamedBy s (Fault _) = ⊤
 IsNamedBy s _ = ⊥
-
--- There was such a connection, on which nothing was changed, when this fault was told of it. `shows` gives the state of a connection.
-pub record IsDropped {C : Type 0} (shows : C → State) (conn : C) (fault : AdoptFault) : Type 0 where
-  pub last : C
-  pub survives : Survives (shows conn) (shows last) (λ _. ⊥)
-  pub left : HasCleanDisk (shows last) → IsBankFile (shows conn) → IsLeft (shows conn) (shows last)
-  pub refused : HasCleanDisk (shows last) → IsBankFile (shows conn) → IsRefused (shows conn).now.trees fault
-  pub sound : HasCleanDisk (shows last) → IsBankFile (shows conn) → HoldsSoundBank (shows conn).now → IsOfStore fault
-  pub named : HasCleanDisk (shows last) → IsBankFile (shows conn) → (s : Sheets) → HoldsSheets (shows conn).now.trees s → AreReadable s → IsNamedBy s fault
