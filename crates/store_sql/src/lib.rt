@@ -4,6 +4,7 @@
 mod applying;
 mod asking;
 mod book_reads;
+pub mod laws;
 mod policy_reads;
 mod report_reads;
 mod sql_store;
