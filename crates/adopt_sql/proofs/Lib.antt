@@ -10,3 +10,4 @@ pub mod SetLemmas
 pub mod SoundLemmas
 pub mod TakenLemmas
 pub mod ToldLemmas
+pub mod UnreadLemmas

@@ -10,7 +10,7 @@ use Rattle.bank_books.specs.WorldLists.{WorldLists}
 use Rattle.book_check.specs.Verdict.{IsVerdict}
 use Rattle.book_check.specs.declared.check.BooksFault.{BooksFault}
 use Rattle.book_check.specs.declared.check.BooksFault.TheVariants.{Range}
-use Rattle.bank_schema.specs.Held.{HoldsWorld}
+use Rattle.bank_schema.specs.Held.{HoldsWorld, Sheet}
 use Rattle.bank_schema.specs.Readable.{AreReadable}
 use Rattle.kept_rows.specs.Keepable.{IsPolicyKeepable}
 use Rattle.kept_rows.specs.Sheets.{Sheets, sheets_of}
@@ -23,19 +23,22 @@ use Rattle.whole_tables.specs.declared.bank.BankRow.{BankRow}
 use Rattle.adopt_sql.specs.Adopted.{IsBankNumber, IsBankRow}
 use Rattle.adopt_sql.specs.declared.adopt_fault.AdoptFault.{AdoptFault}
 use Rattle.adopt_sql.specs.Told.{AreBooksJudged, IsPolicyIn}
+use Rattle.adopt_sql.specs.Unread.{HasUnread, IsBesideBooks}
 use Rattle.adopt_sql.specs.declared.adopt_fault.AdoptFault.TheVariants.{Books, Fault, NotABank, Policy, Version}
 
 -- Of the books it is told where the row of the bank is of the first version, and that they are out of range where its version of the policy
--- is no count.
+-- is no count, or a row of them or of the users can't be read.
 pub record TellsOfBooks (db : Trees) (fault : BooksFault) : Type 0 where
   pub policy : ℤ
   pub row : IsBankNumber db policy
   pub range : ((version : ℕ) → policy ≢ pos version) → fault ≡ Range
+  pub unread : (t : Sheet) → IsBesideBooks t → HasUnread db t → fault ≡ Range
 
--- and of the policy where that is one
-pub record TellsOfPolicy (db : Trees) : Type 0 where
+-- and of the policy where that is one, and that it dangles where any row can't be read
+pub record TellsOfPolicy (db : Trees) (fault : PolicyFault) : Type 0 where
   pub version : ℕ
   pub row : IsBankRow db version
+  pub unread : (t : Sheet) → HasUnread db t → fault ≡ Dangling
 
 -- It is no bank where its table has not the one row of a bank, it is of another version where that row says so, and no other fault but one of
 -- the database is told before these.
@@ -43,7 +46,7 @@ abbrev pub IsRefused : Trees → AdoptFault → Type 0
 IsRefused db NotABank = (b : BankRow) → b.id ≡ pos 1 → db 0 ≢ bank_row_cells b ∷ []
 IsRefused db Version = (b : BankRow) × (b.id ≡ pos 1) × (b.version ≢ pos 1) × (db 0 ≡ bank_row_cells b ∷ [])
 IsRefused db (Books fault) = TellsOfBooks db fault
-IsRefused db (Policy _) = TellsOfPolicy db
+IsRefused db (Policy fault) = TellsOfPolicy db fault
 IsRefused db (Fault _) = ⊤
 
 -- the books are out of range
@@ -55,6 +58,19 @@ abbrev pub IsBeyondBankRow : AdoptFault → Type 0
 IsBeyondBankRow NotABank = ⊥
 IsBeyondBankRow Version = ⊥
 IsBeyondBankRow _ = ⊤
+
+-- it says nothing of the row of the bank, and of other rows that they are out of range, or dangle
+abbrev pub IsOfUnread : AdoptFault → Type 0
+IsOfUnread NotABank = ⊥
+IsOfUnread Version = ⊥
+IsOfUnread (Books fault) = fault ≡ Range
+IsOfUnread (Policy fault) = fault ≡ Dangling
+IsOfUnread (Fault _) = ⊤
+
+-- the same, where the rows of the books were read
+abbrev pub IsOfBooksRead : AdoptFault → Type 0
+IsOfBooksRead (Books _) = ⊤
+IsOfBooksRead fault = IsOfUnread fault
 
 -- the database failed, or memory or a limit on size kept it from the whole
 abbrev pub IsOfStore : AdoptFault → Type 0
