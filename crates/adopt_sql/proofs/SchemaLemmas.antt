@@ -87,7 +87,7 @@ same_listed : (objects : List Row) (s t : Schema) → s.views ≡ [] → AreList
 same_listed objects s t none p q =
     let tables = same_zipped IsTableRow IsTableRow same_table (filter is_table_row objects) s.tables t.tables p.tables q.tables in
     let indexes = same_zipped (IsIndexRow t.tables) (IsIndexRow t.tables) (same_index t.tables q.named) (filter is_index_row objects) s.indexes t.indexes
-        (subst (λ ts. AllZip (IsIndexRow ts) (filter is_index_row objects) s.indexes) tables p.indexes) q.indexes in
+    (subst (λ ts. AllZip (IsIndexRow ts) (filter is_index_row objects) s.indexes) tables p.indexes) q.indexes in
     let views = none ∙ none_zipped IsViewRow IsViewRow (filter is_view_row objects) t.views (subst (AllZip IsViewRow (filter is_view_row objects)) none p.views) q.views in
     λ i. record { tables = tables i; indexes = indexes i; views = views i }
 
