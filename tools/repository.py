@@ -42,7 +42,7 @@ def below(uses, names):
 
 def tests_to_run(uses):
     """The crates of tests alone that tools/worked runs, and that the gate does not prove."""
-    return [it for it in uses if it.startswith("worked_")]
+    return [it for it in uses if it.startswith(("worked_", "test_"))]
 
 
 def copy_crates(folder, names):

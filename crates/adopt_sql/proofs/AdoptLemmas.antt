@@ -5,6 +5,7 @@ use Rattle.sqlite.specs.State.{State}
 use Rattle.sqlite.specs.Tree.{Trees}
 use Rattle.bank_schema.specs.Held.{AreOfWorld, HoldsSheets, HoldsWorld, Sheet, tree_of}
 use Rattle.bank_schema.specs.Held.Sheet.{accounts as in_accounts, bank as in_bank, branches as in_branches, certifiers as in_certifiers, entries as in_entries, lines as in_lines, members as in_members, proofs as in_proofs, relations as in_relations, releases as in_releases, sets as in_sets, tellers as in_tellers, triples as in_triples, users as in_users}
+use Rattle.bank_schema.proofs.WorldLemmas.{world_of}
 use Rattle.kept_rows.specs.Laws.{AreSheetsOrdered}
 use Rattle.kept_rows.proofs.SheetsTell.{sheets_are_ordered}
 use Rattle.store_sql.proofs.WorldLemmas.{same_world}
@@ -39,7 +40,7 @@ pub adopted : (old new : State) (books : BookRows) (tables : PolicyTables) (vers
 adopted old new books tables version file sound row are_books are_tables bank left settled =
     let ordered = subst AreSheetsOrdered bank.sheets (sheets_are_ordered bank.world bank.keepable) in
     let rows = subst (HoldsSheets old.now.trees) (sym bank.sheets) (held_sheets old.now.trees books tables version row are_books are_tables file.kept ordered) in
-    let held : HoldsWorld old.now bank.world = record { schema = file.schema; sound = sound; world = record { rows = rows; keepable = bank.keepable } } in
+    let held : HoldsWorld old.now bank.world = world_of old.now bank.world bank.keepable (record { schema = file.schema; sound = sound; rows = rows }) in
     record {
       world = bank.world;
       books = bank.books;

@@ -3,8 +3,11 @@ pub mod FileLemmas
 pub mod FoundLemmas
 pub mod MadeLemmas
 pub mod NamedLemmas
+pub mod OpenedLemmas
 pub mod ReadingLemmas
+pub mod SchemaLemmas
 pub mod SetLemmas
 pub mod SoundLemmas
 pub mod TakenLemmas
 pub mod ToldLemmas
+pub mod UnreadLemmas

@@ -4,13 +4,15 @@ use Rattle.std.specs.Prelude.{⊤}
 use Rattle.sqlite.specs.Effect.{Database}
 use Rattle.sqlite.specs.State.{HasCleanDisk, IsUnchanged, KeepsCommit, State, Survives}
 use Rattle.sqlite.specs.Tree.{Trees}
+use Rattle.bank_schema.specs.Held.{Sheet}
 use Rattle.bank_schema.proofs.StepLemmas.{early, kept_then}
 use Rattle.whole_tables.specs.BankRow.{IsBankTable, bank_row_cells}
 use Rattle.whole_tables.specs.Whole.{HasBankTables, Reads}
 use Rattle.whole_tables.specs.declared.bank.BankRow.{BankRow}
 use Rattle.whole_tables.proofs.ReadsLemmas.{Done, Gave, done_then, gave_then, still_bank}
 use Rattle.adopt_sql.specs.Adopted.{IsBankNumber, IsBankRow, ReadsLast}
-use Rattle.adopt_sql.specs.Refused.{IsBeyondBankRow, IsOfStore, IsOutOfRange, IsRefused}
+use Rattle.adopt_sql.specs.Refused.{IsBeyondBankRow, IsOfBooksRead, IsOfStore, IsOfUnread, IsOutOfRange, IsRefused}
+use Rattle.adopt_sql.specs.Unread.{HasUnread, IsBesideBooks}
 use Rattle.adopt_sql.specs.declared.adopt_fault.AdoptFault.{AdoptFault}
 use Rattle.adopt_sql.specs.declared.adopt_fault.AdoptFault.TheVariants.{Books, Fault, NotABank, Policy, Version}
 
@@ -46,17 +48,45 @@ store_refused db (Books fault) store = absurd store
 store_refused db (Policy fault) store = absurd store
 store_refused db (Fault fault) store = tt
 
--- and a fault that says nothing of the row where that is one of the first version, with a count
-pub beyond_row : (db : Trees) (version : ℕ) → IsBankRow db version → (fault : AdoptFault) → IsBeyondBankRow fault → IsRefused db fault
-beyond_row db version row NotABank none = absurd none
-beyond_row db version row Version none = absurd none
-beyond_row db version row (Books fault) beyond = record { policy = pos version; row = row; range = λ none. absurd (none version refl) }
-beyond_row db version row (Policy fault) beyond = record { version = version; row = row }
-beyond_row db version row (Fault fault) beyond = tt
+-- A fault that says nothing of the row, where that is one of the first version, with a count: all rows were read.
+pub beyond_row : (db : Trees) (version : ℕ) → IsBankRow db version → ((t : Sheet) → HasUnread db t → ⊥) → (fault : AdoptFault) → IsBeyondBankRow fault → IsRefused db fault
+beyond_row db version row read NotABank none = absurd none
+beyond_row db version row read Version none = absurd none
+beyond_row db version row read (Books fault) beyond = record { policy = pos version; row = row; range = λ none. absurd (none version refl); unread = λ t beside there. absurd (read t there) }
+beyond_row db version row read (Policy fault) beyond = record { version = version; row = row; unread = λ t there. absurd (read t there) }
+beyond_row db version row read (Fault fault) beyond = tt
 
-pub beyond_rows : {X : Type 0} (db : Trees) (version : ℕ) → IsBankRow db version → (r : Result X AdoptFault) → IfErr r IsBeyondBankRow → IfErr r (IsRefused db)
-beyond_rows db version row (Ok x) beyond = tt
-beyond_rows db version row (Err fault) beyond = beyond_row db version row fault beyond
+pub beyond_rows : {X : Type 0} (db : Trees) (version : ℕ) → IsBankRow db version → ((t : Sheet) → HasUnread db t → ⊥) → (r : Result X AdoptFault) → IfErr r IsBeyondBankRow → IfErr r (IsRefused db)
+beyond_rows db version row read (Ok x) beyond = tt
+beyond_rows db version row read (Err fault) beyond = beyond_row db version row read fault beyond
+
+-- the rows of the books were read
+pub books_row : (db : Trees) (version : ℕ) → IsBankRow db version → ((t : Sheet) → IsBesideBooks t → HasUnread db t → ⊥) → (fault : AdoptFault) → IsOfBooksRead fault → IsRefused db fault
+books_row db version row read NotABank none = absurd none
+books_row db version row read Version none = absurd none
+books_row db version row read (Books fault) beyond = record { policy = pos version; row = row; range = λ none. absurd (none version refl); unread = λ t beside there. absurd (read t beside there) }
+books_row db version row read (Policy fault) dangles = record { version = version; row = row; unread = λ t there. dangles }
+books_row db version row read (Fault fault) beyond = tt
+
+-- rows were read, or not
+pub unread_row : (db : Trees) (version : ℕ) → IsBankRow db version → (fault : AdoptFault) → IsOfUnread fault → IsRefused db fault
+unread_row db version row NotABank none = absurd none
+unread_row db version row Version none = absurd none
+unread_row db version row (Books fault) range = record { policy = pos version; row = row; range = λ none. range; unread = λ t beside there. range }
+unread_row db version row (Policy fault) dangles = record { version = version; row = row; unread = λ t there. dangles }
+unread_row db version row (Fault fault) beyond = tt
+
+-- what is told of books that were read says nothing of the row of the bank
+pub beyond_books : (fault : AdoptFault) → IsOfBooksRead fault → IsBeyondBankRow fault
+beyond_books NotABank none = absurd none
+beyond_books Version none = absurd none
+beyond_books (Books fault) beyond = tt
+beyond_books (Policy fault) dangles = tt
+beyond_books (Fault fault) beyond = tt
+
+pub handed_beyond : {X : Type 0} (r : Result X AdoptFault) (fault : AdoptFault) → IsErrAnd r (λ e. e ≡ fault) → IsOfBooksRead fault → IfErr r IsBeyondBankRow
+handed_beyond (Ok x) fault same read = tt
+handed_beyond (Err e) fault same read = subst IsBeyondBankRow (sym same) (beyond_books fault read)
 
 pub handed_refused : {X : Type 0} (db : Trees) (r : Result X AdoptFault) (fault : AdoptFault) → IsErrAnd r (λ e. e ≡ fault) → IsRefused db fault → IfErr r (IsRefused db)
 handed_refused db (Ok x) fault same refused = tt
@@ -65,7 +95,7 @@ handed_refused db (Err e) fault same refused = subst (IsRefused db) (sym same) r
 -- the version of the policy is out of range where the row is one of the first version
 pub range_refused : {X : Type 0} (db : Trees) (policy : ℤ) → IsBankNumber db policy → (r : Result X AdoptFault) → IfErr r IsOutOfRange → IfErr r (IsRefused db)
 range_refused db policy number (Ok x) range = tt
-range_refused db policy number (Err fault) range = subst (IsRefused db) (sym range) (record { policy = policy; row = number; range = λ none. refl })
+range_refused db policy number (Err fault) range = subst (IsRefused db) (sym range) (record { policy = policy; row = number; range = λ none. refl; unread = λ t beside there. refl })
 
 -- the tables that are asked then, on a connection that the read of the row found open
 module _ (a b c : State) (P : Trees → Type 0) (survives : Survives b c (λ _. ⊥)) (first : Done a b P) where

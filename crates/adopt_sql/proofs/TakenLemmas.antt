@@ -1,7 +1,6 @@
 -- That tables which hold a sound bank are read whole, and tell its rows, or the database fails.
 use Rattle.std.proofs.Common.{◌≡◌, ◌≢◌, ◌∙◌, ℕ, ℤ, pos, List, [], ◌∷◌, Ok, Err, IfErr, IfOk, IsErrAnd, IsOk, Option, Some, None, Result, sym, ap, subst}
 use Rattle.sqlite.specs.Order.{Row}
-use Rattle.sqlite.specs.State.{HasCleanDisk, State, Survives}
 use Rattle.sqlite.specs.Tree.{Trees}
 use Rattle.sqlite_value.specs.Order.{column}
 use Rattle.bank_policy.specs.PolicyKeys.{certifier_key, relation_key, triple_key}
@@ -10,7 +9,6 @@ use Rattle.bank_schema.specs.Cells.{AnyRow, EntryFits, LineFits, MemberFits, Pro
 use Rattle.bank_schema.specs.Held.{HoldsSheets, Sheet, set_no, tree_of}
 use Rattle.bank_schema.specs.Held.Sheet.{accounts as in_accounts, bank as in_bank, branches as in_branches, certifiers as in_certifiers, entries as in_entries, lines as in_lines, members as in_members, proofs as in_proofs, relations as in_relations, releases as in_releases, sets as in_sets, tellers as in_tellers, triples as in_triples, users as in_users}
 use Rattle.bank_schema.specs.HeldRows.{HoldsRows, all_but_rowid, all_of_it}
-use Rattle.bank_schema.specs.Readable.{AreReadable}
 use Rattle.kept_rows.specs.Sheets.{Sheets, account_no, branch_no, entry_no, member_no, teller_no, user_no}
 use Rattle.store_sql.proofs.CellLemmas as cells
 use Rattle.store_sql.proofs.OrderLemmas.{same_rows}
@@ -21,8 +19,8 @@ use Rattle.whole_tables.specs.Whole.{AreAll}
 use Rattle.whole_tables.specs.declared.bank.BankRow.{BankRow}
 use Rattle.whole_tables.specs.declared.book_rows.BookRows.{BookRows}
 use Rattle.whole_tables.specs.declared.policy_tables.PolicyTables.{PolicyTables}
-use Rattle.adopt_sql.specs.Adopted.{IsBankFile, IsBankNumber, IsBankRow, IsLeft}
-use Rattle.adopt_sql.specs.Refused.{HoldsSoundBank, IsDropped, IsNamedBy, IsOfStore, IsRefused}
+use Rattle.adopt_sql.specs.Adopted.{IsBankNumber, IsBankRow}
+use Rattle.adopt_sql.specs.Refused.{IsOfStore}
 use Rattle.adopt_sql.specs.Told.{sheets_read}
 use Rattle.adopt_sql.specs.declared.adopt_fault.AdoptFault.{AdoptFault}
 
@@ -39,13 +37,6 @@ handed_fault (Err e) fault same store = subst IsOfStore (sym same) store
 pub handed_both : {X : Type 0} (r : Result X AdoptFault) (fault : AdoptFault) (P : X → Type 0) → IsErrAnd r (λ e. e ≡ fault) → IsOfStore fault → IfOk r P × IfErr r IsOfStore
 handed_both (Ok x) fault P same store = absurd same
 handed_both (Err e) fault P same store = (tt, subst IsOfStore (sym same) store)
-
-pub dropped : {X C : Type 0} (shows : C → State) (conn last : C) (r : Result X AdoptFault) (fault : AdoptFault) → IsErrAnd r (λ e. e ≡ fault) → Survives (shows conn) (shows last) (λ _. ⊥)
-    → (HasCleanDisk (shows last) → IsBankFile (shows conn) → IsLeft (shows conn) (shows last)) → (HasCleanDisk (shows last) → IsBankFile (shows conn) → IsRefused (shows conn).now.trees fault)
-    → (HasCleanDisk (shows last) → IsBankFile (shows conn) → HoldsSoundBank (shows conn).now → IsOfStore fault)
-    → (HasCleanDisk (shows last) → IsBankFile (shows conn) → (s : Sheets) → HoldsSheets (shows conn).now.trees s → AreReadable s → IsNamedBy s fault) → IfErr r (IsDropped shows conn)
-dropped shows conn last (Ok x) fault same survives left refused sound named = tt
-dropped shows conn last (Err e) fault same survives left refused sound named = subst (IsDropped shows conn) (sym same) (record { last = last; survives = survives; left = left; refused = refused; sound = sound; named = named })
 
 -- ---- the row of the bank
 

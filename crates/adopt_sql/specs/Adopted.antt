@@ -11,6 +11,7 @@ use Rattle.policy_check.specs.PolicyVerdict.{IsPolicyVerdict}
 use Rattle.whole_tables.specs.BankRow.{bank_row_cells}
 use Rattle.whole_tables.specs.BookRows.{AreBookRows}
 use Rattle.whole_tables.specs.PolicyTables.{ArePolicyTables}
+use Rattle.whole_tables.specs.Typed.{AreBooksTyped, AreTablesTyped}
 use Rattle.whole_tables.specs.Whole.{HasBankTables, IsKeptTable}
 use Rattle.adopt_sql.specs.declared.reading.FileRows.{FileRows}
 
@@ -28,11 +29,13 @@ IsBankNumber db policy = db 0 ≡ bank_row_cells (record { id = pos 1; version =
 abbrev pub IsBankRow : Trees → ℕ → Type 0
 IsBankRow db version = db 0 ≡ bank_cells version ∷ []
 
--- The rows of all tables. Those of the policy may be missing, where one of them is out of its limits.
+-- The rows of all tables, each of the types that it is read as. Those of the policy may be missing, where one of them is out of its limits.
 pub record AreFileRows (db : Trees) (rows : FileRows) : Type 0 where
   pub version : IsBankRow db rows.version
   pub books : AreBookRows db rows.books
+  pub typed : AreBooksTyped rows.books
   pub policy : IfSome rows.policy (ArePolicyTables db)
+  pub policy_typed : IfSome rows.policy AreTablesTyped
 
 -- A read after which nothing more is read.
 abbrev pub ReadsLast : {X E : Type 0} → State → State → (Trees → X → Type 0) → Result X E → Type 0

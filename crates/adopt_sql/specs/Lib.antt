@@ -1,3 +1,4 @@
 pub mod Adopted
 pub mod Refused
 pub mod Told
+pub mod Unread

@@ -1,7 +1,7 @@
 -- What it tells of a file that it is refused.
 use Rattle.std.specs.Prelude.{ℕ, ℤ, pos, ◌≡◌, ◌≢◌, [], ◌∷◌, IfErr, Ok, Err, Result, ⊤}
 use Rattle.sqlite.specs.Effect.{Database}
-use Rattle.sqlite.specs.State.{HasCleanDisk, State, Survives}
+use Rattle.sqlite.specs.State.{HasCleanDisk, State}
 use Rattle.sqlite.specs.Tree.{Trees}
 use Rattle.bank_policy.specs.Policy.{PolicyLists}
 use Rattle.bank_books.specs.Books.{Books as BooksHold}
@@ -10,7 +10,7 @@ use Rattle.bank_books.specs.WorldLists.{WorldLists}
 use Rattle.book_check.specs.Verdict.{IsVerdict}
 use Rattle.book_check.specs.declared.check.BooksFault.{BooksFault}
 use Rattle.book_check.specs.declared.check.BooksFault.TheVariants.{Range}
-use Rattle.bank_schema.specs.Held.{HoldsSheets, HoldsWorld}
+use Rattle.bank_schema.specs.Held.{HoldsWorld, Sheet}
 use Rattle.bank_schema.specs.Readable.{AreReadable}
 use Rattle.kept_rows.specs.Keepable.{IsPolicyKeepable}
 use Rattle.kept_rows.specs.Sheets.{Sheets, sheets_of}
@@ -20,22 +20,25 @@ use Rattle.policy_check.specs.declared.policy_fault.PolicyFault.TheVariants.{Dan
 use Rattle.whole_tables.specs.BankRow.{bank_row_cells}
 use Rattle.whole_tables.specs.Whole.{HasBankTables}
 use Rattle.whole_tables.specs.declared.bank.BankRow.{BankRow}
-use Rattle.adopt_sql.specs.Adopted.{IsBankFile, IsBankNumber, IsBankRow, IsLeft}
+use Rattle.adopt_sql.specs.Adopted.{IsBankNumber, IsBankRow}
 use Rattle.adopt_sql.specs.declared.adopt_fault.AdoptFault.{AdoptFault}
 use Rattle.adopt_sql.specs.Told.{AreBooksJudged, IsPolicyIn}
+use Rattle.adopt_sql.specs.Unread.{HasUnread, IsBesideBooks}
 use Rattle.adopt_sql.specs.declared.adopt_fault.AdoptFault.TheVariants.{Books, Fault, NotABank, Policy, Version}
 
 -- Of the books it is told where the row of the bank is of the first version, and that they are out of range where its version of the policy
--- is no count.
+-- is no count, or a row of them or of the users can't be read.
 pub record TellsOfBooks (db : Trees) (fault : BooksFault) : Type 0 where
   pub policy : ℤ
   pub row : IsBankNumber db policy
   pub range : ((version : ℕ) → policy ≢ pos version) → fault ≡ Range
+  pub unread : (t : Sheet) → IsBesideBooks t → HasUnread db t → fault ≡ Range
 
--- and of the policy where that is one
-pub record TellsOfPolicy (db : Trees) : Type 0 where
+-- and of the policy where that is one, and that it dangles where any row can't be read
+pub record TellsOfPolicy (db : Trees) (fault : PolicyFault) : Type 0 where
   pub version : ℕ
   pub row : IsBankRow db version
+  pub unread : (t : Sheet) → HasUnread db t → fault ≡ Dangling
 
 -- It is no bank where its table has not the one row of a bank, it is of another version where that row says so, and no other fault but one of
 -- the database is told before these.
@@ -43,7 +46,7 @@ abbrev pub IsRefused : Trees → AdoptFault → Type 0
 IsRefused db NotABank = (b : BankRow) → b.id ≡ pos 1 → db 0 ≢ bank_row_cells b ∷ []
 IsRefused db Version = (b : BankRow) × (b.id ≡ pos 1) × (b.version ≢ pos 1) × (db 0 ≡ bank_row_cells b ∷ [])
 IsRefused db (Books fault) = TellsOfBooks db fault
-IsRefused db (Policy _) = TellsOfPolicy db
+IsRefused db (Policy fault) = TellsOfPolicy db fault
 IsRefused db (Fault _) = ⊤
 
 -- the books are out of range
@@ -55,6 +58,19 @@ abbrev pub IsBeyondBankRow : AdoptFault → Type 0
 IsBeyondBankRow NotABank = ⊥
 IsBeyondBankRow Version = ⊥
 IsBeyondBankRow _ = ⊤
+
+-- it says nothing of the row of the bank, and of other rows that they are out of range, or dangle
+abbrev pub IsOfUnread : AdoptFault → Type 0
+IsOfUnread NotABank = ⊥
+IsOfUnread Version = ⊥
+IsOfUnread (Books fault) = fault ≡ Range
+IsOfUnread (Policy fault) = fault ≡ Dangling
+IsOfUnread (Fault _) = ⊤
+
+-- the same, where the rows of the books were read
+abbrev pub IsOfBooksRead : AdoptFault → Type 0
+IsOfBooksRead (Books _) = ⊤
+IsOfBooksRead fault = IsOfUnread fault
 
 -- the database failed, or memory or a limit on size kept it from the whole
 abbrev pub IsOfStore : AdoptFault → Type 0
@@ -108,12 +124,3 @@ IsNamedBy s (Books fault) = AreBooksJudged s (Err fault)
 IsNamedBy s (Policy fault) = IsOfPolicyIn s fault
 IsNamedBy s (Fault _) = ⊤
 IsNamedBy s _ = ⊥
-
--- There was such a connection, on which nothing was changed, when this fault was told of it. `shows` gives the state of a connection.
-pub record IsDropped {C : Type 0} (shows : C → State) (conn : C) (fault : AdoptFault) : Type 0 where
-  pub last : C
-  pub survives : Survives (shows conn) (shows last) (λ _. ⊥)
-  pub left : HasCleanDisk (shows last) → IsBankFile (shows conn) → IsLeft (shows conn) (shows last)
-  pub refused : HasCleanDisk (shows last) → IsBankFile (shows conn) → IsRefused (shows conn).now.trees fault
-  pub sound : HasCleanDisk (shows last) → IsBankFile (shows conn) → HoldsSoundBank (shows conn).now → IsOfStore fault
-  pub named : HasCleanDisk (shows last) → IsBankFile (shows conn) → (s : Sheets) → HoldsSheets (shows conn).now.trees s → AreReadable s → IsNamedBy s fault

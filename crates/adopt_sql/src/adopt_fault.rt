@@ -1,5 +1,5 @@
 ghost use Rattle.std.specs.Prelude.{◌≡◌};
-ghost use Rattle.adopt_sql.specs.Refused.{IsBeyondBankRow, IsOfStore};
+ghost use Rattle.adopt_sql.specs.Refused.{IsOfStore, IsOfUnread};
 ghost use Rattle.whole_tables.specs.Faults.{IsOfDatabase};
 
 use book_check::BooksFault;
@@ -43,7 +43,7 @@ pub(crate) fn table_unread(fault: ReadFault) -> AdoptFault
 
 /// Why a bank is not adopted of whose books a table was not read, that was there when it was asked for.
 pub(crate) fn books_unread(fault: ReadFault) -> AdoptFault
-    ensures beyond { IsBeyondBankRow result }
+    ensures beyond { IsOfUnread result }
     ensures store { IsOfDatabase fault → IsOfStore result }
 {
     match fault {

@@ -2,7 +2,7 @@ ghost use Rattle.std.specs.Prelude.{◌≡◌, IfErr, IfOk, Ok, OnOk};
 ghost use Rattle.book_check.specs.Verdict.{IsVerdict};
 ghost use Rattle.policy_check.specs.PolicyVerdict.{IsPolicyVerdict};
 ghost use Rattle.kept_rows.specs.Keepable.{IsKeepable};
-ghost use Rattle.adopt_sql.specs.Refused.{IsBeyondBankRow, IsNamedBy, IsOfBooks, IsOfNoPolicy, IsOfPolicy, IsOfStore};
+ghost use Rattle.adopt_sql.specs.Refused.{IsBeyondBankRow, IsNamedBy, IsOfBooks, IsOfBooksRead, IsOfNoPolicy, IsOfPolicy, IsOfStore};
 ghost use Rattle.adopt_sql.specs.Told.{AreBooksInOrder, AreUsersOrdered, IsBankOf, kept_read, sheets_read, world_read};
 
 use crate::adopt_fault::AdoptFault;
@@ -43,7 +43,7 @@ pub(crate) fn judge(
 
 /// Why a bank is not adopted of whose policy the tables tell none: its books are judged before.
 pub(crate) fn with_no_policy(alloc: Global, books: BookRows, version: u64) -> AdoptFault
-    ensures beyond { IsBeyondBankRow result }
+    ensures beyond { IsOfBooksRead result }
     ensures named { (tables : PolicyTables) → AreBooksInOrder books → AreUsersOrdered books.users.users.items → IsOfNoPolicy (sheets_read books tables version) result }
 {
     match users_alone(alloc, &books.users.users) {
@@ -68,7 +68,7 @@ fn judged_books(
     ensures world { IfOk result (λ bank. bank.world ≡ world_read books policy version) }
     ensures kept { IfOk result (λ bank. bank.kept ≡ kept_read books) }
     ensures named { AreBooksInOrder books → IfErr result (IsOfBooks (world_read books policy version) (kept_read books)) }
-    ensures beyond { IfErr result IsBeyondBankRow }
+    ensures beyond { IfErr result IsOfBooksRead }
 {
     let bank = match bank_rows(alloc, books, policy, version) {
         Ok(Some(bank)) => bank,

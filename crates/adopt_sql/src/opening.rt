@@ -1,8 +1,11 @@
-ghost use Rattle.std.specs.Prelude.{◌≡◌, false, IfErr, IfOk};
+ghost use Rattle.std.specs.Prelude.{◌≡◌, false, IfErr, IfOk, MatchResult};
 ghost use Rattle.sqlite.specs.Held.{state};
 ghost use Rattle.sqlite.specs.State.{HasCleanDisk, Survives};
+ghost use Rattle.bank_schema.specs.Held.{HoldsSheets};
+ghost use Rattle.bank_schema.specs.Readable.{AreReadable};
+ghost use Rattle.kept_rows.specs.Sheets.{Sheets};
 ghost use Rattle.adopt_sql.specs.Adopted.{Adopts, IsBankFile, IsLeft};
-ghost use Rattle.adopt_sql.specs.Refused.{IsDropped};
+ghost use Rattle.adopt_sql.specs.Refused.{HoldsSoundBank, IsNamedBy, IsOfStore, IsRefused};
 
 use crate::adopt_fault::AdoptFault;
 use crate::adopting::adopt_bank;
@@ -11,19 +14,24 @@ use std::alloc::Global;
 use store_sql::SqlStore;
 
 /// The store of the bank that stands in the database. It is refused as `adopt_bank` says, and the connection
-/// is then dropped as that left it, with nothing changed. No clause speaks of a connection that is gone:
-/// `dropped` says that there was one of which this fault was told so.
-pub fn adopt<S: Alter + Drop>(
+/// is then handed back beside the fault, with nothing changed.
+pub fn adopt<S: Alter>(
     alloc: Global,
     mut conn: Connection<S>,
-) -> Result<SqlStore<S>, AdoptFault>
+) -> Result<SqlStore<S>, (AdoptFault, Connection<S>)>
     requires { conn.in_transaction ≡ false }
     ensures adopts { IfOk result (λ store. HasCleanDisk (state S.Store store.conn) → IsBankFile (state S.Store conn) → Adopts (state S.Store conn) (state S.Store store.conn)) }
     ensures left { IfOk result (λ store. HasCleanDisk (state S.Store store.conn) → IsBankFile (state S.Store conn) → IsLeft (state S.Store conn) (state S.Store store.conn)) }
     ensures works { IfOk result (λ store. (store.is_stopped ≡ false) × (store.faults ≡ 0) × (store.failures ≡ 0)) }
-    ensures dropped { IfErr result (IsDropped (state S.Store) conn) }
-    ensures survives { IfOk result (λ store. Survives (state S.Store conn) (state S.Store store.conn) (λ _. ⊥)) }
+    ensures refused { IfErr result (λ e. HasCleanDisk (state S.Store e.1) → IsBankFile (state S.Store conn) → IsRefused (state S.Store conn).now.trees e.0) }
+    ensures sound { IfErr result (λ e. HasCleanDisk (state S.Store e.1) → IsBankFile (state S.Store conn) → HoldsSoundBank (state S.Store conn).now → IsOfStore e.0) }
+    ensures named { IfErr result (λ e. HasCleanDisk (state S.Store e.1) → IsBankFile (state S.Store conn) → (s : Sheets) → HoldsSheets (state S.Store conn).now.trees s → AreReadable s → IsNamedBy s e.0) }
+    ensures unchanged { IfErr result (λ e. HasCleanDisk (state S.Store e.1) → IsBankFile (state S.Store conn) → IsLeft (state S.Store conn) (state S.Store e.1)) }
+    ensures mode { IfErr result (λ e. e.1.in_transaction ≡ false) }
+    ensures survives { MatchResult result (λ store. Survives (state S.Store conn) (state S.Store store.conn) (λ _. ⊥)) (λ e. Survives (state S.Store conn) (state S.Store e.1) (λ _. ⊥)) }
 {
-    adopt_bank(alloc, &mut conn)?;
-    Ok(SqlStore::over(conn))
+    match adopt_bank(alloc, &mut conn) {
+        Ok(()) => Ok(SqlStore::over(conn)),
+        Err(fault) => Err((fault, conn)),
+    }
 }

@@ -10,9 +10,10 @@ ghost use Rattle.kept_rows.specs.Sheets.{Sheets};
 ghost use Rattle.whole_tables.specs.PolicyTables.{ArePolicyTables};
 ghost use Rattle.whole_tables.specs.BookRows.{AreBookRows};
 ghost use Rattle.whole_tables.specs.BankRow.{IsBankTable};
+ghost use Rattle.whole_tables.specs.Typed.{AreBooksTyped, AreTablesTyped};
 ghost use Rattle.whole_tables.specs.Whole.{OnReadable, Reads};
 ghost use Rattle.adopt_sql.specs.Adopted.{AreFileRows, IsBankFile, IsBankNumber, IsBankRow, IsLeft, ReadsLast};
-ghost use Rattle.adopt_sql.specs.Refused.{IsBeyondBankRow, IsOfStore, IsOutOfRange, IsRefused, RefusesFor};
+ghost use Rattle.adopt_sql.specs.Refused.{IsOfStore, IsOfUnread, IsOutOfRange, IsRefused, RefusesFor};
 
 use crate::adopt_fault::{AdoptFault, books_unread, table_unread};
 use book_check::BooksFault;
@@ -98,8 +99,9 @@ fn bank_version<S: Alter>(tx: &mut Transaction<'_, S>) -> Result<u64, AdoptFault
 fn book_rows<S: Alter>(alloc: Global, tx: &mut Transaction<'_, S>) -> Result<BookRows, AdoptFault>
     ensures same_reference { tx.new.conn.ghost_name ≡ tx.old.conn.ghost_name }
     ensures whole { Reads (state S.Store tx.old.conn.now) (state S.Store tx.new.conn.now) AreBookRows result }
+    ensures typed { IfOk result AreBooksTyped }
     ensures takes { OnReadable (state S.Store tx.old.conn.now) (state S.Store tx.new.conn.now) (IfErr result IsOfStore) }
-    ensures beyond { IfErr result IsBeyondBankRow }
+    ensures beyond { IfErr result IsOfUnread }
     ensures survives { Survives (state S.Store tx.old.conn.now) (state S.Store tx.new.conn.now) (λ _. ⊥) }
 {
     match all_book_rows(alloc, tx) {
@@ -115,8 +117,9 @@ fn policy_tables<S: Alter>(
 ) -> Result<Option<PolicyTables>, AdoptFault>
     ensures same_reference { tx.new.conn.ghost_name ≡ tx.old.conn.ghost_name }
     ensures whole { ReadsLast (state S.Store tx.old.conn.now) (state S.Store tx.new.conn.now) (λ trees found. IfSome found (ArePolicyTables trees)) result }
+    ensures typed { IfOk result (λ found. IfSome found AreTablesTyped) }
     ensures takes { OnReadable (state S.Store tx.old.conn.now) (state S.Store tx.new.conn.now) (IfOk result IsSome × IfErr result IsOfStore) }
-    ensures beyond { IfErr result IsBeyondBankRow }
+    ensures beyond { IfErr result IsOfUnread }
     ensures survives { Survives (state S.Store tx.old.conn.now) (state S.Store tx.new.conn.now) (λ _. ⊥) }
 {
     match all_policy_tables(alloc, tx) {

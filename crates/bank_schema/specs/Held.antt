@@ -76,14 +76,14 @@ pub record HoldsTables (db : Database) (s : Sheets) : Type 0 where
   pub sound : IsDatabase db
   pub rows : HoldsSheets db.trees s
 
--- the World whose rows and numbers these trees hold
+-- These trees list the tables of a bank and keep the rules of the schema, and hold the rows and the numbers of this World.
 pub record AreOfWorld (w : WorldLists) (trees : Trees) : Type 0 where
+  pub listed : IsDatabase (record { schema = bank_schema; trees = trees })
   pub rows : HoldsSheets trees (sheets_of w)
   pub keepable : IsKeepable w
 
 pub record HoldsWorld (db : Database) (w : WorldLists) : Type 0 where
   pub schema : db.schema ≡ bank_schema
-  pub sound : IsDatabase db
   pub world : AreOfWorld w db.trees
 
 -- between calls: the last commit has it too

@@ -17,6 +17,7 @@ use std::alloc::Global;
 /// A name in a row. A value that is no text is a fault of the disk.
 pub fn name_at(alloc: Global, row: &Row, at: usize) -> Result<Name, Fault>
     ensures told { IfOk result (λ name. column row.now at ≡ Text name) }
+    ensures typed { IfOk result IsUtf8 }
     ensures unread { IfErr result (IsUnread Text IsUtf8 (column row.now at)) }
 {
     match row.get::<String>(at) {

@@ -9,8 +9,8 @@ use Rattle.messages.specs.declared.serving.Served.{Served}
 use Rattle.store_rows.specs.Status.{Status, Tells}
 use Rattle.counter_api.specs.Answers.{BeginsWith, IsBroken}
 use Rattle.counter_api.specs.Exit.{Gives, IsServed, Place, Serves}
-use Rattle.counter_api.specs.Run.{IsAnswered, MarkedMessage, after_message, framed, replies_to, reply_to}
-use Rattle.counter_api.proofs.RunLemmas.{Ran, none_ran, one_more}
+use Rattle.counter_api.specs.Run.{IsAnswered, IsRun, MarkedMessage, after_message, framed, replies_to, reply_to}
+use Rattle.counter_api.proofs.RunLemmas.{none_ran, one_more}
 
 -- a beginning of a beginning is one
 shorter : (n : ℕ) (whole sent : List ℕ) → BeginsWith whole sent → BeginsWith whole (take n sent)
@@ -30,7 +30,7 @@ module _ {E S C : Type 0} (store : E → S) (clock : E → C) (status : S → St
     run : List MarkedMessage
     marked : map (λ m. m.message) run ≡ map message_parts ms
     given : Gives status users may_give (clock old) run (clock new)
-    ran : Ran users (status (store old)) (status (store new)) run out
+    ran : IsRun users (status (store old)) (status (store new)) run out
     one : IsOne new
 
   none_answered : (s : E) → IsOne s → HasRun s s [] []
@@ -45,7 +45,7 @@ module _ {E S C : Type 0} (store : E → S) (clock : E → C) (status : S → St
         run = first ∷ rest.run;
         marked = ap (λ xs. message_parts m ∷ xs) rest.marked;
         given = (clock mid, here.given, rest.given);
-        ran = subst (λ o. Ran users (status (store old)) (status (store new)) (first ∷ rest.run) o) (ap (λ r. r ++ later) (sym here.framing) ∙ sym is)
+        ran = subst (λ o. IsRun users (status (store old)) (status (store new)) (first ∷ rest.run) o) (ap (λ r. r ++ later) (sym here.framing) ∙ sym is)
             (one_more users (status (store old)) (status (store mid)) (status (store new)) first rest.run here.parts later here.handled rest.ran);
         one = rest.one;
       }
@@ -63,7 +63,7 @@ module _ {E S C : Type 0} (store : E → S) (clock : E → C) (status : S → St
     at : MarkedMessage
     marked : map (λ m. m.message) (run ++ at ∷ []) ≡ map message_parts (before ++ last ∷ [])
     given : Gives status users may_give (clock old) (run ++ at ∷ []) (clock new)
-    ran : Ran users (status (store old)) (status (store new)) (run ++ at ∷ []) (replies ++ reply)
+    ran : IsRun users (status (store old)) (status (store new)) (run ++ at ∷ []) (replies ++ reply)
     replied : Tells (status (store old)) (status (store new)) (λ w. replies ≡ replies_to users w run)
     one : IsOne new
 
@@ -77,7 +77,7 @@ module _ {E S C : Type 0} (store : E → S) (clock : E → C) (status : S → St
         at = first;
         marked = refl;
         given = (clock new, told.1.given, refl);
-        ran = subst (λ o. Ran users (status (store old)) (status (store new)) (first ∷ []) o) (append-nil _ ∙ sym told.1.framing ∙ ap (λ r. r ++ reply) (sym nothing))
+        ran = subst (λ o. IsRun users (status (store old)) (status (store new)) (first ∷ []) o) (append-nil _ ∙ sym told.1.framing ∙ ap (λ r. r ++ reply) (sym nothing))
             (one_more users (status (store old)) (status (store new)) (status (store new)) first [] told.1.parts [] told.1.handled (none_ran users (status (store new))));
         replied = λ clean w held. nothing;
         one = told.0;
@@ -91,11 +91,11 @@ module _ {E S C : Type 0} (store : E → S) (clock : E → C) (status : S → St
         at = rest.at;
         marked = ap (λ xs. message_parts m ∷ xs) rest.marked;
         given = (clock next, told.1.given, rest.given);
-        ran = subst (λ o. Ran users (status (store old)) (status (store new)) (lead ∷ (rest.run ++ rest.at ∷ [])) o)
+        ran = subst (λ o. IsRun users (status (store old)) (status (store new)) (lead ∷ (rest.run ++ rest.at ∷ [])) o)
             (ap (λ r. r ++ (later ++ reply)) (sym told.1.framing) ∙ sym (append_assoc first later reply) ∙ ap (λ r. r ++ reply) (sym is))
             (one_more users (status (store old)) (status (store next)) (status (store new)) lead (rest.run ++ rest.at ∷ []) told.1.parts (later ++ reply) told.1.handled rest.ran);
         replied = λ clean w held.
-            let honest = rest.ran.run.honest clean in
+            let honest = rest.ran.honest clean in
             is ∙ ap (λ r. r ++ later) (told.1.framing ∙ ap (framed (message_parts m)) (told.1.handled.replied honest w held))
             ∙ ap (λ o. reply_to users w lead ++ o) (rest.replied clean (after_message users w lead) (told.1.handled.moved honest w held));
         one = rest.one;
@@ -110,13 +110,13 @@ module _ {E S C : Type 0} (store : E → S) (clock : E → C) (status : S → St
       → ((run : List MarkedMessage) × Serves status users may_give (place old) (place new) ms rest run out) × IsOne new.engine
   reads old new ms rest out one r =
       let run = all_ran old.engine new.engine ms out one r.answered in
-      ((run.run, record { bytes = r.bytes; taken = r.taken; splits = r.splits; marked = run.marked; given = run.given; ran = run.ran.run; bounded = r.bounded }), run.one)
+      ((run.run, record { bytes = r.bytes; taken = r.taken; splits = r.splits; marked = run.marked; given = run.given; ran = run.ran; bounded = r.bounded }), run.one)
 
   stopped : (most : ℕ) (old new : Point E) → IsOne old.engine → StopsInReply answers answers most old new
       → IsServed status users may_give most (place old) (place new) (Err Write) × IsOne new.engine
   stopped most old new one (before, last, rest, replies, reply, r, on, stops) =
       let run = last_ran old.engine r.mid new.engine before last replies reply one r.answered r.reached in
-      (inl (before, last, rest, run.run, run.at, replies, reply, record { bytes = r.bytes; taken = r.taken; splits = r.splits; marked = run.marked; given = run.given; ran = run.ran.run; bounded = r.bounded }, on, run.replied, stops), run.one)
+      (inl (before, last, rest, run.run, run.at, replies, reply, record { bytes = r.bytes; taken = r.taken; splits = r.splits; marked = run.marked; given = run.given; ran = run.ran; bounded = r.bounded }, on, run.replied, stops), run.one)
 
   pub exits : (most : ℕ) (old new : Point E) (r : Result Served ServeFault) → IsOne old.engine → IsExit answers answers breaks most old new r
       → IsServed status users may_give most (place old) (place new) r × IsOne new.engine
@@ -152,12 +152,14 @@ module _ {E S C : Type 0} (store : E → S) (clock : E → C) (status : S → St
             store = store r.mid;
             clock = clock r.mid;
             given = run.given;
-            ran = run.ran.run;
+            ran = run.ran;
             broken = record {
               moment = told.1.moment;
               fault = told.1.fault;
               given = told.1.given;
+              report = told.1.report;
               kept = told.1.kept;
+              cause = told.1.cause;
               begun = λ clean w held. shorter n _ reply (told.1.begun clean w held);
             };
             bounded = r.bounded;

@@ -8,6 +8,7 @@ use Rattle.store_rows.specs.Status.{RoseBy, Status, counts, counts_at_most}
 use Rattle.bank_run.specs.LastWord.{finds_room, heard}
 use Rattle.bank_run.specs.Run.{Marked, accepted, is_accepted, world_after}
 use Rattle.bank_run.specs.Sums.{AreProper, IsProper}
+use Rattle.bank_run.proofs.LastWord.{last_word}
 use Rattle.bank_run.proofs.RunSums.{sums_always_agree}
 use Rattle.bank_run.specs.declared.request.Request.{Request}
 use Rattle.counter_api.specs.Response.{ResponseParts}
@@ -66,64 +67,59 @@ more_pending users P Q w (m ∷ ms) within l may =
       | inr q ↦ inr q
     ]
 
--- messages and their replies, and that the requests that were made are proper
-pub record Ran (users : List ℕ → Option ℕ) (old new : Status) (ms : List MarkedMessage) (out : List ℕ) : Type 0 where
-  pub run : IsRun users old new ms out
-  pub proper : AreProper (requests_of users ms)
+pub none_ran : (users : List ℕ → Option ℕ) (s : Status) → IsRun users s s [] []
+none_ran users s =
+    let proper : AreProper [] = All-nil (λ m. m.mark ≡ None → IsProper m.request) in
+    record {
+      honest = λ h. h;
+      state = refl;
+      orderly = tt;
+      counted = inl (omega arith);
+      no_more = omega arith;
+      failed = refl;
+      moved = λ clean w held. held;
+      replied = λ clean w held. refl;
+      all_heard = λ clean w held. refl;
+      leaves = λ clean w held left may. inr may;
+      whole = λ clean w held before. before;
+      proper = proper;
+      agrees = λ w checks. sums_always_agree w [] checks proper;
+      last_word = λ w checks. last_word.0 w [] checks proper;
+    }
 
-pub none_ran : (users : List ℕ → Option ℕ) (s : Status) → Ran users s s [] []
-none_ran users s = record {
-  run = record {
-    honest = λ h. h;
-    state = refl;
-    orderly = tt;
-    counted = inl (omega arith);
-    no_more = omega arith;
-    failed = refl;
-    moved = λ clean w held. held;
-    replied = λ clean w held. refl;
-    all_heard = λ clean w held. refl;
-    leaves = λ clean w held left may. inr may;
-    whole = λ clean w held before. before;
-    agrees = λ w checks. sums_always_agree w [] checks (All-nil (λ m. m.mark ≡ None → IsProper m.request));
-  };
-  proper = All-nil (λ m. m.mark ≡ None → IsProper m.request);
-}
-
-pub one_more : (users : List ℕ → Option ℕ) (old mid new : Status) (m : MarkedMessage) (ms : List MarkedMessage) (parts : ResponseParts) (out : List ℕ) → IsHandled users old mid m parts → Ran users mid new ms out
-    → Ran users old new (m ∷ ms) (framed m.message parts ++ out)
+pub one_more : (users : List ℕ → Option ℕ) (old mid new : Status) (m : MarkedMessage) (ms : List MarkedMessage) (parts : ResponseParts) (out : List ℕ) → IsHandled users old mid m parts → IsRun users mid new ms out
+    → IsRun users old new (m ∷ ms) (framed m.message parts ++ out)
 one_more users old mid new m ms parts out here behind =
     let proper = proper_in_front (stated_by users m) m.mark (requests_of users ms) here.proper behind.proper in
     record {
-      run = record {
-        honest = λ h. here.answers.honest (behind.run.honest h);
-        state = behind.run.state ∙ ap (stopped_after ms) here.answers.state;
-        orderly = (here.refused, here.answers.was_stopped, here.bears, subst (AreOrderly users ms) here.answers.state behind.run.orderly);
-        counted = rose_then (counts m.mark) (faults_of ms) old.fault_count mid.fault_count new.fault_count here.answers.counted behind.run.counted;
-        no_more = along (counts_at_most m.mark) (marks_of ms) old.fault_count mid.fault_count new.fault_count here.answers.no_more behind.run.no_more;
-        failed = behind.run.failed ∙ ap (failed_after ms) here.answers.failed;
-        moved = λ clean w held.
-            let honest = behind.run.honest clean in
-            subst (λ v. new.holds v) (after_marked w (stated_by users m) m.mark (requests_of users ms)) (behind.run.moved clean _ (here.moved honest w held));
-        replied = λ clean w held.
-            let honest = behind.run.honest clean in
-            ap (λ p. framed m.message p ++ out) (here.replied honest w held) ∙ ap (λ o. reply_to users w m ++ o) (behind.run.replied clean _ (here.moved honest w held));
-        all_heard = λ clean w held.
-            let honest = behind.run.honest clean in
-            heard_in_front w (stated_by users m) m.mark (requests_of users ms) (here.room honest w held) (behind.run.all_heard clean _ (here.moved honest w held));
-        whole = λ clean w held before.
-            let honest = behind.run.honest clean in
-            behind.run.whole clean _ (here.moved honest w held) (here.whole honest w held before);
-        leaves = λ clean w held left may.
-            let honest = behind.run.honest clean in
-            elim (behind.run.leaves clean (after_message users w m) (here.moved honest w held) left may) [
+      honest = λ h. here.answers.honest (behind.honest h);
+      state = behind.state ∙ ap (stopped_after ms) here.answers.state;
+      orderly = (here.refused, here.answers.was_stopped, here.bears, subst (AreOrderly users ms) here.answers.state behind.orderly);
+      counted = rose_then (counts m.mark) (faults_of ms) old.fault_count mid.fault_count new.fault_count here.answers.counted behind.counted;
+      no_more = along (counts_at_most m.mark) (marks_of ms) old.fault_count mid.fault_count new.fault_count here.answers.no_more behind.no_more;
+      failed = behind.failed ∙ ap (failed_after ms) here.answers.failed;
+      moved = λ clean w held.
+          let honest = behind.honest clean in
+          subst (λ v. new.holds v) (after_marked w (stated_by users m) m.mark (requests_of users ms)) (behind.moved clean _ (here.moved honest w held));
+      replied = λ clean w held.
+          let honest = behind.honest clean in
+          ap (λ p. framed m.message p ++ out) (here.replied honest w held) ∙ ap (λ o. reply_to users w m ++ o) (behind.replied clean _ (here.moved honest w held));
+      all_heard = λ clean w held.
+          let honest = behind.honest clean in
+          heard_in_front w (stated_by users m) m.mark (requests_of users ms) (here.room honest w held) (behind.all_heard clean _ (here.moved honest w held));
+      whole = λ clean w held before.
+          let honest = behind.honest clean in
+          behind.whole clean _ (here.moved honest w held) (here.whole honest w held before);
+      leaves = λ clean w held left may.
+          let honest = behind.honest clean in
+          elim (behind.leaves clean (after_message users w m) (here.moved honest w held) left may) [
+            | inl is ↦ inl (is ∙ after_marked w (stated_by users m) m.mark (requests_of users ms))
+            | inr pending ↦ elim (more_pending users mid.may_leave (pending_after old.may_leave w (stated_by users m) m.mark) (after_message users w m) ms (here.leaves honest w held) left pending) [
               | inl is ↦ inl (is ∙ after_marked w (stated_by users m) m.mark (requests_of users ms))
-              | inr pending ↦ elim (more_pending users mid.may_leave (pending_after old.may_leave w (stated_by users m) m.mark) (after_message users w m) ms (here.leaves honest w held) left pending) [
-                | inl is ↦ inl (is ∙ after_marked w (stated_by users m) m.mark (requests_of users ms))
-                | inr q ↦ inr q
-              ]
-            ];
-        agrees = λ w checks. sums_always_agree w (requests_of users (m ∷ ms)) checks proper;
-      };
+              | inr q ↦ inr q
+            ]
+          ];
       proper = proper;
+      agrees = λ w checks. sums_always_agree w (requests_of users (m ∷ ms)) checks proper;
+      last_word = λ w checks. last_word.0 w (requests_of users (m ∷ ms)) checks proper;
     }

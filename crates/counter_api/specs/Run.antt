@@ -9,10 +9,10 @@ use Rattle.heads.specs.declared.fault.MessageFault.{MessageFault}
 use Rattle.messages.specs.Parts.{MessageParts}
 use Rattle.messages.specs.Reply.{reply_bytes}
 use Rattle.store_rows.specs.Status.{Answers, RoseBy, StaysWhole, Status, Tells, counts, counts_at_most, failures_after, stops}
-use Rattle.bank_run.specs.LastWord.{finds_room, heard}
+use Rattle.bank_run.specs.LastWord.{HasLastWord, finds_room, heard}
 use Rattle.bank_run.specs.Meaning.{ReplyText}
 use Rattle.bank_run.specs.Run.{Marked, accepted, is_accepted, reply, step, world_after}
-use Rattle.bank_run.specs.Sums.{IsProper, PassesChecks, SumsAgree}
+use Rattle.bank_run.specs.Sums.{AreProper, IsProper, PassesChecks, SumsAgree}
 use Rattle.bank_run.specs.declared.request.Request.{Request}
 use Rattle.requests.specs.Request.{request_of}
 use Rattle.counter_api.specs.Response.{ResponseParts, denied_parts, done_parts, faulted_parts, refused_parts}
@@ -150,8 +150,11 @@ pub record IsRun (users : List ℕ → Option ℕ) (old new : Status) (ms : List
   pub leaves : Tells old new (λ w. (left : WorldLists) → new.may_leave left → (left ≡ world_after w (requests_of users ms)) ⊎ IsPending users old.may_leave w ms left)
   -- and it leaves Worlds alone, where it did before
   pub whole : StaysWhole old new
-  -- and where the checks passed before, they pass after each request, and the sums agree
+  -- the requests that were made are proper: their members and their moments are in their ranges
+  pub proper : AreProper (requests_of users ms)
+  -- and where the checks passed before, they pass after each request, the sums agree, and the policy is the one in force by last word
   pub agrees : (w : WorldLists) → PassesChecks w → SumsAgree w (requests_of users ms)
+  pub last_word : (w : WorldLists) → PassesChecks w → HasLastWord w (requests_of users ms)
 
 -- what a message is answered, or the fault that it is answered with
 abbrev pub parts_or_fault : Result ResponseParts Fault → ResponseParts

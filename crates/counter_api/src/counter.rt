@@ -118,6 +118,7 @@ fn command_done<S: Store>(
     moment: u64,
     command: PolicyOp,
 ) -> Result<Response, Fault>
+    requires { IsProper (record { who = who; moment = moment; asked = Asked.Command command }) }
     ensures { IsCarriedOut (S.status bank.old.store) (S.status bank.new.store) (record { who = who; moment = moment; asked = Asked.Command command }) result }
 {
     responded(alloc, decide_policy(bank, alloc, who, command))

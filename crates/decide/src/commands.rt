@@ -8,6 +8,7 @@ ghost use Rattle.store_rows.specs.Status.{Answers, Reads, Refuses, StaysWhole, m
 ghost use Rattle.bank_run.specs.Commands.{done_data, done_text};
 ghost use Rattle.bank_run.specs.Requests.{commands, first, verdict};
 ghost use Rattle.op_plans.specs.Judged.{IsJudged};
+ghost use Rattle.policy_ops.specs.Ranges.{IsPolicyOp};
 ghost use Rattle.decide.specs.Judged.{ChangesPolicy};
 ghost use Rattle.decide.specs.Loaded.{IsLoadedForCommand};
 ghost use Rattle.decide.specs.OneRequest.{FindsVersion, IsToldInJson, LeavesBoth, Moves, Replies, Settles};
@@ -26,15 +27,16 @@ use serde_json::{Value, json};
 use std::alloc::{AllocError, Global};
 use store_rows::{Bank, PolicyReads, Store};
 
-/// Carries a command of the policy out, and replies that it is done. Else the first rule that denies it. At a fault
-/// nothing has changed: `Fault::Size` says that the policy was changed as often as it can be. Nobody is denied whatever
-/// the store holds, and so can't fail.
+/// Carries a command of the policy out, whose members are in their ranges, and replies that it is done. Else the first
+/// rule that denies it. At a fault nothing has changed: `Fault::Size` says that the policy was changed as often as it can
+/// be. Nobody is denied whatever the store holds, and so can't fail.
 pub fn decide_policy<S: Store>(
     bank: &mut Bank<S>,
     alloc: Global,
     who: Who,
     command: PolicyOp,
 ) -> Result<Result<Vec<u8>, Rule>, Fault>
+    requires proper { IsPolicyOp command }
     ensures answers { Answers (S.status bank.old.store) (S.status bank.new.store) (mark_of result) }
     ensures moved { Moves (S.status bank.old.store) (S.status bank.new.store) (commands command who) (mark_of result) }
     ensures replied { Replies (S.status bank.old.store) (S.status bank.new.store) (commands command who) IsToldInJson result }

@@ -32,5 +32,5 @@ abbrev pub is_name : List ℕ → Bool
 is_name text = nat_lt 0 (length text) && nat_le (length text) 20 && list_all (λ byte. nat_le 32 byte && nat_le byte 126) text
 
 -- a badge: 1 to 64 bytes, each of them visible ASCII
-unfoldable pub is_badge : List ℕ → Bool
+abbrev pub is_badge : List ℕ → Bool
 is_badge text = nat_lt 0 (length text) && nat_le (length text) 64 && list_all is_ascii_graphic text

@@ -30,3 +30,8 @@ IsRefusal schema w (fault.Books why) = IsVerdict w (kept_of w) (Err why)
 IsRefusal schema w (fault.Policy why) = Books w × IsPolicyVerdict w.policy (Err why)
 IsRefusal schema w fault.NotEmpty = IsBank w × (schema ≢ no_schema)
 IsRefusal schema w (fault.Fault why) = ⊤
+
+-- it was refused before the database was written to: for the World, or for what stands in the database
+abbrev pub IsBeforehand : OpenFault → Type 0
+IsBeforehand (fault.Fault why) = ⊥
+IsBeforehand _ = ⊤

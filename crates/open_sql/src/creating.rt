@@ -1,9 +1,9 @@
-ghost use Rattle.std.specs.Prelude.{◌≡◌, false, IfErr, IfOk, OnOk};
+ghost use Rattle.std.specs.Prelude.{◌≡◌, false, IfErr, IfOk, IsTrue, MatchResult, OnOk};
 ghost use Rattle.sqlite.specs.Held.{state};
-ghost use Rattle.sqlite.specs.State.{HasCleanDisk, Survives};
+ghost use Rattle.sqlite.specs.State.{HasCleanDisk, KeepsCommit, Survives};
 ghost use Rattle.bank_schema.specs.Held.{AreOfWorld};
 ghost use Rattle.open_sql.specs.Blank.{no_schema};
-ghost use Rattle.open_sql.specs.Made.{IsBank, IsKeptAs, IsRefusal};
+ghost use Rattle.open_sql.specs.Made.{IsBank, IsBeforehand, IsKeptAs, IsRefusal};
 
 use crate::making::make_bank;
 use crate::open_fault::OpenFault;
@@ -13,20 +13,26 @@ use std::alloc::Global;
 use store_sql::SqlStore;
 
 /// The store of a bank that is made of this World in a database with no table, no index and no view. It is
-/// refused as `make_bank` says; the connection is then dropped, and nothing was committed.
-pub fn create<S: Alter + Drop>(
+/// refused as `make_bank` says, and the connection is then handed back beside the fault, with nothing committed.
+pub fn create<S: Alter>(
     alloc: Global,
     mut conn: Connection<S>,
     world: &World,
-) -> Result<SqlStore<S>, OpenFault>
+) -> Result<SqlStore<S>, (OpenFault, Connection<S>)>
     requires { conn.in_transaction ≡ false }
     ensures bank { OnOk result (IsBank world.now) }
     ensures was_empty { OnOk result ((state S.Store conn).now.schema ≡ no_schema) }
     ensures kept { IfOk result (λ store. HasCleanDisk (state S.Store store.conn) → IsKeptAs (state S.Store store.conn) world.now) }
+    ensures open { IfOk result (λ store. HasCleanDisk (state S.Store store.conn) → IsTrue (state S.Store store.conn).is_open) }
     ensures works { IfOk result (λ store. (store.is_stopped ≡ false) × (store.faults ≡ 0) × (store.failures ≡ 0)) }
-    ensures refused { IfErr result (IsRefusal (state S.Store conn).now.schema world.now) }
-    ensures crash { IfOk result (λ store. Survives (state S.Store conn) (state S.Store store.conn) (AreOfWorld world.now)) }
+    ensures refused { IfErr result (λ e. IsRefusal (state S.Store conn).now.schema world.now e.0) }
+    ensures untouched { IfErr result (λ e. IsBeforehand e.0 → e.1 ≡ conn) }
+    ensures unmade { IfErr result (λ e. HasCleanDisk (state S.Store e.1) → KeepsCommit (state S.Store conn) (state S.Store e.1)) }
+    ensures mode { IfErr result (λ e. e.1.in_transaction ≡ false) }
+    ensures crash { MatchResult result (λ store. Survives (state S.Store conn) (state S.Store store.conn) (AreOfWorld world.now)) (λ e. Survives (state S.Store conn) (state S.Store e.1) (AreOfWorld world.now)) }
 {
-    make_bank(alloc, &mut conn, world)?;
-    Ok(SqlStore::over(conn))
+    match make_bank(alloc, &mut conn, world) {
+        Ok(()) => Ok(SqlStore::over(conn)),
+        Err(fault) => Err((fault, conn)),
+    }
 }

@@ -6,7 +6,7 @@ ghost use Rattle.kept_rows.specs.Keepable.{IsKeepable};
 ghost use Rattle.bank_schema.specs.Held.{AreOfWorld, HoldsBank, HoldsWorld};
 ghost use Rattle.open_sql.specs.Blank.{IsBlank, no_schema};
 ghost use Rattle.open_sql.specs.Goes.{Goes};
-ghost use Rattle.open_sql.specs.Made.{IsBank, IsRefusal};
+ghost use Rattle.open_sql.specs.Made.{IsBank, IsBeforehand, IsRefusal};
 
 use crate::bank_row::add_bank;
 use crate::checks::checked;
@@ -74,7 +74,8 @@ fn commit_bank<S: Alter>(
 /// Makes a bank of this World in a database that has no table, no index and no view: its tables, and in
 /// them its rows with the numbers that are kept beside them, in one transaction. It is tested in this order
 /// whether the books hold, whether the policy is sound and separated, and whether the database is empty;
-/// memory and the disk may fail at any point. Where it is refused nothing is committed.
+/// memory and the disk may fail at any point. Where it is refused nothing is committed, and nothing was done
+/// with the connection where it is for the World, or for what stands in the database.
 pub fn make_bank<S: Alter>(
     alloc: Global,
     conn: &mut Connection<S>,
@@ -87,6 +88,7 @@ pub fn make_bank<S: Alter>(
     ensures made { HasCleanDisk (state S.Store conn.new) → OnOk result (HoldsBank (state S.Store conn.new) world.now) }
     ensures open { HasCleanDisk (state S.Store conn.new) → OnOk result (IsTrue (state S.Store conn.new).is_open) }
     ensures refused { IfErr result (IsRefusal (state S.Store conn.old).now.schema world.now) }
+    ensures untouched { IfErr result (λ fault. IsBeforehand fault → conn.new ≡ conn.old) }
     ensures unmade { HasCleanDisk (state S.Store conn.new) → OnErr result (KeepsCommit (state S.Store conn.old) (state S.Store conn.new)) }
     ensures crash { Survives (state S.Store conn.old) (state S.Store conn.new) (AreOfWorld world.now) }
 {

@@ -1,1 +1,2 @@
+pub mod NoReport
 pub mod NumberLemmas

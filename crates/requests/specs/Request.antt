@@ -1,11 +1,12 @@
 -- The request that a message states, or why it states none.
-use Rattle.std.specs.Prelude.{ℕ, ◌≡◌, true, List, Option, Some, None, Result, Ok, Err, if◌then◌else◌, ⊤}
+use Rattle.std.specs.Prelude.{ℕ, ◌≡◌, true, List, Option, Some, None, Result, Ok, Err, IsOkAnd, if◌then◌else◌, ⊤}
 use Rattle.std.specs.Option.{option_map_or}
 use Rattle.bank_terms.specs.declared.procedure.Procedure.{Procedure}
 use Rattle.bodies.specs.Operation.{stated_op}
 use Rattle.command_bodies.specs.Command.{stated_command}
 use Rattle.policy_ops.specs.declared.command.Command.{Command}
 use Rattle.counter_ops.specs.Op.{procedure_of}
+use Rattle.counter_ops.specs.declared.op.Op.TheVariants as op
 use Rattle.bank_run.specs.Operations.{is_served}
 use Rattle.bank_run.specs.declared.request.Asked.{Asked}
 use Rattle.bank_run.specs.declared.request.Asked.TheVariants as asked
@@ -68,3 +69,15 @@ IsServedAsked asked.Opening = ⊤
 IsServedAsked asked.Ending = ⊤
 IsServedAsked (asked.Command command) = ⊤
 IsServedAsked asked.Listing = ⊥
+
+-- what is asked for is answered by a report, which is written row by row behind its head
+abbrev pub IsReport : Asked → Type 0
+IsReport (asked.Operation (op.Statement form)) = ⊤
+IsReport (asked.Operation (op.Accounts form)) = ⊤
+IsReport (asked.Operation (op.Proof form)) = ⊤
+IsReport asked.Listing = ⊤
+IsReport _ = ⊥
+
+-- none is served yet, so no message states a request for one
+abbrev pub StatesNoReport : Type 0
+StatesNoReport = (users : List ℕ → Option ℕ) (moment : ℕ) (m : MessageParts) → ¬ IsOkAnd (request_of users moment m) (λ r. IsReport r.asked)

@@ -6,6 +6,7 @@
 
 mod fields;
 mod gate;
+pub mod laws;
 mod stated;
 
 pub use gate::Gate;

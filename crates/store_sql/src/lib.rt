@@ -7,6 +7,7 @@
 mod applying;
 mod asking;
 mod book_reads;
+pub mod laws;
 mod policy_reads;
 mod report_reads;
 mod sql_store;

@@ -15,7 +15,7 @@ use Rattle.kept_rows.specs.Kept.{AreKept, IsKept}
 use Rattle.kept_rows.specs.Sheets.{Sheets, sheets_of}
 use Rattle.kept_rows.proofs.PlainKept.{session_is_kept, version_is_kept}
 use Rattle.kept_rows.proofs.PolicyKept.{policy_is_kept}
-use Rattle.bank_schema.specs.Held.{HoldsSheets, HoldsTables, HoldsWorld}
+use Rattle.bank_schema.specs.Held.{HoldsTables, HoldsWorld}
 use Rattle.bank_schema.specs.Steps.{Moves, Steps, Tells}
 use Rattle.bank_schema.proofs.StepLemmas.{ok_weaker}
 use Rattle.bank_schema.proofs.WorldLemmas.{tables_of, world_of}
@@ -31,7 +31,7 @@ moves_kept {X} {E} old new change after says result kept steps tells clean insid
     go : (r : Result X E) → OnOk r (IsTrue new.in_transaction × HoldsTables new.now (after (sheets_of w))) → OnOk r (says (sheets_of w)) → OnOk r (IsTrue new.in_transaction × HoldsWorld new.now (written change w))
     go (Ok x) h told =
         let it = kept w holds.world.keepable told in
-        (h.0, record { schema = h.1.schema; sound = h.1.sound; world = record { rows = subst (HoldsSheets new.now.trees) (sym it.sheets) h.1.rows; keepable = it.keepable } })
+        (h.0, world_of new.now (written change w) it.keepable (subst (HoldsTables new.now) (sym it.sheets) h.1))
     go (Err e) h told = tt
 
 -- nothing is asked of the rows before it
@@ -60,7 +60,7 @@ version_moves old new result steps clean inside w holds =
 -- the same where the change was told beforehand
 pub kept_held : {X E : Type 0} (new : State) (change : RowWrite) (after : Sheets → Sheets) (w : WorldLists) (r : Result X E) → IsKept w change after
     → OnOk r (IsTrue new.in_transaction × HoldsTables new.now (after (sheets_of w))) → OnOk r (IsTrue new.in_transaction × HoldsWorld new.now (written change w))
-kept_held new change after w (Ok x) it h = (h.0, record { schema = h.1.schema; sound = h.1.sound; world = record { rows = subst (HoldsSheets new.now.trees) (sym it.sheets) h.1.rows; keepable = it.keepable } })
+kept_held new change after w (Ok x) it h = (h.0, world_of new.now (written change w) it.keepable (subst (HoldsTables new.now) (sym it.sheets) h.1))
 kept_held new change after w (Err e) it h = tt
 
 -- the same where it is told with the step that it was made by
@@ -72,5 +72,5 @@ kept_told new change after w (Err e) P told kept h = tt
 -- the same of several changes that are written as one
 pub all_held : {X E : Type 0} (new : State) (changes : List RowWrite) (after : Sheets → Sheets) (w : WorldLists) (r : Result X E) → AreKept w changes after
     → OnOk r (IsTrue new.in_transaction × HoldsTables new.now (after (sheets_of w))) → OnOk r (IsTrue new.in_transaction × HoldsWorld new.now (all_written changes w))
-all_held new changes after w (Ok x) it h = (h.0, record { schema = h.1.schema; sound = h.1.sound; world = record { rows = subst (HoldsSheets new.now.trees) (sym it.sheets) h.1.rows; keepable = it.keepable } })
+all_held new changes after w (Ok x) it h = (h.0, world_of new.now (all_written changes w) it.keepable (subst (HoldsTables new.now) (sym it.sheets) h.1))
 all_held new changes after w (Err e) it h = tt

@@ -5,4 +5,5 @@ pub mod Heads
 pub mod PolicyTables
 pub mod Tables
 pub mod Texts
+pub mod Typed
 pub mod Whole

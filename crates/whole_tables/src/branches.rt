@@ -3,12 +3,13 @@ ghost use Rattle.sqlite.specs.Held.{state};
 ghost use Rattle.sqlite.specs.State.{Survives};
 ghost use Rattle.sqlite.specs.declared.types.Value.TheVariants.{Int};
 ghost use Rattle.sqlite_value.specs.Order.{column};
-ghost use Rattle.bank_schema.specs.Readable.{IsUnread};
+ghost use Rattle.bank_schema.specs.Readable.{IsReadableBranch, IsUnread};
 ghost use Rattle.bank_schema.specs.Steps.{StaysOpen};
 ghost use Rattle.bank_schema.specs.Told.{columns_from};
 ghost use Rattle.whole_tables.specs.Faults.{IsOfDatabase};
 ghost use Rattle.whole_tables.specs.Heads.{IsReadableHead, branch_head};
 ghost use Rattle.whole_tables.specs.Tables.{AreBranches};
+ghost use Rattle.whole_tables.specs.Typed.{Each};
 ghost use Rattle.whole_tables.specs.Whole.{OnReadable, Reads};
 
 use crate::fault::{ReadFault, Table};
@@ -29,6 +30,7 @@ pub fn all_branches<S: Alter>(
 ) -> Result<Vec<BranchRecord>, ReadFault>
     ensures same_reference { tx.new.conn.ghost_name ≡ tx.old.conn.ghost_name }
     ensures whole { Reads (state S.Store tx.old.conn.now) (state S.Store tx.new.conn.now) (λ trees rows. AreBranches trees rows.items) result }
+    ensures typed { IfOk result (λ rows. Each IsReadableBranch rows.items) }
     ensures takes { OnReadable (state S.Store tx.old.conn.now) (state S.Store tx.new.conn.now) (IfErr result IsOfDatabase) }
     ensures open { StaysOpen (state S.Store tx.old.conn.now) (state S.Store tx.new.conn.now) result }
     ensures survives { Survives (state S.Store tx.old.conn.now) (state S.Store tx.new.conn.now) (λ _. ⊥) }

@@ -1,9 +1,11 @@
-ghost use Rattle.std.specs.Prelude.{◌≡◌, IfErr};
+ghost use Rattle.std.specs.Prelude.{◌≡◌, IfErr, IfOk};
 ghost use Rattle.sqlite.specs.Held.{state};
 ghost use Rattle.sqlite.specs.State.{Survives};
+ghost use Rattle.bank_schema.specs.Readable.{IsShort};
 ghost use Rattle.bank_schema.specs.Steps.{StaysOpen};
 ghost use Rattle.whole_tables.specs.Tables.{AreSets};
 ghost use Rattle.whole_tables.specs.Faults.{IsOfDatabase};
+ghost use Rattle.whole_tables.specs.Typed.{Each};
 ghost use Rattle.whole_tables.specs.Whole.{OnReadable, Reads};
 
 use crate::fault::{ReadFault, Table};
@@ -19,6 +21,7 @@ pub(crate) const QUERY: &str = "SELECT set_no FROM sets ORDER BY set_no";
 pub fn all_sets<S: Alter>(alloc: Global, tx: &mut Transaction<'_, S>) -> Result<Vec<u32>, ReadFault>
     ensures same_reference { tx.new.conn.ghost_name ≡ tx.old.conn.ghost_name }
     ensures whole { Reads (state S.Store tx.old.conn.now) (state S.Store tx.new.conn.now) (λ trees rows. AreSets trees rows.items) result }
+    ensures typed { IfOk result (λ rows. Each IsShort rows.items) }
     ensures takes { OnReadable (state S.Store tx.old.conn.now) (state S.Store tx.new.conn.now) (IfErr result IsOfDatabase) }
     ensures open { StaysOpen (state S.Store tx.old.conn.now) (state S.Store tx.new.conn.now) result }
     ensures survives { Survives (state S.Store tx.old.conn.now) (state S.Store tx.new.conn.now) (λ _. ⊥) }

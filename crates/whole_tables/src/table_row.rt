@@ -9,6 +9,7 @@ ghost use Rattle.bank_schema.specs.Readable.{IsUnread};
 ghost use Rattle.bank_schema.specs.Schema.{bank_schema};
 ghost use Rattle.bank_schema.specs.Steps.{StaysOpen};
 ghost use Rattle.whole_tables.specs.Faults.{IsOfDatabase};
+ghost use Rattle.whole_tables.specs.Typed.{Each};
 ghost use Rattle.whole_tables.specs.Whole.{AreAll, HasBankTables, IsAnswered, Reads, TellsWhole};
 
 use crate::fault::{ReadFault, Table, read_fault, value_fault};
@@ -46,6 +47,7 @@ pub trait TableRow: Sized {
     fn read(alloc: Global, row: &Row) -> Result<Self, Fault>
         ensures same { IfOk result (λ x. told row.now ≡ cells x) }
         ensures fit { IfOk result fits }
+        ensures typed { IfOk result readable }
         ensures unread { IfErr result (IsUnread cells readable (told row.now)) };
 
     /// Why a table of these rows is refused, one of which was not read for this fault. Want of memory says nothing of the table.
@@ -66,6 +68,7 @@ pub(crate) fn whole_table<S: Alter, T: TableRow + Drop>(
     requires { TellsWhole T.shows T.told T.cells T.key T.fits T.sheet sql.now }
     ensures same_reference { tx.new.conn.ghost_name ≡ tx.old.conn.ghost_name }
     ensures whole { Reads (state S.Store tx.old.conn.now) (state S.Store tx.new.conn.now) (λ trees rows. AreAll T.shows T.cells T.key T.fits T.sheet trees rows.items) result }
+    ensures typed { IfOk result (λ rows. Each T.readable rows.items) }
     ensures takes { HasCleanDisk (state S.Store tx.new.conn.now) → HasBankTables (state S.Store tx.old.conn.now) → (xs : List T) → HoldsRows T.shows T.cells T.key T.fits xs ((state S.Store tx.old.conn.now).now.trees (tree_of T.sheet)) → ((x : T) → Contains xs x → T.readable x) → IfErr result IsOfDatabase }
     ensures open { StaysOpen (state S.Store tx.old.conn.now) (state S.Store tx.new.conn.now) result }
     ensures survives { Survives (state S.Store tx.old.conn.now) (state S.Store tx.new.conn.now) (λ _. ⊥) }
@@ -100,6 +103,7 @@ pub(crate) fn shown_rows<S: Alter>(
 fn read_rows<T: TableRow + Drop>(alloc: Global, rows: &[Row]) -> Result<Vec<T>, Fault>
     ensures same { IfOk result (λ list. map T.told rows.now ≡ map T.cells list.items) }
     ensures fit { IfOk result (λ list. (x : T) → Contains list.items x → T.fits x) }
+    ensures typed { IfOk result (λ list. Each T.readable list.items) }
     ensures unread { IfErr result (IsUnread (map T.cells) (λ (list : List T). (x : T) → Contains list x → T.readable x) (map T.told rows.now)) }
 {
     let mut list = Vec::new(alloc);

@@ -75,4 +75,5 @@ fn the_second_question_reads_no_triples_and_no_relations(rt: HostRuntime) {
     let mut bank = cached_sample(&rt, alloc);
     assert!(rt; reads_below_after(&rt, alloc, &mut bank) == (1, 1));
     assert!(rt; reads_below_after(&rt, alloc, &mut bank) == (1, 1));
+    assert!(rt; bank.store.into_below().reads() == (1, 1));
 }

@@ -146,6 +146,7 @@ fn fill(rt: &impl Abort, cache: &mut Cache) {
         cache.entries_after(rt, user);
     }
     assert!(rt; cache.entries_after(rt, 65) == 64);
+    assert!(rt; cache.store.unkept_count() == 0);
 }
 
 #[test]

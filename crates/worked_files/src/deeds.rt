@@ -97,7 +97,7 @@ fn done_over<S: Alter>(
     (outcome, bank.store.into_connection())
 }
 
-/// Does this with a database. Where its bank is not adopted, the connection is gone.
+/// Does this with a database. Where its bank is not adopted, the connection is dropped.
 fn done<S: Alter + Drop>(
     rt: &impl Runtime,
     mut conn: Connection<S>,
@@ -109,7 +109,10 @@ fn done<S: Alter + Drop>(
         Deed::Change(change) => Ok((changed(rt, &mut conn, change), conn)),
         Deed::Find => Ok((Outcome::Found(adopt_bank(rt.alloc(), &mut conn)), conn)),
         Deed::Open(act) => Ok(done_over(rt, SqlStore::over(conn), act)),
-        Deed::Adopt(act) => Ok(done_over(rt, adopt(rt.alloc(), conn)?, act)),
+        Deed::Adopt(act) => match adopt(rt.alloc(), conn) {
+            Ok(store) => Ok(done_over(rt, store, act)),
+            Err((fault, _conn)) => Err(fault),
+        },
     }
 }
 

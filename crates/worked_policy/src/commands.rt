@@ -1,5 +1,7 @@
 //! Worked commands, and the limits that they meet.
 
+ghost use Rattle.policy_ops.specs.Ranges.{IsPolicyOp};
+
 use crate::who::{standing, user};
 use bank_books::{Lists, World};
 use bank_policy::{ItemSet, RelationKey, Triple};
@@ -16,12 +18,16 @@ use std::process::Abort;
 use store_rows::{Bank, ListStore, PolicyReads, Stands};
 
 /// That Tess is suspended.
-fn suspend_tess() -> PolicyOp {
+fn suspend_tess() -> PolicyOp
+    ensures { IsPolicyOp result }
+{
     PolicyOp::Suspend(UserKey { user: 7 })
 }
 
 /// That Sue may ask for balances on set 2.
-fn grant_sue() -> PolicyOp {
+fn grant_sue() -> PolicyOp
+    ensures { IsPolicyOp result }
+{
     PolicyOp::Grant(Triple {
         user: 9,
         procedure: Procedure::Balance,
@@ -54,7 +60,9 @@ impl Desk {
     }
 
     /// A command that has to be carried out, with the body of its reply.
-    fn done(&mut self, rt: &impl Abort, who: Who, command: PolicyOp, body: &str) {
+    fn done(&mut self, rt: &impl Abort, who: Who, command: PolicyOp, body: &str)
+        requires { IsPolicyOp command }
+    {
         let given = decide_policy(&mut self.bank, self.alloc, who, command);
         match given.expect(rt, "no fault") {
             Ok(given) => assert!(rt; given.as_slice() == body.as_bytes(), "{body}"),
@@ -63,7 +71,9 @@ impl Desk {
     }
 
     /// A command that has to be denied by this rule.
-    fn denied(&mut self, rt: &impl Abort, who: Who, command: PolicyOp, rule: Rule) {
+    fn denied(&mut self, rt: &impl Abort, who: Who, command: PolicyOp, rule: Rule)
+        requires { IsPolicyOp command }
+    {
         let given = decide_policy(&mut self.bank, self.alloc, who, command);
         assert!(rt;
             given.expect(rt, "no fault") == Err(rule),
@@ -73,7 +83,9 @@ impl Desk {
     }
 
     /// A command that no rule denies, and for which there is no room. It is the fault of this number.
-    fn finds_no_room(&mut self, rt: &impl Abort, who: Who, command: PolicyOp, faults: u64) {
+    fn finds_no_room(&mut self, rt: &impl Abort, who: Who, command: PolicyOp, faults: u64)
+        requires { IsPolicyOp command }
+    {
         let given = decide_policy(&mut self.bank, self.alloc, who, command);
         assert!(rt; given == Err(Fault::Size));
         self.has_faults(rt, faults);

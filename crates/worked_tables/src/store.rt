@@ -22,7 +22,7 @@ pub fn sample_made<S: Alter + Drop>(
     assert!(rt; conn.is_autocommit());
     match create(alloc, conn, &sample_world(alloc).expect(rt, "memory")) {
         Ok(store) => store,
-        Err(fault) => panic!(rt; "{fault}"),
+        Err((fault, _conn)) => panic!(rt; "{fault}"),
     }
 }
 

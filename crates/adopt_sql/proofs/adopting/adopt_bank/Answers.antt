@@ -3,15 +3,17 @@ use Rattle.std.specs.Prelude.{IsSome}
 use Rattle.sqlite.specs.Held.{state}
 use Rattle.kept_rows.specs.Sheets.{sheets_of}
 use Rattle.whole_tables.specs.PolicyTables.{ArePolicyTables}
+use Rattle.whole_tables.specs.Typed.{AreTablesTyped}
 use Rattle.bank_schema.proofs.StepLemmas.{ok_weaker, survived}
 use Rattle.adopt_sql.specs.Adopted.{Adopts}
 use Rattle.adopt_sql.specs.Told.{IsBankOf, sheets_read}
 use Rattle.adopt_sql.proofs.AdoptLemmas.{adopted}
 use Rattle.adopt_sql.specs.Refused.{IsNamedBy}
 use Rattle.adopt_sql.proofs.NamedLemmas.{handed_named, held_books, held_users}
-use Rattle.adopt_sql.proofs.ReadingLemmas.{beyond_row, beyond_rows}
+use Rattle.adopt_sql.proofs.ReadingLemmas.{beyond_rows, books_row}
 use Rattle.adopt_sql.proofs.SetLemmas.{some_is}
 use Rattle.adopt_sql.proofs.TakenLemmas.{handed_fault, sheets_are_read}
+use Rattle.adopt_sql.proofs.UnreadLemmas.{all_read, books_read}
 use Rattle.adopt_sql.proofs.adopting.adopt_bank.Goals as goal
 
 pub returns-in-Some-clause-adopts : goal.returns-in-Some-clause-adopts
@@ -29,12 +31,18 @@ returns-in-Some-clause-adopts g c clean file =
 pub returns-in-Some-clause-refused : goal.returns-in-Some-clause-refused
 returns-in-Some-clause-refused g c clean file =
     let db = (state g.S.Store c.args.conn.now).now.trees in
-    beyond_rows db c.in_ok-rows.rows.version (c.in_ok-rows.ensures.whole clean file).version c.judge.result c.judge.ensures.beyond
+    let rows = c.in_ok-rows.rows in
+    let read = c.in_ok-rows.ensures.whole clean file in
+    let tables = some_is rows.policy c.in-Some.tables (ArePolicyTables db) read.policy c.in-Some.is in
+    let typed = some_is rows.policy c.in-Some.tables AreTablesTyped read.policy_typed c.in-Some.is in
+    beyond_rows db rows.version read.version (all_read db rows.books c.in-Some.tables read.books read.typed tables typed) c.judge.result c.judge.ensures.beyond
 
 pub returns-in-None-clause-refused : goal.returns-in-None-clause-refused
 returns-in-None-clause-refused g c clean file =
     let db = (state g.S.Store c.args.conn.now).now.trees in
-    beyond_row db c.in_ok-rows.rows.version (c.in_ok-rows.ensures.whole clean file).version c.with_no_policy.result c.with_no_policy.ensures.beyond
+    let rows = c.in_ok-rows.rows in
+    let read = c.in_ok-rows.ensures.whole clean file in
+    books_row db rows.version read.version (books_read db rows.books read.books read.typed) c.with_no_policy.result c.with_no_policy.ensures.beyond
 
 pub returns-in_err-rows-clause-sound : goal.returns-in_err-rows-clause-sound
 returns-in_err-rows-clause-sound g c clean file bank =

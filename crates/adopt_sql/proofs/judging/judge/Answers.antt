@@ -9,6 +9,7 @@ use Rattle.policy_check.specs.PolicyVerdict.{IsPolicyVerdict}
 use Rattle.adopt_sql.specs.Refused.{IsOfPolicy}
 use Rattle.adopt_sql.specs.Told.{IsBankOf, IsPolicyOf, kept_read, sheets_read, world_read}
 use Rattle.adopt_sql.proofs.NamedLemmas.{judged, named_of_books, named_of_none, named_of_policy, policy_in_rows, policy_of_tables}
+use Rattle.adopt_sql.proofs.ReadingLemmas.{beyond_books, handed_beyond}
 use Rattle.adopt_sql.proofs.SetLemmas.{some_is}
 use Rattle.adopt_sql.proofs.SoundLemmas.{books_in_order, books_or_store, keepable_told, policy_is, policy_or_store, policy_told, verdict_told}
 use Rattle.adopt_sql.proofs.ToldLemmas.{both_ok, is_bank}
@@ -66,3 +67,10 @@ returns-in-None-clause-named c order users =
     named_of_none c.args.books c.args.tables c.args.version c.with_no_policy.result
     (λ other is can. none-some other (sym c.in-None.is ∙ c.in-Ok.ensures.found other (policy_of_tables c.args.books c.args.tables c.args.version c.deref.result.now c.deref.ensures.value other is) can))
     (c.with_no_policy.ensures.named c.args.tables order users)
+
+pub returns-in_err-bank-in-Some-clause-beyond : goal.returns-in_err-bank-in-Some-clause-beyond
+returns-in_err-bank-in-Some-clause-beyond c =
+    handed_beyond c.from_residual.result c.in_err-bank-in-Some.field-0.0 c.from_residual.ensures.1 c.in_err-bank-in-Some.ensures.beyond
+
+pub returns-in-None-clause-beyond : goal.returns-in-None-clause-beyond
+returns-in-None-clause-beyond c = beyond_books c.with_no_policy.result c.with_no_policy.ensures.beyond

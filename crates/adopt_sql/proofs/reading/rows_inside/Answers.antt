@@ -6,7 +6,7 @@ use Rattle.whole_tables.specs.PolicyTables.{ArePolicyTables}
 use Rattle.whole_tables.proofs.ReadsLemmas.{done_then, gave_then, readable_then}
 use Rattle.adopt_sql.specs.Adopted.{AreFileRows, IsBankRow}
 use Rattle.adopt_sql.specs.Refused.{IsOfStore}
-use Rattle.adopt_sql.proofs.ReadingLemmas.{beyond_row, gave_last, handed_refused, last_then}
+use Rattle.adopt_sql.proofs.ReadingLemmas.{gave_last, handed_refused, last_then, unread_row}
 use Rattle.adopt_sql.proofs.TakenLemmas.{handed_both}
 use Rattle.adopt_sql.proofs.reading.rows_inside.Goals as goal
 
@@ -37,7 +37,7 @@ returns-clause-whole g c =
     let s3 = state g.S.Store c.policy_tables.new.tx.conn.now in
     last_then s0 s2 s3 (λ db. IsBankRow db c.in_ok-version.version × AreBookRows db c.in_ok-books.books) (λ db. IfSome c.in_ok-policy.policy (ArePolicyTables db))
     (λ db. AreFileRows db (record { version = c.in_ok-version.version; books = c.in_ok-books.books; policy = c.in_ok-policy.policy }))
-    (λ db p q. record { version = p.0; books = p.1; policy = q }) c.policy_tables.ensures.survives
+    (λ db p q. record { version = p.0; books = p.1; typed = c.in_ok-books.ensures.typed; policy = q; policy_typed = c.in_ok-policy.ensures.typed }) c.policy_tables.ensures.survives
     (done_then s0 s1 s2 (λ db. IsBankRow db c.in_ok-version.version) (λ db. AreBookRows db c.in_ok-books.books) c.book_rows.ensures.survives c.in_ok-version.ensures.whole c.in_ok-books.ensures.whole)
     c.in_ok-policy.ensures.whole
 
@@ -48,7 +48,7 @@ returns-in_err-books-clause-refused g c clean has =
     let s2 = state g.S.Store c.book_rows.new.tx.conn.now in
     let fault = c.in_err-books.field-0.0 in
     handed_refused s0.now.trees c.from_residual-in_err-books.result fault c.from_residual-in_err-books.ensures.1
-    (beyond_row s0.now.trees c.in_ok-version.version (c.in_ok-version.ensures.whole (early s1 s2 _ c.book_rows.ensures.survives clean) has).0 fault c.in_err-books.ensures.beyond)
+    (unread_row s0.now.trees c.in_ok-version.version (c.in_ok-version.ensures.whole (early s1 s2 _ c.book_rows.ensures.survives clean) has).0 fault c.in_err-books.ensures.beyond)
 
 pub returns-in_err-policy-clause-refused : goal.returns-in_err-policy-clause-refused
 returns-in_err-policy-clause-refused g c clean has =
@@ -58,7 +58,7 @@ returns-in_err-policy-clause-refused g c clean has =
     let s3 = state g.S.Store c.policy_tables.new.tx.conn.now in
     let fault = c.in_err-policy.field-0.0 in
     handed_refused s0.now.trees c.from_residual-in_err-policy.result fault c.from_residual-in_err-policy.ensures.1
-    (beyond_row s0.now.trees c.in_ok-version.version (c.in_ok-version.ensures.whole (early s1 s2 _ c.book_rows.ensures.survives (early s2 s3 _ c.policy_tables.ensures.survives clean)) has).0 fault c.in_err-policy.ensures.beyond)
+    (unread_row s0.now.trees c.in_ok-version.version (c.in_ok-version.ensures.whole (early s1 s2 _ c.book_rows.ensures.survives (early s2 s3 _ c.policy_tables.ensures.survives clean)) has).0 fault c.in_err-policy.ensures.beyond)
 
 pub returns-clause-open : goal.returns-clause-open
 returns-clause-open g c clean =

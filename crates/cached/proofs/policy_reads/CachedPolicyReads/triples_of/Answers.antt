@@ -4,7 +4,6 @@ use Rattle.cached.proofs.Standing.{reads_beside, reads_then, reads_with}
 use Rattle.cached.specs.Standing.{cached_status, with_entries}
 use Rattle.store_rows.specs.Status.{ReadsRow}
 use Rattle.cached.proofs.policy_reads.CachedPolicyReads.triples_of.Goals as goal
-use Rattle.cached.proofs.policy_reads.CachedPolicyReads.triples_of.Goals.{else-is_err, then-is_err}
 
 pub returns-then-user-eq0-clause-reads : goal.returns-then-user-eq0-clause-reads
 returns-then-user-eq0-clause-reads g c = reads_beside _ _ _ _ _ c.triples_of.ensures
@@ -31,11 +30,11 @@ returns-in_err-rows-clause-reads g c =
 pub returns-clause-reads : goal.returns-clause-reads
 returns-clause-reads g c =
     let read : ReadsRow (cached_status g.S.Stands.status c.args.self.now) (with_entries (g.S.Stands.status c.triples_of-2.new.self) c.remember_triples-kept.new.self) (Ok c.in_ok-rows.rows) (λ w rows. rows.items ≡ triples_of w.policy c.args.user c.args.procedure) =
-        reads_with (g.S.Stands.status c.args.self.now.store) (g.S.Stands.status c.triples_of-2.new.self) _ _ _ _ _ _
-        (reads_then _ _ _ _ _ _ _ c.in_ok-version.ensures c.in_ok-rows.ensures) (search rules)
-        (λ clean w holds fresh. c.remember_triples-kept.ensures.fresh w (c.recall.ensures.fresh w fresh)
-        (c.in_ok-version.ensures.told (c.in_ok-rows.ensures.kept.answers.honest clean) w holds)
-        (omega arith)
-        (c.deref.ensures.value ∙ c.in_ok-rows.ensures.told clean w (c.in_ok-version.ensures.kept.kept w holds)))
-        (λ clean w holds fresh. c.in_ok-rows.ensures.told clean w (c.in_ok-version.ensures.kept.kept w holds)) in
-    elim c.if-is_err.branch [ then-is_err w ↦ rw w.self-is read | else-is_err w ↦ rw w.self-is read ]
+    reads_with (g.S.Stands.status c.args.self.now.store) (g.S.Stands.status c.triples_of-2.new.self) _ _ _ _ _ _
+    (reads_then _ _ _ _ _ _ _ c.in_ok-version.ensures c.in_ok-rows.ensures) (search rules)
+    (λ clean w holds fresh. c.remember_triples-kept.ensures.fresh w (c.recall.ensures.fresh w fresh)
+    (c.in_ok-version.ensures.told (c.in_ok-rows.ensures.kept.answers.honest clean) w holds)
+    (omega arith)
+    (c.deref.ensures.value ∙ c.in_ok-rows.ensures.told clean w (c.in_ok-version.ensures.kept.kept w holds)))
+    (λ clean w holds fresh. c.in_ok-rows.ensures.told clean w (c.in_ok-version.ensures.kept.kept w holds)) in
+    elim c.if-is_err.branch [ goal.then-is_err w ↦ rw w.self-is read | goal.else-is_err w ↦ rw w.self-is read ]

@@ -1,0 +1,14 @@
+//! Opening lists and lists of badges. It holds tests alone: the lists of the folder sample/ and the World that they state,
+//! which record is named where one is bad, how comma-separated values may be written, and what is printed of a fault.
+#![tactic(auto)]
+
+#[cfg(test)]
+mod bad_records;
+#[cfg(test)]
+mod badges;
+#[cfg(test)]
+mod forms;
+#[cfg(test)]
+mod sample;
+#[cfg(test)]
+mod sample_lists;
