@@ -1,5 +1,7 @@
 //! Which list and which record is named where records are bad.
 
+ghost use Rattle.std.specs.Prelude.{◌<◌};
+
 use crate::sample_lists::OPENING;
 use opening_lists::{ListFault, ListName, read_lists};
 use std::alloc::Global;

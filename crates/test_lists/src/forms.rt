@@ -1,5 +1,7 @@
 //! How the comma-separated values of a list may be written, and the order of its records.
 
+ghost use Rattle.std.specs.Prelude.{◌<◌};
+
 use crate::sample_lists::{BRANCHES, OPENING};
 use bank_books::World;
 use bank_policy::{Kind, Member};
