@@ -1,8 +1,8 @@
-//! What the bank program does with files. An `Opener` opens one; `Machine` is that of the
-//! machine's files, over every start of a connection: what the file and its log held. In an open file `make_in` makes a bank, `check_in` looks whether one stands there, and
-//! `serve_in` serves a stream over it; each hands back what is left of the file, so that its caller knows of
-//! which disk the promise speaks. `read_opening` and `read_badge_list` read lists. `ActionFault` has the line of
-//! each fault. What words ask for is in bank_words.
+//! What the bank program does with files. An `Opener` opens one: `Machine` those of the machine, over every
+//! start, which is what the file and its log held. In an open file `make_in` makes a bank, `check_in` looks
+//! whether one stands there, and `serve_in` serves a stream over it; each hands back what is left of the
+//! file. `init_file`, `check_file` and `run_file` begin with a path. `ActionFault` has the line of each
+//! fault.
 #![tactic(auto)]
 
 mod actions;
