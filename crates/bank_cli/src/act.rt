@@ -42,7 +42,7 @@ fn act<D: Disk + Drop, O: Opener<D>, R: Read, W: Write, E: Write, P: Write + Dro
     errors: &mut Tallied<E>,
     progress: &mut Progress<P>,
 ) -> u8
-    ensures { IsActed D.Disk O.image action
+    ensures { IsActed D.Disk O.image action.entry
         (streams_at R.remaining W.contents input.old output.old)
         (streams_at R.remaining W.contents input.new output.new)
         (stream_at E.contents errors.old) (stream_at E.contents errors.new) result }

@@ -1,12 +1,12 @@
 -- A bank in a file: found, made, and closed. What is said of the file holds where its disk returned what was written.
-use Rattle.std.specs.Prelude.{◌≡◌, ◌×◌, false, IsTrue}
+use Rattle.std.specs.Prelude.{◌≡◌, false, IsTrue}
 use Rattle.sqlite_disk.specs.declared.Disk.{Ghosts}
 use Rattle.sqlite_disk.specs.declared.Files.{Files}
 use Rattle.sqlite_wal.specs.Reads.{AreClean}
 use Rattle.sqlite.specs.declared.FileStore.{FileStore}
 use Rattle.sqlite.specs.Closing.{IsCopied}
 use Rattle.sqlite.specs.Files as closing
-use Rattle.sqlite.specs.Files.{file_state}
+use Rattle.sqlite.specs.Files.{file_state, over_files}
 use Rattle.sqlite.specs.Held.{Held}
 use Rattle.sqlite.specs.State.{HasCleanDisk, KeepsCommit, Survives}
 use Rattle.bank_books.specs.WorldLists.{WorldLists}
@@ -25,20 +25,24 @@ use Rattle.store_sql.specs.declared.sql_store.SqlStore.{SqlStore}
 use Rattle.cli_file.specs.Faults.{IsOfFile, fault_of_adopting, fault_of_making}
 use Rattle.cli_file.specs.declared.fault.ActionFault.{ActionFault}
 
+-- the store of a bank in a file
+abbrev pub BankStore : (D : Type 0) → Ghosts D → Type 0
+BankStore D g = SqlStore (FileStore D g) over_files
+
 module _ {D : Type 0} {g : Ghosts D} where
   -- what the store of a bank in a file stands for
-  abbrev pub file_status : SqlStore (FileStore D g) → Status
+  abbrev pub file_status : BankStore D g → Status
   file_status store = sql_status (file_state store.conn) store.is_stopped store.faults store.failures
 
   -- the store has met no fault, and is not stopped
-  pub record IsNewStore (store : SqlStore (FileStore D g)) : Type 0 where
+  pub record IsNewStore (store : BankStore D g) : Type 0 where
     pub works : store.is_stopped ≡ false
     pub no_fault : store.faults ≡ 0
     pub no_failure : store.failures ≡ 0
 
   -- Where the tables of the file were those of a bank, they hold a World whose books hold and whose policy is sound and separated, and
   -- hold it still. A crash leaves nothing that it could not leave before.
-  pub record IsFound (opened : Held (FileStore D g)) (store : SqlStore (FileStore D g)) : Type 0 where
+  pub record IsFound (opened : Held (FileStore D g)) (store : BankStore D g) : Type 0 where
     pub adopts : HasCleanDisk (file_state store.conn) → IsBankFile (file_state opened) → Adopts (file_state opened) (file_state store.conn)
     pub unchanged : HasCleanDisk (file_state store.conn) → IsBankFile (file_state opened) → IsLeft (file_state opened) (file_state store.conn)
     pub survives : Survives (file_state opened) (file_state store.conn) (λ _. ⊥)
@@ -56,7 +60,7 @@ module _ {D : Type 0} {g : Ghosts D} where
     pub survives : Survives (file_state opened) (file_state left) (λ _. ⊥)
 
   -- The file held no table, and holds the World, whose books hold and whose policy is sound and separated.
-  pub record IsMade (opened : Held (FileStore D g)) (w : WorldLists) (store : SqlStore (FileStore D g)) : Type 0 where
+  pub record IsMade (opened : Held (FileStore D g)) (w : WorldLists) (store : BankStore D g) : Type 0 where
     pub bank : IsBank w
     pub was_empty : (file_state opened).now.schema ≡ no_schema
     pub kept : HasCleanDisk (file_state store.conn) → IsKeptAs (file_state store.conn) w

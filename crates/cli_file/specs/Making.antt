@@ -4,8 +4,7 @@ use Rattle.sqlite_disk.specs.declared.Disk.{Ghosts}
 use Rattle.sqlite.specs.declared.FileStore.{FileStore}
 use Rattle.sqlite.specs.Held.{Held}
 use Rattle.bank_books.specs.WorldLists.{WorldLists}
-use Rattle.store_sql.specs.declared.sql_store.SqlStore.{SqlStore}
-use Rattle.cli_file.specs.Files.{IsClosed, IsMade, IsNotClosed, IsNotMade}
+use Rattle.cli_file.specs.Files.{BankStore, IsClosed, IsMade, IsNotClosed, IsNotMade}
 use Rattle.cli_file.specs.declared.fault.ActionFault.{ActionFault}
 use Rattle.cli_file.specs.declared.left.FileLeft.{FileLeft}
 use Rattle.cli_file.specs.declared.left.FileLeft.TheVariants as left
@@ -14,6 +13,6 @@ use Rattle.cli_file.specs.declared.left.FileLeft.TheVariants as left
 abbrev pub IsMadeIn : {D : Type 0} (g : Ghosts D) → Held (FileStore D g) → WorldLists → FileLeft D g → Result Unit ActionFault → Type 0
 IsMadeIn g opened w (left.Open conn) result = (told : ActionFault) × IsNotMade opened w told conn × (result ≡ Err told)
 IsMadeIn {D} g opened w (left.Closed files) result =
-    (store : SqlStore (FileStore D g)) × IsMade opened w store × IsClosed g store.conn files × (result ≡ Ok tt)
+    (store : BankStore D g) × IsMade opened w store × IsClosed g store.conn files × (result ≡ Ok tt)
 IsMadeIn {D} g opened w (left.Unclosed rest) result =
-    (store : SqlStore (FileStore D g)) × (told : ActionFault) × IsMade opened w store × IsNotClosed store.conn told rest × (result ≡ Err told)
+    (store : BankStore D g) × (told : ActionFault) × IsMade opened w store × IsNotClosed store.conn told rest × (result ≡ Err told)

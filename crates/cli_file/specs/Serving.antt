@@ -7,10 +7,9 @@ use Rattle.sqlite.specs.Held.{Held}
 use Rattle.messages.specs.declared.serving.ServeFault.{ServeFault}
 use Rattle.messages.specs.declared.serving.Served.{Served}
 use Rattle.ends.specs.Streams.{Streams}
-use Rattle.store_sql.specs.declared.sql_store.SqlStore.{SqlStore}
 use Rattle.counter_service.specs.Serving.{IsServedBehindCache}
 use Rattle.cli_file.specs.Faults.{fault_of_serving}
-use Rattle.cli_file.specs.Files.{IsClosed, IsFound, IsNotClosed, IsNotFound, file_status}
+use Rattle.cli_file.specs.Files.{BankStore, IsClosed, IsFound, IsNotClosed, IsNotFound, file_status}
 use Rattle.cli_file.specs.declared.fault.ActionFault.{ActionFault}
 use Rattle.cli_file.specs.declared.left.FileLeft.{FileLeft}
 use Rattle.cli_file.specs.declared.left.FileLeft.TheVariants as left
@@ -23,8 +22,8 @@ end_of (Ok served) None = Ok tt
 
 module _ {D : Type 0} (g : Ghosts D) (users : List ℕ → Option ℕ) (opened : Held (FileStore D g)) (moment : ℕ) (old new : Streams) where
   -- The bank was found, and the stream was served over it, to the users whom badges name so, with one moment for every message.
-  pub record IsServedOverFile (ended : SqlStore (FileStore D g)) (result : Result Served ServeFault) : Type 0 where
-    pub begun : SqlStore (FileStore D g)
+  pub record IsServedOverFile (ended : BankStore D g) (result : Result Served ServeFault) : Type 0 where
+    pub begun : BankStore D g
     pub found : IsFound opened begun
     pub served : IsServedBehindCache file_status users begun moment old new ended result
 
@@ -33,8 +32,8 @@ module _ {D : Type 0} (g : Ghosts D) (users : List ℕ → Option ℕ) (opened :
   abbrev pub IsServedIn : FileLeft D g → Result Unit ActionFault → Type 0
   IsServedIn (left.Open conn) result = (told : ActionFault) × IsNotFound opened told conn × (new ≡ old) × (result ≡ Err told)
   IsServedIn (left.Closed files) result =
-      (ended : SqlStore (FileStore D g)) × (served : Result Served ServeFault) × IsServedOverFile ended served
+      (ended : BankStore D g) × (served : Result Served ServeFault) × IsServedOverFile ended served
       × IsClosed g ended.conn files × (result ≡ end_of served None)
   IsServedIn (left.Unclosed rest) result =
-      (ended : SqlStore (FileStore D g)) × (served : Result Served ServeFault) × (told : ActionFault) × IsServedOverFile ended served
+      (ended : BankStore D g) × (served : Result Served ServeFault) × (told : ActionFault) × IsServedOverFile ended served
       × IsNotClosed ended.conn told rest × (result ≡ end_of served (Some told))

@@ -18,7 +18,7 @@ fn ended(
     served: Result<Served, ServeFault>,
     closing: Option<ActionFault<'static>>,
 ) -> Result<(), ActionFault<'static>>
-    ensures { result ≡ end_of served closing }
+    ensures { result ≡ end_of served closing.entry }
 {
     match (served, closing) {
         (Err(fault), _) => Err(ActionFault::of_serving(fault)),

@@ -17,7 +17,7 @@ pub fn say_done<W: Write, E: Write>(
     output: &mut Tallied<W>,
     errors: &mut Tallied<E>,
 ) -> u8
-    ensures { IsSaid done line.now
+    ensures { IsSaid done.entry line.now
         (stream_at W.contents output.old) (stream_at W.contents output.new)
         (stream_at E.contents errors.old) (stream_at E.contents errors.new) result }
 {
@@ -33,7 +33,7 @@ pub fn end<W: Write, E: Write>(
     output: &mut Tallied<W>,
     errors: &mut Tallied<E>,
 ) -> u8
-    ensures { IsEnded done
+    ensures { IsEnded done.entry
         (stream_at W.contents output.old) (stream_at W.contents output.new)
         (stream_at E.contents errors.old) (stream_at E.contents errors.new) result }
 {
@@ -50,7 +50,7 @@ fn tell_fault<W: Write, E: Write>(
     output: &mut Tallied<W>,
     errors: &mut Tallied<E>,
 ) -> u8
-    ensures { IsFaultTold fault
+    ensures { IsFaultTold fault.entry
         (stream_at W.contents output.old) (stream_at W.contents output.new)
         (stream_at E.contents errors.old) (stream_at E.contents errors.new) result }
 {
