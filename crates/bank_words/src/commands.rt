@@ -63,7 +63,9 @@ fn badges<'a>(alloc: Global) -> Arg<'a>
     ensures rule { rule_of result ≡ option_rule (codes "badges") }
     ensures local { result.global ≡ false }
 {
-    option(alloc, "badges", "LIST").help("A CSV file with the heading badge,user, which names the user of each badge")
+    option(alloc, "badges", "LIST").help(
+        "A CSV file with the heading badge,user, which names the user of each badge",
+    )
 }
 
 fn sample_command<'a>(alloc: Global) -> Result<Command<'a>, AllocError>
@@ -79,10 +81,16 @@ fn init_command<'a>(alloc: Global) -> Result<Command<'a>, AllocError>
     ensures app { IfOk result (λ c. app_of c ≡ init_app) }
     ensures local { IfOk result (λ c. (fields_of c).has_globals ≡ false) }
 {
-    let file = word(alloc, "file", "FILE").help("The file to make, which is not there or holds no table");
-    let dir = word(alloc, "dir", "DIR").help("The folder with branches.csv, tellers.csv, accounts.csv, users.csv, sets.csv, relations.csv, triples.csv and certifiers.csv");
+    let file = word(alloc, "file", "FILE").help(
+        "The file to make, which is not there or holds no table",
+    );
+    let dir = word(alloc, "dir", "DIR").help(
+        "The folder with branches.csv, tellers.csv, accounts.csv, users.csv, sets.csv, relations.csv, triples.csv and certifiers.csv",
+    );
     Command::new(alloc, "init")
-        .about("Makes the bank of FILE from the opening lists in DIR, where its books hold and its policy is sound")
+        .about(
+            "Makes the bank of FILE from the opening lists in DIR, where its books hold and its policy is sound",
+        )
         .arg(file)?
         .arg(dir)
 }

@@ -14,7 +14,7 @@ use Rattle.bank_schema.specs.Held.{AreOfWorld, HoldsSheets}
 use Rattle.bank_schema.specs.Readable.{AreReadable}
 use Rattle.kept_rows.specs.Sheets.{Sheets}
 use Rattle.open_sql.specs.Blank.{no_schema}
-use Rattle.open_sql.specs.Made.{IsBank, IsKeptAs, IsRefusal}
+use Rattle.open_sql.specs.Made.{IsBank, IsBeforehand, IsKeptAs, IsRefusal}
 use Rattle.open_sql.specs.declared.open_fault.OpenFault.{OpenFault}
 use Rattle.adopt_sql.specs.Adopted.{Adopts, IsBankFile, IsLeft}
 use Rattle.adopt_sql.specs.Refused.{HoldsSoundBank, IsNamedBy, IsOfStore, IsRefused}
@@ -57,6 +57,7 @@ module _ {D : Type 0} {g : Ghosts D} where
     pub sound : HasCleanDisk (file_state left) → IsBankFile (file_state opened) → HoldsSoundBank (file_state opened).now → IsOfStore why
     pub named : HasCleanDisk (file_state left) → IsBankFile (file_state opened) → (s : Sheets) → HoldsSheets (file_state opened).now.trees s → AreReadable s → IsNamedBy s why
     pub unchanged : HasCleanDisk (file_state left) → IsBankFile (file_state opened) → IsLeft (file_state opened) (file_state left)
+    pub idle : left.in_transaction ≡ false
     pub survives : Survives (file_state opened) (file_state left) (λ _. ⊥)
 
   -- The file held no table, and holds the World, whose books hold and whose policy is sound and separated.
@@ -74,7 +75,9 @@ module _ {D : Type 0} {g : Ghosts D} where
     pub why : OpenFault
     pub told_so : told ≡ fault_of_making why
     pub refused : IsRefusal (file_state opened).now.schema w why
+    pub untouched : IsBeforehand why → left ≡ opened
     pub unmade : HasCleanDisk (file_state left) → KeepsCommit (file_state opened) (file_state left)
+    pub idle : left.in_transaction ≡ false
     pub crash : Survives (file_state opened) (file_state left) (AreOfWorld w)
 
   -- where it could not be closed, nothing is lost that stood in the file and its log

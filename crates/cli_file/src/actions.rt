@@ -28,7 +28,8 @@ pub fn init_file<D: Disk + Drop, O: Opener<D>, P: Write + Drop>(
     let world = read_opening(rt, dir)?;
     progress.begin("opening the file");
     let conn = opener.open(rt, file)?;
-    let (_left, done) = make_in(rt.alloc(), conn, &world, progress);
+    let (left, done) = make_in(rt.alloc(), conn, &world, progress);
+    drop(left);
     done
 }
 
@@ -43,8 +44,7 @@ pub fn check_file<D: Disk + Drop, O: Opener<D>, P: Write + Drop>(
 {
     progress.begin("opening the file");
     let conn = open_existing(rt, file, opener)?;
-    let (_conn, done) = check_in(rt.alloc(), conn, progress);
-    done
+    check_in(rt.alloc(), conn, progress).1
 }
 
 /// Serves a stream over the bank that stands in a file that is there, to the users of a list of badges, with one moment for
@@ -67,6 +67,7 @@ pub fn run_file<'a, D: Disk + Drop, O: Opener<D>, R: Read, W: Write, P: Write + 
     progress.begin("opening the file");
     let conn = open_existing(rt, file, opener)?;
     let gate = BadgeGate(&list);
-    let (_left, done) = serve_in(rt.alloc(), conn, &gate, moment, input, output, progress);
+    let (left, done) = serve_in(rt.alloc(), conn, &gate, moment, input, output, progress);
+    drop(left);
     done
 }

@@ -1,5 +1,5 @@
 ghost use Rattle.std.specs.Prelude.{◌≡◌};
-ghost use Rattle.cli_file.specs.Faults.{IsOfBadges, fault_of_adopting, fault_of_lists, fault_of_making, fault_of_serving, fault_of_store, is_refusal};
+ghost use Rattle.cli_file.specs.Faults.{IsOfBadges, IsOfFile, fault_of_adopting, fault_of_lists, fault_of_making, fault_of_serving, fault_of_store, is_refusal};
 
 use adopt_sql::AdoptFault;
 use book_check::BooksFault;
@@ -8,6 +8,7 @@ use money::Fault;
 use open_sql::OpenFault;
 use opening_lists::{ListFault, RecordFault};
 use policy_check::PolicyFault;
+use sqlite::{Error, ErrorCode};
 use thiserror::Error;
 
 /// Why an action is not carried out, or not to its end. Its text is the line that tells it.
@@ -100,6 +101,16 @@ impl<'a> ActionFault<'a> {
             AdoptFault::Books(fault) => ActionFault::Books(fault),
             AdoptFault::Policy(fault) => ActionFault::Policy(fault),
             AdoptFault::Fault(fault) => ActionFault::of_store(fault),
+        }
+    }
+
+    /// Why a file is not closed.
+    pub(crate) fn of_closing(error: Error) -> ActionFault<'a>
+        ensures { IsOfFile result }
+    {
+        match error {
+            Error::SqliteFailure(ErrorCode::OutOfMemory) => ActionFault::Memory,
+            _ => ActionFault::NotRead,
         }
     }
 

@@ -5,7 +5,7 @@ use crate::fault::ActionFault;
 use adopt_sql::adopt;
 use bank_books::World;
 use open_sql::create;
-use sqlite::{Connection, Error, ErrorCode, FileStore, Files};
+use sqlite::{Connection, FileStore, Files};
 use sqlite_disk::Disk;
 use std::alloc::Global;
 use store_sql::SqlStore;
@@ -23,7 +23,7 @@ pub(crate) fn find<D: Disk + Drop>(
     conn: FileConnection<D>,
 ) -> Result<BankFile<D>, (ActionFault<'static>, FileConnection<D>)>
     requires { conn.in_transaction ≡ false }
-    ensures found { MatchResult result (IsFound conn) (λ e. IsNotFound conn e.0 e.1) }
+    ensures { MatchResult result (IsFound conn) (λ e. IsNotFound conn e.0 e.1) }
 {
     match adopt(alloc, conn) {
         Ok(store) => Ok(store),
@@ -39,7 +39,7 @@ pub(crate) fn make<D: Disk + Drop>(
     world: &World,
 ) -> Result<BankFile<D>, (ActionFault<'static>, FileConnection<D>)>
     requires { conn.in_transaction ≡ false }
-    ensures made { MatchResult result (IsMade conn world.now) (λ e. IsNotMade conn world.now e.0 e.1) }
+    ensures { MatchResult result (IsMade conn world.now) (λ e. IsNotMade conn world.now e.0 e.1) }
 {
     match create(alloc, conn, world) {
         Ok(store) => Ok(store),
@@ -52,13 +52,10 @@ pub(crate) fn make<D: Disk + Drop>(
 pub(crate) fn close<D: Disk + Drop>(
     store: BankFile<D>,
 ) -> Result<Files<D>, (ActionFault<'static>, FileStore<D>)>
-    ensures closed { MatchResult result (IsClosed D.Disk store.conn) (λ e. IsNotClosed store.conn e.0 e.1) }
+    ensures { MatchResult result (IsClosed D.Disk store.conn) (λ e. IsNotClosed store.conn e.0 e.1) }
 {
     match store.into_connection().close_files() {
         Ok(files) => Ok(files),
-        Err((Error::SqliteFailure(ErrorCode::OutOfMemory), left)) => {
-            Err((ActionFault::Memory, left))
-        }
-        Err((_, left)) => Err((ActionFault::NotRead, left)),
+        Err((error, left)) => Err((ActionFault::of_closing(error), left)),
     }
 }

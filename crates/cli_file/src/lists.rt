@@ -5,9 +5,9 @@ ghost use Rattle.cli_file.specs.Lists.{AreBadgesRead, IsOpeningRead};
 use crate::fault::ActionFault;
 use bank_books::World;
 use opening_lists::{Badges, read_badges, read_lists};
-use std::fs;
-use std::io;
+use std::alloc::Global;
 use std::io::{ErrorKind, Read};
+use std::{fs, io};
 
 /// The most bytes of a list.
 const MAX_LIST_LEN: u64 = 268_435_456;
@@ -66,7 +66,14 @@ pub fn read_opening(rt: &HostRuntime, dir: &str) -> Result<World, ActionFault<'s
         &triples,
         &certifiers,
     ];
-    match read_lists(rt.alloc(), &texts) {
+    stated(rt.alloc(), &texts)
+}
+
+/// The World that the texts of eight opening lists state.
+fn stated(alloc: Global, texts: &[&[u8]; 8]) -> Result<World, ActionFault<'static>>
+    ensures { IsOpeningRead result }
+{
+    match read_lists(alloc, texts) {
         Ok(world) => Ok(world),
         Err(fault) => Err(ActionFault::of_lists(fault)),
     }

@@ -6,9 +6,8 @@ use crate::fault::ActionFault;
 use crate::file::FileConnection;
 use sqlite::{Connection, Error, ErrorCode, FileFrom, Start};
 use sqlite_disk::Disk;
-use std::fs;
-use std::io;
 use std::io::ErrorKind;
+use std::{fs, io};
 
 /// How a file is opened on a disk of this kind. The image stands for what the file and its log held before; no clause ties
 /// it to a path.
@@ -21,11 +20,7 @@ pub trait Opener<D: Disk + Drop>: Drop {
     ghost image: { Image };
 
     /// Opens a file, or makes it, and reads the log that stands beside it. Each page, row and index is looked at.
-    fn open(
-        self,
-        rt: &HostRuntime,
-        path: &str,
-    ) -> Result<FileConnection<D>, ActionFault<'static>>
+    fn open(self, rt: &HostRuntime, path: &str) -> Result<FileConnection<D>, ActionFault<'static>>
         ensures opened { IfOk result (IsOpenedFrom image) }
         ensures idle { IfOk result (λ conn. conn.in_transaction ≡ false) }
         ensures refused { IfErr result IsOfFile };
