@@ -5,6 +5,7 @@ ghost use Rattle.store_rows.specs.ListStore.{list_status};
 ghost use Rattle.sample_service.specs.Serving.{IsOpening};
 
 use bank_books::World;
+use bank_run::laws::world_is_in_order;
 use book_check::check_books;
 use book_sums::Kept;
 use cached::Cached;
@@ -27,6 +28,7 @@ pub fn listed_sample(alloc: Global) -> Result<ListStore, AllocError>
 fn require_checks(alloc: Global, world: &World) -> Result<(), AllocError>
     ensures { OnOk result (PassesChecks world.now) }
 {
+    world_is_in_order(world);
     let Ok(kept) = Kept::of(alloc, world) else {
         return Err(AllocError);
     };
