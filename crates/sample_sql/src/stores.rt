@@ -2,6 +2,7 @@ ghost use Rattle.std.specs.Prelude.{IfOk};
 ghost use Rattle.sample_service.specs.Serving.{IsOpening};
 ghost use Rattle.sample_sql.specs.Stores.{memory_status};
 
+use bank_run::laws::world_is_in_order;
 use open_sql::create;
 use sample_bank::sample_world;
 use sqlite::{Connection, MemStore};
@@ -13,6 +14,7 @@ pub fn sql_sample(alloc: Global) -> Result<SqlStore<MemStore>, AllocError>
     ensures { IfOk result (IsOpening memory_status) }
 {
     let world = sample_world(alloc)?;
+    world_is_in_order(&world);
     let conn = Connection::open_in_memory(alloc)?;
     match create(alloc, conn, &world) {
         Ok(store) => Ok(store),
