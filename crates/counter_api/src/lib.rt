@@ -4,6 +4,7 @@
 mod clock;
 mod counter;
 mod response;
+mod sent;
 mod service;
 
 pub use clock::Clock;
