@@ -1,3 +1,4 @@
+pub mod Accounts
 pub mod Balance
 pub mod CloseDay
 pub mod Commands
@@ -9,6 +10,7 @@ pub mod Executions
 pub mod InForce
 pub mod LastWord
 pub mod Laws
+pub mod Listing
 pub mod Meaning
 pub mod MoveCash
 pub mod NamedRelease
@@ -17,9 +19,11 @@ pub mod Operations
 pub mod Order
 pub mod PolicyRules
 pub mod Post
+pub mod Proof
 pub mod Release
 pub mod Requests
 pub mod Run
 pub mod Sessions
+pub mod Statement
 pub mod Sums
 pub mod Transfer

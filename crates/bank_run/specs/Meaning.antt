@@ -20,6 +20,9 @@ pub record ReplyText : Type 0 where
 abbrev pub json : List ℕ → ReplyText
 json bytes = record { kind = kind.Json; bytes = bytes }
 
+abbrev pub plain : List ℕ → ReplyText
+plain bytes = record { kind = kind.Plain; bytes = bytes }
+
 pub record Meaning : Type 0 where
   -- the rule denies it
   pub denies : Rule → Bool

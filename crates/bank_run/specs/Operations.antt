@@ -6,16 +6,19 @@ use Rattle.bank_books.specs.WorldLists.{WorldLists}
 use Rattle.bank_books.specs.declared.signature.Signature.{Signature}
 use Rattle.counter_ops.specs.declared.op.Op.{Op}
 use Rattle.counter_ops.specs.declared.op.Op.TheVariants as op
+use Rattle.bank_run.specs.Accounts.{accounts_meaning}
 use Rattle.bank_run.specs.Balance.{balance_meaning}
 use Rattle.bank_run.specs.CloseDay.{close_day_meaning}
 use Rattle.bank_run.specs.Correct.{correct_meaning}
 use Rattle.bank_run.specs.DrawerOff.{drawer_off_meaning}
 use Rattle.bank_run.specs.DrawerOn.{drawer_on_meaning}
-use Rattle.bank_run.specs.Meaning.{Meaning, no_meaning}
+use Rattle.bank_run.specs.Meaning.{Meaning}
 use Rattle.bank_run.specs.MoveCash.{move_meaning}
 use Rattle.bank_run.specs.NewAccount.{new_account_meaning}
 use Rattle.bank_run.specs.Post.{post_meaning}
+use Rattle.bank_run.specs.Proof.{proof_meaning}
 use Rattle.bank_run.specs.Release.{release_meaning}
+use Rattle.bank_run.specs.Statement.{statement_meaning}
 use Rattle.bank_run.specs.Transfer.{transfer_meaning}
 
 -- the procedures that are served
@@ -29,9 +32,9 @@ is_served procedure.MoveCash = true
 is_served procedure.NewAccount = true
 is_served procedure.Release = true
 is_served procedure.Balance = true
-is_served procedure.Statement = false
-is_served procedure.Accounts = false
-is_served procedure.Proof = false
+is_served procedure.Statement = true
+is_served procedure.Accounts = true
+is_served procedure.Proof = true
 is_served procedure.CloseDay = true
 
 -- what an operation is in a World by the books, where the rows that it adds bear this signature
@@ -45,7 +48,23 @@ meaning_of (op.MoveCash move) by w = move_meaning move by w
 meaning_of (op.NewAccount form) by w = new_account_meaning form w
 meaning_of (op.Release release) by w = release_meaning release by w
 meaning_of (op.Balance balance) by w = balance_meaning balance w
-meaning_of (op.Statement statement) by w = no_meaning w
-meaning_of (op.Accounts accounts) by w = no_meaning w
-meaning_of (op.Proof proof) by w = no_meaning w
+meaning_of (op.Statement statement) by w = statement_meaning statement w
+meaning_of (op.Accounts accounts) by w = accounts_meaning accounts by w
+meaning_of (op.Proof proof) by w = proof_meaning proof w
 meaning_of (op.CloseDay form) by w = close_day_meaning form w
+
+-- the operations that are answered by a report
+abbrev pub is_report : Op → Bool
+is_report (op.Post post) = false
+is_report (op.Transfer transfer) = false
+is_report (op.Correct correct) = false
+is_report (op.DrawerOn form) = false
+is_report (op.DrawerOff form) = false
+is_report (op.MoveCash move) = false
+is_report (op.NewAccount form) = false
+is_report (op.Release release) = false
+is_report (op.Balance balance) = false
+is_report (op.Statement statement) = true
+is_report (op.Accounts accounts) = true
+is_report (op.Proof proof) = true
+is_report (op.CloseDay form) = false

@@ -6,7 +6,8 @@ use Rattle.bank_terms.specs.declared.rule.Rule.TheVariants as rule
 use Rattle.bank_books.specs.WorldLists.{WorldLists}
 use Rattle.bank_run.specs.Commands.{command_meaning}
 use Rattle.bank_run.specs.Executions.{execution_meaning}
-use Rattle.bank_run.specs.Meaning.{Meaning, ReplyText, Verdict, no_meaning, rules_behind_policy}
+use Rattle.bank_run.specs.Listing.{listing_meaning}
+use Rattle.bank_run.specs.Meaning.{Meaning, ReplyText, Verdict, rules_behind_policy}
 use Rattle.bank_run.specs.Sessions.{ending_meaning, opening_meaning}
 use Rattle.policy_ops.specs.declared.policy_op.PolicyOp.{PolicyOp}
 use Rattle.bank_run.specs.declared.execution.Execution.{Execution}
@@ -31,13 +32,17 @@ ends_session who = record { who = who; moment = 0; asked = asked.Ending }
 abbrev pub commands : PolicyOp → Who → Request
 commands command who = record { who = who; moment = 0; asked = asked.Command command }
 
--- what it is that is asked for, in a World; the listing is not served yet
+-- the request for the listing of the policy; no moment is looked at
+abbrev pub lists : Who → Request
+lists who = record { who = who; moment = 0; asked = asked.Listing }
+
+-- what it is that is asked for, in a World
 abbrev pub asked_meaning : Asked → Who → ℕ → WorldLists → Meaning
 asked_meaning (asked.Operation op) who moment w = execution_meaning w (record { who = who; moment = moment; op = op })
 asked_meaning asked.Opening who moment w = opening_meaning who w
 asked_meaning asked.Ending who moment w = ending_meaning who w
 asked_meaning (asked.Command command) who moment w = command_meaning command who w
-asked_meaning asked.Listing who moment w = no_meaning w
+asked_meaning asked.Listing who moment w = listing_meaning who w
 
 abbrev pub meaning : WorldLists → Request → Meaning
 meaning w q = asked_meaning q.asked q.who q.moment w

@@ -1,5 +1,5 @@
 -- What a request comes to that was decided, and carried out where it was allowed.
-use Rattle.std.proofs.Common.{◌≡◌, ◌&&◌, ℕ, Bool, true, false, is_none, inl, inr, Option, None, Some, Result, Ok, Err, IfOk, OnOk, IsNone, IsSome, refl, ap, subst, sym, ◌∙◌, arith}
+use Rattle.std.proofs.Common.{◌≡◌, ◌&&◌, ℕ, Bool, true, false, is_none, inl, inr, List, Option, None, Some, Result, Ok, Err, IfOk, OnOk, IsNone, IsSome, refl, ap, subst, sym, ◌∙◌, arith}
 use Rattle.std.specs.Global.{Vec}
 use Rattle.bank_terms.specs.declared.rule.Rule.{Rule}
 use Rattle.bank_terms.specs.declared.rule.Rule.TheVariants.{Identity}
@@ -7,33 +7,83 @@ use Rattle.money.specs.declared.fault.Fault.{Fault}
 use Rattle.money.specs.declared.fault.Fault.TheVariants.{Memory}
 use Rattle.bank_books.specs.WorldLists.{WorldLists}
 use Rattle.store_rows.specs.Status.{Answers, Keeps, Refuses, StaysWhole, Status, Tells, mark_of}
-use Rattle.decide.specs.Permit.{CarriesOut, IsLeave, IsPermitOf, IsReplied}
+use Rattle.decide.specs.Permit.{CarriesOut, ChangesNothing, IsLeave, IsPermitOf, IsReplyOf, IsSettled, Makes}
 use Rattle.bank_run.specs.LastWord.{finds_room}
-use Rattle.bank_run.specs.Requests.{effect, executes, first, reply_text}
+use Rattle.bank_run.specs.Requests.{effect, executes, first, reply_text, verdict}
 use Rattle.bank_run.specs.Run.{if_allowed, is_accepted, reply, step, told}
 use Rattle.decide.specs.declared.permit.Permit.{Permit}
 use Rattle.decide.specs.declared.permit.Reply.{Reply}
+use Rattle.decide.specs.declared.permit.Reply.TheVariants as answer
+use Rattle.op_plans.specs.Judged.{IsReported}
+use Rattle.op_plans.specs.declared.prepared.Ready.{Ready}
+use Rattle.op_plans.specs.declared.prepared.Ready.TheVariants as ready
+use Rattle.reports.specs.declared.contents.Contents.{Contents}
+use Rattle.bank_run.specs.Meaning.{Verdict, json}
 use Rattle.bank_run.specs.declared.request.Request.{Request}
 use Rattle.decide.specs.OneRequest.{IsToldInJson, LeavesBoth, Moves, Replies, Settles}
 use Rattle.counter_api.specs.CarriedOut.{IsCarriedOut, IsResponded}
-use Rattle.counter_api.specs.Response.{ResponseParts}
-use Rattle.counter_api.specs.Run.{FindsRoom, told_parts}
+use Rattle.counter_api.specs.Response.{ResponseParts, done_parts}
+use Rattle.counter_api.specs.Run.{FindsRoom, IsResponse, told_parts}
+
+-- what is ready changes nothing, where it is a report
+pub nothing_changed : (a : Ready) (c : Contents) → a ≡ ready.Report c → ChangesNothing a
+nothing_changed a c is = subst ChangesNothing (sym is) tt
 
 module _ {S : Type 0} where
+  -- the reply is this text, or a report of these contents
+  abbrev pub IsText : Reply S → List ℕ → Type 0
+  IsText (answer.Done d) body = body ≡ d.body.items
+  IsText (answer.Report r) body = ⊥
+
+  abbrev pub HasContents : Reply S → Contents → Type 0
+  HasContents (answer.Done d) c = ⊥
+  HasContents (answer.Report r) c = r.contents ≡ c
+
   -- the effect of what was permitted is the step of what was asked
   step_is : (w : WorldLists) (q : Request) (p : Permit S) → IsPermitOf w q p → effect w (executes p.execution) ≡ step w q
   step_is w q p permit = sym (ap (λ o. if_allowed o (effect w (executes p.execution)) w) permit.leave.allowed) ∙ ap (step w) permit.asked
 
-  pub settles : (old mid new : Status) (q : Request) (p : Permit S) (r : Reply S) → Keeps old mid None → Tells old mid (λ w. IsPermitOf w q p) → CarriesOut mid new p None
-      → (new.is_honest → (w : WorldLists) → IsLeave w p → mid.holds w → IsReplied mid new w p r) → Settles old new q None
-  settles old mid new q p r kept decided carried replied none honest w holds =
+  pub settles : (old mid new : Status) (q : Request) (p : Permit S) → Keeps old mid None → Tells old mid (λ w. IsPermitOf w q p) → CarriesOut mid new p None
+      → (new.is_honest → (w : WorldLists) → IsLeave w p → mid.holds w → IsSettled mid new w p) → Settles old new q None
+  settles old mid new q p kept decided carried settled none honest w holds =
       let before = carried.answers.honest honest in
       let permit = decided before w holds in
       let is = step_is w q p permit in
-      elim (replied honest w permit.leave (kept.kept w holds)).settled [
+      elim (settled honest w permit.leave (kept.kept w holds)) [
         | inl alone ↦ inl (λ left may. alone left may ∙ is)
         | inr same ↦ inr (sym is ∙ same.0, λ left may. kept.crash before left (same.1 left may))
       ]
+
+  -- ---- a text
+
+  reply_is : (w : WorldLists) (q : Request) (p : Permit S) → IsPermitOf w q p → reply w q ≡ Ok (reply_text w (executes p.execution))
+  reply_is w q p permit = ap (reply w) (sym permit.asked) ∙ ap (λ f. told f (reply_text w (executes p.execution))) permit.leave.allowed
+
+  pub done_told : (old mid new : Status) (q : Request) (p : Permit S) (r : Reply S) (body : List ℕ) → Keeps old mid None → Tells old mid (λ w. IsPermitOf w q p) → CarriesOut mid new p None
+      → IsReplyOf p.ready r → IsText r body → Tells old new (λ w. done_parts (json body) ≡ told_parts (reply w q))
+  done_told old mid new q p r body kept decided carried told text honest w holds =
+      let permit = decided (carried.answers.honest honest) w holds in
+      ap done_parts (go p.ready r permit.leave.makes told text) ∙ sym (ap told_parts (reply_is w q p permit))
+    where
+      go : (a : Ready) (r : Reply S) → Makes w (verdict (executes p.execution) w) a → IsReplyOf a r → IsText r body → json body ≡ reply_text w (executes p.execution)
+      go (ready.Change c) (answer.Done d) makes told text = ap json (text ∙ told) ∙ makes.1
+      go (ready.Change c) (answer.Report d) makes told text = absurd text
+      go (ready.Report c) (answer.Done d) makes told text = absurd told
+      go (ready.Report c) (answer.Report d) makes told text = absurd text
+
+  -- ---- a report
+
+  -- what was ready is a report, where the reply is one
+  pub ready_is : (a : Ready) (r : Reply S) (c : Contents) → IsReplyOf a r → HasContents r c → a ≡ ready.Report c
+  ready_is (ready.Change p) (answer.Done d) c told has = absurd has
+  ready_is (ready.Change p) (answer.Report d) c told has = absurd told
+  ready_is (ready.Report x) (answer.Done d) c told has = absurd has
+  ready_is (ready.Report x) (answer.Report d) c told has = ap ready.Report (sym told ∙ has)
+
+  pub permit_reported : (w : WorldLists) (q : Request) (p : Permit S) (c : Contents) → p.ready ≡ ready.Report c → IsPermitOf w q p → IsReported w (verdict q w) c
+  permit_reported w q p c is permit =
+      let makes : Makes w (verdict (executes p.execution) w) (ready.Report c) = subst (Makes w (verdict (executes p.execution) w)) is permit.leave.makes in
+      subst (λ (r : Request). IsReported w (verdict r w) c) permit.asked (record { allowed = permit.leave.allowed; same = makes.0; reply = makes.1; counted = makes.2 })
 
 -- a request that a rule denies leaves the World
 pub denied_stays : (w : WorldLists) (r : Request) (rule : Rule) → reply w r ≡ Err rule → step w r ≡ w
@@ -81,7 +131,7 @@ forgotten old new a = record {
 -- so much is said of the response to it
 pub responds : (old new : Status) (r : Request) (made : Result (Result (Vec ℕ) Rule) Fault) (response : Result ResponseParts Fault)
     → IsDecided old new r made
-    → Tells old new (λ w. IfOk made (λ done. OnOk done (finds_room w r.asked ≡ true))) → IsResponded made response → IsCarriedOut old new r response
+    → Tells old new (λ w. IfOk made (λ done. OnOk done (finds_room w r.asked ≡ true))) → IsResponded made response → IsCarriedOut IsResponse old new r response
 responds old new r (Ok (Ok text)) response d room is = rw is (record {
   answers = d.answers;
   moved = d.moved;

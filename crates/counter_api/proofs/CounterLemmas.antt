@@ -8,9 +8,9 @@ use Rattle.messages.specs.declared.serving.ServeFault.TheVariants.{Report}
 use Rattle.messages.specs.declared.serving.Served.{Served}
 use Rattle.store_rows.specs.Status.{Status}
 use Rattle.counter_api.specs.Answers.{CounterAnswers, CounterBreaks, IsBroken}
-use Rattle.requests.proofs.NoReport.{states_no_report}
-use Rattle.counter_api.specs.Exit.{IsServed, Place}
-use Rattle.counter_api.specs.Run.{IsAnswered}
+use Rattle.counter_api.specs.Exit.{IsServed}
+use Rattle.reports.specs.Report.{BeginsWith}
+use Rattle.counter_api.specs.Run.{IsAnswered, IsWhole}
 use Rattle.counter_api.specs.declared.counter.Counter.{Counter}
 use Rattle.counter_api.proofs.ExitLemmas.{exits}
 
@@ -36,11 +36,11 @@ module _ {S G C : Type 0} (status : S → Status) (users : G → List ℕ → Op
   still start old new before bank clock gate =
       record { bank = bank ∙ before.bank; clock = clock ∙ before.clock; same_users = ap (λ g. users g.now) gate ∙ before.same_users }
 
-  tells : (start old new : Counter S G C) (m : MessageParts) (out : List ℕ) → IsAsBefore start old → CounterAnswers status users may_give old m out new
-      → IsAsBefore start new × IsAnswered (users start.gate.now) may_give (status old.bank.now.store) (status new.bank.now.store) old.clock.now new.clock.now m out
-  tells start old new m out before says = (
+  tells : (how : List ℕ → List ℕ → Type 0) (start old new : Counter S G C) (m : MessageParts) (out : List ℕ) → IsAsBefore start old → CounterAnswers how status users may_give old m out new
+      → IsAsBefore start new × IsAnswered how (users start.gate.now) may_give (status old.bank.now.store) (status new.bank.now.store) old.clock.now new.clock.now m out
+  tells how start old new m out before says = (
     still start old new before says.same_bank says.same_clock says.same_gate,
-    subst (λ known. IsAnswered known may_give (status old.bank.now.store) (status new.bank.now.store) old.clock.now new.clock.now m out) before.same_users says.answered,
+    subst (λ known. IsAnswered how known may_give (status old.bank.now.store) (status new.bank.now.store) old.clock.now new.clock.now m out) before.same_users says.answered,
   )
 
   tells_broken : (start old new : Counter S G C) (m : MessageParts) (sent : List ℕ) → IsAsBefore start old → CounterBreaks status users may_give old m sent new
@@ -51,11 +51,12 @@ module _ {S G C : Type 0} (status : S → Status) (users : G → List ℕ → Op
   )
 
   pub counter_exits : (most : ℕ) (old new : Point (Counter S G C)) (r : Result Served ServeFault)
-      → IsExit (CounterAnswers status users may_give) (CounterAnswers status users may_give) (CounterBreaks status users may_give) most old new r
+      → IsExit (CounterAnswers IsWhole status users may_give) (CounterAnswers BeginsWith status users may_give) (CounterBreaks status users may_give) most old new r
       → IsServed status (users old.engine.gate.now) may_give most
       (record { left = old.left; written = old.written; store = old.engine.bank.now.store; clock = old.engine.clock.now })
       (record { left = new.left; written = new.written; store = new.engine.bank.now.store; clock = new.engine.clock.now }) r
       × IsAsBefore old.engine new.engine
   counter_exits most old new r exit =
-      exits (λ e. e.bank.now.store) (λ e. e.clock.now) status (users old.engine.gate.now) may_give (IsAsBefore old.engine) (CounterAnswers status users may_give) (tells old.engine)
+      exits (λ e. e.bank.now.store) (λ e. e.clock.now) status (users old.engine.gate.now) may_give (IsAsBefore old.engine) (CounterAnswers IsWhole status users may_give) (tells IsWhole old.engine)
+      (CounterAnswers BeginsWith status users may_give) (tells BeginsWith old.engine)
       (CounterBreaks status users may_give) (tells_broken old.engine) most old new r (as_before old.engine) exit

@@ -3,3 +3,7 @@ pub mod CounterLemmas
 pub mod ExitLemmas
 pub mod FramingLemmas
 pub mod RunLemmas
+pub mod Answering
+pub mod Handled
+pub mod Replies
+pub mod Reported

@@ -12,7 +12,7 @@ use Rattle.bank_run.proofs.LastWord.{last_word}
 use Rattle.bank_run.proofs.RunSums.{sums_always_agree}
 use Rattle.bank_run.specs.declared.request.Request.{Request}
 use Rattle.counter_api.specs.Response.{ResponseParts}
-use Rattle.counter_api.specs.Run.{AreOrderly, FindsRoom, IsHandled, IsPending, IsRun, MarkedMessage, after_message, failed_after, faults_of, framed, marked, marks_of, pending_after, reply_to, requests_of, stated_by, stopped_after}
+use Rattle.counter_api.specs.Run.{AreOrderly, FindsRoom, IsHandled, IsPending, IsRun, MarkedMessage, after_message, failed_after, faults_of, framed, marked, marks_of, pending_after, requests_of, stated_by, stopped_after}
 
 rose_then : (m n a b c : ℕ) → RoseBy m a b → RoseBy n b c → RoseBy (m + n) a c
 rose_then m n a b c (inl p) (inl q) = inl (omega arith)
@@ -67,8 +67,8 @@ more_pending users P Q w (m ∷ ms) within l may =
       | inr q ↦ inr q
     ]
 
-pub none_ran : (users : List ℕ → Option ℕ) (s : Status) → IsRun users s s [] []
-none_ran users s =
+pub none_ran : (how : List ℕ → List ℕ → Type 0) → how [] [] → (users : List ℕ → Option ℕ) (s : Status) → IsRun how users s s [] []
+none_ran how none users s =
     let proper : AreProper [] = All-nil (λ m. m.mark ≡ None → IsProper m.request) in
     record {
       honest = λ h. h;
@@ -78,7 +78,7 @@ none_ran users s =
       no_more = omega arith;
       failed = refl;
       moved = λ clean w held. held;
-      replied = λ clean w held. refl;
+      replied = λ clean w held. none;
       all_heard = λ clean w held. refl;
       leaves = λ clean w held left may. inr may;
       whole = λ clean w held before. before;
@@ -87,9 +87,11 @@ none_ran users s =
       last_word = λ w checks. last_word.0 w [] checks proper;
     }
 
-pub one_more : (users : List ℕ → Option ℕ) (old mid new : Status) (m : MarkedMessage) (ms : List MarkedMessage) (parts : ResponseParts) (out : List ℕ) → IsHandled users old mid m parts → IsRun users mid new ms out
-    → IsRun users old new (m ∷ ms) (framed m.message parts ++ out)
-one_more users old mid new m ms parts out here behind =
+-- one message in front of others, where what is said of its response and of the replies behind joins
+pub one_more : (how : List ℕ → List ℕ → Type 0) (users : List ℕ → Option ℕ) (old mid new : Status) (m : MarkedMessage) (ms : List MarkedMessage) (says : ResponseParts → Type 0) (later out : List ℕ)
+    → ((response : ResponseParts) (replies : List ℕ) → says response → how replies later → how (framed m.message response ++ replies) out)
+    → IsHandled users old mid m says → IsRun how users mid new ms later → IsRun how users old new (m ∷ ms) out
+one_more how users old mid new m ms says later out joined here behind =
     let proper = proper_in_front (stated_by users m) m.mark (requests_of users ms) here.proper behind.proper in
     record {
       honest = λ h. here.answers.honest (behind.honest h);
@@ -103,7 +105,7 @@ one_more users old mid new m ms parts out here behind =
           subst (λ v. new.holds v) (after_marked w (stated_by users m) m.mark (requests_of users ms)) (behind.moved clean _ (here.moved honest w held));
       replied = λ clean w held.
           let honest = behind.honest clean in
-          ap (λ p. framed m.message p ++ out) (here.replied honest w held) ∙ ap (λ o. reply_to users w m ++ o) (behind.replied clean _ (here.moved honest w held));
+          joined _ _ (here.replied honest w held) (behind.replied clean _ (here.moved honest w held));
       all_heard = λ clean w held.
           let honest = behind.honest clean in
           heard_in_front w (stated_by users m) m.mark (requests_of users ms) (here.room honest w held) (behind.all_heard clean _ (here.moved honest w held));

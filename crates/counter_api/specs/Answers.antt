@@ -1,23 +1,21 @@
 -- What a counter's answer to a message says.
-use Rattle.std.specs.Prelude.{◌≡◌, ℕ, List, ◌++◌, Option, Some, None, IsOkAnd}
+use Rattle.std.specs.Prelude.{◌≡◌, ℕ, List, Option, Some, None, IsOkAnd}
 use Rattle.money.specs.Counted.{CountsFailure}
 use Rattle.money.specs.declared.fault.Fault.{Fault}
 use Rattle.messages.specs.Parts.{MessageParts}
+use Rattle.reports.specs.Report.{BeginsWith}
 use Rattle.store_rows.specs.Status.{Keeps, Status, Tells}
 use Rattle.requests.specs.Request.{IsReport, request_of}
 use Rattle.counter_api.specs.Run.{IsAnswered, reply_to}
 use Rattle.counter_api.specs.declared.counter.Counter.{Counter}
 
--- The message was answered over its bank, at a moment of its clock; the bank, the clock and the gate are the same references.
-pub record CounterAnswers {S G C : Type 0} (status : S → Status) (users : G → List ℕ → Option ℕ) (may_give : C → ℕ → C → Type 0) (old : Counter S G C) (message : MessageParts) (out : List ℕ) (new : Counter S G C) : Type 0 where
-  pub answered : IsAnswered (users old.gate.now) may_give (status old.bank.now.store) (status new.bank.now.store) old.clock.now new.clock.now message out
+-- The message was answered over its bank, at a moment of its clock, and these bytes stand so to its reply; the bank, the clock and
+-- the gate are the same references.
+pub record CounterAnswers {S G C : Type 0} (how : List ℕ → List ℕ → Type 0) (status : S → Status) (users : G → List ℕ → Option ℕ) (may_give : C → ℕ → C → Type 0) (old : Counter S G C) (message : MessageParts) (out : List ℕ) (new : Counter S G C) : Type 0 where
+  pub answered : IsAnswered how (users old.gate.now) may_give (status old.bank.now.store) (status new.bank.now.store) old.clock.now new.clock.now message out
   pub same_bank : new.bank.ghost_name ≡ old.bank.ghost_name
   pub same_clock : new.clock.ghost_name ≡ old.clock.ghost_name
   pub same_gate : new.gate ≡ old.gate
-
--- the whole begins with these bytes
-abbrev pub BeginsWith : List ℕ → List ℕ → Type 0
-BeginsWith whole sent = (rest : List ℕ) × (whole ≡ sent ++ rest)
 
 -- The message bore a moment that the clock gave, and asks for a report; and a fault, which the store counted, kept its reply from being given whole: these bytes
 -- are a beginning of the reply, of each World that the store stood for. It stands for the same World.

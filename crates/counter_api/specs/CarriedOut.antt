@@ -1,22 +1,31 @@
 -- What a request that was decided, and carried out where it was allowed, makes of a store, and what is replied to it.
-use Rattle.std.specs.Prelude.{◌≡◌, ◌⊎◌, ℕ, IsNone, IsOkUnless, IsSome, Result, Ok, Err}
+use Rattle.std.specs.Prelude.{◌≡◌, ◌⊎◌, ℕ, List, IsNone, IsOkUnless, IsSome, Option, None, Some, Result, Ok, Err}
 use Rattle.std.specs.Global.{Vec}
+use Rattle.std.specs.Io.KnownBytes.{Appends}
 use Rattle.money.specs.declared.fault.Fault.{Fault}
 use Rattle.money.specs.declared.fault.Fault.TheVariants.{Memory}
+use Rattle.money.specs.declared.tallied.Tallied.{Tallied}
 use Rattle.bank_terms.specs.declared.rule.Rule.{Rule}
-use Rattle.store_rows.specs.Status.{Answers, StaysWhole, Status, Tells, mark_of}
-use Rattle.bank_run.specs.Meaning.{json}
+use Rattle.messages.specs.Parts.{MessageParts}
+use Rattle.store_rows.specs.Status.{Answers, Keeps, StaysWhole, Status, Tells, mark_of}
+use Rattle.bank_run.specs.Meaning.{ReplyText, json}
+use Rattle.bank_run.specs.Run.{reply}
 use Rattle.bank_run.specs.declared.request.Request.{Request}
 use Rattle.decide.specs.OneRequest.{LeavesBoth, Moves, Replies, Settles}
+use Rattle.reports.specs.Report.{BeginsWith}
 use Rattle.counter_api.specs.Response.{ResponseParts, denied_parts, done_parts}
-use Rattle.counter_api.specs.Run.{FindsRoom, IsResponse, RefusesRequest}
+use Rattle.counter_api.specs.Run.{FindsRoom, IsResponse, IsWhole, RefusesRequest, framed, told_parts}
+use Rattle.counter_api.specs.Sent.{CountsBySent}
+use Rattle.counter_api.specs.declared.counter.Outcome.{Outcome}
+use Rattle.counter_api.specs.declared.counter.Outcome.TheVariants as outcome
+use Rattle.counter_api.specs.declared.sent.Sent.TheVariants as sent
 
--- Of each World that the store stood for: it stands for the World after the request, and this is the reply to it; or a fault kept
--- the request from being made. A request of nobody is kept from its reply by want of memory alone.
-pub record IsCarriedOut (old new : Status) (request : Request) (result : Result ResponseParts Fault) : Type 0 where
+-- Of each World that the store stood for: it stands for the World after the request, and this is said of the reply to it; or a
+-- fault kept the request from being made. A request of nobody is kept from its reply by want of memory alone.
+pub record IsCarriedOut {A : Type 0} (says : Result ReplyText Rule → A → Type 0) (old new : Status) (request : Request) (result : Result A Fault) : Type 0 where
   pub answers : Answers old new (mark_of result)
   pub moved : Moves old new request (mark_of result)
-  pub replied : Replies old new request IsResponse result
+  pub replied : Replies old new request says result
   pub room : Tells old new (FindsRoom request (mark_of result))
   pub crash : LeavesBoth old new request
   pub whole : StaysWhole old new
@@ -29,3 +38,32 @@ abbrev pub IsResponded : Result (Result (Vec ℕ) Rule) Fault → Result Respons
 IsResponded (Ok (Ok text)) response = response ≡ Ok (done_parts (json text.items))
 IsResponded (Ok (Err rule)) response = (response ≡ Ok (denied_parts rule)) ⊎ (response ≡ Err Memory)
 IsResponded (Err fault) response = response ≡ Err fault
+
+-- ---- a report
+
+-- the bytes that went out stand so to the reply, framed as the message asks for it
+abbrev pub IsSent : (List ℕ → List ℕ → Type 0) → MessageParts → Result ReplyText Rule → List ℕ → Type 0
+IsSent how m reply bytes = how (framed m (told_parts reply)) bytes
+
+-- A fault broke the reply to a request off: what went out is a beginning of it, of each World that the store stood for. It stands
+-- for the same World.
+pub record BreaksOff (old new : Status) (r : Request) (m : MessageParts) (fault : Fault) (bytes : List ℕ) : Type 0 where
+  pub kept : Keeps old new (Some fault)
+  pub begun : Tells old new (λ w. BeginsWith (framed m (told_parts (reply w r))) bytes)
+
+-- A request was carried out, and its response is still to be written; or it is answered by a report, and so much of that went out.
+abbrev pub IsCarried : Status → Status → Option (List ℕ) → Option (List ℕ) → MessageParts → Request → Result Outcome Fault → Type 0
+IsCarried old new before after m r (Err fault) = IsCarriedOut IsResponse old new r (Err fault)
+IsCarried old new before after m r (Ok (outcome.Told response)) = IsCarriedOut IsResponse old new r (Ok response)
+IsCarried old new before after m r (Ok (outcome.Report sent.Whole)) =
+    (bytes : List ℕ) × Appends before after bytes × IsCarriedOut (IsSent IsWhole m) old new r (Ok bytes)
+IsCarried old new before after m r (Ok (outcome.Report sent.Stopped)) =
+    (bytes : List ℕ) × Appends before after bytes × IsCarriedOut (IsSent BeginsWith m) old new r (Ok bytes)
+IsCarried old new before after m r (Ok (outcome.Report (sent.Broken fault))) =
+    (bytes : List ℕ) × Appends before after bytes × BreaksOff old new r m fault bytes
+
+-- nothing was written but a report, and the writer counted what that says
+abbrev pub KeepsWriter : {W : Type 0} → Tallied W → Tallied W → Result Outcome Fault → Type 0
+KeepsWriter old new (Err fault) = new ≡ old
+KeepsWriter old new (Ok (outcome.Told response)) = new ≡ old
+KeepsWriter old new (Ok (outcome.Report how)) = CountsBySent old new how

@@ -11,8 +11,9 @@ use Rattle.messages.specs.declared.serving.ServeFault.{ServeFault}
 use Rattle.messages.specs.declared.serving.ServeFault.TheVariants.{Cut, Memory, Read, Report, Write}
 use Rattle.messages.specs.declared.serving.Served.{Served}
 use Rattle.store_rows.specs.Status.{Status, Tells}
+use Rattle.reports.specs.Report.{BeginsWith}
 use Rattle.counter_api.specs.Answers.{IsBroken}
-use Rattle.counter_api.specs.Run.{IsRun, MarkedMessage, replies_to}
+use Rattle.counter_api.specs.Run.{IsRun, IsWhole, MarkedMessage, replies_to}
 
 -- a counter at one point, as its caller sees it: what its reader has left, what its writer has, its store and its clock
 pub record Place (S C : Type 0) : Type 0 where
@@ -28,23 +29,23 @@ module _ {S C : Type 0} (status : S → Status) (users : List ℕ → Option ℕ
   Gives from (m ∷ ms) to = (mid : C) × may_give from m.moment mid × Gives mid ms to
 
   -- The bytes that were read are these messages, one after another, and a rest. Each message bore a moment of the clock, and a
-  -- mark, and out are the replies to them.
-  pub record Serves (old new : Place S C) (messages : List WholeMessage) (rest : List ℕ) (run : List MarkedMessage) (out : List ℕ) : Type 0 where
+  -- mark, and out stands so to the replies to them.
+  pub record Serves (how : List ℕ → List ℕ → Type 0) (old new : Place S C) (messages : List WholeMessage) (rest : List ℕ) (run : List MarkedMessage) (out : List ℕ) : Type 0 where
     pub bytes : List ℕ
     pub taken : Consumes old.left new.left bytes
     pub splits : Splits bytes messages rest
     pub marked : map (λ m. m.message) run ≡ map message_parts messages
     pub given : Gives old.clock run new.clock
-    pub ran : IsRun users (status old.store) (status new.store) run out
+    pub ran : IsRun how users (status old.store) (status new.store) run out
     pub bounded : length rest ≤ max_message_len
 
   -- the reply to the last of the messages stopped: all those before it were written, and a beginning of it
   abbrev pub StopsInReply : ℕ → Place S C → Place S C → Type 0
   StopsInReply most old new =
-      (before : List WholeMessage) × (last : WholeMessage) × (rest : List ℕ) × (run : List MarkedMessage) × (marked : MarkedMessage) × (replies : List ℕ) × (reply : List ℕ)
-      × Serves old new (before ++ last ∷ []) rest (run ++ marked ∷ []) (replies ++ reply)
+      (before : List WholeMessage) × (last : WholeMessage) × (rest : List ℕ) × (run : List MarkedMessage) × (marked : MarkedMessage) × (replies : List ℕ) × (sent : List ℕ)
+      × Serves BeginsWith old new (before ++ last ∷ []) rest (run ++ marked ∷ []) (replies ++ sent)
       × GoesOn most before × Tells (status old.store) (status new.store) (λ w. replies ≡ replies_to users w run)
-      × StopsWithin old.written new.written replies reply
+      × Appends old.written new.written (replies ++ sent)
 
   -- The bytes that were read are these messages, and one more that was handed on last, and a rest. Those before it ran, and left
   -- the store and the clock here, and replies are those to them. From here on the reply to the last one broke, behind sent.
@@ -56,7 +57,7 @@ module _ {S C : Type 0} (status : S → Status) (users : List ℕ → Option ℕ
     pub store : S
     pub clock : C
     pub given : Gives old.clock run clock
-    pub ran : IsRun users (status old.store) (status store) run replies
+    pub ran : IsRun IsWhole users (status old.store) (status store) run replies
     pub broken : IsBroken users may_give (status store) (status new.store) clock new.clock (message_parts last) sent
     pub bounded : length rest ≤ max_message_len
 
@@ -64,7 +65,7 @@ module _ {S C : Type 0} (status : S → Status) (users : List ℕ → Option ℕ
   abbrev pub StopsInRefusal : ℕ → Place S C → Place S C → Type 0
   StopsInRefusal most old new =
       (ms : List WholeMessage) × (rest : List ℕ) × (run : List MarkedMessage) × (out : List ℕ) × (reply : List ℕ)
-      × Serves old new ms rest run out × GoesOn most ms × IsRefusal rest reply × StopsWithin old.written new.written out reply
+      × Serves IsWhole old new ms rest run out × GoesOn most ms × IsRefusal rest reply × StopsWithin old.written new.written out reply
 
   -- The table of exits. Ok: the replies to the messages counted were written; no further reply is due, or what follows begins no
   -- message and was refused. Read, Cut: the replies to the whole messages before. Write: the replies before the one whose write failed,
@@ -72,14 +73,14 @@ module _ {S C : Type 0} (status : S → Status) (users : List ℕ → Option ℕ
   -- nothing. Memory: nothing was read, done or written.
   abbrev pub IsServed : ℕ → Place S C → Place S C → Result Served ServeFault → Type 0
   IsServed most old new (Ok s) =
-      (ms : List WholeMessage) × (rest : List ℕ) × (run : List MarkedMessage) × (out : List ℕ) × Serves old new ms rest run out
+      (ms : List WholeMessage) × (rest : List ℕ) × (run : List MarkedMessage) × (out : List ℕ) × Serves IsWhole old new ms rest run out
       × (((s.messages ≡ length ms) × Ends most ms rest new.left × Appends old.written new.written out)
       ⊎ ((s.messages ≡ length ms + 1) × GoesOn most ms × (reply : List ℕ) × IsRefusal rest reply × Appends old.written new.written (out ++ reply)))
   IsServed most old new (Err Read) =
-      (ms : List WholeMessage) × (rest : List ℕ) × (run : List MarkedMessage) × (out : List ℕ) × Serves old new ms rest run out
+      (ms : List WholeMessage) × (rest : List ℕ) × (run : List MarkedMessage) × (out : List ℕ) × Serves IsWhole old new ms rest run out
       × GoesOn most ms × IsPartial rest × Appends old.written new.written out
   IsServed most old new (Err Cut) =
-      (ms : List WholeMessage) × (rest : List ℕ) × (run : List MarkedMessage) × (out : List ℕ) × Serves old new ms rest run out
+      (ms : List WholeMessage) × (rest : List ℕ) × (run : List MarkedMessage) × (out : List ℕ) × Serves IsWhole old new ms rest run out
       × GoesOn most ms × IsPartial rest × ¬ (AreLineEnds rest) × IsAtEnd new.left × Appends old.written new.written out
   IsServed most old new (Err Write) = StopsInReply most old new ⊎ StopsInRefusal most old new
   IsServed most old new (Err Report) =

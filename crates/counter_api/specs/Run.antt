@@ -42,6 +42,10 @@ response_to w stated (Some fault) = faulted_parts fault
 response_to w (Ok r) None = told_parts (reply w r)
 response_to w (Err fault) None = refused_parts fault
 
+-- the bytes that went out are the whole of what was to go out
+abbrev pub IsWhole : List ℕ → List ℕ → Type 0
+IsWhole whole out = out ≡ whole
+
 -- its bytes, framed as the message asks for it
 abbrev pub framed : MessageParts → ResponseParts → List ℕ
 framed m parts = reply_bytes parts.status parts.content_type parts.body (closes m.head) (asks_head m.head)
@@ -89,14 +93,14 @@ module _ (users : List ℕ → Option ℕ) where
   replies_to w [] = []
   replies_to w (m ∷ ms) = reply_to w m ++ replies_to (after_message w m) ms
 
-  -- What one message makes of a store, and what it is answered, of each World that the store stood for. A request that is made is proper.
-  pub record IsHandled (old new : Status) (m : MarkedMessage) (parts : ResponseParts) : Type 0 where
+  -- What one message makes of a store, and what is said of its answer, of each World that the store stood for. A request that is made is proper.
+  pub record IsHandled (old new : Status) (m : MarkedMessage) (says : ResponseParts → Type 0) : Type 0 where
     pub bears : MayBear (stated_by m) m.mark
     pub proper : m.mark ≡ None → IfOk (stated_by m) IsProper
     pub answers : Answers old new m.mark
     pub refused : IfOk (stated_by m) (λ r. IsSome r.who.user → RefusesRequest old.is_stopped m.mark)
     pub moved : Tells old new (λ w. new.holds (after_message w m))
-    pub replied : Tells old new (λ w. parts ≡ response_to w (stated_by m) m.mark)
+    pub replied : Tells old new (λ w. says (response_to w (stated_by m) m.mark))
     pub room : Tells old new (λ w. IfOk (stated_by m) (λ r. FindsRoom r m.mark w))
     pub leaves : Tells old new (λ w. (left : WorldLists) → new.may_leave left → (left ≡ after_message w m) ⊎ pending_after old.may_leave w (stated_by m) m.mark left)
     pub whole : StaysWhole old new
@@ -134,8 +138,8 @@ failed_after [] count = count
 failed_after (m ∷ ms) count = failed_after ms (failures_after m.mark count)
 
 -- What messages and the bytes of their replies make of a store, of each World that it stood for: it stands for the World
--- after their requests, and the bytes are the replies to them.
-pub record IsRun (users : List ℕ → Option ℕ) (old new : Status) (ms : List MarkedMessage) (out : List ℕ) : Type 0 where
+-- after their requests, and the bytes stand so to the replies to them.
+pub record IsRun (how : List ℕ → List ℕ → Type 0) (users : List ℕ → Option ℕ) (old new : Status) (ms : List MarkedMessage) (out : List ℕ) : Type 0 where
   pub honest : new.is_honest → old.is_honest
   pub state : new.is_stopped ≡ stopped_after ms old.is_stopped
   pub orderly : AreOrderly users ms old.is_stopped
@@ -143,7 +147,7 @@ pub record IsRun (users : List ℕ → Option ℕ) (old new : Status) (ms : List
   pub no_more : new.fault_count ≤ old.fault_count + marks_of ms
   pub failed : new.failure_count ≡ failed_after ms old.failure_count
   pub moved : Tells old new (λ w. new.holds (world_after w (requests_of users ms)))
-  pub replied : Tells old new (λ w. out ≡ replies_to users w ms)
+  pub replied : Tells old new (λ w. how (replies_to users w ms) out)
   -- each command that is accepted has its word: none is told of that changed nothing
   pub all_heard : Tells old new (λ w. heard w (requests_of users ms) ≡ accepted w (requests_of users ms))
   -- A crash leaves the World that stands, or one that is pending: no change that was carried out is undone.
@@ -156,16 +160,9 @@ pub record IsRun (users : List ℕ → Option ℕ) (old new : Status) (ms : List
   pub agrees : (w : WorldLists) → PassesChecks w → SumsAgree w (requests_of users ms)
   pub last_word : (w : WorldLists) → PassesChecks w → HasLastWord w (requests_of users ms)
 
--- what a message is answered, or the fault that it is answered with
-abbrev pub parts_or_fault : Result ResponseParts Fault → ResponseParts
-parts_or_fault (Ok parts) = parts
-parts_or_fault (Err fault) = faulted_parts fault
-
--- The message bore a moment that the clock gave, and a mark, and this is its reply.
-pub record IsAnswered {C : Type 0} (users : List ℕ → Option ℕ) (may_give : C → ℕ → C → Type 0) (old new : Status) (from to : C) (message : MessageParts) (out : List ℕ) : Type 0 where
+-- The message bore a moment that the clock gave, and a mark, and these bytes stand so to its reply.
+pub record IsAnswered {C : Type 0} (how : List ℕ → List ℕ → Type 0) (users : List ℕ → Option ℕ) (may_give : C → ℕ → C → Type 0) (old new : Status) (from to : C) (message : MessageParts) (out : List ℕ) : Type 0 where
   pub moment : ℕ
   pub mark : Option Fault
-  pub parts : ResponseParts
   pub given : may_give from moment to
-  pub handled : IsHandled users old new (record { message = message; moment = moment; mark = mark }) parts
-  pub framing : out ≡ framed message parts
+  pub handled : IsHandled users old new (record { message = message; moment = moment; mark = mark }) (λ response. how (framed message response) out)

@@ -4,16 +4,17 @@ ghost use Rattle.std.specs.Io.KnownBytes.{Appends};
 ghost use Rattle.money.specs.Counted.{AppendsBeginning, stream_of};
 ghost use Rattle.bank_run.specs.Sums.{IsProper};
 ghost use Rattle.messages.specs.Failures.{CountsByCall};
-ghost use Rattle.store_rows.specs.Status.{mark_of};
 ghost use Rattle.requests.specs.Request.{IsServedAsked};
-ghost use Rattle.counter_api.specs.CarriedOut.{IsCarriedOut, IsResponded};
-ghost use Rattle.counter_api.specs.Run.{IsHandled, framed, parts_or_fault};
+ghost use Rattle.counter_api.specs.CarriedOut.{IsCarried, IsCarriedOut, IsResponded, KeepsWriter};
+ghost use Rattle.counter_api.specs.Handled.{IsDone, as_outcome};
+ghost use Rattle.counter_api.specs.Run.{IsResponse, framed};
 
 use crate::clock::Clock;
 use crate::response::Response;
+use crate::sent::{Sent, streamed};
 use decide::{
-    Asked, Decision, Op, PolicyOp, Reply, Request, Rule, Who, begin, carry_out, decide,
-    decide_policy, end,
+    Asked, Decision, Listed, Op, PolicyOp, Reply, Request, Rule, Who, begin, carry_out, decide,
+    decide_policy, end, list_policy,
 };
 use messages::{AnswerFault, Engine, Message};
 use money::{Fault, Tallied, WriteStopped};
@@ -33,45 +34,92 @@ pub(crate) struct Counter<'b, 'g, 'c, 'r, S, G, C> {
     pub(crate) routes: &'r Routes,
 }
 
-/// Decides a request, and carries it out where it is allowed: the reply to it, or the fault that
-/// kept it from being made.
-fn carried_out<S: Store>(
+/// What a request came to.
+enum Outcome {
+    /// A response, which is still to be written.
+    Told(Response),
+    /// A report, and how far its reply went out.
+    Report(Sent),
+}
+
+/// Decides a request, and carries it out where it is allowed: the reply to it, which is still to be
+/// written, but for a report; or the fault that kept it from being made.
+fn carried_out<S: Store, W: Write>(
     bank: &mut Bank<S>,
     alloc: Global,
     request: Request,
-) -> Result<Response, Fault>
+    message: &Message<'_>,
+    writer: &mut Tallied<W>,
+) -> Result<Outcome, Fault>
     requires served { IsServedAsked request.asked }
     requires proper { IsProper request }
-    ensures { IsCarriedOut (S.status bank.old.store) (S.status bank.new.store) request result }
+    ensures carried { IsCarried (S.status bank.old.store) (S.status bank.new.store) (W.contents (stream_of writer.old)) (W.contents (stream_of writer.new)) message.now request result }
+    ensures writer { KeepsWriter writer.old writer.new result }
 {
     let Request { who, moment, asked } = request;
     match asked {
-        Asked::Operation(op) => operation_done(bank, alloc, who, moment, &op),
-        Asked::Opening => session_opened(bank, alloc, who, moment),
-        Asked::Ending => session_ended(bank, alloc, who, moment),
-        Asked::Command(command) => command_done(bank, alloc, who, moment, command),
-        Asked::Listing => unreachable!(),
+        Asked::Operation(op) => operation_done(bank, alloc, who, moment, &op, message, writer),
+        Asked::Opening => to_tell(session_opened(bank, alloc, who, moment)),
+        Asked::Ending => to_tell(session_ended(bank, alloc, who, moment)),
+        Asked::Command(command) => to_tell(command_done(bank, alloc, who, moment, command)),
+        Asked::Listing => policy_listed(bank, alloc, who, moment, message, writer),
+    }
+}
+
+/// A response as what a request came to.
+fn to_tell(response: Result<Response, Fault>) -> Result<Outcome, Fault>
+    ensures { result ≡ as_outcome response }
+{
+    match response {
+        Ok(response) => Ok(Outcome::Told(response)),
+        Err(fault) => Err(fault),
     }
 }
 
 /// Decides an operation, and carries it out where it is allowed.
-fn operation_done<S: Store>(
+fn operation_done<S: Store, W: Write>(
     bank: &mut Bank<S>,
     alloc: Global,
     who: Who,
     moment: u64,
     op: &Op,
-) -> Result<Response, Fault>
+    message: &Message<'_>,
+    writer: &mut Tallied<W>,
+) -> Result<Outcome, Fault>
     requires served { IsServedAsked (Asked.Operation op.now) }
     requires proper { IsProper (record { who = who; moment = moment; asked = Asked.Operation op.now }) }
-    ensures { IsCarriedOut (S.status bank.old.store) (S.status bank.new.store) (record { who = who; moment = moment; asked = Asked.Operation op.now }) result }
+    ensures carried { IsCarried (S.status bank.old.store) (S.status bank.new.store) (W.contents (stream_of writer.old)) (W.contents (stream_of writer.new)) message.now (record { who = who; moment = moment; asked = Asked.Operation op.now }) result }
+    ensures writer { KeepsWriter writer.old writer.new result }
 {
     match decide(bank, alloc, who, moment, op) {
-        Ok(Decision::Denied(denial)) => Ok(Response::denied(alloc, denial.rule())?),
+        Ok(Decision::Denied(denial)) => Ok(Outcome::Told(Response::denied(alloc, denial.rule())?)),
         Ok(Decision::Allowed(permit)) => match carry_out(permit) {
-            Ok(Reply::Done(done)) => Ok(Response::done(done.into_body())),
+            Ok(Reply::Done(done)) => Ok(Outcome::Told(Response::done(done.into_body()))),
+            Ok(Reply::Report(report)) => Ok(Outcome::Report(streamed(report, message, writer))),
             Err(fault) => Err(fault),
         },
+        Err(fault) => Err(fault),
+    }
+}
+
+/// Lists the policy to who asks, or tells the rule against that. The moment is not looked at.
+fn policy_listed<S: Store, W: Write>(
+    bank: &mut Bank<S>,
+    alloc: Global,
+    who: Who,
+    moment: u64,
+    message: &Message<'_>,
+    writer: &mut Tallied<W>,
+) -> Result<Outcome, Fault>
+    ensures carried { IsCarried (S.status bank.old.store) (S.status bank.new.store) (W.contents (stream_of writer.old)) (W.contents (stream_of writer.new)) message.now (record { who = who; moment = moment; asked = Asked.Listing }) result }
+    ensures writer { KeepsWriter writer.old writer.new result }
+{
+    match list_policy(bank, alloc, who) {
+        Ok(Listed::Denied(denial)) => match Response::denied(alloc, denial.rule()) {
+            Ok(response) => Ok(Outcome::Told(response)),
+            Err(_) => Err(Fault::Memory),
+        },
+        Ok(Listed::Report(report)) => Ok(Outcome::Report(streamed(report, message, writer))),
         Err(fault) => Err(fault),
     }
 }
@@ -93,7 +141,7 @@ fn session_opened<S: Store>(
     who: Who,
     moment: u64,
 ) -> Result<Response, Fault>
-    ensures { IsCarriedOut (S.status bank.old.store) (S.status bank.new.store) (record { who = who; moment = moment; asked = Asked.Opening }) result }
+    ensures { IsCarriedOut IsResponse (S.status bank.old.store) (S.status bank.new.store) (record { who = who; moment = moment; asked = Asked.Opening }) result }
 {
     responded(alloc, begin(bank, alloc, who.user))
 }
@@ -105,7 +153,7 @@ fn session_ended<S: Store>(
     who: Who,
     moment: u64,
 ) -> Result<Response, Fault>
-    ensures { IsCarriedOut (S.status bank.old.store) (S.status bank.new.store) (record { who = who; moment = moment; asked = Asked.Ending }) result }
+    ensures { IsCarriedOut IsResponse (S.status bank.old.store) (S.status bank.new.store) (record { who = who; moment = moment; asked = Asked.Ending }) result }
 {
     responded(alloc, end(bank, alloc, who))
 }
@@ -119,40 +167,33 @@ fn command_done<S: Store>(
     command: PolicyOp,
 ) -> Result<Response, Fault>
     requires { IsProper (record { who = who; moment = moment; asked = Asked.Command command }) }
-    ensures { IsCarriedOut (S.status bank.old.store) (S.status bank.new.store) (record { who = who; moment = moment; asked = Asked.Command command }) result }
+    ensures { IsCarriedOut IsResponse (S.status bank.old.store) (S.status bank.new.store) (record { who = who; moment = moment; asked = Asked.Command command }) result }
 {
     responded(alloc, decide_policy(bank, alloc, who, command))
 }
 
-/// Does what a message asks for at a moment: the reply to it, or the fault that kept it from one.
-fn handled<S: Store, G: Gate>(
+/// Does what a message asks for at a moment: the reply to it, which is still to be written, but for a report;
+/// or the fault that kept it from one.
+fn handled<S: Store, G: Gate, W: Write>(
     bank: &mut Bank<S>,
     alloc: Global,
     routes: &Routes,
     gate: &G,
     message: &Message<'_>,
     moment: u64,
-) -> Result<Response, Fault>
+    writer: &mut Tallied<W>,
+) -> Result<Outcome, Fault>
     requires { moment ≤ max_moment }
-    ensures { IsHandled (G.users gate.now) (S.status bank.old.store) (S.status bank.new.store) (record { message = message.now; moment = moment; mark = mark_of result }) (parts_or_fault result) }
+    ensures done { IsDone (G.users gate.now) (S.status bank.old.store) (S.status bank.new.store) (W.contents (stream_of writer.old)) (W.contents (stream_of writer.new)) message.now moment result }
+    ensures writer { KeepsWriter writer.old writer.new result }
 {
     let stated = match stated_request(alloc, routes, gate, message, moment) {
         Ok(stated) => stated,
         Err(fault) => return Err(fault),
     };
     match stated {
-        Ok(request) => carried_out(bank, alloc, request),
-        Err(fault) => Ok(Response::refused(fault)),
-    }
-}
-
-/// The response to a message, also to one that a fault is replied to.
-fn response_of(outcome: Result<Response, Fault>) -> Response
-    ensures { result ≡ parts_or_fault outcome }
-{
-    match outcome {
-        Ok(response) => response,
-        Err(fault) => Response::faulted(fault),
+        Ok(request) => carried_out(bank, alloc, request, message, writer),
+        Err(fault) => Ok(Outcome::Told(Response::refused(fault))),
     }
 }
 
@@ -176,13 +217,15 @@ fn write_response<W: Write>(
 
 impl<'b, 'g, 'c, 'r, S: Store, G: Gate, C: Clock> Engine for Counter<'b, 'g, 'c, 'r, S, G, C> {
     ghost use Rattle.counter_api.specs.Answers.{CounterAnswers, CounterBreaks};
+    ghost use Rattle.counter_api.specs.Run.{IsWhole};
+    ghost use Rattle.reports.specs.Report.{BeginsWith};
 
-    ghost answers = { CounterAnswers S.status G.users C.may_give };
+    ghost answers = { CounterAnswers IsWhole S.status G.users C.may_give };
 
-    // Each reply is whole before it is written.
-    ghost stops = { CounterAnswers S.status G.users C.may_give };
+    // A report is written row by row, and may stop within its text.
+    ghost stops = { CounterAnswers BeginsWith S.status G.users C.may_give };
 
-    // No reply is a report yet, so none breaks.
+    // A report alone breaks.
     ghost breaks = { CounterBreaks S.status G.users C.may_give };
 
     fn answer<W: Write>(
@@ -198,11 +241,23 @@ impl<'b, 'g, 'c, 'r, S: Store, G: Gate, C: Clock> Engine for Counter<'b, 'g, 'c,
             self.gate,
             message,
             moment,
+            writer,
         );
-        let response = response_of(outcome);
-        match write_response(message, &response, writer) {
-            Ok(()) => Ok(()),
-            Err(_) => Err(AnswerFault::Write),
+        match outcome {
+            Ok(Outcome::Told(response)) => match write_response(message, &response, writer) {
+                Ok(()) => Ok(()),
+                Err(_) => Err(AnswerFault::Write),
+            },
+            Ok(Outcome::Report(Sent::Whole)) => Ok(()),
+            Ok(Outcome::Report(Sent::Stopped)) => Err(AnswerFault::Write),
+            Ok(Outcome::Report(Sent::Broken(_))) => Err(AnswerFault::Report),
+            Err(fault) => {
+                let response = Response::faulted(fault);
+                match write_response(message, &response, writer) {
+                    Ok(()) => Ok(()),
+                    Err(_) => Err(AnswerFault::Write),
+                }
+            }
         }
     }
 }

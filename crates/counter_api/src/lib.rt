@@ -7,6 +7,7 @@
 mod clock;
 mod counter;
 mod response;
+mod sent;
 mod service;
 
 pub use clock::Clock;

@@ -1,18 +1,31 @@
 -- What the policy and the books say of an operation, joined.
-use Rattle.std.proofs.Common.{◌≡◌, Some, Ok, ap, sym, ◌∙◌}
+use Rattle.std.proofs.Common.{◌≡◌, ℕ, ◌&&◌, ◌||◌, Bool, true, false, List, [], ◌∷◌, Some, None, Ok, ap, sym, ◌∙◌, refl, inl, inr, arith}
+use Rattle.std.specs.Prelude.{if◌then◌else◌}
+use Rattle.std.proofs.lemmas.Bool.{le-leb, not-false}
 use Rattle.std.specs.Global.{Vec}
 use Rattle.bank_terms.specs.declared.rule.Rule.{Rule}
+use Rattle.bank_terms.specs.declared.rule.Rule.TheVariants as rule
+use Rattle.bank_terms.specs.declared.item.Cdi.{Cdi}
+use Rattle.bank_policy.specs.HeldRows.{HeldTriple}
+use Rattle.bank_policy.specs.Tests.{holds, is_held, is_held_for}
+use Rattle.counter_ops.specs.declared.op.Op.{Op}
+use Rattle.counter_ops.specs.declared.op.Op.TheVariants as op
+use Rattle.touched.specs.Touched.{amount}
+use Rattle.reports.specs.declared.contents.Contents.{Contents}
 use Rattle.bank_books.specs.Effects.{applied}
 use Rattle.bank_books.specs.WorldLists.{WorldLists}
 use Rattle.bank_books.specs.declared.row_write.RowWrite.{RowWrite}
 use Rattle.bank_run.specs.Executions.{books_meaning}
-use Rattle.op_plans.specs.Judged.{IsPrepared}
+use Rattle.op_plans.specs.Judged.{IsPrepared, IsReported}
 use Rattle.bank_run.specs.Meaning.{by_books}
-use Rattle.bank_run.specs.PolicyRules.{asker, grounds, leave_by_policy, used_by}
+use Rattle.bank_run.specs.Operations.{is_report}
+use Rattle.bank_run.specs.PolicyRules.{asker, first_of_policy, grounds, leave_by_policy, leave_of, policy_denies, rules_of_policy, used_by}
 use Rattle.bank_run.specs.Requests.{executes, first, verdict}
 use Rattle.bank_run.specs.declared.execution.Execution.{Execution}
 use Rattle.bank_run.specs.declared.leave.Leave.{Leave}
+use Rattle.bank_run.specs.declared.leave.Leave.TheVariants as leave
 use Rattle.op_plans.specs.declared.prepared.Prepared.{Prepared}
+use Rattle.bank_run.proofs.FirstRule.{none}
 use Rattle.bank_run.proofs.PolicyLemmas.{books_decide, leave_given}
 
 -- where the policy gives leave, what the books say is all that is said
@@ -28,4 +41,47 @@ prepared w x l p plan leave books takes =
       allowed = books_decide w x given.0 ∙ books.allowed;
       plan = takes ∙ ap (λ v. used_by l (asker x.who) v) books.plan ∙ ap (λ given. used_by given (asker x.who) (books_meaning w x).effect) (sym given.1);
       reply = books.reply;
+    }
+
+-- ---- a report comes to no amount, so a triple that holds what it touches reaches that
+
+no_amount : (o : Op) → is_report o ≡ true → amount o ≡ 0
+no_amount (op.Post o) is = cc
+no_amount (op.Transfer o) is = cc
+no_amount (op.Correct o) is = cc
+no_amount (op.DrawerOn o) is = cc
+no_amount (op.DrawerOff o) is = cc
+no_amount (op.MoveCash o) is = cc
+no_amount (op.NewAccount o) is = cc
+no_amount (op.Release o) is = cc
+no_amount (op.Balance o) is = cc
+no_amount (op.Statement o) is = refl
+no_amount (op.Accounts o) is = refl
+no_amount (op.Proof o) is = refl
+no_amount (op.CloseDay o) is = cc
+
+and_true : (b : Bool) → (b && true) ≡ b
+and_true true = refl
+and_true false = refl
+
+held_for_none : (rows : List HeldTriple) (items : List Cdi) → is_held_for rows items 0 ≡ is_held rows items
+held_for_none [] items = refl
+held_for_none (r ∷ rs) items = ap (λ b. b || is_held_for rs items 0) (ap (λ b. holds r.members items && b) (le-leb 0 r.triple.limit (omega arith)) ∙ and_true (holds r.members items)) ∙ ap (λ b. holds r.members items || b) (held_for_none rs items)
+
+by_triple : (w : WorldLists) (x : Execution) → is_report x.op ≡ true → first_of_policy (grounds w x) ≡ None → leave_of (grounds w x) ≡ leave.Triple
+by_triple w x report passes =
+    let held : is_held (grounds w x).held (grounds w x).items ≡ true = not-false _ (none (λ r. policy_denies r (grounds w x)) rules_of_policy rule.NoTriple (inr (inr (inl refl))) passes) in
+    ap (λ b. if b then leave.Triple else leave.Release x.who.release)
+    (ap (is_held_for (grounds w x).held (grounds w x).items) (no_amount x.op report) ∙ held_for_none (grounds w x).held (grounds w x).items ∙ held)
+
+-- where the policy gives leave, a report of the books is one of all
+pub reported : (w : WorldLists) (x : Execution) (l : Leave) (c : Contents) → is_report x.op ≡ true → leave_by_policy (grounds w x) ≡ Ok l → IsReported w (by_books (books_meaning w x)) c
+    → IsReported w (verdict (executes x) w) c
+reported w x l c report leave books =
+    let given = leave_given (grounds w x) l leave in
+    record {
+      allowed = books_decide w x given.0 ∙ books.allowed;
+      same = ap (λ by. used_by by (asker x.who) (books_meaning w x).effect) (by_triple w x report given.0) ∙ books.same;
+      reply = books.reply;
+      counted = books.counted;
     }

@@ -42,7 +42,7 @@ IsLoadedOperation w x (loaded.Operation l) = IsLoadedFor w x l
 IsLoadedOperation w x (loaded.Session row) = ⊥
 IsLoadedOperation w x (loaded.Command l) = ⊥
 
--- by which a session is judged: the row of who asks
+-- by which a session, or the listing, is judged: the row of who asks
 abbrev pub IsLoadedSession : WorldLists → Who → Loaded → Type 0
 IsLoadedSession w who (loaded.Operation l) = ⊥
 IsLoadedSession w who (loaded.Session row) = row ≡ standing_of_asker who w
@@ -54,13 +54,13 @@ IsLoadedCommand w who command (loaded.Operation l) = ⊥
 IsLoadedCommand w who command (loaded.Session row) = ⊥
 IsLoadedCommand w who command (loaded.Command l) = IsLoadedForCommand w who command l
 
--- by which a request is judged; the listing has none yet
+-- by which a request is judged
 abbrev pub IsLoadedOf : WorldLists → Asked → Who → ℕ → Loaded → Type 0
 IsLoadedOf w (asked.Operation op) who moment l = IsLoadedOperation w (record { who = who; moment = moment; op = op }) l
 IsLoadedOf w asked.Opening who moment l = IsLoadedSession w who l
 IsLoadedOf w asked.Ending who moment l = IsLoadedSession w who l
 IsLoadedOf w (asked.Command command) who moment l = IsLoadedCommand w who command l
-IsLoadedOf w asked.Listing who moment l = ⊥
+IsLoadedOf w asked.Listing who moment l = IsLoadedSession w who l
 
 abbrev pub IsLoaded : WorldLists → Request → Loaded → Type 0
 IsLoaded w q l = IsLoadedOf w q.asked q.who q.moment l

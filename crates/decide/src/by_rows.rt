@@ -5,6 +5,7 @@ ghost use Rattle.bank_run.specs.PolicyRules.{first_of_policy};
 ghost use Rattle.bank_run.specs.Requests.{executes, first};
 
 use crate::commands::rule_against_asked;
+use crate::listing::rule_against_listing;
 use crate::named_release::{NamedRelease, is_released};
 use crate::policy_rules::{is_certified_for, is_identified, leave_by_triples};
 use crate::sessions::{rule_against_ending, rule_against_opening};
@@ -51,7 +52,7 @@ pub struct CommandGrounds {
 pub enum Loaded {
     /// Of an operation.
     Operation(OperationRows),
-    /// Of the opening or the ending of a session: what the row of the user who asks says of whether
+    /// Of the opening or the ending of a session, or of the listing: what the row of the user who asks says of whether
     /// he may, or none where he isn't there.
     Session(Option<Standing>),
     /// Of a command of the policy.
@@ -75,6 +76,9 @@ pub fn first_rule(rows: &Loaded, request: &Request) -> Option<Rule>
         (Loaded::Session(standing), Asked::Opening) => rule_against_opening(*standing),
         (Loaded::Session(standing), Asked::Ending) => {
             rule_against_ending(*standing, request.who.session)
+        }
+        (Loaded::Session(standing), Asked::Listing) => {
+            rule_against_listing(*standing, request.who.session)
         }
         (Loaded::Command(grounds), Asked::Command(command)) => {
             rule_against_asked(grounds, request.who, command)

@@ -5,7 +5,7 @@ ghost use Rattle.bank_books.specs.WorldLists.{WorldLists};
 ghost use Rattle.counter_ops.specs.Op.{procedure_of};
 ghost use Rattle.counter_ops.specs.Operations.{IsOp};
 ghost use Rattle.store_rows.specs.Status.{Reads};
-ghost use Rattle.op_plans.specs.Judged.{IsJudged};
+ghost use Rattle.op_plans.specs.Judged.{IsReady};
 ghost use Rattle.bank_run.specs.Operations.{is_served};
 ghost use Rattle.bank_run.specs.PolicyRules.{used_by};
 ghost use Rattle.bank_run.specs.Requests.{executes, verdict};
@@ -15,32 +15,33 @@ use bank_books::{Plan, ReleaseKey, RowWrite};
 use bank_run::{Execution, Leave};
 use bank_terms::Rule;
 use money::Fault;
-use op_plans::{Prepared, prepare_by_books};
+use op_plans::{Prepared, Ready, prepare_by_books};
 use std::alloc::{AllocError, Global};
-use store_rows::{BookReads, PolicyReads};
+use store_rows::{BookReads, PolicyReads, ReportReads};
 
 /// What carries an operation out, or the first rule that denies it. The rules of the policy come
-/// first. Where one of them denies, no row is read that only the books ask about; of a release that
+/// first. A report is never let be by a release, as it comes to no amount. Where one of them denies, no row is read that only the books ask about; of a release that
 /// is named the day of its branch is.
-pub(crate) fn prepare<S: PolicyReads + BookReads>(
+pub(crate) fn prepare<S: PolicyReads + BookReads + ReportReads>(
     alloc: Global,
     store: &mut S,
     execution: &Execution,
-) -> Result<Result<Prepared, Rule>, Fault>
+) -> Result<Result<Ready, Rule>, Fault>
     requires named { IsSome execution.now.who.user }
     requires served { is_served (procedure_of execution.now.op) ≡ true }
     requires proper { IsOp execution.now.op }
-    ensures { Reads (S.status store.old) (S.status store.new) result (IsJudged (verdict (executes execution.now))) }
+    ensures { Reads (S.status store.old) (S.status store.new) result (IsReady (verdict (executes execution.now))) }
 {
     match policy_leave(alloc, store, execution)? {
         Err(rule) => Ok(Err(rule)),
         Ok(leave) => {
             let by = execution.signature();
             match prepare_by_books(alloc, store, &execution.op, by)? {
-                Ok(Prepared { plan, text }) => {
+                Ok(Ready::Change(Prepared { plan, text })) => {
                     let plan = with_leave(plan, leave, by.user)?;
-                    Ok(Ok(Prepared { plan, text }))
+                    Ok(Ok(Ready::Change(Prepared { plan, text })))
                 }
+                Ok(Ready::Report(contents)) => Ok(Ok(Ready::Report(contents))),
                 Err(rule) => Ok(Err(rule)),
             }
         }

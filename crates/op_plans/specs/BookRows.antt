@@ -1,6 +1,6 @@
 -- The rows of the books that an operation is judged on, by its form.
-use Rattle.std.specs.Prelude.{◌≡◌, Option, Some, None, is_some}
-use Rattle.bank_books.specs.Records.{account_record}
+use Rattle.std.specs.Prelude.{◌≡◌, Option, Some, is_some}
+use Rattle.bank_books.specs.Records.{account_record, branch_record}
 use Rattle.bank_books.specs.WorldLists.{WorldLists}
 use Rattle.counter_ops.specs.Op.{procedure_of}
 use Rattle.counter_ops.specs.declared.op.Op.{Op}
@@ -28,9 +28,9 @@ book_rows w (op.MoveCash move_cash) = Some (rows.MoveCash (move_rows w move_cash
 book_rows w (op.NewAccount form) = Some (rows.NewAccount (opening_rows w form))
 book_rows w (op.Release release) = Some (rows.Release (release_rows w release))
 book_rows w (op.Balance balance) = Some (rows.Balance (account_record w balance.account))
-book_rows w (op.Statement statement) = None
-book_rows w (op.Accounts accounts) = None
-book_rows w (op.Proof proof) = None
+book_rows w (op.Statement statement) = Some (rows.Statement (account_record w statement.account))
+book_rows w (op.Accounts accounts) = Some rows.Accounts
+book_rows w (op.Proof proof) = Some (rows.Proof (branch_record w proof.branch))
 book_rows w (op.CloseDay close_day) = Some (rows.CloseDay (closing_rows w close_day))
 
 -- Rows of the books are loaded for exactly the forms that are served.

@@ -1,4 +1,4 @@
-use bank_books::AccountRecord;
+use bank_books::{AccountRecord, BranchRecord};
 use bank_run::{OpeningRows, ReleaseRows};
 use drawers::{ClosingRows, DrawerRows, MoveRows};
 use postings::{CorrectRows, PostRows, TransferRows};
@@ -24,6 +24,12 @@ pub enum BookRows {
     Release(ReleaseRows),
     /// Of the question for a balance: the account.
     Balance(Option<AccountRecord>),
+    /// Of the question for a statement: the account.
+    Statement(Option<AccountRecord>),
+    /// Of the question for a list of accounts: none.
+    Accounts,
+    /// Of the question for the proof of a branch: the branch.
+    Proof(Option<BranchRecord>),
     /// Of the closing of a day.
     CloseDay(ClosingRows),
 }

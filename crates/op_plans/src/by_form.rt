@@ -1,13 +1,14 @@
-ghost use Rattle.std.specs.Prelude.{◌≡◌, Some, true};
+ghost use Rattle.std.specs.Prelude.{◌≡◌, Some, false, true};
 ghost use Rattle.counter_ops.specs.Op.{procedure_of};
 ghost use Rattle.counter_ops.specs.Operations.{IsOp};
 ghost use Rattle.bank_books.specs.WorldLists.{WorldLists};
-ghost use Rattle.store_rows.specs.Status.{Reads};
+ghost use Rattle.store_rows.specs.Status.{MayRead, Reads};
 ghost use Rattle.bank_run.specs.Meaning.{by_books};
-ghost use Rattle.bank_run.specs.Operations.{is_served, meaning_of};
+ghost use Rattle.bank_run.specs.Operations.{is_report, is_served, meaning_of};
 ghost use Rattle.op_plans.specs.BookRows.{book_rows};
-ghost use Rattle.op_plans.specs.Judged.{IsJudged, LeavesPolicy};
+ghost use Rattle.op_plans.specs.Judged.{IsCountedFor, IsJudged, IsReady, LeavesPolicy, LeavesPolicyReady, ReportsOnly};
 
+use crate::accounts::prepare_accounts;
 use crate::balance::{prepare_balance, rule_against_balance};
 use crate::book_rows::BookRows;
 use crate::close_day::prepare_close_day;
@@ -17,8 +18,10 @@ use crate::drawer_on::prepare_drawer_on;
 use crate::move_cash::prepare_move_cash;
 use crate::new_account::{prepare_new_account, rule_against_new_account};
 use crate::post::prepare_post;
-use crate::prepared::Prepared;
+use crate::prepared::{Prepared, Ready};
+use crate::proof::{prepare_proof, rule_against_proof};
 use crate::release::{prepare_release, rule_against_release};
+use crate::statement::{prepare_statement, rule_against_statement};
 use crate::transfer::prepare_transfer;
 use bank_books::Signature;
 use bank_terms::Rule;
@@ -28,18 +31,82 @@ use drawers::{
 };
 use money::Fault;
 use postings::{rule_against_correct, rule_against_post, rule_against_transfer};
+use reports::Contents;
 use std::alloc::Global;
-use store_rows::{BookReads, PolicyReads};
+use store_rows::{BookReads, PolicyReads, ReportReads};
 
 /// What carries out an operation with this signature, or the first rule of the books against it. Its procedure is one that is
-/// served. It changes no policy.
-pub fn prepare_by_books<S: PolicyReads + BookReads>(
+/// served. It changes no policy. A report is counted, and changes nothing.
+pub fn prepare_by_books<S: PolicyReads + BookReads + ReportReads>(
+    alloc: Global,
+    store: &mut S,
+    op: &Op,
+    by: Signature,
+) -> Result<Result<Ready, Rule>, Fault>
+    requires served { is_served (procedure_of op.now) ≡ true }
+    requires proper { IsOp op.now }
+    ensures judged { MayRead (S.status store.old) (S.status store.new) result (IsReady (λ w. by_books (meaning_of op.now by w))) }
+    ensures policy { LeavesPolicyReady result }
+    ensures reports { ReportsOnly (is_report op.now) result }
+{
+    if is_report(op) {
+        match prepare_report(alloc, store, op, by)? {
+            Ok(contents) => Ok(Ok(Ready::Report(contents))),
+            Err(rule) => Ok(Err(rule)),
+        }
+    } else {
+        match prepare_change(alloc, store, op, by)? {
+            Ok(prepared) => Ok(Ok(Ready::Change(prepared))),
+            Err(rule) => Ok(Err(rule)),
+        }
+    }
+}
+
+/// Whether an operation is answered by a report.
+fn is_report(op: &Op) -> bool
+    ensures { result ≡ is_report op.now }
+{
+    match op {
+        Op::Statement(_) | Op::Accounts(_) | Op::Proof(_) => true,
+        Op::Post(_)
+        | Op::Transfer(_)
+        | Op::Correct(_)
+        | Op::DrawerOn(_)
+        | Op::DrawerOff(_)
+        | Op::MoveCash(_)
+        | Op::NewAccount(_)
+        | Op::Release(_)
+        | Op::Balance(_)
+        | Op::CloseDay(_) => false,
+    }
+}
+
+/// The report that answers an operation, counted, or the first rule of the books against it.
+fn prepare_report<S: BookReads + ReportReads>(
+    alloc: Global,
+    store: &mut S,
+    op: &Op,
+    by: Signature,
+) -> Result<Result<Contents, Rule>, Fault>
+    requires { is_report op.now ≡ true }
+    ensures { MayRead (S.status store.old) (S.status store.new) result (IsCountedFor (λ w. by_books (meaning_of op.now by w))) }
+{
+    match op {
+        Op::Statement(form) => prepare_statement(alloc, store, form),
+        Op::Accounts(form) => prepare_accounts(alloc, store, form, by),
+        Op::Proof(form) => prepare_proof(alloc, store, form),
+        _ => unreachable!(),
+    }
+}
+
+/// What carries out an operation that is answered by a text, or the first rule of the books against it.
+fn prepare_change<S: PolicyReads + BookReads>(
     alloc: Global,
     store: &mut S,
     op: &Op,
     by: Signature,
 ) -> Result<Result<Prepared, Rule>, Fault>
-    requires served { is_served (procedure_of op.now) ≡ true }
+    requires text { is_report op.now ≡ false }
     requires proper { IsOp op.now }
     ensures judged { Reads (S.status store.old) (S.status store.new) result (IsJudged (λ w. by_books (meaning_of op.now by w))) }
     ensures policy { LeavesPolicy result }
@@ -79,6 +146,8 @@ pub fn first_of_books(rows: &BookRows, op: &Op, by: Signature) -> Option<Rule>
         (BookRows::NewAccount(rows), Op::NewAccount(_)) => rule_against_new_account(rows),
         (BookRows::Release(rows), Op::Release(form)) => rule_against_release(rows, form, by),
         (BookRows::Balance(row), Op::Balance(_)) => rule_against_balance(*row),
+        (BookRows::Statement(row), Op::Statement(_)) => rule_against_statement(*row),
+        (BookRows::Proof(row), Op::Proof(_)) => rule_against_proof(*row),
         (BookRows::CloseDay(rows), Op::CloseDay(_)) => rule_against_close_day(rows),
         _ => None,
     }

@@ -4,6 +4,7 @@
 //! `is_served` tells which forms are served. The rules of the policy and releases are left to `decide`.
 #![tactic(auto)]
 
+mod accounts;
 mod balance;
 mod book_rows;
 mod by_form;
@@ -17,12 +18,14 @@ mod move_cash;
 mod new_account;
 mod post;
 mod prepared;
+mod proof;
 mod release;
 mod served;
+mod statement;
 mod transfer;
 
 pub use book_rows::BookRows;
 pub use by_form::{first_of_books, prepare_by_books};
 pub use json_text::compact;
-pub use prepared::Prepared;
+pub use prepared::{Prepared, Ready};
 pub use served::is_served;

@@ -30,7 +30,7 @@ abbrev pub commanded_by : Command → ℕ → List ℕ → Result Who MessageFau
 commanded_by command moment body (Ok who) = option_map_or (λ op. Ok (record { who = who; moment = moment; asked = asked.Command op })) (stated_command command body) (Err BadContent)
 commanded_by command moment body (Err fault) = Err fault
 
--- the opening or the ending of a session, asked at the moment by who it is; the body is not looked at
+-- the opening or the ending of a session, or the listing of the policy, asked at the moment by who it is; the body is not looked at
 abbrev pub session_by : Asked → ℕ → Result Who MessageFault → Result Request MessageFault
 session_by asked moment (Ok who) = Ok (record { who = who; moment = moment; asked = asked })
 session_by asked moment (Err fault) = Err fault
@@ -41,6 +41,7 @@ served (Some (route.Operation procedure)) = if is_served procedure then Some (ro
 served (Some route.Opening) = Some route.Opening
 served (Some route.Ending) = Some route.Ending
 served (Some (route.Policy command)) = Some (route.Policy command)
+served (Some route.Listing) = Some route.Listing
 served None = None
 
 abbrev pub IsServedRoute : Route → Type 0
@@ -48,6 +49,7 @@ IsServedRoute (route.Operation procedure) = is_served procedure ≡ true
 IsServedRoute route.Opening = ⊤
 IsServedRoute route.Ending = ⊤
 IsServedRoute (route.Policy command) = ⊤
+IsServedRoute route.Listing = ⊤
 
 -- the request of a route; who opens a session need not have one, and is known by the badge alone
 abbrev pub asked_of : (List ℕ → Option ℕ) → ℕ → MessageParts → Option Route → Result Request MessageFault
@@ -55,6 +57,7 @@ asked_of users moment m (Some (route.Operation procedure)) = asked_by procedure 
 asked_of users moment m (Some route.Opening) = session_by asked.Opening moment (who_by_badge users m.head.fields)
 asked_of users moment m (Some route.Ending) = session_by asked.Ending moment (who_of users m.head.fields)
 asked_of users moment m (Some (route.Policy command)) = commanded_by command moment m.body (who_of users m.head.fields)
+asked_of users moment m (Some route.Listing) = session_by asked.Listing moment (who_of users m.head.fields)
 asked_of users moment m None = Err NoSuchRoute
 
 -- The request that a message states at a moment, where the badges name these users. Else its fault: method and path ask
@@ -62,22 +65,10 @@ asked_of users moment m None = Err NoSuchRoute
 abbrev pub request_of : (List ℕ → Option ℕ) → ℕ → MessageParts → Result Request MessageFault
 request_of users moment m = asked_of users moment m (served (asked_route m.head.method m.head.target))
 
--- what is asked for is served: operations of some procedures, sessions, and commands of the policy; not the listing yet
+-- what is asked for is served: operations of some procedures, sessions, commands of the policy, and its listing
 abbrev pub IsServedAsked : Asked → Type 0
 IsServedAsked (asked.Operation op) = is_served (procedure_of op) ≡ true
 IsServedAsked asked.Opening = ⊤
 IsServedAsked asked.Ending = ⊤
 IsServedAsked (asked.Command command) = ⊤
-IsServedAsked asked.Listing = ⊥
-
--- what is asked for is answered by a report, which is written row by row behind its head
-abbrev pub IsReport : Asked → Type 0
-IsReport (asked.Operation (op.Statement form)) = ⊤
-IsReport (asked.Operation (op.Accounts form)) = ⊤
-IsReport (asked.Operation (op.Proof form)) = ⊤
-IsReport asked.Listing = ⊤
-IsReport _ = ⊥
-
--- none is served yet, so no message states a request for one
-abbrev pub StatesNoReport : Type 0
-StatesNoReport = (users : List ℕ → Option ℕ) (moment : ℕ) (m : MessageParts) → ¬ IsOkAnd (request_of users moment m) (λ r. IsReport r.asked)
+IsServedAsked asked.Listing = ⊤

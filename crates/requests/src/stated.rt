@@ -57,6 +57,7 @@ pub fn stated_request<G: Gate>(
         )),
         Some(Route::Ending) => Ok(stated_session(who_of(message, gate), moment, Asked::Ending)),
         Some(Route::Policy(command)) => stated_policy(alloc, command, gate, message, moment),
+        Some(Route::Listing) => Ok(stated_session(who_of(message, gate), moment, Asked::Listing)),
         None => Ok(Err(MessageFault::NoSuchRoute)),
     }
 }
@@ -118,7 +119,7 @@ fn stated_policy<G: Gate>(
     }
 }
 
-/// The opening or the ending of a session, asked at a moment by who it is. The body isn't looked at.
+/// The opening or the ending of a session, or the listing of the policy, asked at a moment by who it is. The body isn't looked at.
 fn stated_session(
     who: Result<Who, MessageFault>,
     moment: u64,

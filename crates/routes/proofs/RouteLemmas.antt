@@ -12,7 +12,7 @@ use Rattle.matchit.specs.Rows.{RowsOf, param_token, catch_all_token}
 use Rattle.matchit.specs.Seek.{own, step, or_else, seek, param_step, first, same_text, has_slash}
 use Rattle.matchit.specs.Router.{RouteOf}
 use Rattle.routes.specs.RouterRows.{row_for}
-use Rattle.routes.specs.Routes.{asked_route, paths, route_at}
+use Rattle.routes.specs.Routes.{paths, route_at}
 use Rattle.routes.specs.declared.routes.Route.{Route}
 
 by_not_true : (b : Bool) → ¬ (b ≡ true) → b ≡ false
@@ -140,11 +140,7 @@ no_text_in ((path, asked) ∷ table) target plain no_text =
     ap (λ c. option_map (λ (row : List ℕ × Route). row.1) (cond c (Some (path, asked)) (find (λ (row : List ℕ × Route). bytes_eq row.0 target) table))) differ
     ∙ no_text_in table target plain.1 no_text
 
-none_either : (b : Bool) (o : Option Route) → o ≡ None → None ≡ cond b o None
-none_either true o none = sym none
-none_either false o none = refl
-
 -- a target that is no text asks for nothing
-pub no_text_asked : (method target : List ℕ) → ¬ (IsUtf8 target) → None ≡ asked_route method target
+pub no_text_at : (target : List ℕ) → ¬ (IsUtf8 target) → None ≡ route_at target
 unfolding route_at
-no_text_asked method target no_text = none_either _ _ (no_text_in paths target paths_literal no_text)
+no_text_at target no_text = sym (no_text_in paths target paths_literal no_text)

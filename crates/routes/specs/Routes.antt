@@ -1,5 +1,5 @@
 -- What messages may ask for, by our own table of paths; which operations are served is said elsewhere.
-use Rattle.std.specs.Prelude.{ℕ, List, [], ◌∷◌, ◌++◌, Option, None, codes, option_map, if◌then◌else◌, bytes_eq}
+use Rattle.std.specs.Prelude.{ℕ, List, [], ◌∷◌, ◌++◌, Option, Some, None, codes, option_map, if◌then◌else◌, bytes_eq}
 use Rattle.std.specs.List.{find}
 use Rattle.bank_terms.specs.declared.procedure.Procedure.TheVariants.{Post, Transfer, Correct, DrawerOn, DrawerOff, MoveCash, NewAccount, Release, Balance, Statement, Accounts, Proof, CloseDay}
 use Rattle.policy_ops.specs.declared.command.Command.TheVariants.{DefineSet, Certify, Withdraw, Grant, Revoke, Appoint, Dismiss, Enrol, Suspend, Restore}
@@ -47,6 +47,10 @@ paths = operation_paths ++ (codes "/end", route.Ending) ∷ command_paths ++ (co
 unfoldable pub route_at : List ℕ → Option Route
 route_at target = option_map (λ (row : List ℕ × Route). row.1) (find (λ (row : List ℕ × Route). bytes_eq row.0 target) paths)
 
+-- what is read there, by GET: the listing of the policy alone
+abbrev pub read_at : List ℕ → Option Route
+read_at target = if bytes_eq target (codes "/policy") then Some route.Listing else None
+
 -- what a method and a target ask for: a method is case-sensitive (RFC 9110, section 9.1)
 abbrev pub asked_route : List ℕ → List ℕ → Option Route
-asked_route method target = if bytes_eq method (codes "POST") then route_at target else None
+asked_route method target = if bytes_eq method (codes "POST") then route_at target else (if bytes_eq method (codes "GET") then read_at target else None)

@@ -3,7 +3,7 @@ ghost use Rattle.matchit.specs.Seek.{first};
 ghost use Rattle.matchit.specs.Route.{parse_route};
 ghost use Rattle.matchit.specs.Order.{placed};
 ghost use Rattle.matchit.specs.Router.{nearest, route_from};
-ghost use Rattle.routes.specs.Routes.{asked_route, command_paths, operation_paths, route_at};
+ghost use Rattle.routes.specs.Routes.{asked_route, command_paths, operation_paths, read_at, route_at};
 ghost use Rattle.routes.specs.RouterRows.{router_rows};
 
 use bank_terms::Procedure;
@@ -24,6 +24,8 @@ pub enum Route {
     Ending,
     /// A command of the policy.
     Policy(Command),
+    /// The listing of the policy.
+    Listing,
 }
 
 /// The paths that are served: the router answers each path by the table of paths.
@@ -46,16 +48,38 @@ impl Routes {
     }
 
     /// What a method and a target ask for, or none where they ask for nothing: exactly POST, in
-    /// capitals, and exactly a path of the table, with no query.
+    /// capitals, and exactly a path of the table, with no query; or exactly GET, and the path of the
+    /// listing.
     pub fn route(&self, method: &[u8], target: &[u8]) -> Option<Route>
         ensures { result ≡ asked_route method.now target.now }
     {
-        if method != Method::POST.as_str().as_bytes() {
-            return None;
+        if method == Method::POST.as_str().as_bytes() {
+            self.posted(target)
+        } else if method == Method::GET.as_str().as_bytes() {
+            read_at(target)
+        } else {
+            None
         }
+    }
+
+    /// What a target asks for by POST.
+    fn posted(&self, target: &[u8]) -> Option<Route>
+        ensures { result ≡ route_at target.now }
+    {
         let path = str::from_utf8(target).ok()?;
         let found = self.paths.at(path).ok()?;
         Some(*found.value)
+    }
+}
+
+/// What a target asks for by GET.
+fn read_at(target: &[u8]) -> Option<Route>
+    ensures { result ≡ read_at target.now }
+{
+    if target == b"/policy".as_slice() {
+        Some(Route::Listing)
+    } else {
+        None
     }
 }
 

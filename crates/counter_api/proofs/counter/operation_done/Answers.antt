@@ -1,18 +1,29 @@
-use Rattle.std.proofs.Common.{rules, ◌≡◌, None, subst, sym}
+use Rattle.std.proofs.Common.{rules, ◌≡◌, None, Ok, refl, ap, subst, sym, ◌∙◌}
+use Rattle.money.specs.Counted.{stream_of}
+use Rattle.store_rows.specs.Status.{Keeps, Tells}
 use Rattle.store_rows.specs.declared.bank.Bank.{Bank}
+use Rattle.bank_run.specs.Requests.{verdict}
+use Rattle.bank_run.specs.Run.{reply}
 use Rattle.bank_run.specs.declared.request.Asked.TheVariants as asked
 use Rattle.bank_run.specs.declared.request.Request.{Request}
 use Rattle.decide.specs.OneRequest.{Settles}
 use Rattle.decide.specs.Permit.{reply_bank}
-use Rattle.counter_api.proofs.CarriedOut.{settles}
+use Rattle.decide.specs.declared.permit.Reply.{Reply}
+use Rattle.op_plans.specs.Judged.{IsReported}
+use Rattle.counter_api.specs.CarriedOut.{IsCarried}
+use Rattle.counter_api.specs.Response.{ResponseParts}
+use Rattle.counter_api.specs.Run.{told_parts}
+use Rattle.counter_api.specs.declared.counter.Outcome.TheVariants as outcome
+use Rattle.counter_api.proofs.CarriedOut.{HasContents, IsText, done_told, nothing_changed, permit_reported, ready_is, settles}
+use Rattle.counter_api.proofs.Reported.{report_carried}
 use Rattle.counter_api.proofs.counter.operation_done.Goals as goal
 
 -- where the lender ends as the second, what holds of that holds of it
 at_end : {B : Type 0} (P : B → Type 0) (x y : B) → x ≡ y → P y → P x
 at_end P x y same h = subst P (sym same) h
 
-pub returns-in-Ok-Done : goal.returns-in-Ok-Done
-returns-in-Ok-Done g c =
+pub returns-in-Ok-Done-clause-carried : goal.returns-in-Ok-Done-clause-carried
+returns-in-Ok-Done-clause-carried g c =
     let kept = rw c.in-Ok-Allowed.field-0-is at c.in-Ok-Allowed.ensures.kept in
     let decided = rw c.in-Ok-Allowed.field-0-is at c.in-Ok-Allowed.ensures.decided in
     let permit_name = rw c.in-Ok-Allowed.field-0-is at c.in-Ok-Allowed.ensures.same_reference in
@@ -20,12 +31,15 @@ returns-in-Ok-Done g c =
     let mid = g.S.Stands.status c.in-Ok-Allowed.permit.bank.now.store in
     let end = g.S.Stands.status (reply_bank c.in-Ok-Done.field-0).now.store in
     let q : Request = record { who = c.args.who; moment = c.args.moment; asked = asked.Operation c.args.op.now } in
-    let settled : Settles start end q None =
-    settles start mid end q c.in-Ok-Allowed.permit c.in-Ok-Done.field-0 kept decided c.in-Ok-Done.ensures.effect c.in-Ok-Done.ensures.replied in
+    let settled : Settles start end q None = settles start mid end q c.in-Ok-Allowed.permit kept decided c.in-Ok-Done.ensures.effect c.in-Ok-Done.ensures.settled in
+    let text : IsText c.in-Ok-Done.field-0 c.into_body.result.items =
+    subst (λ (r : Reply g.row.S.Denot). IsText r c.into_body.result.items) (sym c.in-Ok-Done.field-0-is) (ap (λ body. body.items) c.into_body.ensures.body) in
+    let told = done_told start mid end q c.in-Ok-Allowed.permit c.in-Ok-Done.field-0 c.into_body.result.items kept decided c.in-Ok-Done.ensures.effect c.in-Ok-Done.ensures.replied text in
+    let replied : Tells start end (λ w. c.done.result ≡ told_parts (reply w q)) = λ honest w holds. c.done.ensures ∙ told honest w holds in
     record {
       answers = search rules;
       moved = search rules;
-      replied = search rules;
+      replied = at_end (λ (b : Bank g.row.S.Denot). Tells start (g.S.Stands.status b.store) (λ w. c.done.result ≡ told_parts (reply w q))) _ (reply_bank c.in-Ok-Done.field-0).now (search rules) replied;
       room = search rules;
       crash = search rules;
       whole = search rules;
@@ -34,6 +48,23 @@ returns-in-Ok-Done g c =
       stranger = search rules;
     }
 
--- What search finds for itself, asked for here so that a mistake is refused soon.
-pub returns-in-Err-carry_out : goal.returns-in-Err-carry_out
-returns-in-Err-carry_out g c = search rules
+pub returns-in-Ok-Report-clause-carried : goal.returns-in-Ok-Report-clause-carried
+returns-in-Ok-Report-clause-carried g c =
+    let kept = rw c.in-Ok-Allowed.field-0-is at c.in-Ok-Allowed.ensures.kept in
+    let decided = rw c.in-Ok-Allowed.field-0-is at c.in-Ok-Allowed.ensures.decided in
+    let permit_name = rw c.in-Ok-Allowed.field-0-is at c.in-Ok-Allowed.ensures.same_reference in
+    let start = g.S.Stands.status c.args.bank.now.store in
+    let permit = c.in-Ok-Allowed.permit in
+    let contents = c.in-Ok-Report.report.contents in
+    let q : Request = record { who = c.args.who; moment = c.args.moment; asked = asked.Operation c.args.op.now } in
+    let has : HasContents c.in-Ok-Report.field-0 contents = subst (λ (r : Reply g.row.S.Denot). HasContents r contents) (sym c.in-Ok-Report.field-0-is) refl in
+    let ready = ready_is permit.ready c.in-Ok-Report.field-0 contents c.in-Ok-Report.ensures.replied has in
+    let same : c.in-Ok-Report.report.bank.now ≡ permit.bank.now =
+    ap (λ (r : Reply g.row.S.Denot). (reply_bank r).now) (sym c.in-Ok-Report.field-0-is) ∙ c.in-Ok-Report.ensures.untouched (nothing_changed permit.ready contents ready) in
+    let kept_on : Keeps start (g.S.Stands.status c.in-Ok-Report.report.bank.now.store) None = subst (λ (b : Bank g.row.S.Denot). Keeps start (g.S.Stands.status b.store) None) (sym same) kept in
+    let reported : Tells start (g.S.Stands.status c.in-Ok-Report.report.bank.now.store) (λ w. IsReported w (verdict q w) contents) =
+    subst (λ (b : Bank g.row.S.Denot). Tells start (g.S.Stands.status b.store) (λ w. IsReported w (verdict q w) contents)) (sym same)
+    (λ honest w holds. permit_reported w q permit contents ready (decided honest w holds)) in
+    at_end (λ (b : Bank g.row.S.Denot). IsCarried start (g.S.Stands.status b.store) (g.W.Write.contents (stream_of c.args.writer.now)) (g.W.Write.contents (stream_of c.streamed.new.writer)) c.args.message.now q (Ok (outcome.Report c.streamed.result)))
+    c.bank-in-Ok-Report-1.given.0 c.streamed.new.report.0 (search rules)
+    (report_carried start (g.S.Stands.status c.in-Ok-Report.report.bank.now.store) _ _ _ c.args.message.now q contents kept_on reported (λ w. refl) c.in-Ok-Allowed.ensures.refused c.streamed.result c.streamed.ensures.streamed)

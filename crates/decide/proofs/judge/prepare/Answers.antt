@@ -1,13 +1,14 @@
-use Rattle.std.proofs.Common.{◌≡◌, false, rules, Ok, ap, sym, subst, ◌∙◌}
-use Rattle.std.specs.Prelude.{IfOk}
+use Rattle.std.proofs.Common.{◌≡◌, rules, Result, Ok, ap, sym, subst, ◌∙◌}
 use Rattle.bank_books.specs.Effects.{applied}
-use Rattle.bank_books.specs.Version.{changes_policy}
-use Rattle.op_plans.specs.Judged.{IsJudged}
+use Rattle.op_plans.specs.Judged.{IsReady, LeavesPolicyReady, ReportsOnly}
 use Rattle.bank_run.specs.Meaning.{by_books}
-use Rattle.bank_run.specs.Operations.{meaning_of}
+use Rattle.bank_terms.specs.declared.rule.Rule.{Rule}
+use Rattle.bank_run.specs.Operations.{is_report, meaning_of}
 use Rattle.bank_run.specs.PolicyRules.{used_by}
 use Rattle.bank_run.proofs.PolicyLemmas.{leave_refused}
-use Rattle.decide.proofs.JoinedVerdict.{denied_by_books, prepared}
+use Rattle.op_plans.specs.declared.prepared.Ready.{Ready}
+use Rattle.op_plans.specs.declared.prepared.Ready.TheVariants as ready
+use Rattle.decide.proofs.JoinedVerdict.{denied_by_books, prepared, reported}
 use Rattle.decide.proofs.judge.prepare.Goals as goal
 
 pub returns-in-Err : goal.returns-in-Err
@@ -22,24 +23,42 @@ returns-in-Err-2 g c = record {
   told = λ honest w holds.
       let before = c.prepare_by_books.ensures.judged.kept.answers.honest honest in
       let leave = sym (c.in_ok-rule.ensures.told before w holds) ∙ c.in-Ok.is in
-      let books = subst (IsJudged (λ v. by_books (meaning_of c.args.execution.now.op c.signature-by.result v)) w) c.in-Err-2.is
+      let books = subst (IsReady (λ v. by_books (meaning_of c.args.execution.now.op c.signature-by.result v)) w) c.in-Err-2.is
       (c.in_ok-plan-in-Ok.ensures.judged.told honest w (c.in_ok-rule.ensures.kept.kept w holds)) in
       denied_by_books w c.args.execution.now c.in-Ok.leave c.in-Err-2.rule leave (ap (λ by. (by_books (meaning_of c.args.execution.now.op by w)).first) (sym c.signature-by.ensures) ∙ books);
   kept = search rules;
   refused = search rules;
 }
 
-pub returns-in_ok-plan-in-Ok-2 : goal.returns-in_ok-plan-in-Ok-2
-returns-in_ok-plan-in-Ok-2 g c = record {
-  told = λ honest w holds.
-      let before = c.prepare_by_books.ensures.judged.kept.answers.honest honest in
-      let leave = sym (c.in_ok-rule.ensures.told before w holds) ∙ c.in-Ok.is in
-      let judged = subst (IsJudged (λ v. by_books (meaning_of c.args.execution.now.op c.signature-by.result v)) w) c.in-Ok-2.is
-      (c.in_ok-plan-in-Ok.ensures.judged.told honest w (c.in_ok-rule.ensures.kept.kept w holds)) in
-      let books = subst (λ by. IsJudged (λ v. by_books (meaning_of c.args.execution.now.op by v)) w (Ok c.in-Ok-2.field-0)) c.signature-by.ensures judged in
-      let policy = subst (λ r. IfOk r (λ p. changes_policy p.plan.items ≡ false)) c.in-Ok-2.is c.in_ok-plan-in-Ok.ensures.policy in
-      prepared w c.args.execution.now c.in-Ok.leave c.in-Ok-2.field-0 c.in_ok-plan-in-Ok-2.plan leave books
-      (c.in_ok-plan-in-Ok-2.ensures policy w ∙ ap (λ by. used_by c.in-Ok.leave by.user (applied c.in-Ok-2.field-0.plan.items w)) c.signature-by.ensures);
-  kept = search rules;
-  refused = search rules;
-}
+pub returns-in_ok-plan-in-Ok-Change : goal.returns-in_ok-plan-in-Ok-Change
+returns-in_ok-plan-in-Ok-Change g c =
+    let change = c.in-Ok-Change.is ∙ ap (λ (a : Ready). Ok a) c.in-Ok-Change.field-0-is in
+    record {
+      told = λ honest w holds.
+          let before = c.in_ok-plan-in-Ok.ensures.judged.kept.answers.honest honest in
+          let leave = sym (c.in_ok-rule.ensures.told before w holds) ∙ c.in-Ok.is in
+          let judged = subst (IsReady (λ v. by_books (meaning_of c.args.execution.now.op c.signature-by.result v)) w) change
+          (c.in_ok-plan-in-Ok.ensures.judged.told honest w (c.in_ok-rule.ensures.kept.kept w holds)) in
+          let books = subst (λ by. IsReady (λ v. by_books (meaning_of c.args.execution.now.op by v)) w (Ok (ready.Change c.in-Ok-Change.field-0-0))) c.signature-by.ensures judged in
+          let policy = subst (λ (r : Result Ready Rule). LeavesPolicyReady (Ok r)) change c.in_ok-plan-in-Ok.ensures.policy in
+          prepared w c.args.execution.now c.in-Ok.leave c.in-Ok-Change.field-0-0 c.in_ok-plan-in-Ok-Change.plan leave books
+          (c.in_ok-plan-in-Ok-Change.ensures policy w ∙ ap (λ by. used_by c.in-Ok.leave by.user (applied c.in-Ok-Change.field-0-0.plan.items w)) c.signature-by.ensures);
+      kept = search rules;
+      refused = search rules;
+    }
+
+pub returns-in-Ok-Report : goal.returns-in-Ok-Report
+returns-in-Ok-Report g c =
+    let report = c.in-Ok-Report.is ∙ ap (λ (a : Ready). Ok a) c.in-Ok-Report.field-0-is in
+    record {
+      told = λ honest w holds.
+          let before = c.in_ok-plan-in-Ok.ensures.judged.kept.answers.honest honest in
+          let leave = sym (c.in_ok-rule.ensures.told before w holds) ∙ c.in-Ok.is in
+          let judged = subst (IsReady (λ v. by_books (meaning_of c.args.execution.now.op c.signature-by.result v)) w) report
+          (c.in_ok-plan-in-Ok.ensures.judged.told honest w (c.in_ok-rule.ensures.kept.kept w holds)) in
+          let books = subst (λ by. IsReady (λ v. by_books (meaning_of c.args.execution.now.op by v)) w (Ok (ready.Report c.in-Ok-Report.contents))) c.signature-by.ensures judged in
+          let is = subst (λ (r : Result Ready Rule). ReportsOnly (is_report c.args.execution.now.op) (Ok r)) report c.in_ok-plan-in-Ok.ensures.reports in
+          reported w c.args.execution.now c.in-Ok.leave c.in-Ok-Report.contents is leave books;
+      kept = search rules;
+      refused = search rules;
+    }

@@ -2,5 +2,5 @@
 use Rattle.std.proofs.Common.{rules}
 use Rattle.decide.proofs.permit.decide.Goals as goal
 
-pub returns-in_err-plan : goal.returns-in_err-plan
-returns-in_err-plan g c = search rules
+pub returns-in_err-ready : goal.returns-in_err-ready
+returns-in_err-ready g c = search rules

@@ -1,42 +1,79 @@
--- The reply is that to the message, at the moment that the clock gave.
-use Rattle.std.proofs.Common.{ap, refl}
+-- The reply is that to the message, at the moment that the clock gave, or a beginning of it.
+use Rattle.std.proofs.Common.{None, Some, refl, subst}
+use Rattle.money.specs.Counted.{AppendsBeginning, stream_of}
+use Rattle.counter_api.specs.Response.{ResponseParts, faulted_parts}
 use Rattle.counter_api.specs.Run.{framed}
+use Rattle.counter_api.proofs.Answering.{all_begun, begun_of}
 use Rattle.counter_api.proofs.counter.CounterEngine.answer.Goals as goal
 
-pub returns-in-Ok-clause-answered : goal.returns-in-Ok-clause-answered
-returns-in-Ok-clause-answered g c = (
-  framed c.args.message.now c.response_of-response.result,
-  record {
-    answered = record {
-      moment = _;
-      mark = _;
-      parts = _;
-      given = c.moment-moment.ensures.given;
-      handled = c.handled-outcome.ensures;
-      framing = ap (framed c.args.message.now) c.response_of-response.ensures;
-    };
-    same_bank = refl;
-    same_clock = refl;
-    same_gate = refl;
-  },
-  c.in-Ok.ensures.whole,
-)
+pub returns-in-Ok-Told-clause-answered : goal.returns-in-Ok-Told-clause-answered
+returns-in-Ok-Told-clause-answered g c =
+    let done = rw c.in-Ok-Told.field-0-is at c.in-Ok-Told.ensures.done in
+    let same = rw c.in-Ok-Told.field-0-is at c.in-Ok-Told.ensures.writer in
+    let bytes = framed c.args.message.now c.in-Ok-Told.response in (
+      bytes,
+      record {
+        answered = record {
+          moment = c.moment-moment.result;
+          mark = None;
+          given = c.moment-moment.ensures.given;
+          handled = begun_of _ _ _ _ c.in-Ok-Told.response done;
+        };
+        same_bank = refl;
+        same_clock = refl;
+        same_gate = refl;
+      },
+      subst (λ t. AppendsBeginning (g.W.Write.contents (stream_of t)) (g.W.Write.contents (stream_of c.write_response.new.writer)) bytes) same c.in-Err-write_response.ensures.beginning,
+    )
+
+pub returns-in-Ok-Report-Stopped-clause-answered : goal.returns-in-Ok-Report-Stopped-clause-answered
+returns-in-Ok-Report-Stopped-clause-answered g c =
+    let done = rw (c.in-Ok-Report-Stopped.field-0-is, c.in-Ok-Report-Stopped.field-0-0-is) at c.in-Ok-Report-Stopped.ensures.done in (
+      done.0,
+      record {
+        answered = record { moment = c.moment-moment.result; mark = None; given = c.moment-moment.ensures.given; handled = done.2 };
+        same_bank = refl;
+        same_clock = refl;
+        same_gate = refl;
+      },
+      all_begun _ _ done.0 done.1,
+    )
+
+pub returns-in-Ok-Report-Broken-clause-answered : goal.returns-in-Ok-Report-Broken-clause-answered
+returns-in-Ok-Report-Broken-clause-answered g c =
+    let done = rw (c.in-Ok-Report-Broken.field-0-is, c.in-Ok-Report-Broken.field-0-0-is) at c.in-Ok-Report-Broken.ensures.done in (
+      done.0,
+      record {
+        broken = record {
+          moment = c.moment-moment.result;
+          fault = c.in-Ok-Report-Broken.field-0-0-0;
+          given = c.moment-moment.ensures.given;
+          kept = done.2.kept;
+          begun = done.2.begun;
+        };
+        same_bank = refl;
+        same_clock = refl;
+        same_gate = refl;
+      },
+      all_begun _ _ done.0 done.1,
+    )
 
 pub returns-clause-answered : goal.returns-clause-answered
-returns-clause-answered g c = (
-  framed c.args.message.now c.response_of-response.result,
-  record {
-    answered = record {
-      moment = _;
-      mark = _;
-      parts = _;
-      given = c.moment-moment.ensures.given;
-      handled = c.handled-outcome.ensures;
-      framing = ap (framed c.args.message.now) c.response_of-response.ensures;
-    };
-    same_bank = refl;
-    same_clock = refl;
-    same_gate = refl;
-  },
-  c.in-Err.ensures.beginning,
-)
+returns-clause-answered g c =
+    let bytes = framed c.args.message.now (faulted_parts c.in-Err.fault) in
+    let begun = subst (λ (p : ResponseParts). AppendsBeginning (g.W.Write.contents (stream_of c.handled-outcome.new.writer)) (g.W.Write.contents (stream_of c.write_response-in-Err.new.writer)) (framed c.args.message.now p))
+    c.faulted-response.ensures c.in-Err-write_response-2.ensures.beginning in (
+      bytes,
+      record {
+        answered = record {
+          moment = c.moment-moment.result;
+          mark = Some c.in-Err.fault;
+          given = c.moment-moment.ensures.given;
+          handled = begun_of _ _ _ _ (faulted_parts c.in-Err.fault) c.in-Err.ensures.done;
+        };
+        same_bank = refl;
+        same_clock = refl;
+        same_gate = refl;
+      },
+      subst (λ t. AppendsBeginning (g.W.Write.contents (stream_of t)) (g.W.Write.contents (stream_of c.write_response-in-Err.new.writer)) bytes) c.in-Err.ensures.writer begun,
+    )

@@ -1,0 +1,33 @@
+-- What the handling of one message came to, before its response is written.
+use Rattle.std.specs.Prelude.{◌≡◌, ℕ, List, Option, Some, None, Result, Ok, Err}
+use Rattle.std.specs.Io.KnownBytes.{Appends}
+use Rattle.money.specs.declared.fault.Fault.{Fault}
+use Rattle.messages.specs.Parts.{MessageParts}
+use Rattle.store_rows.specs.Status.{Keeps, Status, Tells}
+use Rattle.reports.specs.Report.{BeginsWith}
+use Rattle.counter_api.specs.Response.{ResponseParts, faulted_parts}
+use Rattle.counter_api.specs.Run.{IsHandled, IsWhole, framed, reply_to}
+use Rattle.counter_api.specs.declared.counter.Outcome.{Outcome}
+use Rattle.counter_api.specs.declared.counter.Outcome.TheVariants as outcome
+use Rattle.counter_api.specs.declared.sent.Sent.TheVariants as sent
+
+-- a response as what a request came to
+abbrev pub as_outcome : Result ResponseParts Fault → Result Outcome Fault
+as_outcome (Ok response) = Ok (outcome.Told response)
+as_outcome (Err fault) = Err fault
+
+-- of a message whose reply a fault broke off
+pub record IsBrokenOff (users : List ℕ → Option ℕ) (old new : Status) (message : MessageParts) (moment : ℕ) (fault : Fault) (bytes : List ℕ) : Type 0 where
+  pub kept : Keeps old new (Some fault)
+  pub begun : Tells old new (λ w. BeginsWith (reply_to users w (record { message = message; moment = moment; mark = None })) bytes)
+
+-- Its response, or the fault that takes its place, is still to be written; or it is answered by a report, and so much of that went out.
+abbrev pub IsDone : (List ℕ → Option ℕ) → Status → Status → Option (List ℕ) → Option (List ℕ) → MessageParts → ℕ → Result Outcome Fault → Type 0
+IsDone users old new before after m moment (Err fault) = IsHandled users old new (record { message = m; moment = moment; mark = Some fault }) (λ response. faulted_parts fault ≡ response)
+IsDone users old new before after m moment (Ok (outcome.Told told)) = IsHandled users old new (record { message = m; moment = moment; mark = None }) (λ response. told ≡ response)
+IsDone users old new before after m moment (Ok (outcome.Report sent.Whole)) =
+    (bytes : List ℕ) × Appends before after bytes × IsHandled users old new (record { message = m; moment = moment; mark = None }) (λ response. IsWhole (framed m response) bytes)
+IsDone users old new before after m moment (Ok (outcome.Report sent.Stopped)) =
+    (bytes : List ℕ) × Appends before after bytes × IsHandled users old new (record { message = m; moment = moment; mark = None }) (λ response. BeginsWith (framed m response) bytes)
+IsDone users old new before after m moment (Ok (outcome.Report (sent.Broken fault))) =
+    (bytes : List ℕ) × Appends before after bytes × IsBrokenOff users old new m moment fault bytes

@@ -1,0 +1,87 @@
+//! The listing of the policy: an officer asks for it, in his session.
+
+ghost use Rattle.std.specs.Prelude.{◌≡◌, IfErr, IfOk, IsNone, IsOkAnd, IsSome, None};
+ghost use Rattle.std.specs.Borrow.{sem, RestsIfErr};
+ghost use Rattle.store_rows.specs.contracts.bank.Bank.{the_row};
+ghost use Rattle.store_rows.specs.Status.{Keeps, Reads, Refuses, Tells, mark_of};
+ghost use Rattle.bank_run.specs.Listing.{first_against_listing};
+ghost use Rattle.bank_run.specs.Requests.{lists, verdict};
+ghost use Rattle.op_plans.specs.Judged.{IsCountedFor};
+ghost use Rattle.decide.specs.Listed.{IsListed, IsListedToStranger, listed_bank};
+
+use crate::permit::Denial;
+use crate::policy_rules::{is_identified, standing_of};
+use bank_policy::Standing;
+use bank_run::Who;
+use bank_terms::Rule;
+use money::Fault;
+use reports::{Contents, Listing, Report, counted};
+use std::alloc::Global;
+use store_rows::{Bank, PolicyReads, ReportReads, Store};
+
+/// What is decided of the listing of the policy.
+pub enum Listed<'b, S> {
+    /// A rule denies it: the first that does.
+    Denied(Denial<'b, S>),
+    /// No rule denies it: the report.
+    Report(Report<'b, S>),
+}
+
+/// Counts the lines of the policy for who asks, and replies with their report; else the first rule that denies it. Nothing
+/// is changed. Nobody is denied whatever the store holds, and so can't fail.
+pub fn list_policy<'b, S: Store>(
+    bank: &'b mut Bank<S>,
+    alloc: Global,
+    who: Who,
+) -> Result<Listed<'b, S>, Fault>
+    ensures* fault { sem 𝓛 (RestsIfErr (the_row S.row) bank.entry (λ d. (listed_bank d).ghost_name) result (λ n. IfErr result (λ f. Keeps (S.status bank.old.store) (S.status n.store) (Some f)))) }
+    ensures same_reference { IfOk result (λ d. (listed_bank d).ghost_name ≡ bank.entry.ghost_name) }
+    ensures kept { IfOk result (λ d. Keeps (S.status bank.old.store) (S.status (listed_bank d).now.store) None) }
+    ensures refused { IsSome who.user → Refuses (S.status bank.old.store) (mark_of result) }
+    ensures stranger { IsNone who.user → IsOkAnd result IsListedToStranger }
+    ensures listed { IfOk result (λ d. Tells (S.status bank.old.store) (S.status (listed_bank d).now.store) (λ w. IsListed w (lists who) d)) }
+{
+    if who.user.is_none() {
+        return Ok(Listed::Denied(Denial::new(bank, Rule::Identity)));
+    }
+    match prepare_listing(alloc, &mut bank.store, who)? {
+        Ok(contents) => Ok(Listed::Report(Report::new(alloc, bank, contents))),
+        Err(rule) => Ok(Listed::Denied(Denial::new(bank, rule))),
+    }
+}
+
+/// The lines of the policy, counted, or the first rule that denies them to who asks.
+fn prepare_listing<S: PolicyReads + ReportReads>(
+    alloc: Global,
+    store: &mut S,
+    who: Who,
+) -> Result<Result<Contents, Rule>, Fault>
+    requires { IsSome who.user }
+    ensures { Reads (S.status store.old) (S.status store.new) result (IsCountedFor (verdict (lists who))) }
+{
+    let Some(user) = who.user else {
+        unreachable!();
+    };
+    let standing = standing_of(alloc, store, user)?;
+    if let Some(rule) = rule_against_listing(standing, who.session) {
+        return Ok(Err(rule));
+    }
+    let contents = counted(alloc, store, Listing::Policy(None), u32::MAX)?;
+    Ok(Ok(contents))
+}
+
+/// The first rule that denies the listing, or none, by what the row of who asks says.
+pub(crate) fn rule_against_listing(standing: Option<Standing>, session: u32) -> Option<Rule>
+    ensures { result ≡ first_against_listing standing session }
+{
+    match standing {
+        Some(row) if is_identified(standing, session) => {
+            if row.officer {
+                None
+            } else {
+                Some(Rule::Officer)
+            }
+        }
+        _ => Some(Rule::Identity),
+    }
+}

@@ -1,0 +1,36 @@
+ghost use Rattle.std.specs.Prelude.{◌≡◌};
+ghost use Rattle.store_rows.specs.Status.{MayRead};
+ghost use Rattle.bank_run.specs.Accounts.{accounts_meaning, accounts_of};
+ghost use Rattle.bank_run.specs.Meaning.{by_books};
+ghost use Rattle.op_plans.specs.Judged.{IsCountedFor};
+
+use bank_books::Signature;
+use bank_terms::Rule;
+use counter_ops::Accounts;
+use money::Fault;
+use reports::{AfterAccount, Contents, Listing, counted};
+use std::alloc::Global;
+use store_rows::ReportReads;
+
+/// The accounts that are listed to a user.
+fn accounts_of(form: &Accounts, user: u32) -> Listing
+    ensures { result ≡ accounts_of form.now user }
+{
+    Listing::Accounts(AfterAccount {
+        user,
+        after: form.after,
+    })
+}
+
+/// What answers the question for a list of accounts, counted. No rule of the books denies it.
+pub(crate) fn prepare_accounts<R: ReportReads>(
+    alloc: Global,
+    store: &mut R,
+    form: &Accounts,
+    by: Signature,
+) -> Result<Result<Contents, Rule>, Fault>
+    ensures { MayRead (R.status store.old) (R.status store.new) result (IsCountedFor (λ w. by_books (accounts_meaning form.now by w))) }
+{
+    let contents = counted(alloc, store, accounts_of(form, by.user), form.count)?;
+    Ok(Ok(contents))
+}
