@@ -69,8 +69,7 @@ module _ (users : List ℕ → Option ℕ) (old new : Status) (m : MessageParts)
       (bytes, out, handles (IsSent IsWhole m) (λ response. IsWhole (framed m response) bytes) (Ok bytes) d d.replied)
   done before after (Ok (outcome.Report sent.Stopped)) (bytes, out, d) =
       (bytes, out, handles (IsSent BeginsWith m) (λ response. BeginsWith (framed m response) bytes) (Ok bytes) d d.replied)
-  done before after (Ok (outcome.Report (sent.Broken fault))) (bytes, out, d) =
-      (
+  done before after (Ok (outcome.Report (sent.Broken fault))) (bytes, out, d) = (
     bytes,
     out,
     record {
