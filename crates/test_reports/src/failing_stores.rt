@@ -2,41 +2,49 @@
 
 use crate::counter::{Answer, answer, asked_of, reply, tale, with_post};
 use crate::failing::{Cause, Failing};
-use crate::questions::{OF_ACCOUNTS, OF_LISTING, OF_PROOF, OF_STATEMENT, Question, fault_reply};
+use crate::questions::{
+    OF_ACCOUNTS, OF_LISTING, OF_PROOF, OF_STATEMENT, Question, fault_reply, first_lines,
+};
 use crate::runtime::Runtime;
 use crate::sinks::{Broken, sink};
 use counter_api::{ServeFault, Served};
 use store_rows::Bank;
 
-/// How many line ends the head of a reply to a report has.
-const LINES_OF_HEAD: usize = 4;
+/// How many lines of a reply to a report stand before those of its rows: those of its head, and the first of its text.
+const LINES_BEFORE_ROWS: u64 = 5;
 
-/// The head of a reply, the first line of its report, and so many lines behind it.
-fn beginning(reply: &[u8], lines: u64) -> &[u8] {
-    let mut left = (LINES_OF_HEAD as u64)
-        .saturating_add(1)
-        .saturating_add(lines);
-    for (place, byte) in reply.iter().enumerate() {
-        if *byte == b'\n' {
-            left = left.saturating_sub(1);
-            if left == 0 {
-                return reply.split_at(place.saturating_add(1)).0;
-            }
-        }
-    }
-    reply
+/// A question, and what comes of it over a store that does not fail.
+#[derive(Drop)]
+struct Calm {
+    question: Question,
+    /// The reply.
+    reply: Vec<u8>,
+    /// How often the store is read for it.
+    reads: u64,
+    /// How many of these reads come before the head.
+    before_head: u64,
+    /// What the bank tells of itself.
+    tale: Vec<u8>,
 }
 
-/// How often the store is read for the reply to a question.
-fn reads(rt: &impl Runtime, question: &Question) -> u64 {
+/// Asks a question over a store that does not fail.
+fn calm(rt: &impl Runtime, question: &Question) -> Calm {
     let mut bank = Bank {
         store: Failing::calm(asked_of(rt, question)),
     };
-    assert!(rt; reply(rt, &mut bank, question.message) == question.reply(rt));
-    bank.store.reads()
+    let given = reply(rt, &mut bank, question.message);
+    let reads = bank.store.reads();
+    assert!(rt; given == question.reply(rt) && reads > question.rows);
+    Calm {
+        question: *question,
+        reply: given,
+        reads,
+        before_head: reads.saturating_sub(question.rows),
+        tale: tale(rt, &mut bank),
+    }
 }
 
-/// What is told of the fault, where it comes before the head, and of each later request.
+/// The names of the fault, where it comes before the head, and of that of each later request.
 fn names(cause: Cause) -> (&'static str, Option<&'static str>) {
     match cause {
         Cause::Memory => ("F1", None),
@@ -44,65 +52,58 @@ fn names(cause: Cause) -> (&'static str, Option<&'static str>) {
     }
 }
 
-/// Asks that the reply to a question was the fault.
+/// Asks that the fault was the whole reply.
 fn is_refused(rt: &impl Runtime, run: &Answer, cause: Cause) {
     assert!(rt; run.end == Ok(Served { messages: 1 }));
     assert!(rt; run.bytes == fault_reply(rt, names(cause).0));
     assert!(rt; run.failures == 0);
 }
 
-/// Asks that the reply to a question broke behind so many lines.
-fn is_broken(rt: &impl Runtime, run: &Answer, due: &[u8], lines: u64) {
+/// Asks that the reply broke behind the lines of so many rows.
+fn is_broken(rt: &impl Runtime, run: &Answer, due: &[u8], rows: u64) {
+    let sent = first_lines(due, LINES_BEFORE_ROWS.saturating_add(rows));
     assert!(rt; run.end == Err(ServeFault::Report));
-    assert!(rt;
-        run.bytes.as_slice() == beginning(due, lines),
-        "behind {lines}"
-    );
+    assert!(rt; run.bytes.as_slice() == sent, "behind {rows}");
     assert!(rt; run.failures == 0);
 }
 
 /// Asks that the bank answers as before, or that it is stopped, and that nothing has changed.
-fn goes_on(rt: &impl Runtime, mut bank: Bank<Failing>, question: &Question, cause: Cause) {
-    let due = match names(cause).1 {
-        Some(name) => fault_reply(rt, name),
-        None => question.reply(rt),
-    };
-    assert!(rt; reply(rt, &mut bank, question.message) == due);
+fn goes_on(rt: &impl Runtime, mut bank: Bank<Failing>, calm: &Calm, cause: Cause) {
+    let next = reply(rt, &mut bank, calm.question.message);
+    match names(cause).1 {
+        Some(name) => assert!(rt; next == fault_reply(rt, name)),
+        None => assert!(rt; next == calm.reply),
+    }
     let mut below = Bank {
         store: bank.store.into_below(),
     };
-    let mut before = Bank {
-        store: asked_of(rt, question),
-    };
-    assert!(rt; tale(rt, &mut below) == tale(rt, &mut before));
+    assert!(rt; tale(rt, &mut below) == calm.tale);
 }
 
-/// Asks for a report over a store that fails at this read. Behind its head a post stands in the stream, too.
-fn fails_at(rt: &impl Runtime, question: &Question, cause: Cause, read: u64, head_at: u64) {
+/// Asks for a report over a store that fails at this read. Where that comes behind the head, a post follows in the stream.
+fn fails_at(rt: &impl Runtime, calm: &Calm, read: u64, cause: Cause) {
     let mut bank = Bank {
-        store: Failing::over(asked_of(rt, question), read, cause),
+        store: Failing::over(asked_of(rt, &calm.question), read, cause),
     };
     let writer = sink(rt, usize::MAX, Broken::Fails);
-    if read <= head_at {
-        let run = answer(rt, &mut bank, question.message, writer);
+    if read <= calm.before_head {
+        let run = answer(rt, &mut bank, calm.question.message, writer);
         is_refused(rt, &run, cause);
     } else {
-        let input = with_post(rt, question);
+        let input = with_post(rt, &calm.question);
         let run = answer(rt, &mut bank, input.as_slice(), writer);
-        let lines = read.saturating_sub(head_at).saturating_sub(1);
-        is_broken(rt, &run, question.reply(rt).as_slice(), lines);
+        let rows = read.saturating_sub(calm.before_head).saturating_sub(1);
+        is_broken(rt, &run, calm.reply.as_slice(), rows);
     }
-    goes_on(rt, bank, question, cause);
+    goes_on(rt, bank, calm, cause);
 }
 
 /// Has each read for a report fail for each cause.
 fn fails_at_each_read(rt: &impl Runtime, question: &Question) {
-    let reads = reads(rt, question);
-    assert!(rt; reads > question.rows);
-    let head_at = reads.saturating_sub(question.rows);
-    for read in 1..=reads {
+    let calm = calm(rt, question);
+    for read in 1..=calm.reads {
         for cause in [Cause::Memory, Cause::Disk] {
-            fails_at(rt, question, cause, read, head_at);
+            fails_at(rt, &calm, read, cause);
         }
     }
 }

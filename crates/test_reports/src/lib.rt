@@ -5,11 +5,19 @@
 #[cfg(test)]
 mod broken_writers;
 #[cfg(test)]
+mod counted_reports;
+#[cfg(test)]
 mod counter;
+#[cfg(test)]
+mod deciding;
 #[cfg(test)]
 mod failing;
 #[cfg(test)]
+mod failing_reads;
+#[cfg(test)]
 mod failing_stores;
+#[cfg(test)]
+mod lines;
 #[cfg(test)]
 mod questions;
 #[cfg(test)]
