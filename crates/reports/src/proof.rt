@@ -90,11 +90,7 @@ pub(crate) fn next_teller<S: ReportReads>(
     ensures short { IfOk result (λ next. IfSome next (λ listed. array_vec_len listed.line ≤ 256)) }
 {
     let Some(teller) = store.next_teller(alloc, from.branch.branch, from.after)? else {
-        return Ok(Some(listed_total(
-            from.branch,
-            from.tellers,
-            Total::Tellers,
-        )));
+        return Ok(Some(listed_total(from.branch, from.tellers, Total::Tellers)));
     };
     let Some(listed) = listed_teller(&from, &teller) else {
         return Err(Fault::Memory);
