@@ -10,4 +10,4 @@ pub mod ReleaseText
 pub mod ServedRows
 pub mod TransferText
 pub mod WholeNumbers
-pub mod CountedProof
+pub mod CountedReport
