@@ -1,4 +1,4 @@
-use Rattle.std.proofs.Common.{rules, ◌≡◌, None, true, refl, ◌∙◌}
+use Rattle.std.proofs.Common.{rules, ◌≡◌, true, refl, ◌∙◌}
 use Rattle.bank_policy.specs.HeldRows.{standing}
 use Rattle.certify.specs.CommandRows.{command_rows}
 use Rattle.bank_run.specs.PolicyRules.{is_identified}

@@ -1,4 +1,4 @@
-use Rattle.std.proofs.Common.{◌≡◌, rules, Result, Ok, ap, sym, subst, ◌∙◌}
+use Rattle.std.proofs.Common.{rules, Result, Ok, ap, sym, subst, ◌∙◌}
 use Rattle.bank_books.specs.Effects.{applied}
 use Rattle.op_plans.specs.Judged.{IsReady, LeavesPolicyReady, ReportsOnly}
 use Rattle.bank_run.specs.Meaning.{by_books}

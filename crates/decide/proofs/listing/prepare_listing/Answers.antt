@@ -1,4 +1,4 @@
-use Rattle.std.proofs.Common.{◌≡◌, None, rules, sym, ap, ◌∙◌}
+use Rattle.std.proofs.Common.{◌≡◌, None, rules, ◌∙◌}
 use Rattle.bank_policy.specs.HeldRows.{standing}
 use Rattle.bank_run.specs.Listing.{first_against_listing}
 use Rattle.decide.proofs.CountedDenials.{none_denies, read_counted}
