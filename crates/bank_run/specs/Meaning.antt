@@ -30,10 +30,6 @@ pub record Meaning : Type 0 where
   pub effect : WorldLists
   pub reply : ReplyText
 
--- of what is not served yet: it changes nothing
-abbrev pub no_meaning : WorldLists → Meaning
-no_meaning w = record { denies = λ r. false; effect = w; reply = json [] }
-
 -- The rules that come behind those of the policy, in their order: those of the books, and behind them those on commands, of which none denies an operation.
 abbrev pub rules_behind_policy : List Rule
 rules_behind_policy =

@@ -21,22 +21,6 @@ use Rattle.bank_run.specs.Release.{release_meaning}
 use Rattle.bank_run.specs.Statement.{statement_meaning}
 use Rattle.bank_run.specs.Transfer.{transfer_meaning}
 
--- the procedures that are served
-abbrev pub is_served : Procedure → Bool
-is_served procedure.Post = true
-is_served procedure.Transfer = true
-is_served procedure.Correct = true
-is_served procedure.DrawerOn = true
-is_served procedure.DrawerOff = true
-is_served procedure.MoveCash = true
-is_served procedure.NewAccount = true
-is_served procedure.Release = true
-is_served procedure.Balance = true
-is_served procedure.Statement = true
-is_served procedure.Accounts = true
-is_served procedure.Proof = true
-is_served procedure.CloseDay = true
-
 -- what an operation is in a World by the books, where the rows that it adds bear this signature
 abbrev pub meaning_of : Op → Signature → WorldLists → Meaning
 meaning_of (op.Post post) by w = post_meaning post by w

@@ -1,4 +1,4 @@
-ghost use Rattle.std.specs.Prelude.{◌≡◌, [], ◌∷◌, false, IfOk, IsOkUnless, MatchResult};
+ghost use Rattle.std.specs.Prelude.{◌≡◌, [], ◌∷◌, false, IfOk, IsOkUnless, MatchResult, Ok, Err, IfSome};
 ghost use Rattle.certify.specs.Commands.{breaks_separation, change_of, command_changes, first_against_command, is_of_officers, is_out_of_place, is_suspended, is_unknown, names_officer};
 
 use crate::command_rows::CommandRows;
@@ -18,6 +18,7 @@ pub fn plan_policy(
     command: PolicyOp,
 ) -> Result<Result<Plan, Rule>, Fault>
     ensures planned { IfOk result (λ outcome. MatchResult outcome (λ plan. (first_against_command rows.now by command ≡ None) × (plan.items ≡ command_changes command by)) (λ rule. first_against_command rows.now by command ≡ Some rule)) }
+    ensures denied { IfSome (first_against_command rows.now by command) (λ rule. result ≡ Ok (Err rule)) }
     ensures memory { IsOkUnless result Fault.Memory }
 {
     if let Some(rule) = rule_against_command(rows, by, &command) {

@@ -1,10 +1,8 @@
 -- From the exits of the loop over a counter to those of `serve` over its bank.
-use Rattle.std.proofs.Common.{◌≡◌, ◌≢◌, ℕ, List, Option, Result, Err, refl, ap, subst, ◌∙◌}
+use Rattle.std.proofs.Common.{◌≡◌, ℕ, List, Option, Result, refl, ap, subst, ◌∙◌}
 use Rattle.messages.specs.Exit.{IsExit, Point}
 use Rattle.messages.specs.Parts.{MessageParts}
-use Rattle.messages.specs.Whole.{message_parts}
 use Rattle.messages.specs.declared.serving.ServeFault.{ServeFault}
-use Rattle.messages.specs.declared.serving.ServeFault.TheVariants.{Report}
 use Rattle.messages.specs.declared.serving.Served.{Served}
 use Rattle.store_rows.specs.Status.{Status}
 use Rattle.counter_api.specs.Answers.{CounterAnswers, CounterBreaks, IsBroken}
@@ -13,13 +11,6 @@ use Rattle.reports.specs.Report.{BeginsWith}
 use Rattle.counter_api.specs.Run.{IsAnswered, IsWhole}
 use Rattle.counter_api.specs.declared.counter.Counter.{Counter}
 use Rattle.counter_api.proofs.ExitLemmas.{exits}
-
--- no message asks for a report, so no reply breaks
-pub unbroken : {S C : Type 0} (status : S → Status) (users : List ℕ → Option ℕ) (may_give : C → ℕ → C → Type 0) (most : ℕ) (old new : Place S C) (r : Result Served ServeFault)
-    → IsServed status users may_give most old new r → r ≢ Err Report
-unbroken status users may_give most old new r served is =
-    let broken : IsServed status users may_give most old new (Err Report) = subst (IsServed status users may_give most old new) is served in
-    states_no_report users broken.6.broken.moment (message_parts broken.1) broken.6.broken.report
 
 module _ {S G C : Type 0} (status : S → Status) (users : G → List ℕ → Option ℕ) (may_give : C → ℕ → C → Type 0) where
   -- the bank, the clock and the users that it began with

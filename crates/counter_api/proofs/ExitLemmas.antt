@@ -185,7 +185,7 @@ module _ {E S C : Type 0} (store : E → S) (clock : E → C) (status : S → St
       → IsServed status users may_give most (place old) (place new) (Err Write) × IsOne new.engine
   stopped way begins most old new one (before, last, rest, replies, reply, r, on, (n, fits, wrote)) =
       let run = last_ran old.engine r.mid new.engine before last replies (take n reply) one r.answered
-          (λ start first same. begins start new.engine (message_parts last) reply n first (subst (λ s. way s (message_parts last) reply new.engine) same r.reached)) in
+      (λ start first same. begins start new.engine (message_parts last) reply n first (subst (λ s. way s (message_parts last) reply new.engine) same r.reached)) in
       (inl (before, last, rest, run.run, run.at, replies, take n reply, record { bytes = r.bytes; taken = r.taken; splits = r.splits; marked = run.marked; given = run.given; ran = run.ran; bounded = r.bounded }, on, run.replied, wrote), run.one)
 
   pub exits : (most : ℕ) (old new : Point E) (r : Result Served ServeFault) → IsOne old.engine → IsExit answers stops breaks most old new r

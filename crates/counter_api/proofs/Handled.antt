@@ -1,5 +1,5 @@
 -- From what a request comes to to what its message does.
-use Rattle.std.proofs.Common.{◌≡◌, ◌⊎◌, ℕ, inl, inr, List, [], Option, Some, None, Result, Ok, Err, IfOk, IsNone, IsOkUnless, IsSome, refl, sym, ap, subst, ◌∙◌}
+use Rattle.std.proofs.Common.{◌≡◌, ◌⊎◌, ℕ, inl, inr, List, [], Option, Some, None, Result, Ok, Err, IfOk, IsNone, IsOkAnd, IsOkUnless, IsSome, refl, sym, ap, subst, ◌∙◌}
 use Rattle.bank_terms.specs.declared.rule.Rule.{Rule}
 use Rattle.bank_books.specs.WorldLists.{WorldLists}
 use Rattle.heads.specs.declared.fault.MessageFault.{MessageFault}
@@ -12,7 +12,7 @@ use Rattle.bank_run.specs.Run.{reply, step, world_after}
 use Rattle.bank_run.specs.Sums.{IsProper}
 use Rattle.bank_run.specs.declared.request.Request.{Request}
 use Rattle.decide.specs.OneRequest.{LeavesBoth, Settles}
-use Rattle.requests.specs.Request.{request_of}
+use Rattle.requests.specs.Request.{IsReport, request_of}
 use Rattle.reports.specs.Report.{BeginsWith}
 use Rattle.reports.proofs.StatusLemmas.{keeps_memory, keeps_still}
 use Rattle.money.specs.declared.tallied.Tallied.{Tallied}
@@ -69,8 +69,16 @@ module _ (users : List ℕ → Option ℕ) (old new : Status) (m : MessageParts)
       (bytes, out, handles (IsSent IsWhole m) (λ response. IsWhole (framed m response) bytes) (Ok bytes) d d.replied)
   done before after (Ok (outcome.Report sent.Stopped)) (bytes, out, d) =
       (bytes, out, handles (IsSent BeginsWith m) (λ response. BeginsWith (framed m response) bytes) (Ok bytes) d d.replied)
-  done before after (Ok (outcome.Report (sent.Broken fault))) (bytes, out, d) =
-      (bytes, out, record { kept = d.kept; begun = λ clean w held. subst (λ (s : Result Request MessageFault). BeginsWith (framed m (response_to w s None)) bytes) (sym is) (d.begun clean w held) })
+  done before after (Ok (outcome.Report (sent.Broken fault))) (bytes, out, d) = (
+    bytes,
+    out,
+    record {
+      report = subst (λ (s : Result Request MessageFault). IsOkAnd s (λ q. IsReport q.asked)) (sym is) d.report;
+      kept = d.kept;
+      cause = d.cause;
+      begun = λ clean w held. subst (λ (s : Result Request MessageFault). BeginsWith (framed m (response_to w s None)) bytes) (sym is) (d.begun clean w held);
+    },
+  )
 
 -- nothing was written
 pub writer_kept : {W : Type 0} (w : Tallied W) (response : Result ResponseParts Fault) → KeepsWriter w w (as_outcome response)

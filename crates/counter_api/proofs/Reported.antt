@@ -16,10 +16,12 @@ use Rattle.op_plans.specs.Judged.{IsReported}
 use Rattle.reports.specs.Report.{BeginsWith, IsCounted, text_of}
 use Rattle.reports.specs.declared.contents.Contents.{Contents}
 use Rattle.reports.proofs.StatusLemmas.{keeps_then}
+use Rattle.requests.specs.Request.{IsReport}
+use Rattle.counter_api.proofs.RunLemmas.{rose_then}
 use Rattle.counter_api.specs.CarriedOut.{BreaksOff, IsCarried, IsCarriedOut, IsSent}
 use Rattle.counter_api.specs.Response.{done_parts}
 use Rattle.counter_api.specs.Run.{FindsRoom, IsWhole, framed, told_parts}
-use Rattle.counter_api.specs.Sent.{IsStreamed, fault_of, report_reply, went}
+use Rattle.counter_api.specs.Sent.{CountsBreak, IsStreamed, fault_of, report_reply, went}
 use Rattle.counter_api.specs.declared.counter.Outcome.TheVariants as outcome
 use Rattle.counter_api.specs.declared.sent.Sent.{Sent}
 use Rattle.counter_api.specs.declared.sent.Sent.TheVariants as sent
@@ -31,11 +33,10 @@ module _ (w : WorldLists) (q : Request) (c : Contents) (is : IsReported w (verdi
   pub step_is_none : step w q ≡ w
   step_is_none = ap (λ f. if_allowed f (effect w q) w) is.allowed ∙ is.same
 
-
 -- a and e are the store before the decision and behind what went out
 module _ (a b e : Status) (before after : Option (List ℕ)) (m : MessageParts) (q : Request) (c : Contents)
     (kept : Keeps a b None) (reported : Tells a b (λ w. IsReported w (verdict q w) c)) (room : (w : WorldLists) → finds_room w q.asked ≡ true)
-    (refused : IsSome q.who.user → IsTrue a.is_stopped → None ≡ Some Stopped) where
+    (refused : IsSome q.who.user → IsTrue a.is_stopped → None ≡ Some Stopped) (asks : IsReport q.asked) where
   -- what went out, of each World
   sent_is : (how : Sent) (bytes : List ℕ) → Keeps b e (fault_of how) → Tells b e (λ w. IsCounted w c → went how (report_reply m (text_of w c)) bytes)
       → Tells a e (λ w. went how (framed m (told_parts (reply w q))) bytes)
@@ -60,10 +61,20 @@ module _ (a b e : Status) (before after : Option (List ℕ)) (m : MessageParts) 
   same_step : (mark : Option Fault) → Keeps b e mark → Tells a e (λ w. step w q ≡ w)
   same_step mark on clean w held = step_is_none w q c (reported (on.answers.honest clean) w held)
 
-  pub report_carried : (how : Sent) → IsStreamed b e before after m c how → IsCarried a e before after m q (Ok (outcome.Report how))
-  report_carried sent.Whole (on, bytes, out, went_out) =
+  pub report_carried : (how : Sent) → IsStreamed b e before after m c how → CountsBreak b e c how → IsCarried a e before after m q (Ok (outcome.Report how))
+  report_carried sent.Whole (on, bytes, out, went_out) counts =
       (bytes, out, carried IsWhole bytes (keeps_then a b e None kept on) (sent_is sent.Whole bytes on went_out) (same_step None on))
-  report_carried sent.Stopped (on, bytes, out, went_out) =
+  report_carried sent.Stopped (on, bytes, out, went_out) counts =
       (bytes, out, carried BeginsWith bytes (keeps_then a b e None kept on) (sent_is sent.Stopped bytes on went_out) (same_step None on))
-  report_carried (sent.Broken fault) (on, bytes, out, went_out) =
-      (bytes, out, record { kept = keeps_then a b e (Some fault) kept on; begun = sent_is (sent.Broken fault) bytes on went_out })
+  report_carried (sent.Broken fault) (on, bytes, out, went_out) counts = (
+    bytes,
+    out,
+    record {
+      report = asks;
+      kept = keeps_then a b e (Some fault) kept on;
+      cause = λ clean w held.
+          let is = reported (on.answers.honest clean) w held in
+          rose_then 0 1 a.fault_count b.fault_count e.fault_count kept.answers.counted (counts clean w (kept.kept w held) is.counted);
+      begun = sent_is (sent.Broken fault) bytes on went_out;
+    },
+  )

@@ -14,7 +14,7 @@ use Rattle.bank_run.specs.declared.request.Request.{Request}
 use Rattle.counter_api.specs.Response.{ResponseParts}
 use Rattle.counter_api.specs.Run.{AreOrderly, FindsRoom, IsHandled, IsPending, IsRun, MarkedMessage, after_message, failed_after, faults_of, framed, marked, marks_of, pending_after, requests_of, stated_by, stopped_after}
 
-rose_then : (m n a b c : ℕ) → RoseBy m a b → RoseBy n b c → RoseBy (m + n) a c
+pub rose_then : (m n a b c : ℕ) → RoseBy m a b → RoseBy n b c → RoseBy (m + n) a c
 rose_then m n a b c (inl p) (inl q) = inl (omega arith)
 rose_then m n a b c (inl p) (inr q) = inr q
 rose_then m n a b c (inr p) (inl q) = inr (omega arith)

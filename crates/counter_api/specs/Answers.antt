@@ -1,10 +1,9 @@
 -- What a counter's answer to a message says.
 use Rattle.std.specs.Prelude.{◌≡◌, ℕ, List, Option, Some, None, IsOkAnd}
-use Rattle.money.specs.Counted.{CountsFailure}
 use Rattle.money.specs.declared.fault.Fault.{Fault}
 use Rattle.messages.specs.Parts.{MessageParts}
 use Rattle.reports.specs.Report.{BeginsWith}
-use Rattle.store_rows.specs.Status.{Keeps, Status, Tells}
+use Rattle.store_rows.specs.Status.{Keeps, RoseBy, Status, Tells}
 use Rattle.requests.specs.Request.{IsReport, request_of}
 use Rattle.counter_api.specs.Run.{IsAnswered, reply_to}
 use Rattle.counter_api.specs.declared.counter.Counter.{Counter}
@@ -17,8 +16,9 @@ pub record CounterAnswers {S G C : Type 0} (how : List ℕ → List ℕ → Type
   pub same_clock : new.clock.ghost_name ≡ old.clock.ghost_name
   pub same_gate : new.gate ≡ old.gate
 
--- The message bore a moment that the clock gave, and asks for a report; and a fault, which the store counted, kept its reply from being given whole: these bytes
--- are a beginning of the reply, of each World that the store stood for. It stands for the same World.
+-- The message bore a moment that the clock gave, and asks for a report; and a fault kept its reply from being given whole: these
+-- bytes are a beginning of the reply, of each World that the store stood for. It stands for the same World, and where there is
+-- one it counted the fault.
 pub record IsBroken {C : Type 0} (users : List ℕ → Option ℕ) (may_give : C → ℕ → C → Type 0) (old new : Status) (from to : C) (message : MessageParts) (sent : List ℕ) : Type 0 where
   pub moment : ℕ
   pub fault : Fault
@@ -26,7 +26,7 @@ pub record IsBroken {C : Type 0} (users : List ℕ → Option ℕ) (may_give : C
   pub report : IsOkAnd (request_of users moment message) (λ r. IsReport r.asked)
   pub kept : Keeps old new (Some fault)
   -- want of memory counts, too
-  pub cause : CountsFailure old.fault_count new.fault_count
+  pub cause : Tells old new (λ w. RoseBy 1 old.fault_count new.fault_count)
   pub begun : Tells old new (λ w. BeginsWith (reply_to users w (record { message = message; moment = moment; mark = None })) sent)
 
 -- its reply broke so; the bank, the clock and the gate are the same references

@@ -7,12 +7,13 @@ use Rattle.money.specs.declared.fault.Fault.TheVariants.{Memory}
 use Rattle.money.specs.declared.tallied.Tallied.{Tallied}
 use Rattle.bank_terms.specs.declared.rule.Rule.{Rule}
 use Rattle.messages.specs.Parts.{MessageParts}
-use Rattle.store_rows.specs.Status.{Answers, Keeps, StaysWhole, Status, Tells, mark_of}
+use Rattle.store_rows.specs.Status.{Answers, Keeps, RoseBy, StaysWhole, Status, Tells, mark_of}
 use Rattle.bank_run.specs.Meaning.{ReplyText, json}
 use Rattle.bank_run.specs.Run.{reply}
 use Rattle.bank_run.specs.declared.request.Request.{Request}
 use Rattle.decide.specs.OneRequest.{LeavesBoth, Moves, Replies, Settles}
 use Rattle.reports.specs.Report.{BeginsWith}
+use Rattle.requests.specs.Request.{IsReport}
 use Rattle.counter_api.specs.Response.{ResponseParts, denied_parts, done_parts}
 use Rattle.counter_api.specs.Run.{FindsRoom, IsResponse, IsWhole, RefusesRequest, framed, told_parts}
 use Rattle.counter_api.specs.Sent.{CountsBySent}
@@ -45,10 +46,12 @@ IsResponded (Err fault) response = response ≡ Err fault
 abbrev pub IsSent : (List ℕ → List ℕ → Type 0) → MessageParts → Result ReplyText Rule → List ℕ → Type 0
 IsSent how m reply bytes = how (framed m (told_parts reply)) bytes
 
--- A fault broke the reply to a request off: what went out is a beginning of it, of each World that the store stood for. It stands
--- for the same World.
+-- A fault broke the reply to a request off, which asks for a report: what went out is a beginning of it, of each World that the
+-- store stood for. It stands for the same World, and counted the fault: want of memory counts, too.
 pub record BreaksOff (old new : Status) (r : Request) (m : MessageParts) (fault : Fault) (bytes : List ℕ) : Type 0 where
+  pub report : IsReport r.asked
   pub kept : Keeps old new (Some fault)
+  pub cause : Tells old new (λ w. RoseBy 1 old.fault_count new.fault_count)
   pub begun : Tells old new (λ w. BeginsWith (framed m (told_parts (reply w r))) bytes)
 
 -- A request was carried out, and its response is still to be written; or it is answered by a report, and so much of that went out.

@@ -1,10 +1,11 @@
 -- What the handling of one message came to, before its response is written.
-use Rattle.std.specs.Prelude.{◌≡◌, ℕ, List, Option, Some, None, Result, Ok, Err}
+use Rattle.std.specs.Prelude.{◌≡◌, ℕ, List, Option, Some, None, Result, Ok, Err, IsOkAnd}
 use Rattle.std.specs.Io.KnownBytes.{Appends}
 use Rattle.money.specs.declared.fault.Fault.{Fault}
 use Rattle.messages.specs.Parts.{MessageParts}
-use Rattle.store_rows.specs.Status.{Keeps, Status, Tells}
+use Rattle.store_rows.specs.Status.{Keeps, RoseBy, Status, Tells}
 use Rattle.reports.specs.Report.{BeginsWith}
+use Rattle.requests.specs.Request.{IsReport, request_of}
 use Rattle.counter_api.specs.Response.{ResponseParts, faulted_parts}
 use Rattle.counter_api.specs.Run.{IsHandled, IsWhole, framed, reply_to}
 use Rattle.counter_api.specs.declared.counter.Outcome.{Outcome}
@@ -18,7 +19,9 @@ as_outcome (Err fault) = Err fault
 
 -- of a message whose reply a fault broke off
 pub record IsBrokenOff (users : List ℕ → Option ℕ) (old new : Status) (message : MessageParts) (moment : ℕ) (fault : Fault) (bytes : List ℕ) : Type 0 where
+  pub report : IsOkAnd (request_of users moment message) (λ r. IsReport r.asked)
   pub kept : Keeps old new (Some fault)
+  pub cause : Tells old new (λ w. RoseBy 1 old.fault_count new.fault_count)
   pub begun : Tells old new (λ w. BeginsWith (reply_to users w (record { message = message; moment = moment; mark = None })) bytes)
 
 -- Its response, or the fault that takes its place, is still to be written; or it is answered by a report, and so much of that went out.

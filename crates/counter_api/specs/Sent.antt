@@ -1,11 +1,11 @@
 -- How far the reply of a report went out.
-use Rattle.std.specs.Prelude.{◌≡◌, ℕ, List, Option, Some, None}
+use Rattle.std.specs.Prelude.{◌≡◌, ℕ, List, Option, Some, None, ⊤}
 use Rattle.std.specs.Io.KnownBytes.{Appends}
 use Rattle.money.specs.declared.fault.Fault.{Fault}
 use Rattle.money.specs.declared.tallied.Tallied.{Tallied}
 use Rattle.messages.specs.Failures.{CountsNone, CountsOne}
 use Rattle.messages.specs.Parts.{MessageParts}
-use Rattle.store_rows.specs.Status.{Keeps, Status, Tells}
+use Rattle.store_rows.specs.Status.{Keeps, RoseBy, Status, Tells}
 use Rattle.bank_run.specs.Meaning.{plain}
 use Rattle.reports.specs.Report.{BeginsWith, IsCounted, text_of}
 use Rattle.reports.specs.declared.contents.Contents.{Contents}
@@ -34,6 +34,11 @@ report_reply m text = framed m (done_parts (plain text))
 abbrev pub IsStreamed : Status → Status → Option (List ℕ) → Option (List ℕ) → MessageParts → Contents → Sent → Type 0
 IsStreamed old new before after m c how =
     Keeps old new (fault_of how) × (sent : List ℕ) × Appends before after sent × Tells old new (λ w. IsCounted w c → went how (report_reply m (text_of w c)) sent)
+
+-- The fault that broke it off was counted, of each World in which the report was counted: want of memory counts, too.
+abbrev pub CountsBreak : Status → Status → Contents → Sent → Type 0
+CountsBreak old new c (Broken fault) = Tells old new (λ w. IsCounted w c → RoseBy 1 old.fault_count new.fault_count)
+CountsBreak old new c _ = ⊤
 
 -- the writer counted a write that failed, and nothing else
 abbrev pub CountsBySent : {W : Type 0} → Tallied W → Tallied W → Sent → Type 0

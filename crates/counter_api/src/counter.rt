@@ -4,7 +4,6 @@ ghost use Rattle.std.specs.Io.KnownBytes.{Appends};
 ghost use Rattle.money.specs.Counted.{AppendsBeginning, stream_of};
 ghost use Rattle.bank_run.specs.Sums.{IsProper};
 ghost use Rattle.messages.specs.Failures.{CountsByCall};
-ghost use Rattle.requests.specs.Request.{IsServedAsked};
 ghost use Rattle.counter_api.specs.CarriedOut.{IsCarried, IsCarriedOut, IsResponded, KeepsWriter};
 ghost use Rattle.counter_api.specs.Handled.{IsDone, as_outcome};
 ghost use Rattle.counter_api.specs.Run.{IsResponse, framed};
@@ -51,8 +50,7 @@ fn carried_out<S: Store, W: Write>(
     message: &Message<'_>,
     writer: &mut Tallied<W>,
 ) -> Result<Outcome, Fault>
-    requires served { IsServedAsked request.asked }
-    requires proper { IsProper request }
+    requires { IsProper request }
     ensures carried { IsCarried (S.status bank.old.store) (S.status bank.new.store) (W.contents (stream_of writer.old)) (W.contents (stream_of writer.new)) message.now request result }
     ensures writer { KeepsWriter writer.old writer.new result }
 {
@@ -86,8 +84,7 @@ fn operation_done<S: Store, W: Write>(
     message: &Message<'_>,
     writer: &mut Tallied<W>,
 ) -> Result<Outcome, Fault>
-    requires served { IsServedAsked (Asked.Operation op.now) }
-    requires proper { IsProper (record { who = who; moment = moment; asked = Asked.Operation op.now }) }
+    requires { IsProper (record { who = who; moment = moment; asked = Asked.Operation op.now }) }
     ensures carried { IsCarried (S.status bank.old.store) (S.status bank.new.store) (W.contents (stream_of writer.old)) (W.contents (stream_of writer.new)) message.now (record { who = who; moment = moment; asked = Asked.Operation op.now }) result }
     ensures writer { KeepsWriter writer.old writer.new result }
 {

@@ -1,6 +1,6 @@
 ghost use Rattle.std.specs.Prelude.{◌≡◌};
 ghost use Rattle.money.specs.Counted.{stream_of};
-ghost use Rattle.counter_api.specs.Sent.{CountsBySent, IsStreamed};
+ghost use Rattle.counter_api.specs.Sent.{CountsBreak, CountsBySent, IsStreamed};
 
 use http::StatusCode;
 use messages::Message;
@@ -28,6 +28,7 @@ pub(crate) fn streamed<'b, S: ReportReads, W: Write>(
     writer: &mut Tallied<W>,
 ) -> Sent
     ensures streamed { IsStreamed (S.status report.entry.bank.now.store) (S.status report.exit.0.now.store) (W.contents (stream_of writer.old)) (W.contents (stream_of writer.new)) message.now report.entry.contents result }
+    ensures cause { CountsBreak (S.status report.entry.bank.now.store) (S.status report.exit.0.now.store) report.entry.contents result }
     ensures failures { CountsBySent writer.old writer.new result }
 {
     match message.reply_head(writer, StatusCode::OK, "text/plain", report.length()) {

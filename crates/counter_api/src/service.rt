@@ -1,4 +1,4 @@
-ghost use Rattle.std.specs.Prelude.{◌≡◌, ◌≢◌, ◌≤◌, IfOk, Err};
+ghost use Rattle.std.specs.Prelude.{◌≡◌, ◌≤◌, IfOk, Err};
 ghost use Rattle.money.specs.Counted.{stream_of};
 ghost use Rattle.messages.specs.Failures.{CountsByExit};
 ghost use Rattle.counter_api.specs.Exit.{IsServed};
@@ -30,8 +30,6 @@ fn serve_counter<'b, 'g, 'c, 'r, R: Read, W: Write, S: Store, G: Gate, C: Clock>
     ensures memory { result ≡ Err ServeFault.Memory → (reader.new ≡ reader.old) × (writer.new ≡ writer.old) }
     ensures most { IfOk result (λ served. served.messages ≤ most) }
     ensures failures { CountsByExit reader.old reader.new writer.old writer.new result }
-    // What is served is no report yet, so none breaks.
-    ensures unbroken { result ≢ Err ServeFault.Report }
 {
     serve_messages(alloc, counter, reader, writer, most)
 }
@@ -60,8 +58,6 @@ pub fn serve<R: Read, W: Write, S: Store, G: Gate, C: Clock>(
     ensures memory { result ≡ Err ServeFault.Memory → (reader.new ≡ reader.old) × (writer.new ≡ writer.old) }
     ensures most { IfOk result (λ served. served.messages ≤ most) }
     ensures failures { CountsByExit reader.old reader.new writer.old writer.new result }
-    // What is served is no report yet, so none breaks.
-    ensures unbroken { result ≢ Err ServeFault.Report }
 {
     let routes = Routes::new(alloc)?;
     let mut counter = Counter {

@@ -29,7 +29,7 @@ pub record IsLoadedFor (w : WorldLists) (x : Execution) (l : OperationRows) : Ty
   pub relations : l.policy.relations.items ≡ relations_of w.policy (procedure_of x.op)
   pub held : l.policy.held.items ≡ triples_of w.policy (asker x.who) (procedure_of x.op)
   pub released : option_map grounds_of l.policy.released ≡ release_grounds w (asker x.who) x.who.release
-  pub books : book_rows w x.op ≡ Some l.books
+  pub books : l.books ≡ book_rows w x.op
 
 -- by which a command of who asks is judged
 pub record IsLoadedForCommand (w : WorldLists) (who : Who) (command : PolicyOp) (l : CommandGrounds) : Type 0 where

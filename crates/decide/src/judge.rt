@@ -2,11 +2,10 @@ ghost use Rattle.std.specs.Prelude.{◌≡◌, IfOk, IsSome, false, true};
 ghost use Rattle.bank_books.specs.Effects.{applied};
 ghost use Rattle.bank_books.specs.Version.{changes_policy};
 ghost use Rattle.bank_books.specs.WorldLists.{WorldLists};
-ghost use Rattle.counter_ops.specs.Op.{procedure_of};
 ghost use Rattle.counter_ops.specs.Operations.{IsOp};
 ghost use Rattle.store_rows.specs.Status.{Reads};
-ghost use Rattle.op_plans.specs.Judged.{IsReady};
-ghost use Rattle.bank_run.specs.Operations.{is_served};
+ghost use Rattle.op_plans.specs.Judged.{IsReady, ReportsOnly};
+ghost use Rattle.bank_run.specs.Operations.{is_report};
 ghost use Rattle.bank_run.specs.PolicyRules.{used_by};
 ghost use Rattle.bank_run.specs.Requests.{executes, verdict};
 
@@ -20,17 +19,17 @@ use std::alloc::{AllocError, Global};
 use store_rows::{BookReads, PolicyReads, ReportReads};
 
 /// What carries an operation out, or the first rule that denies it. The rules of the policy come
-/// first. A report is never let be by a release, as it comes to no amount. Where one of them denies, no row is read that only the books ask about; of a release that
-/// is named the day of its branch is.
+/// first: where one of them denies, no row is read that only the books ask about; of a release that is
+/// named the day of its branch is. A report uses up no release, as it comes to no amount.
 pub(crate) fn prepare<S: PolicyReads + BookReads + ReportReads>(
     alloc: Global,
     store: &mut S,
     execution: &Execution,
 ) -> Result<Result<Ready, Rule>, Fault>
     requires named { IsSome execution.now.who.user }
-    requires served { is_served (procedure_of execution.now.op) ≡ true }
     requires proper { IsOp execution.now.op }
-    ensures { Reads (S.status store.old) (S.status store.new) result (IsReady (verdict (executes execution.now))) }
+    ensures judged { Reads (S.status store.old) (S.status store.new) result (IsReady (verdict (executes execution.now))) }
+    ensures reports { ReportsOnly (is_report execution.now.op) result }
 {
     match policy_leave(alloc, store, execution)? {
         Err(rule) => Ok(Err(rule)),

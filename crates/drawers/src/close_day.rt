@@ -1,4 +1,4 @@
-ghost use Rattle.std.specs.Prelude.{◌≡◌, ◌+◌, ◌<◌, ◌≤◌, ◌&&◌, [], ◌∷◌, is_some, not, nat_le, true, false, pos, int_lt, option_map, IfOk, IfSome, IsNone, IsOkUnless};
+ghost use Rattle.std.specs.Prelude.{◌≡◌, ◌+◌, ◌<◌, ◌≤◌, ◌&&◌, [], ◌∷◌, is_some, not, nat_le, true, false, pos, int_lt, option_map, IfOk, IfSome, IsNone, IsOkUnless, Ok, Err};
 ghost use Rattle.std.specs.List.{list_any};
 ghost use Rattle.std.specs.Option.{option_map_or};
 ghost use Rattle.bank_terms.specs.Limits.{max_day, max_key};
@@ -71,6 +71,7 @@ pub fn plan_close_day(
     form: &CloseDay,
 ) -> Result<Result<Planned<Closed>, Rule>, Fault>
     ensures planned { IfOk result (IsPlanned (first_against_close_day rows.now) (close_day_changes rows.now form.now) (closed_of rows.now)) }
+    ensures denied { IfSome (first_against_close_day rows.now) (λ rule. result ≡ Ok (Err rule)) }
     ensures memory { IsOkUnless result Fault.Memory }
 {
     if let Some(rule) = rule_against_close_day(rows) {

@@ -1,4 +1,4 @@
-ghost use Rattle.std.specs.Prelude.{◌≡◌, ◌+◌, ◌≤◌, ◌+ℤ◌, [], ◌∷◌, IfOk, IfSome, IsNone, IsOkUnless};
+ghost use Rattle.std.specs.Prelude.{◌≡◌, ◌+◌, ◌≤◌, ◌+ℤ◌, [], ◌∷◌, IfOk, IfSome, IsNone, IsOkUnless, Ok, Err};
 ghost use Rattle.bank_terms.specs.Limits.{max_key};
 ghost use Rattle.money.specs.Range.{IsCents};
 ghost use Rattle.row_rules.specs.Planned.{IsPlanned};
@@ -36,6 +36,7 @@ pub fn plan_drawer_off(
     by: Signature,
 ) -> Result<Result<Planned<PutOff>, Rule>, Fault>
     ensures planned { IfOk result (IsPlanned (first_against_drawer_off rows.now form.now by) (drawer_off_changes rows.now form.now by) (put_off_of rows.now form.now)) }
+    ensures denied { IfSome (first_against_drawer_off rows.now form.now by) (λ rule. result ≡ Ok (Err rule)) }
     ensures memory { IsOkUnless result Fault.Memory }
 {
     if let Some(rule) = rule_against_drawer_off(rows, form, by) {

@@ -1,4 +1,4 @@
-ghost use Rattle.std.specs.Prelude.{◌≡◌, ◌+◌, ◌≤◌, ◌+ℤ◌, ◌||◌, ◌&&◌, [], ◌∷◌, None, option_map, if◌then◌else◌, IfOk, IfSome, IsNone, IsSomeAnd, IsOkUnless};
+ghost use Rattle.std.specs.Prelude.{◌≡◌, ◌+◌, ◌≤◌, ◌+ℤ◌, ◌||◌, ◌&&◌, [], ◌∷◌, None, option_map, if◌then◌else◌, IfOk, IfSome, IsNone, IsSomeAnd, IsOkUnless, Ok, Err};
 ghost use Rattle.bank_terms.specs.Limits.{max_key};
 ghost use Rattle.money.specs.Range.{IsCents};
 ghost use Rattle.row_rules.specs.BranchParts.{cash_book_of};
@@ -77,6 +77,7 @@ pub fn plan_move(
     by: Signature,
 ) -> Result<Result<Planned<Moved>, Rule>, Fault>
     ensures planned { IfOk result (IsPlanned (first_against_move rows.now move_cash.now by) (move_changes rows.now move_cash.now by) (moved_of rows.now move_cash.now)) }
+    ensures denied { IfSome (first_against_move rows.now move_cash.now by) (λ rule. result ≡ Ok (Err rule)) }
     ensures memory { IsOkUnless result Fault.Memory }
 {
     if let Some(rule) = rule_against_move_cash(rows, move_cash, by) {

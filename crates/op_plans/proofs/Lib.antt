@@ -1,5 +1,6 @@
 pub mod BalanceText
 pub mod CloseDayText
+pub mod CountedProof
 pub mod DrawerOffText
 pub mod DrawerOnText
 pub mod Kept
@@ -7,7 +8,5 @@ pub mod MoveCashText
 pub mod NewAccountText
 pub mod PostText
 pub mod ReleaseText
-pub mod ServedRows
 pub mod TransferText
 pub mod WholeNumbers
-pub mod CountedProof

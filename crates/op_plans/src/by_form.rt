@@ -1,10 +1,9 @@
-ghost use Rattle.std.specs.Prelude.{◌≡◌, Some, false, true};
-ghost use Rattle.counter_ops.specs.Op.{procedure_of};
+ghost use Rattle.std.specs.Prelude.{◌≡◌, false, true};
 ghost use Rattle.counter_ops.specs.Operations.{IsOp};
 ghost use Rattle.bank_books.specs.WorldLists.{WorldLists};
 ghost use Rattle.store_rows.specs.Status.{MayRead, Reads};
 ghost use Rattle.bank_run.specs.Meaning.{by_books};
-ghost use Rattle.bank_run.specs.Operations.{is_report, is_served, meaning_of};
+ghost use Rattle.bank_run.specs.Operations.{is_report, meaning_of};
 ghost use Rattle.op_plans.specs.BookRows.{book_rows};
 ghost use Rattle.op_plans.specs.Judged.{IsCountedFor, IsJudged, IsReady, LeavesPolicy, LeavesPolicyReady, ReportsOnly};
 
@@ -35,15 +34,14 @@ use reports::Contents;
 use std::alloc::Global;
 use store_rows::{BookReads, PolicyReads, ReportReads};
 
-/// What carries out an operation with this signature, or the first rule of the books against it. Its procedure is one that is
-/// served. It changes no policy. A report is counted, and changes nothing.
+/// What carries out an operation with this signature, or the first rule of the books against it. It changes
+/// no policy. A report is counted, and changes nothing.
 pub fn prepare_by_books<S: PolicyReads + BookReads + ReportReads>(
     alloc: Global,
     store: &mut S,
     op: &Op,
     by: Signature,
 ) -> Result<Result<Ready, Rule>, Fault>
-    requires served { is_served (procedure_of op.now) ≡ true }
     requires proper { IsOp op.now }
     ensures judged { MayRead (S.status store.old) (S.status store.new) result (IsReady (λ w. by_books (meaning_of op.now by w))) }
     ensures policy { LeavesPolicyReady result }
@@ -128,7 +126,7 @@ fn prepare_change<S: PolicyReads + BookReads>(
 
 /// The first rule of the books against an operation with this signature, or none, where these are rows of its form.
 pub fn first_of_books(rows: &BookRows, op: &Op, by: Signature) -> Option<Rule>
-    ensures { (w : WorldLists) → book_rows w op.now ≡ Some rows.now → result ≡ (by_books (meaning_of op.now by w)).first }
+    ensures { (w : WorldLists) → rows.now ≡ book_rows w op.now → result ≡ (by_books (meaning_of op.now by w)).first }
 {
     match (rows, op) {
         (BookRows::Post(rows), Op::Post(post)) => rule_against_post(rows, post, by),

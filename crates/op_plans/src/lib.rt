@@ -1,7 +1,7 @@
 //! Each operation by the books alone, one file a form. `prepare_by_books` loads the rows that an operation
 //! is judged on. It answers the first rule of the books against it, or the plan that is its effect with the
-//! bytes of its reply, and changes nothing. `first_of_books` is that rule by rows that were loaded, and
-//! `is_served` tells which forms are served. The rules of the policy and releases are left to `decide`.
+//! bytes of its reply, or a report that was counted, and changes nothing. `first_of_books` is that rule by
+//! rows that were loaded. The rules of the policy and releases are left to `decide`.
 #![tactic(auto)]
 
 mod accounts;
@@ -13,14 +13,12 @@ mod correct;
 mod drawer_off;
 mod drawer_on;
 mod json_text;
-pub mod laws;
 mod move_cash;
 mod new_account;
 mod post;
 mod prepared;
 mod proof;
 mod release;
-mod served;
 mod statement;
 mod transfer;
 
@@ -28,4 +26,3 @@ pub use book_rows::BookRows;
 pub use by_form::{first_of_books, prepare_by_books};
 pub use json_text::compact;
 pub use prepared::{Prepared, Ready};
-pub use served::is_served;

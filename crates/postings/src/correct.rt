@@ -1,4 +1,4 @@
-ghost use Rattle.std.specs.Prelude.{◌≡◌, [], ◌∷◌, ◌+◌, ◌<◌, ◌+ℤ◌, true, false, option_map, IfOk, IfSome, IsNone, IsSome, IsOkUnless};
+ghost use Rattle.std.specs.Prelude.{◌≡◌, [], ◌∷◌, ◌+◌, ◌<◌, ◌+ℤ◌, true, false, option_map, IfOk, IfSome, IsNone, IsSome, IsOkUnless, Ok, Err};
 ghost use Rattle.money.specs.Range.{IsCents};
 ghost use Rattle.bank_terms.specs.Limits.{max_key};
 ghost use Rattle.row_rules.specs.BranchParts.{cash_book_of, ledger_of};
@@ -88,6 +88,7 @@ pub fn plan_correct(
     by: Signature,
 ) -> Result<Result<Planned<Corrected>, Rule>, Fault>
     ensures planned { IfOk result (IsPlanned (first_against_correct rows.now correct.now by) (correct_changes rows.now correct.now by) (corrected_of rows.now correct.now)) }
+    ensures denied { IfSome (first_against_correct rows.now correct.now by) (λ rule. result ≡ Ok (Err rule)) }
     ensures memory { IsOkUnless result Fault.Memory }
 {
     if let Some(rule) = rule_against_correct(rows, correct, by) {

@@ -1,4 +1,4 @@
-ghost use Rattle.std.specs.Prelude.{◌≡◌, ◌<◌, ◌+ℤ◌, false, option_map, IfOk, IfSome, IsNone, IsOkUnless};
+ghost use Rattle.std.specs.Prelude.{◌≡◌, ◌<◌, ◌+ℤ◌, false, option_map, IfOk, IfSome, IsNone, IsOkUnless, Ok, Err};
 ghost use Rattle.money.specs.Range.{IsCents};
 ghost use Rattle.bank_terms.specs.Limits.{max_key};
 ghost use Rattle.row_rules.specs.BranchParts.{cash_book_of, ledger_of};
@@ -73,6 +73,7 @@ pub fn plan_post(
     by: Signature,
 ) -> Result<Result<Planned<Posted>, Rule>, Fault>
     ensures planned { IfOk result (IsPlanned (first_against_post rows.now post.now by) (post_changes rows.now post.now by) (posted_of rows.now post.now)) }
+    ensures denied { IfSome (first_against_post rows.now post.now by) (λ rule. result ≡ Ok (Err rule)) }
     ensures memory { IsOkUnless result Fault.Memory }
 {
     if let Some(rule) = rule_against_post(rows, post, by) {

@@ -1,4 +1,4 @@
-ghost use Rattle.std.specs.Prelude.{◌≡◌, ◌+◌, ◌<◌, ◌≤◌, ◌+ℤ◌, false, option_map, IfOk, IfSome, IsNone, IsOkUnless};
+ghost use Rattle.std.specs.Prelude.{◌≡◌, ◌+◌, ◌<◌, ◌≤◌, ◌+ℤ◌, false, option_map, IfOk, IfSome, IsNone, IsOkUnless, Ok, Err};
 ghost use Rattle.money.specs.Range.{IsCents};
 ghost use Rattle.bank_terms.specs.Limits.{max_key, max_transfer};
 ghost use Rattle.row_rules.specs.BranchParts.{ledger_of};
@@ -74,6 +74,7 @@ pub fn plan_transfer(
 ) -> Result<Result<Planned<Transferred>, Rule>, Fault>
     requires amount { transfer.now.amount ≤ max_transfer }
     ensures planned { IfOk result (IsPlanned (first_against_transfer rows.now transfer.now by) (transfer_changes rows.now transfer.now by) (transferred_of rows.now transfer.now)) }
+    ensures denied { IfSome (first_against_transfer rows.now transfer.now by) (λ rule. result ≡ Ok (Err rule)) }
     ensures memory { IsOkUnless result Fault.Memory }
 {
     if let Some(rule) = rule_against_transfer(rows, transfer, by) {

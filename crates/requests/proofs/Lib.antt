@@ -1,2 +1,1 @@
-pub mod NoReport
 pub mod NumberLemmas

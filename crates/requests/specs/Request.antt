@@ -1,13 +1,11 @@
 -- The request that a message states, or why it states none.
-use Rattle.std.specs.Prelude.{ℕ, ◌≡◌, true, List, Option, Some, None, Result, Ok, Err, IsOkAnd, if◌then◌else◌, ⊤}
+use Rattle.std.specs.Prelude.{ℕ, ◌≡◌, true, List, Option, Some, None, Result, Ok, Err, ⊤, ⊥}
 use Rattle.std.specs.Option.{option_map_or}
 use Rattle.bank_terms.specs.declared.procedure.Procedure.{Procedure}
 use Rattle.bodies.specs.Operation.{stated_op}
 use Rattle.command_bodies.specs.Command.{stated_command}
 use Rattle.policy_ops.specs.declared.command.Command.{Command}
-use Rattle.counter_ops.specs.Op.{procedure_of}
-use Rattle.counter_ops.specs.declared.op.Op.TheVariants as op
-use Rattle.bank_run.specs.Operations.{is_served}
+use Rattle.bank_run.specs.Operations.{is_report}
 use Rattle.bank_run.specs.declared.request.Asked.{Asked}
 use Rattle.bank_run.specs.declared.request.Asked.TheVariants as asked
 use Rattle.bank_run.specs.declared.request.Request.{Request}
@@ -35,22 +33,6 @@ abbrev pub session_by : Asked → ℕ → Result Who MessageFault → Result Req
 session_by asked moment (Ok who) = Ok (record { who = who; moment = moment; asked = asked })
 session_by asked moment (Err fault) = Err fault
 
--- what is asked for, where it is served: an operation, where those of its procedure are
-abbrev pub served : Option Route → Option Route
-served (Some (route.Operation procedure)) = if is_served procedure then Some (route.Operation procedure) else None
-served (Some route.Opening) = Some route.Opening
-served (Some route.Ending) = Some route.Ending
-served (Some (route.Policy command)) = Some (route.Policy command)
-served (Some route.Listing) = Some route.Listing
-served None = None
-
-abbrev pub IsServedRoute : Route → Type 0
-IsServedRoute (route.Operation procedure) = is_served procedure ≡ true
-IsServedRoute route.Opening = ⊤
-IsServedRoute route.Ending = ⊤
-IsServedRoute (route.Policy command) = ⊤
-IsServedRoute route.Listing = ⊤
-
 -- the request of a route; who opens a session need not have one, and is known by the badge alone
 abbrev pub asked_of : (List ℕ → Option ℕ) → ℕ → MessageParts → Option Route → Result Request MessageFault
 asked_of users moment m (Some (route.Operation procedure)) = asked_by procedure moment m.body (who_of_operation users m.head.fields)
@@ -61,14 +43,12 @@ asked_of users moment m (Some route.Listing) = session_by asked.Listing moment (
 asked_of users moment m None = Err NoSuchRoute
 
 -- The request that a message states at a moment, where the badges name these users. Else its fault: method and path ask
--- for nothing that is served; or a field or the body is not of its form.
+-- for nothing; or a field or the body is not of its form.
 abbrev pub request_of : (List ℕ → Option ℕ) → ℕ → MessageParts → Result Request MessageFault
-request_of users moment m = asked_of users moment m (served (asked_route m.head.method m.head.target))
+request_of users moment m = asked_of users moment m (asked_route m.head.method m.head.target)
 
--- what is asked for is served: operations of some procedures, sessions, commands of the policy, and its listing
-abbrev pub IsServedAsked : Asked → Type 0
-IsServedAsked (asked.Operation op) = is_served (procedure_of op) ≡ true
-IsServedAsked asked.Opening = ⊤
-IsServedAsked asked.Ending = ⊤
-IsServedAsked (asked.Command command) = ⊤
-IsServedAsked asked.Listing = ⊤
+-- what is asked for is answered by a report, which is written row by row behind its head
+abbrev pub IsReport : Asked → Type 0
+IsReport (asked.Operation op) = is_report op ≡ true
+IsReport asked.Listing = ⊤
+IsReport _ = ⊥

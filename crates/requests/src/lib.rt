@@ -6,7 +6,6 @@
 
 mod fields;
 mod gate;
-pub mod laws;
 mod stated;
 
 pub use gate::Gate;

@@ -1,11 +1,9 @@
-ghost use Rattle.std.specs.Prelude.{◌≡◌, ◌≤◌, true, IfOk, IfSome, IsOkUnless};
+ghost use Rattle.std.specs.Prelude.{◌≡◌, ◌≤◌, IfOk, IsOkUnless};
 ghost use Rattle.bank_terms.specs.Limits.{max_moment};
 ghost use Rattle.money.specs.declared.fault.Fault.TheVariants.{Memory};
-ghost use Rattle.bank_run.specs.Operations.{is_served};
 ghost use Rattle.bank_run.specs.Sums.{IsProper};
 ghost use Rattle.requests.specs.Fields.{who_of, who_of_operation};
-ghost use Rattle.requests.specs.Request.{IsServedAsked, IsServedRoute, asked_by, commanded_by, request_of, served, session_by};
-ghost use Rattle.routes.specs.Routes.{asked_route};
+ghost use Rattle.requests.specs.Request.{asked_by, commanded_by, request_of, session_by};
 
 use crate::fields::{who_by_badge, who_of, who_of_operation};
 use crate::gate::Gate;
@@ -16,21 +14,9 @@ use command_bodies::read_command;
 use heads::MessageFault;
 use messages::Message;
 use money::Fault;
-use op_plans::is_served;
 use policy_ops::Command;
 use routes::{Route, Routes};
 use std::alloc::Global;
-
-/// What a message asks for, if it is served.
-fn served_route(routes: &Routes, message: &Message<'_>) -> Option<Route>
-    ensures asked { result ≡ served (asked_route message.now.head.method message.now.head.target) }
-    ensures served { IfSome result IsServedRoute }
-{
-    match routes.route(message.method(), message.target()) {
-        Some(Route::Operation(procedure)) if !is_served(procedure) => None,
-        route => route,
-    }
-}
 
 /// The request that a message states at a moment, or its fault.
 pub fn stated_request<G: Gate>(
@@ -43,10 +29,9 @@ pub fn stated_request<G: Gate>(
     requires { moment ≤ max_moment }
     ensures stated { IfOk result (λ stated. stated ≡ request_of (G.users gate.now) moment message.now) }
     ensures proper { IfOk result (λ stated. IfOk stated IsProper) }
-    ensures served { IfOk result (λ stated. IfOk stated (λ request. IsServedAsked request.asked)) }
     ensures memory { IsOkUnless result Memory }
 {
-    match served_route(routes, message) {
+    match routes.route(message.method(), message.target()) {
         Some(Route::Operation(procedure)) => {
             stated_operation(alloc, procedure, gate, message, moment)
         }
@@ -70,11 +55,9 @@ fn stated_operation<G: Gate>(
     message: &Message<'_>,
     moment: u64,
 ) -> Result<Result<Request, MessageFault>, Fault>
-    requires moment { moment ≤ max_moment }
-    requires served { is_served procedure ≡ true }
+    requires { moment ≤ max_moment }
     ensures stated { IfOk result (λ stated. stated ≡ asked_by procedure moment message.now.body (who_of_operation (G.users gate.now) message.now.head.fields)) }
     ensures proper { IfOk result (λ stated. IfOk stated IsProper) }
-    ensures served { IfOk result (λ stated. IfOk stated (λ request. IsServedAsked request.asked)) }
     ensures memory { IsOkUnless result Memory }
 {
     let who = match who_of_operation(message, gate) {
@@ -102,7 +85,6 @@ fn stated_policy<G: Gate>(
     requires { moment ≤ max_moment }
     ensures stated { IfOk result (λ stated. stated ≡ commanded_by command moment message.now.body (who_of (G.users gate.now) message.now.head.fields)) }
     ensures proper { IfOk result (λ stated. IfOk stated IsProper) }
-    ensures served { IfOk result (λ stated. IfOk stated (λ request. IsServedAsked request.asked)) }
     ensures memory { IsOkUnless result Memory }
 {
     let who = match who_of(message, gate) {

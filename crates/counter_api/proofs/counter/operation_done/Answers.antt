@@ -1,15 +1,17 @@
-use Rattle.std.proofs.Common.{rules, ◌≡◌, None, Ok, refl, ap, subst, sym, ◌∙◌}
+use Rattle.std.proofs.Common.{rules, ◌≡◌, true, None, Ok, refl, ap, subst, sym, ◌∙◌}
 use Rattle.money.specs.Counted.{stream_of}
 use Rattle.store_rows.specs.Status.{Keeps, Tells}
 use Rattle.store_rows.specs.declared.bank.Bank.{Bank}
+use Rattle.bank_run.specs.Operations.{is_report}
 use Rattle.bank_run.specs.Requests.{verdict}
 use Rattle.bank_run.specs.Run.{reply}
 use Rattle.bank_run.specs.declared.request.Asked.TheVariants as asked
 use Rattle.bank_run.specs.declared.request.Request.{Request}
 use Rattle.decide.specs.OneRequest.{Settles}
-use Rattle.decide.specs.Permit.{reply_bank}
+use Rattle.decide.specs.Permit.{IsReadyFor, reply_bank}
 use Rattle.decide.specs.declared.permit.Reply.{Reply}
 use Rattle.op_plans.specs.Judged.{IsReported}
+use Rattle.op_plans.specs.declared.prepared.Ready.{Ready}
 use Rattle.counter_api.specs.CarriedOut.{IsCarried}
 use Rattle.counter_api.specs.Response.{ResponseParts}
 use Rattle.counter_api.specs.Run.{told_parts}
@@ -65,6 +67,7 @@ returns-in-Ok-Report-clause-carried g c =
     let reported : Tells start (g.S.Stands.status c.in-Ok-Report.report.bank.now.store) (λ w. IsReported w (verdict q w) contents) =
     subst (λ (b : Bank g.row.S.Denot). Tells start (g.S.Stands.status b.store) (λ w. IsReported w (verdict q w) contents)) (sym same)
     (λ honest w holds. permit_reported w q permit contents ready (decided honest w holds)) in
+    let asks : is_report c.args.op.now ≡ true = subst (λ (r : Ready). IsReadyFor (is_report c.args.op.now) r) ready (rw c.in-Ok-Allowed.field-0-is at c.in-Ok-Allowed.ensures.reports) in
     at_end (λ (b : Bank g.row.S.Denot). IsCarried start (g.S.Stands.status b.store) (g.W.Write.contents (stream_of c.args.writer.now)) (g.W.Write.contents (stream_of c.streamed.new.writer)) c.args.message.now q (Ok (outcome.Report c.streamed.result)))
     c.bank-in-Ok-Report-1.given.0 c.streamed.new.report.0 (search rules)
-    (report_carried start (g.S.Stands.status c.in-Ok-Report.report.bank.now.store) _ _ _ c.args.message.now q contents kept_on reported (λ w. refl) c.in-Ok-Allowed.ensures.refused c.streamed.result c.streamed.ensures.streamed)
+    (report_carried start (g.S.Stands.status c.in-Ok-Report.report.bank.now.store) _ _ _ c.args.message.now q contents kept_on reported (λ w. refl) c.in-Ok-Allowed.ensures.refused asks c.streamed.result c.streamed.ensures.streamed c.streamed.ensures.cause)

@@ -1,5 +1,5 @@
 -- By the exits of the loop.
-use Rattle.counter_api.proofs.CounterLemmas.{counter_exits, unbroken}
+use Rattle.counter_api.proofs.CounterLemmas.{counter_exits}
 use Rattle.counter_api.proofs.service.serve_counter.Goals as goal
 
 pub returns-clause-exit : goal.returns-clause-exit
@@ -10,8 +10,3 @@ returns-clause-same_bank g c = (counter_exits g.S.Stands.status g.G.Gate.users g
 
 pub returns-clause-same_clock : goal.returns-clause-same_clock
 returns-clause-same_clock g c = (counter_exits g.S.Stands.status g.G.Gate.users g.C.Clock.may_give c.args.most _ _ c.serve_messages.result c.serve_messages.ensures.exit).1.clock
-
-pub returns-clause-unbroken : goal.returns-clause-unbroken
-returns-clause-unbroken g c =
-    unbroken g.S.Stands.status (g.G.Gate.users c.args.counter.now.gate.now) g.C.Clock.may_give c.args.most _ _ c.serve_messages.result
-    (counter_exits g.S.Stands.status g.G.Gate.users g.C.Clock.may_give c.args.most _ _ c.serve_messages.result c.serve_messages.ensures.exit).0

@@ -11,15 +11,15 @@ use Rattle.op_plans.specs.declared.prepared.Ready.TheVariants as ready
 use Rattle.decide.proofs.JoinedVerdict.{denied_by_books, prepared, reported}
 use Rattle.decide.proofs.judge.prepare.Goals as goal
 
-pub returns-in-Err : goal.returns-in-Err
-returns-in-Err g c = record {
+pub returns-in-Err-clause-judged : goal.returns-in-Err-clause-judged
+returns-in-Err-clause-judged g c = record {
   told = λ honest w holds. leave_refused w c.args.execution.now c.in-Err.rule (sym (c.in_ok-rule.ensures.told honest w holds) ∙ c.in-Err.is);
   kept = search rules;
   refused = search rules;
 }
 
-pub returns-in-Err-2 : goal.returns-in-Err-2
-returns-in-Err-2 g c = record {
+pub returns-in-Err-2-clause-judged : goal.returns-in-Err-2-clause-judged
+returns-in-Err-2-clause-judged g c = record {
   told = λ honest w holds.
       let before = c.prepare_by_books.ensures.judged.kept.answers.honest honest in
       let leave = sym (c.in_ok-rule.ensures.told before w holds) ∙ c.in-Ok.is in
@@ -30,8 +30,8 @@ returns-in-Err-2 g c = record {
   refused = search rules;
 }
 
-pub returns-in_ok-plan-in-Ok-Change : goal.returns-in_ok-plan-in-Ok-Change
-returns-in_ok-plan-in-Ok-Change g c =
+pub returns-in_ok-plan-in-Ok-Change-clause-judged : goal.returns-in_ok-plan-in-Ok-Change-clause-judged
+returns-in_ok-plan-in-Ok-Change-clause-judged g c =
     let change = c.in-Ok-Change.is ∙ ap (λ (a : Ready). Ok a) c.in-Ok-Change.field-0-is in
     record {
       told = λ honest w holds.
@@ -47,8 +47,8 @@ returns-in_ok-plan-in-Ok-Change g c =
       refused = search rules;
     }
 
-pub returns-in-Ok-Report : goal.returns-in-Ok-Report
-returns-in-Ok-Report g c =
+pub returns-in-Ok-Report-clause-judged : goal.returns-in-Ok-Report-clause-judged
+returns-in-Ok-Report-clause-judged g c =
     let report = c.in-Ok-Report.is ∙ ap (λ (a : Ready). Ok a) c.in-Ok-Report.field-0-is in
     record {
       told = λ honest w holds.

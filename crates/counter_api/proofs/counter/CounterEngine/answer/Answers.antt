@@ -48,7 +48,9 @@ returns-in-Ok-Report-Broken-clause-answered g c =
           moment = c.moment-moment.result;
           fault = c.in-Ok-Report-Broken.field-0-0-0;
           given = c.moment-moment.ensures.given;
+          report = done.2.report;
           kept = done.2.kept;
+          cause = done.2.cause;
           begun = done.2.begun;
         };
         same_bank = refl;
