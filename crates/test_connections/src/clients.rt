@@ -26,7 +26,7 @@ pub(crate) fn client(rt: &HostRuntime, address: SocketAddr, text: &str) -> Resul
     Ok(stream)
 }
 
-/// The reply to the opening of the session of this number, which ends the connection or not.
+/// The reply to the opening of the session of this number, which ends the connection or not. The first is open in the sample.
 pub(crate) fn opened(alloc: Global, session: u32, closes: bool) -> Result<String, Fail> {
     let close = if closes { "Connection: close\r\n" } else { "" };
     Ok(format!(in alloc; "HTTP/1.1 200 OK\r\nContent-Type: application/json\r\nContent-Length: 13\r\n{close}\r\n{{\"session\":{session}}}")?)
@@ -34,5 +34,9 @@ pub(crate) fn opened(alloc: Global, session: u32, closes: bool) -> Result<String
 
 /// Whether the client got this, and then the end of the connection.
 pub(crate) fn got(alloc: Global, client: &TcpStream, text: &str) -> Result<bool, Fail> {
-    Ok(io::read_to_string(alloc, client)?.as_str() == text)
+    let all = io::read_to_string(alloc, client)?;
+    if all.as_str() != text {
+        return Err(Fail::new(format!(in alloc; "got {all:?}, and not {text:?}")?));
+    }
+    Ok(true)
 }

@@ -8,6 +8,7 @@ use std::time;
 use std::time::Duration;
 
 /// Reads what it is told, one reading after another, and fails where it is told none, or no more.
+#[derive(Drop)]
 pub(crate) struct ToldClock<'a> {
     pub(crate) readings: &'a [Option<Duration>],
     pub(crate) read: Cell<usize>,
