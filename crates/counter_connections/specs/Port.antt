@@ -1,5 +1,6 @@
 -- A port of the machine, served over any store.
-use Rattle.std.specs.Prelude.{◌≡◌, ◌⊎◌, ℕ, List, [], ◌∷◌, concat, codes, decimal, Option, Result, Err}
+use Rattle.std.specs.Prelude.{◌≡◌, ◌⊎◌, ℕ, List, [], ◌∷◌, codes, decimal, Option, Result, Err}
+use Rattle.std.specs.List.{concat}
 use Rattle.cached.specs.Standing.{below, cached_status, remembered}
 use Rattle.cached.specs.declared.cached.Cached.{Cached}
 use Rattle.ends.specs.Streams.{GetsAll, GetsBeginning, Stream}

@@ -50,7 +50,7 @@ fn has_time(end: Option<Instant>, now: Option<Instant>) -> bool
     ensures { result ≡ has_time (option_map instant_nanos end) (option_map instant_nanos now) }
 {
     match (end, now) {
-        (Some(end), Some(now)) => now < end,
+        (Some(end), Some(now)) => now.checked_duration_since(end).is_none(),
         _ => false,
     }
 }
