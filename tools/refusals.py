@@ -60,8 +60,9 @@ class Program:
             file.write(SHIM)
         subprocess.run(["cc", "-O1", "-fno-builtin", "-shared", "-fPIC", "-o", self.library, source], check=True)
 
-    def run(self, words, given, first, last):
-        """What a run wrote, on both streams, and its status; and whether it got as far as a call that is refused."""
+    def run(self, words, given, first, last, beside=None):
+        """What a run wrote, on both streams, and its status; and whether it got as far as a call that is refused. What is done
+        beside it is done with its process once it has started, and has to leave what it is given."""
         hears, tells = os.pipe()
         environment = {
             "PATH": "/usr/local/bin:/usr/bin:/bin",
@@ -73,20 +74,25 @@ class Program:
         }
         with os.fdopen(hears, "rb") as heard:
             try:
-                ran = subprocess.run(
+                ran = subprocess.Popen(
                     [self.path, *words],
-                    input=given,
+                    stdin=subprocess.PIPE,
                     stdout=subprocess.PIPE,
                     stderr=subprocess.PIPE,
                     cwd=self.folder,
                     env=environment,
                     pass_fds=[tells],
-                    timeout=SECONDS,
-                    check=False,
                 )
             finally:
                 os.close(tells)
-            return (ran.returncode, ran.stdout, ran.stderr), heard.read() != b""
+            with ran:
+                try:
+                    if beside:
+                        beside(ran)
+                    output, errors = ran.communicate(given, SECONDS)
+                finally:
+                    ran.kill()
+            return (ran.returncode, output, errors), heard.read() != b""
 
     def calls(self, words, given):
         """How often a run calls for memory."""

@@ -1,4 +1,5 @@
 """The built program as it serves connections over a bank in a file."""
+import itertools
 import os
 import socket
 import subprocess
@@ -8,13 +9,27 @@ from sample_file import BADGES, Wrong
 
 SECONDS = 60
 HOST = "127.0.0.1"
+# Ports that are tried, below those that the system gives to clients.
+PORTS = itertools.cycle(range(20_000, 30_000))
+for _ in range(os.getpid() * 37 % 10_000):
+    next(PORTS)
+
+
+def is_free(port):
+    """Whether nobody has a port."""
+    with socket.socket() as held:
+        held.setsockopt(socket.SOL_SOCKET, socket.SO_REUSEADDR, 1)
+        try:
+            held.bind((HOST, port))
+            held.listen()
+        except OSError:
+            return False
+    return True
 
 
 def free_port():
-    """A port that nobody has."""
-    with socket.socket() as held:
-        held.bind((HOST, 0))
-        return held.getsockname()[1]
+    """A port that nobody has, and that was not given before for long."""
+    return next(port for port in PORTS if is_free(port))
 
 
 def serve_words(file, port, requests):

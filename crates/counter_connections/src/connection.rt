@@ -2,6 +2,7 @@ ghost use Rattle.std.specs.Prelude.{◌≡◌, ◌≤◌, None, IfOk};
 ghost use Rattle.counter_connections.specs.Connections.{IsConnection, begun};
 
 use crate::limits::Limited;
+use crate::parting::part;
 use counter_api::{Clock, Gate, ServeFault, Served, serve};
 use money::Tallied;
 use std::alloc::Global;
@@ -39,7 +40,11 @@ pub(crate) fn serve_connection<M: time::Clock, S: Store, G: Gate, C: Clock>(
     set_waits(stream);
     let reader = Limited::new(stream, machine, MAX_READING);
     let writer = Limited::new(stream, machine, MAX_WRITING);
-    serve_streams(alloc, reader, writer, bank, gate, clock, most)
+    let served = serve_streams(alloc, reader, writer, bank, gate, clock, most);
+    if served.is_ok() {
+        part(machine, stream);
+    }
+    served
 }
 
 /// Bounds how long a read or a write of a connection may wait, and has what is written go out at once. What the system does not

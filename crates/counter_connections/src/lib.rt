@@ -10,6 +10,7 @@ mod connections;
 mod fault;
 mod limits;
 mod listener;
+mod parting;
 mod port;
 
 pub use connections::serve_connections;
