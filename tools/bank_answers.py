@@ -5,6 +5,7 @@ Written down from docs/RULES.md, docs/OPERATIONS.md and docs/COMMANDS.md; nothin
 import copy
 import json
 
+import bank_reports
 from bank_model import (
     COMMANDS,
     FORBIDDEN,
@@ -16,6 +17,7 @@ from bank_model import (
     MOST_RELEASES,
     MOST_SETS,
     MOST_TRIPLES,
+    MOMENT,
     OF_OFFICERS,
     OPERATIONS,
     PHRASES,
@@ -40,8 +42,10 @@ def with_entry(bank, request, account, delta, partner=0, undoes=0):
     body = request.body
     branch = body["branch"]
     number = len(bank.entries_of(branch)) + 1
+    turn = len(bank.turns_of(account)) + 1
     is_correction = request.kind == "correct"
-    entry = Entry(branch, number, account, body["teller"], delta, bank.days[branch], request.user, is_correction, partner, undoes)
+    place = (branch, number, account, turn, body["teller"], delta)
+    entry = Entry(*place, MOMENT, bank.days[branch], request.user, is_correction, partner, undoes)
     bank.entries = [*bank.entries, entry]
     return number
 
@@ -130,6 +134,19 @@ def told(bank, request):
     return {"balance": bank.balance(request.body["account"])}
 
 
+def stated(bank, request):
+    body = request.body
+    return bank_reports.statement(bank, body["account"], body["start"], body["count"])
+
+
+def shown(bank, request):
+    return bank_reports.accounts(bank, request.user, request.body["after"], request.body["count"])
+
+
+def proved(bank, request):
+    return bank_reports.proof(bank, request.body["branch"])
+
+
 def closed(bank, request):
     branch = request.body["branch"]
     reply = {
@@ -152,6 +169,9 @@ EFFECTS = {
     "new-account": opened,
     "release": released,
     "balance": told,
+    "statement": stated,
+    "accounts": shown,
+    "proof": proved,
     "close-day": closed,
 }
 
@@ -176,7 +196,7 @@ def commanded(bank, request):
     elif command == "dismiss":
         bank.certifiers = bank.certifiers - {(user, body["procedure"])}
     elif command == "enrol":
-        bank.users = bank.users | {user}
+        bank.users = {**bank.users, user: body["name"]}
         bank.sessions = {**bank.sessions, user: 0}
         bank.officers = bank.officers | ({user} if body["officer"] else set())
     elif command == "suspend":
@@ -187,7 +207,7 @@ def commanded(bank, request):
 
 
 def after(bank, request):
-    """The bank behind a request that no rule denies, and the members of the reply."""
+    """The bank behind a request that no rule denies, and the members of the reply, or its text."""
     bank, user = copy.copy(bank), request.user
     if request.kind == "session":
         bank.sessions, bank.open = {**bank.sessions, user: bank.sessions[user] + 1}, bank.open | {user}
@@ -197,6 +217,8 @@ def after(bank, request):
         return bank, {"ended": bank.sessions[user]}
     if request.kind in COMMANDS:
         return bank, commanded(bank, request)
+    if request.kind == "listing":
+        return bank, bank_reports.policy(bank)
     if request.release and not bank.is_within(request):
         bank.used = bank.used | {(user, request.release)}
     return bank, EFFECTS[request.kind](bank, request)
@@ -301,7 +323,7 @@ def is_full(bank, request):
     if "branch" not in request.body:
         return False
     bank, branch = after(bank, request)[0], request.body["branch"]
-    turns = [sum(it.account == account for it in bank.entries) for account in accounts_of(request.kind, request.body)]
+    turns = [len(bank.turns_of(account)) for account in accounts_of(request.kind, request.body)]
     return max(len(bank.entries_of(branch)), sum(it.branch == branch for it in bank.lines), *turns) > MOST_KEY
 
 
@@ -396,6 +418,8 @@ def first_rule(bank, request):
         return 1
     if request.kind == "end":
         return None
+    if request.kind == "listing":
+        return None if request.user in bank.officers else 17
     if request.kind in COMMANDS:
         return rule_of_command(bank, request)
     denied = rule_of_policy(bank, request)
@@ -406,7 +430,7 @@ def first_rule(bank, request):
 
 
 def is_stated(request):
-    """Whether the body states what is asked for; that of a session is not looked at."""
+    """Whether the body states what is asked for; that of a session or of the listing is not looked at."""
     if request.kind in COMMANDS:
         return is_command(request.kind, request.body)
     return request.kind not in OPERATIONS or is_operation(request.kind, request.body)
@@ -415,13 +439,18 @@ def is_stated(request):
 def answer(bank, request):
     """The bank behind a request, the status and the bytes of the reply."""
     if not is_stated(request):
-        status, members = 422, {"fault": "M6"}
+        status, told = 422, {"fault": "M6"}
     else:
         denied = first_rule(bank, request)
         if denied:
-            status, members = 403 if denied in FORBIDDEN else 409, {"name": RULES[denied - 1], "rule": denied}
+            status, told = 403 if denied in FORBIDDEN else 409, {"name": RULES[denied - 1], "rule": denied}
         else:
-            status, (bank, members) = 200, after(bank, request)
-    text = json.dumps(members, sort_keys=True, separators=(",", ":"))
-    head = f"HTTP/1.1 {status} {PHRASES[status]}\r\nContent-Type: application/json\r\nContent-Length: {len(text)}\r\n\r\n"
+            status, (bank, told) = 200, after(bank, request)
+    kind, text = ("text/plain", told) if isinstance(told, str) else ("application/json", json_text(told))
+    head = f"HTTP/1.1 {status} {PHRASES[status]}\r\nContent-Type: {kind}\r\nContent-Length: {len(text)}\r\n\r\n"
     return bank, status, (head + text).encode()
+
+
+def json_text(members):
+    """The text of an object."""
+    return json.dumps(members, sort_keys=True, separators=(",", ":"))

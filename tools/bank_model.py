@@ -8,6 +8,9 @@ import re
 from typing import NamedTuple
 
 BADGES = {1: "olga", 2: "carl", 3: "cora", 7: "tess", 8: "tom", 9: "sue"}
+NAMES = {1: "Olga", 2: "Carl", 3: "Cora", 7: "Tess", 8: "Tom", 9: "Sue"}
+# The moment that every message bears.
+MOMENT = 700
 KINDS = ["account", "teller", "branch", "history", "drawer", "vault"]
 PROCEDURES = (
     "post transfer correct drawer-on drawer-off move-cash new-account release balance statement accounts proof close-day"
@@ -33,8 +36,9 @@ USER = (1, 9_999)
 DELTA = (-999_999, 999_999)
 AMOUNT = (1, 999_999)
 CASH = (0, MOST_KEY)
+COUNT = (1, 1_000)
 
-# The members of each operation that is served, and their ranges.
+# The members of each operation, and their ranges.
 OPERATIONS = {
     "post": {"account": KEY, "branch": KEY, "delta": DELTA, "teller": KEY},
     "transfer": {"amount": AMOUNT, "branch": KEY, "source": KEY, "target": KEY, "teller": KEY},
@@ -45,6 +49,9 @@ OPERATIONS = {
     "new-account": {"account": KEY, "branch": KEY, "floor": (-MOST_KEY, 0)},
     "release": {"beneficiary": USER, "operation": None},
     "balance": {"account": KEY},
+    "statement": {"account": KEY, "count": COUNT, "start": KEY},
+    "accounts": {"after": KEY_OR_NONE, "count": COUNT},
+    "proof": {"branch": KEY},
     "close-day": {"branch": KEY},
 }
 # The members that may not be equal.
@@ -71,8 +78,10 @@ class Entry(NamedTuple):
     branch: int
     number: int
     account: int
+    turn: int
     teller: int
     delta: int
+    moment: int
     day: int
     user: int
     is_correction: bool
@@ -158,9 +167,11 @@ def touched(procedure, body):
     if procedure == "release":
         return touched(body["operation"]["procedure"], body["operation"])
     branch = [("branch", body["branch"])] if "branch" in body else []
-    if procedure in ("balance", "new-account"):
+    if procedure in ("balance", "new-account", "statement"):
         return [("account", body["account"]), *branch]
-    if procedure == "close-day":
+    if procedure == "accounts":
+        return []
+    if procedure in ("proof", "close-day"):
         return [*branch, ("history", body["branch"]), ("vault", body["branch"])]
     if procedure in ("drawer-on", "drawer-off"):
         return [*branch, *drawer_items(body["teller"]), ("vault", body["branch"])]
@@ -206,7 +217,8 @@ class Bank:
     def __init__(self):
         self.sessions = {user: 1 for user in BADGES}
         self.open = set(BADGES)
-        self.users = set(BADGES)
+        # the name of each
+        self.users = dict(NAMES)
         self.officers = {1}
         self.suspended = set()
         self.certifiers = {(user, procedure) for user in (2, 3) for procedure in PROCEDURES}
@@ -259,6 +271,10 @@ class Bank:
 
     def entries_of(self, branch):
         return [it for it in self.entries if it.branch == branch]
+
+    def turns_of(self, account):
+        """The entries of an account, in the order of their turns."""
+        return [it for it in self.entries if it.account == account]
 
     def entry(self, branch, number):
         return next((it for it in self.entries_of(branch) if it.number == number), None)
@@ -321,9 +337,10 @@ class Bank:
 def opened_sets():
     """The sets of the sample, each a list of a kind with its lowest and its highest key."""
     within = [("teller", 11, 12), ("branch", 1, 1), ("history", 1, 1), ("drawer", 11, 12)]
+    # (their members stand in the order in which the listing has them)
     return {
         1: [(kind, 1, {"account": 999_999, "teller": 999, "drawer": 999}.get(kind, 99)) for kind in KINDS],
-        2: [("account", 101, 102), ("account", 201, 201), ("vault", 1, 1), *within],
+        2: [("account", 101, 102), ("account", 201, 201), *within, ("vault", 1, 1)],
         3: [("account", 101, 101), *within],
         4: [("account", 102, 102), *within],
         5: [("account", 101, 150), ("account", 102, 199)],

@@ -1,4 +1,4 @@
-"""Requests to the bank of bank_model as a tool draws them: for each kind a body, by what is there."""
+"""Requests to the bank of bank_model as a tool draws them: for each kind that has a body, one by what is there."""
 from bank_model import KINDS, PROCEDURES, RELEASABLE
 
 
@@ -67,6 +67,25 @@ def balance(bank, user, rng):
     return {"account": rng.choice(list(bank.accounts))}
 
 
+def any_count(rng):
+    """How many lines are asked for."""
+    return rng.choice([1, 2, rng.randint(1, 20), 1_000])
+
+
+def statement(bank, user, rng):
+    account = rng.choice(list(bank.accounts))
+    start = rng.choice([1, rng.randint(1, len(bank.turns_of(account)) + 2)])
+    return {"account": account, "count": any_count(rng), "start": start}
+
+
+def accounts(bank, user, rng):
+    return {"after": rng.choice([0, 0, rng.randint(100, 210)]), "count": any_count(rng)}
+
+
+def proof(bank, user, rng):
+    return {"branch": rng.choice(list(bank.branches))}
+
+
 def close_day(bank, user, rng):
     return {"branch": rng.choice(list(bank.branches))}
 
@@ -106,7 +125,7 @@ def dismiss(bank, user, rng):
 
 
 def enrol(bank, user, rng):
-    return {"user": rng.randint(10, 30), "name": rng.choice(["Ann", "Bo"]), "officer": rng.random() < 0.2}
+    return {"user": rng.randint(10, 30), "name": rng.choice(["Ann", "Bo", "Ann of the far Hills"]), "officer": rng.random() < 0.2}
 
 
 def suspend(bank, user, rng):
@@ -127,6 +146,9 @@ DRAWN = {
     "new-account": new_account,
     "release": release,
     "balance": balance,
+    "statement": statement,
+    "accounts": accounts,
+    "proof": proof,
     "close-day": close_day,
     "define-set": define_set,
     "certify": certify,

@@ -1,4 +1,5 @@
-"""Reads the acceptance suite: rows/*.rows, text files whose rows say what the program is given and what it must answer.
+"""Reads the acceptance suite: rows/*.rows, text files whose rows say what the program is given and what it must answer, and
+the long rows that made_rows makes.
 
 docs/TESTING.md says how a row is written. `Suite` has all of them. A row is a list of steps, each a run of the program with
 what is done in its folder before.
@@ -8,6 +9,8 @@ import os
 import re
 import shutil
 import sqlite3
+
+import made_rows
 
 TOP = os.path.dirname(os.path.dirname(os.path.abspath(__file__)))
 ROWS = os.path.join(TOP, "rows")
@@ -408,17 +411,16 @@ def words_of(text):
 
 
 class Subject:
-    """One file: its rows, and what its head says of cases that no row shows."""
+    """Rows of one file, or rows made by one rule; and what their head says of cases that no row shows."""
 
-    def __init__(self, path):
-        self.name = os.path.basename(path)[: -len(".rows")]
-        self.place = os.path.relpath(path, TOP)
+    def __init__(self, name, place, text):
+        self.name = name
+        self.place = place
         self.rules = []
         self.cases = []
         self.rows = []
         self.words = None
-        with open(path, encoding="ascii", newline="") as file:
-            lines = list(enumerate(file.read().split("\n"), 1))
+        lines = list(enumerate(text.split("\n"), 1))
         firsts = [at for at, (_, line) in enumerate(lines) if line.startswith(("row ", "files "))]
         try:
             self.read_head(grouped(lines[: firsts[0] if firsts else len(lines)]))
@@ -450,11 +452,19 @@ class Subject:
         self.rows.append(RowReader(row, groups, self.words).read())
 
 
+def subject_of(path):
+    """The rows of a file."""
+    with open(path, encoding="ascii", newline="") as file:
+        return Subject(os.path.basename(path)[: -len(".rows")], os.path.relpath(path, TOP), file.read())
+
+
 class Suite:
-    """All rows, by their names, in the order of their files."""
+    """All rows, by their names, in the order of their files; behind those of the suite's own folder the ones made by a rule."""
 
     def __init__(self, folder=ROWS):
-        self.subjects = [Subject(it) for it in sorted(glob.glob(os.path.join(folder, "*.rows")))]
+        self.subjects = [subject_of(it) for it in sorted(glob.glob(os.path.join(folder, "*.rows")))]
+        if folder == ROWS:
+            self.subjects += [Subject(name, "tools/made_rows.py", text) for name, text in made_rows.SUBJECTS.items()]
         self.rows = {}
         for row in (row for subject in self.subjects for row in subject.rows):
             if row.name in self.rows:

@@ -1,11 +1,12 @@
 -- The reply of a report is its head, which is known before the text, and the text behind it.
-use Rattle.std.proofs.Common.{◌≡◌, ℕ, Bool, true, false, List, [], ◌∷◌, ◌++◌, length, take, take-append-drop, drop, codes, decimal, Option, None, append-nil, append_assoc, refl, sym, ap, ◌∙◌, subst}
+use Rattle.std.proofs.Common.{◌≡◌, ℕ, Bool, true, false, inl, inr, arith, List, [], ◌∷◌, ◌++◌, length, take, take-append-drop, drop, codes, decimal, Option, None, append-nil, append_assoc, refl, sym, ap, ◌∙◌, subst}
 use Rattle.std.specs.List.{concat}
 use Rattle.http.specs.StatusCode.{code_digits}
+use Rattle.money.specs.Counted.{CountsFailure}
 use Rattle.heads.specs.Framing.{asks_head, closes}
 use Rattle.messages.specs.Parts.{MessageParts}
 use Rattle.messages.specs.Reply.{connection_field, head_bytes, phrase_of, reply_bytes}
-use Rattle.store_rows.specs.Status.{Keeps, Status}
+use Rattle.store_rows.specs.Status.{Keeps, RoseBy, Status}
 use Rattle.reports.specs.Report.{BeginsWith}
 use Rattle.reports.proofs.StatusLemmas.{keeps_still}
 use Rattle.counter_api.specs.Sent.{report_reply}
@@ -52,3 +53,8 @@ head_begun m text len n is = go (asks_head m.head) refl
 pub body_begun : (m : MessageParts) (text sent : List ℕ) (len : ℕ) → len ≡ length text → asks_head m.head ≡ false → BeginsWith text sent → BeginsWith (report_reply m text) (head_of m len ++ sent)
 body_begun m text sent len is asks (rest, whole) =
     (rest, with_body m text len is asks ∙ ap (λ l. head_of m len ++ l) whole ∙ sym (append_assoc (head_of m len) sent rest))
+
+-- a failure that was counted is one more
+pub rose_by_one : (a b : ℕ) → CountsFailure a b → RoseBy 1 a b
+rose_by_one a b (inl more) = inl (omega (arith, more))
+rose_by_one a b (inr full) = inr (omega (arith, full))

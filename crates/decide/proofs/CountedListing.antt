@@ -11,8 +11,9 @@ use Rattle.bank_run.specs.Requests.{first, lists, rules, verdict}
 use Rattle.bank_run.specs.Sessions.{standing_of_asker}
 use Rattle.bank_run.specs.declared.who.Who.{Who}
 use Rattle.op_plans.specs.Judged.{IsReported}
+use Rattle.op_plans.proofs.CountedReport.{report_counted}
 use Rattle.reports.specs.Listing.{all_lines}
-use Rattle.reports.specs.Report.{contents_in}
+use Rattle.reports.specs.Report.{IsCounted}
 use Rattle.reports.specs.declared.contents.Contents.{Contents}
 use Rattle.reports.specs.declared.listing.Listing.TheVariants as listing
 
@@ -27,10 +28,6 @@ pub listing_denied : (w : WorldLists) (who : Who) (user : ℕ) (row : Option Sta
 listing_denied w who user row rule named is denied = first_is w who user row named is ∙ denied
 
 pub listing_counted : (w : WorldLists) (who : Who) (user : ℕ) (row : Option Standing) (c : Contents) → who.user ≡ Some user → row ≡ standing w.policy user → first_against_listing row who.session ≡ None
-    → c ≡ contents_in w (listing.Policy None) all_lines → IsReported w (verdict (lists who) w) c
-listing_counted w who user row c named is allowed counted = subst (λ (x : Contents). IsReported w (verdict (lists who) w) x) (sym counted) (record {
-  allowed = first_is w who user row named is ∙ allowed;
-  same = refl;
-  reply = refl;
-  counted = record { lines = refl; length = refl };
-})
+    → c.first ≡ listing.Policy None → c.most ≡ all_lines → IsCounted w c → IsReported w (verdict (lists who) w) c
+listing_counted w who user row c named is allowed is_first is_most counted =
+    report_counted w (verdict (lists who) w) (listing.Policy None) all_lines c (first_is w who user row named is ∙ allowed) refl refl is_first is_most counted

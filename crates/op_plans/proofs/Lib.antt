@@ -1,6 +1,6 @@
 pub mod BalanceText
 pub mod CloseDayText
-pub mod CountedProof
+pub mod CountedReport
 pub mod DrawerOffText
 pub mod DrawerOnText
 pub mod Kept

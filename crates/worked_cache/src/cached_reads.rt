@@ -28,6 +28,10 @@ fn balance_is_told<S: Store>(rt: &impl Abort, alloc: Global, bank: &mut Bank<S>)
                 let body = done.into_body();
                 assert!(rt; body.as_slice() == br#"{"balance":50000}"#.as_slice());
             }
+            Ok(Reply::Report(report)) => {
+                report.release();
+                panic!(rt; "a report");
+            }
             Err(fault) => panic!(rt; "{fault}"),
         },
         Ok(Decision::Denied(denial)) => panic!(rt; "{}", denial.rule().name()),

@@ -3,7 +3,7 @@
 use crate::forms::post;
 use bank_books::{BranchRecord, Entry, TellerRecord, World};
 use bank_terms::MAX_MOMENT;
-use decide::{Decision, Op, Reply, Rule, Who, carry_out, decide, is_served};
+use decide::{Decision, Op, Reply, Rule, Who, carry_out, decide};
 use row_rules::{CashBook, Ledger};
 use sample_bank::sample_world;
 use std::alloc::Global;
@@ -82,15 +82,18 @@ impl Desk {
 
     /// The body of the reply to a request that is carried out, or the rule that denies it.
     ///
-    /// What `decide` wants of it is asked here, once: that it is served, that its moment is one, and that its members
-    /// are in their ranges, as an operation is that is read back from its row.
+    /// What `decide` wants of it is asked here, once: that its moment is one, and that its members are in their ranges, as
+    /// an operation is that is read back from its row.
     fn ask(&mut self, rt: &impl Abort, who: Who, moment: u64, op: Op) -> Result<Vec<u8>, Rule> {
         assert!(rt; moment <= MAX_MOMENT, "{moment}");
         let read = Op::from_row(&op.to_row()).expect(rt, "an operation in its ranges");
-        assert!(rt; is_served(read.procedure()), "no operation that is served");
         match decide(&mut self.bank, self.alloc, who, moment, &read) {
             Ok(Decision::Allowed(permit)) => match carry_out(permit) {
                 Ok(Reply::Done(done)) => Ok(done.into_body()),
+                Ok(Reply::Report(report)) => {
+                    report.release();
+                    panic!(rt; "a report");
+                }
                 Err(fault) => panic!(rt; "{fault}"),
             },
             Ok(Decision::Denied(denial)) => Err(denial.rule()),

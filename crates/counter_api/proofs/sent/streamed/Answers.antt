@@ -2,7 +2,7 @@ use Rattle.std.proofs.Common.{◌≡◌, ℕ, List, ◌++◌, true, false, sym, 
 use Rattle.std.proofs.KnownBytes.{Appends-trans}
 use Rattle.heads.specs.Framing.{asks_head}
 use Rattle.reports.specs.Report.{text_of}
-use Rattle.counter_api.proofs.Replies.{body_begun, head_begun, head_of, keeps_same, with_body, without_body}
+use Rattle.counter_api.proofs.Replies.{body_begun, head_begun, head_of, keeps_same, rose_by_one, with_body, without_body}
 use Rattle.counter_api.proofs.sent.streamed.Goals as goal
 
 pub returns-in-Err-clause-streamed : goal.returns-in-Err-clause-streamed
@@ -62,3 +62,8 @@ returns-in-Err-Store-clause-streamed g c =
       Appends-trans _ _ _ _ _ c.in-Ok.ensures.whole written.1,
       λ clean w held counted. body_begun m (text_of w contents) written.0 c.length.result (c.length.ensures ∙ counted.length) asks (written.2 clean w held counted),
     )
+
+pub returns-in-Err-Store-clause-cause : goal.returns-in-Err-Store-clause-cause
+returns-in-Err-Store-clause-cause g c =
+    let counts = rw c.in-Err-Store.field-0-is at c.in-Err-Store.ensures.cause in
+    λ clean w held counted. rose_by_one _ _ (counts clean w held counted)

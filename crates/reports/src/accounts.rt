@@ -1,0 +1,41 @@
+ghost use Rattle.std.specs.Prelude.{◌≤◌, IfOk, IfSome};
+ghost use Rattle.arrayvec.specs.ArrayVec.{array_vec_len};
+ghost use Rattle.store_rows.specs.Status.{MayRead};
+ghost use Rattle.reports.specs.Step.{CountsStep, IsNext};
+
+use crate::listing::{Listed, Listing};
+use money::Fault;
+use report_lines::account_line;
+use std::alloc::Global;
+use store_rows::ReportReads;
+
+/// The accounts above a number that a user is shown.
+#[derive(Clone, Copy, Debug, PartialEq, Eq)]
+pub struct AfterAccount {
+    /// The user.
+    pub user: u32,
+    /// The number above which they lie.
+    pub after: u32,
+}
+
+/// The line of the next account that a user is shown.
+pub(crate) fn next_account<S: ReportReads>(
+    alloc: Global,
+    store: &mut S,
+    from: AfterAccount,
+) -> Result<Option<Listed>, Fault>
+    ensures read { MayRead (S.status store.old) (S.status store.new) result (IsNext (Listing.Accounts from)) }
+    ensures cause { CountsStep (S.status store.old) (S.status store.new) (Listing.Accounts from) result }
+    ensures short { IfOk result (λ next. IfSome next (λ listed. array_vec_len listed.line ≤ 256)) }
+{
+    let Some(account) = store.next_shown(alloc, from.user, from.after)? else {
+        return Ok(None);
+    };
+    Ok(Some(Listed {
+        line: account_line(&account),
+        rest: Listing::Accounts(AfterAccount {
+            user: from.user,
+            after: account.row.account,
+        }),
+    }))
+}

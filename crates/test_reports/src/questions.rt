@@ -1,0 +1,139 @@
+//! Reports that are asked for over the sample, and what is due.
+
+use crate::runtime::Runtime;
+use crate::texts::{ACCOUNTS, LISTING, PROOF, STATEMENT};
+use reports::{AfterAccount, AfterTeller, BranchNumbers, Contents, FromTurn, Listing};
+
+/// A report that is asked for.
+#[derive(Clone, Copy, Debug)]
+pub struct Question {
+    /// What was sent before.
+    pub before: &'static [u8],
+    /// Its message.
+    pub message: &'static [u8],
+    /// Its text.
+    pub text: &'static str,
+    /// What is counted of it.
+    pub contents: Contents,
+    /// How many rows are read behind its head.
+    pub rows: u64,
+}
+
+/// Tess posts 25.00 to account 101.
+pub const POST: &[u8] =
+    b"POST /do/post HTTP/1.1\r\nHost: bank\r\nBank-Badge: tess\r\nBank-Session: 1\r\n\
+    Content-Length: 51\r\n\r\n{\"account\":101,\"branch\":1,\"delta\":2500,\"teller\":11}";
+
+/// Branch 1 of the sample.
+pub const BRANCH: BranchNumbers = BranchNumbers {
+    branch: 1,
+    day: 1,
+    balance: 60_000,
+    history: 0,
+    opening: 60_000,
+    vault: 55_000,
+    drawers: 45_000,
+    opening_cash: 100_000,
+    cash_entries: 0,
+    differences: 0,
+};
+
+/// Tess asks for the statement of account 101, behind that post.
+pub const OF_STATEMENT: Question = Question {
+    before: POST,
+    message: b"POST /do/statement HTTP/1.1\r\nHost: bank\r\nBank-Badge: tess\r\nBank-Session: 1\r\n\
+        Content-Length: 36\r\n\r\n{\"account\":101,\"count\":10,\"start\":1}",
+    text: STATEMENT,
+    contents: Contents {
+        first: Listing::Statement(FromTurn {
+            account: 101,
+            turn: 1,
+        }),
+        most: 10,
+        lines: 1,
+        length: 131,
+    },
+    rows: 1,
+};
+
+/// Tess asks for her accounts.
+pub const OF_ACCOUNTS: Question = Question {
+    before: b"",
+    message: b"POST /do/accounts HTTP/1.1\r\nHost: bank\r\nBank-Badge: tess\r\nBank-Session: 1\r\n\
+        Content-Length: 22\r\n\r\n{\"after\":0,\"count\":10}",
+    text: ACCOUNTS,
+    contents: Contents {
+        first: Listing::Accounts(AfterAccount { user: 7, after: 0 }),
+        most: 10,
+        lines: 2,
+        length: 107,
+    },
+    rows: 2,
+};
+
+/// Sue asks for the proof of branch 1. Behind the last teller it is read that there is no other.
+pub const OF_PROOF: Question = Question {
+    before: b"",
+    message: b"POST /do/proof HTTP/1.1\r\nHost: bank\r\nBank-Badge: sue\r\nBank-Session: 1\r\n\
+        Content-Length: 12\r\n\r\n{\"branch\":1}",
+    text: PROOF,
+    contents: Contents {
+        first: Listing::Tellers(AfterTeller {
+            branch: BRANCH,
+            after: 0,
+            tellers: 0,
+        }),
+        most: u32::MAX,
+        lines: 11,
+        length: 435,
+    },
+    rows: 3,
+};
+
+/// Olga asks for the listing of the policy.
+pub const OF_LISTING: Question = Question {
+    before: b"",
+    message: b"GET /policy HTTP/1.1\r\nHost: bank\r\nBank-Badge: olga\r\nBank-Session: 1\r\n\r\n",
+    text: LISTING,
+    contents: Contents {
+        first: Listing::Policy(None),
+        most: u32::MAX,
+        lines: 96,
+        length: 3_605,
+    },
+    rows: 96,
+};
+
+/// Each of them.
+pub const QUESTIONS: [Question; 4] = [OF_STATEMENT, OF_ACCOUNTS, OF_PROOF, OF_LISTING];
+
+/// The first so many lines of a text.
+pub fn first_lines(text: &[u8], count: u64) -> &[u8] {
+    let mut left = count;
+    for (place, byte) in text.iter().enumerate() {
+        if left == 0 {
+            return text.split_at(place).0;
+        }
+        left = left.saturating_sub(u64::from(*byte == b'\n'));
+    }
+    text
+}
+
+/// The reply to a message that a fault kept from being answered, by the name of the fault.
+pub fn fault_reply(rt: &impl Runtime, name: &str) -> Vec<u8> {
+    let reply = format!(in rt.alloc();
+        "HTTP/1.1 503 Service Unavailable\r\nContent-Type: application/json\r\nContent-Length: 14\r\n\r\n{{\"fault\":\"{name}\"}}"
+    );
+    reply.expect(rt, "memory").into_bytes()
+}
+
+impl Question {
+    /// Its reply.
+    pub fn reply(&self, rt: &impl Runtime) -> Vec<u8> {
+        let (length, text) = (self.text.len(), self.text);
+        let reply = format!(in rt.alloc();
+            "HTTP/1.1 200 OK\r\nContent-Type: text/plain\r\nContent-Length: {length}\r\n\r\n{text}"
+        );
+        reply.expect(rt, "memory").into_bytes()
+    }
+}

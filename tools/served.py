@@ -1,0 +1,67 @@
+"""The built program at work: messages are sent to it one at a time, each once the reply before has come."""
+import os
+import re
+import subprocess
+
+from sample_file import Wrong
+
+LENGTH = re.compile(rb"^Content-Length: (\d+)\r$", re.MULTILINE)
+END_OF_HEAD = b"\r\n\r\n"
+PIECE = 1 << 16
+
+
+class Served:
+    """A run of the program that serves standard input. It has to end well once nothing more is sent."""
+
+    def __init__(self, words, **how):
+        self.run = subprocess.Popen(words, stdin=subprocess.PIPE, stdout=subprocess.PIPE, bufsize=0, **how)
+        self.got = b""
+
+    def __enter__(self):
+        return self
+
+    def __exit__(self, kind, error, trace):
+        if kind:
+            self.run.kill()
+        self.run.stdin.close()
+        more, status = self.run.stdout.read(), self.run.wait()
+        self.run.stdout.close()
+        if not kind and (more, status) != (b"", 0):
+            raise Wrong(f"it ended with status {status}, and wrote {more[:200]!r} behind the last reply")
+
+    def size(self):
+        """How many bytes the reply has whose beginning has come, or none where its head is not whole yet."""
+        head, end, _ = self.got.partition(END_OF_HEAD)
+        length = LENGTH.search(head + b"\r\n") if end else None
+        return len(head + end) + int(length[1]) if length else None
+
+    def ask(self, message):
+        """The body of the reply to a message. It has to be carried out."""
+        self.run.stdin.write(message)
+        while self.size() is None or len(self.got) < self.size():
+            piece = os.read(self.run.stdout.fileno(), PIECE)
+            if not piece:
+                raise Wrong(f"it ended within a reply: {self.got[:200]!r}")
+            self.got += piece
+        reply, self.got = self.got[: self.size()], self.got[self.size() :]
+        if not reply.startswith(b"HTTP/1.1 200 "):
+            raise Wrong(f"it answered {reply[:200]!r}")
+        return reply.partition(END_OF_HEAD)[2]
+
+    def most_held(self):
+        """The most memory that the program ever held at once, in kilobytes."""
+        return most_held(self.run)
+
+    def worked(self):
+        """How long the processor has worked for the program, in nanoseconds."""
+        with open(f"/proc/{self.run.pid}/schedstat", encoding="ascii") as file:
+            return int(file.read().split()[0])
+
+
+def most_held(process):
+    """The most memory that a process ever held at once, in kilobytes."""
+    with open(f"/proc/{process.pid}/status", encoding="ascii", errors="replace") as file:
+        found = re.search(r"^VmHWM:\s*(\d+) kB$", file.read(), re.MULTILINE)
+    if not found:
+        raise Wrong("/proc does not say what memory it held")
+    return int(found[1])
