@@ -7,7 +7,7 @@ import time
 
 from sample_file import BADGES, Wrong
 
-SECONDS = 60
+SECONDS = 240
 HOST = "127.0.0.1"
 # Ports that are tried, below those that the system gives to clients.
 PORTS = itertools.cycle(range(20_000, 30_000))
