@@ -139,7 +139,9 @@ fn serve_command<'a>(alloc: Global) -> Result<Command<'a>, AllocError>
     ensures local { IfOk result (λ c. (fields_of c).has_globals ≡ false) }
 {
     Command::new(alloc, "serve")
-        .about("Serves connections at a port of this machine over the bank of FILE, one after another")
+        .about(
+            "Serves connections at a port of this machine over the bank of FILE, one after another",
+        )
         .arg(bank_file(alloc))?
         .arg(badges(alloc))?
         .arg(port(alloc))?

@@ -50,8 +50,9 @@ pub fn listen_in<D: Disk + Drop, G: Gate, C: Clock, W: Write, P: Write + Drop>(
         Ok(store) => store,
         Err((fault, conn)) => return (FileLeft::Open(conn), Err(fault)),
     };
-    let (store, served) =
-        serve_port_behind_cache(rt, alloc, port, store, gate, clock, requests, output);
+    let (store, served) = serve_port_behind_cache(
+        rt, alloc, port, store, gate, clock, requests, output,
+    );
     progress.begin("writing the log into the file");
     match close(store) {
         Ok(files) => (FileLeft::Closed(files), ended(served, None)),

@@ -25,6 +25,14 @@ module _ {S C : Type 0} (status : S → Status) (users : List ℕ → Option ℕ
       (some, (new, (subst (λ at. IsConnection status users may_give wanted at (begun None None) new exit) same next, refl)))
   served_more wanted old mid new (first ∷ exits) exit (wants, at, one, rest) some next =
       let left : wanted - (counted_by first + counted exits) ≡ wanted - counted_by first - counted exits = omega arith in
-      let fewer : counted exits < wanted - counted_by first = omega (arith, some) in
-      (wants, (at, (one, served_more (wanted - counted_by first) at mid new exits exit rest fewer
-          (subst (λ most. IsConnection status users may_give most mid (begun None None) new exit) left next))))
+      let fewer : counted exits < wanted - counted_by first = omega (arith, some) in (
+        wants,
+        (
+          at,
+          (
+            one,
+            served_more (wanted - counted_by first) at mid new exits exit rest fewer
+                (subst (λ most. IsConnection status users may_give most mid (begun None None) new exit) left next),
+          ),
+        ),
+      )

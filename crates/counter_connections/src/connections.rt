@@ -5,8 +5,7 @@ use crate::connection::serve_connection;
 use crate::listener::CountedListener;
 use counter_api::{Clock, Gate, ServeFault, Served};
 use std::alloc::Global;
-use std::io;
-use std::time;
+use std::{io, time};
 use store_rows::{Bank, Store};
 
 /// Serves connections, one after another, until so many messages are counted. Each counts those that were answered on it, at

@@ -4,10 +4,9 @@ ghost use Rattle.std.specs.Io.KnownBytes.{Keeps, ReadConsumes, WriteAppends};
 ghost use Rattle.std.specs.Time.{instant_nanos};
 ghost use Rattle.counter_connections.specs.Limits.{has_time};
 
-use std::io;
 use std::io::{ErrorKind, Read, Write};
-use std::time;
 use std::time::{Duration, Instant};
+use std::{io, time};
 
 /// A stream that may be used up to an instant of the machine's running clock. From then on, and where that clock can't be
 /// read, its calls fail and leave the stream alone.
@@ -42,7 +41,9 @@ impl<'a, T, M: time::Clock> Limited<'a, T, M> {
 
 /// The instant so many seconds from now, if the clock can be read and goes so far.
 fn end_behind<M: time::Clock>(machine: &M, seconds: u64) -> Option<Instant> {
-    Instant::now(machine).ok()?.checked_add(Duration::from_secs(seconds))
+    Instant::now(machine)
+        .ok()?
+        .checked_add(Duration::from_secs(seconds))
 }
 
 /// Whether there is time left before the end, by what the clock reads.

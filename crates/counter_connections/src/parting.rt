@@ -1,9 +1,8 @@
 use crate::limits::Limited;
-use std::io;
 use std::io::Read;
 use std::net::{Shutdown, TcpStream};
-use std::time;
 use std::time::Duration;
+use std::{io, time};
 
 /// For how many seconds a client is heard that has sent more than was read.
 const MAX_PARTING: u64 = 1;

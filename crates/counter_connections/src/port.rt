@@ -17,7 +17,13 @@ use store_rows::{Bank, Store};
 
 /// Serves connections at a port of 127.0.0.1, once a line on `output` has said that it is had, until so many messages are
 /// counted.
-pub fn serve_port<N: Net<Listener = TcpListener, Stream = TcpStream> + time::Clock, S: Store, G: Gate, C: Clock, W: Write>(
+pub fn serve_port<
+    N: Net<Listener = TcpListener, Stream = TcpStream> + time::Clock,
+    S: Store,
+    G: Gate,
+    C: Clock,
+    W: Write,
+>(
     net: &N,
     alloc: Global,
     port: u16,
@@ -61,7 +67,13 @@ fn say_listening<W: Write>(output: &mut Tallied<W>, port: u16) -> Result<(), Wri
 
 /// Serves a port as `serve_port` does, with a cache of the rows of its policy before the store, and hands back the store
 /// without it. Where memory was refused for the cache, that is the store as it was, and nothing is done.
-pub fn serve_port_behind_cache<N: Net<Listener = TcpListener, Stream = TcpStream> + time::Clock, S: Store, G: Gate, C: Clock, W: Write>(
+pub fn serve_port_behind_cache<
+    N: Net<Listener = TcpListener, Stream = TcpStream> + time::Clock,
+    S: Store,
+    G: Gate,
+    C: Clock,
+    W: Write,
+>(
     net: &N,
     alloc: Global,
     port: u16,

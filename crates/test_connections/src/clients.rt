@@ -29,7 +29,9 @@ pub(crate) fn client(rt: &HostRuntime, address: SocketAddr, text: &str) -> Resul
 /// The reply to the opening of the session of this number, which ends the connection or not. The first is open in the sample.
 pub(crate) fn opened(alloc: Global, session: u32, closes: bool) -> Result<String, Fail> {
     let close = if closes { "Connection: close\r\n" } else { "" };
-    Ok(format!(in alloc; "HTTP/1.1 200 OK\r\nContent-Type: application/json\r\nContent-Length: 13\r\n{close}\r\n{{\"session\":{session}}}")?)
+    Ok(format!(in alloc;
+        "HTTP/1.1 200 OK\r\nContent-Type: application/json\r\nContent-Length: 13\r\n{close}\r\n{{\"session\":{session}}}"
+    )?)
 }
 
 /// Whether the client got this, and then the end of the connection.

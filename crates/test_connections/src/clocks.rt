@@ -2,10 +2,9 @@
 use counter_api::Clock;
 use counter_clocks::MachineClock;
 use std::cell::Cell;
-use std::io;
 use std::io::ErrorKind;
-use std::time;
 use std::time::Duration;
+use std::{io, time};
 
 /// Reads what it is told, one reading after another, and fails where it is told none, or no more.
 #[derive(Drop)]
@@ -60,7 +59,13 @@ fn moments_are_whole_seconds_up_to_the_last(rt: HostRuntime) {
 
 #[test]
 fn clock_that_cannot_be_read_gives_the_moment_before(rt: HostRuntime) {
-    let readings = [None, Some(Duration::from_secs(700)), None, None, Some(Duration::from_secs(699))];
+    let readings = [
+        None,
+        Some(Duration::from_secs(700)),
+        None,
+        None,
+        Some(Duration::from_secs(699)),
+    ];
     let machine = ToldClock::new(&readings);
     let mut clock = MachineClock::of(&machine);
     for moment in [0, 700, 700, 700, 699] {

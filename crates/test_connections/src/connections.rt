@@ -14,7 +14,12 @@ use store_rows::{Bank, ListStore};
 /// The sample bank, and a clock that stands.
 fn sample(rt: &HostRuntime) -> Result<(Bank<ListStore>, Fixed), Fail> {
     let store = listed_sample(rt.alloc())?;
-    Ok((Bank { store }, Fixed { moment: Moment::cut(700) }))
+    Ok((
+        Bank { store },
+        Fixed {
+            moment: Moment::cut(700),
+        },
+    ))
 }
 
 /// Whether connections were served to the end, and how many could not be had.
@@ -27,7 +32,15 @@ fn served<M: time::Clock>(
     requests: u32,
 ) -> (bool, u64) {
     let mut listener = CountedListener::new(listener);
-    let result = serve_connections(machine, rt.alloc(), &mut listener, bank, &SampleBadges, clock, requests);
+    let result = serve_connections(
+        machine,
+        rt.alloc(),
+        &mut listener,
+        bank,
+        &SampleBadges,
+        clock,
+        requests,
+    );
     (result.is_ok(), listener.failures())
 }
 
@@ -39,7 +52,15 @@ fn two_connections_one_after_the_other(rt: HostRuntime) -> Result<(), Fail> {
     let mut listener = CountedListener::new(listener);
     for session in [2, 3] {
         let stream = client(&rt, address, LAST_OPENING)?;
-        serve_connections(&rt, alloc, &mut listener, &mut bank, &SampleBadges, &mut clock, 1)?;
+        serve_connections(
+            &rt,
+            alloc,
+            &mut listener,
+            &mut bank,
+            &SampleBadges,
+            &mut clock,
+            1,
+        )?;
         assert!(&rt; got(alloc, &stream, opened(alloc, session, true)?.as_str())?);
     }
     Ok(())
@@ -63,13 +84,31 @@ fn messages_before_a_fault_count_one(rt: HostRuntime) -> Result<(), Fail> {
     let alloc = rt.alloc();
     let (mut bank, mut clock) = sample(&rt)?;
     let (listener, address) = listening(&rt)?;
-    let cut = client(&rt, address, format!(in alloc; "{OPENING}{OPENING}{OPENING}POST /session HT")?.as_str())?;
+    let cut = client(
+        &rt,
+        address,
+        format!(in alloc; "{OPENING}{OPENING}{OPENING}POST /session HT")?.as_str(),
+    )?;
     cut.shutdown(Shutdown::Write)?;
-    let stream = client(&rt, address, format!(in alloc; "{OPENING}{OPENING}{OPENING}{OPENING}")?.as_str())?;
+    let stream = client(
+        &rt,
+        address,
+        format!(in alloc; "{OPENING}{OPENING}{OPENING}{OPENING}")?.as_str(),
+    )?;
     assert!(&rt; served(&rt, &rt, listener, &mut bank, &mut clock, 4) == (true, 0));
-    let replies = format!(in alloc; "{}{}{}", opened(alloc, 2, false)?, opened(alloc, 3, false)?, opened(alloc, 4, false)?)?;
+    let replies = format!(in alloc;
+        "{}{}{}",
+        opened(alloc, 2, false)?,
+        opened(alloc, 3, false)?,
+        opened(alloc, 4, false)?
+    )?;
     assert!(&rt; got(alloc, &cut, replies.as_str())?);
-    let replies = format!(in alloc; "{}{}{}", opened(alloc, 5, false)?, opened(alloc, 6, false)?, opened(alloc, 7, false)?)?;
+    let replies = format!(in alloc;
+        "{}{}{}",
+        opened(alloc, 5, false)?,
+        opened(alloc, 6, false)?,
+        opened(alloc, 7, false)?
+    )?;
     assert!(&rt; got(alloc, &stream, replies.as_str())?);
     Ok(())
 }
@@ -79,7 +118,11 @@ fn no_more_replies_than_are_wanted(rt: HostRuntime) -> Result<(), Fail> {
     let alloc = rt.alloc();
     let (mut bank, mut clock) = sample(&rt)?;
     let (listener, address) = listening(&rt)?;
-    let stream = client(&rt, address, format!(in alloc; "{OPENING}{OPENING}{OPENING}")?.as_str())?;
+    let stream = client(
+        &rt,
+        address,
+        format!(in alloc; "{OPENING}{OPENING}{OPENING}")?.as_str(),
+    )?;
     assert!(&rt; served(&rt, &rt, listener, &mut bank, &mut clock, 2) == (true, 0));
     let replies = format!(in alloc; "{}{}", opened(alloc, 2, false)?, opened(alloc, 3, false)?)?;
     assert!(&rt; got(alloc, &stream, replies.as_str())?);

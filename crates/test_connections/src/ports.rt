@@ -8,10 +8,16 @@ use std::io::Write;
 use std::test::Fail;
 
 /// How serving no message at a port ends, with its line written to this writer.
-fn ended<W: Write>(rt: &HostRuntime, port: u16, output: &mut Tallied<W>) -> Result<Result<(), PortFault>, Fail> {
+fn ended<W: Write>(
+    rt: &HostRuntime,
+    port: u16,
+    output: &mut Tallied<W>,
+) -> Result<Result<(), PortFault>, Fail> {
     let alloc = rt.alloc();
     let store = listed_sample(alloc)?;
-    let mut clock = Fixed { moment: Moment::cut(700) };
+    let mut clock = Fixed {
+        moment: Moment::cut(700),
+    };
     Ok(serve_port_behind_cache(rt, alloc, port, store, &SampleBadges, &mut clock, 0, output).1)
 }
 
