@@ -149,7 +149,7 @@ fn got_by_clock(rt: &HostRuntime, readings: &[Option<Duration>]) -> Result<(usiz
     let machine = ToldClock::new(readings);
     served(rt, &machine, listener, &mut bank, &mut clock, 1);
     let mut room = [0u8; 1_000];
-    // (one that is let go while it is unread is told so, and gets no byte)
+    // (One that is let go while it is unread is told so, and gets no byte)
     let len = (&stream).read(&mut room).unwrap_or(0);
     Ok((len, machine.read.get()))
 }
