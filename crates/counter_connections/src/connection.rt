@@ -68,7 +68,7 @@ pub(crate) fn serve_streams<R: Read + Drop, W: Write + Drop, S: Store, G: Gate, 
     most: u32,
 ) -> Result<Served, ServeFault>
     ensures connection { IsConnection S.status (G.users gate.now) C.may_give most
-        (record { store = bank.old.store; clock = clock.old }) (begun (R.remaining reader.entry) (W.contents writer.entry))
+        (record { store = bank.old.store; clock = clock.old }) (begun (R.remaining reader) (W.contents writer))
         (record { store = bank.new.store; clock = clock.new }) result }
     ensures most { IfOk result (λ served. served.messages ≤ most) }
 {
