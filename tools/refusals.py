@@ -117,25 +117,31 @@ class Program:
             "REFUSAL_LAST": str(last),
         }
 
-    def run(self, words, given, first, last):
-        """What a run wrote, on both streams, and its status; and whether it got as far as a call that is refused."""
+    def run(self, words, given, first, last, beside=None):
+        """What a run wrote, on both streams, and its status; and whether it got as far as a call that is refused. What is done
+        beside it is given its process."""
         hears, tells = os.pipe()
         with os.fdopen(hears, "rb") as heard:
             try:
-                ran = subprocess.run(
+                ran = subprocess.Popen(
                     [self.path, *words],
-                    input=given,
+                    stdin=subprocess.PIPE,
                     stdout=subprocess.PIPE,
                     stderr=subprocess.PIPE,
                     cwd=self.folder,
                     env=self.environment(tells, first, last),
                     pass_fds=[tells],
-                    timeout=SECONDS,
-                    check=False,
                 )
             finally:
                 os.close(tells)
-            return (ran.returncode, ran.stdout, ran.stderr), heard.read() != b""
+            with ran:
+                try:
+                    if beside:
+                        beside(ran)
+                    output, errors = ran.communicate(given, SECONDS)
+                finally:
+                    ran.kill()
+            return (ran.returncode, output, errors), heard.read() != b""
 
     def calls(self, words, given):
         """How often a run calls for memory."""

@@ -8,7 +8,7 @@ use Rattle.bank_words.specs.Commands.{IsNamedBy, IsRefusal, bank_app}
 use Rattle.bank_words.specs.Explained.{IsExplained}
 use Rattle.bank_words.specs.declared.words.Action.{Action}
 use Rattle.bank_words.specs.declared.words.Action.TheVariants as action
-use Rattle.cli_file.specs.Actions.{IsChecked, IsInited, IsRun}
+use Rattle.cli_file.specs.Actions.{IsChecked, IsInited, IsListened, IsRun}
 use Rattle.cli_file.specs.Telling.{IsEnded, IsSaid}
 use Rattle.cli_file.specs.declared.fault.ActionFault.{ActionFault}
 use Rattle.ends.specs.Lines.{line}
@@ -31,21 +31,31 @@ pub record IsRunToEnd (did : Streams → Result Unit ActionFault → Type 0) (ne
   pub ended : IsEnded result served.output new.output errors_old errors_new status
   pub read : new.input ≡ served.input
 
+-- A port was served over a file, and a fault that ended it is told; nothing was read.
+pub record IsListenedToEnd (did : Stream → Result Unit ActionFault → Type 0) (old new : Streams) (errors_old errors_new : Stream) (status : ℕ) : Type 0 where
+  pub result : Result Unit ActionFault
+  pub told : Stream
+  pub done : did told result
+  pub ended : IsEnded result told new.output errors_old errors_new status
+  pub unread : new.input ≡ old.input
+
 -- the action was carried out, and the status, standard output and standard error tell how that ended
-abbrev pub IsActed : {D : Type 0} → Ghosts D → Image → Action → Streams → Streams → Stream → Stream → ℕ → Type 0
-IsActed g image (action.Sample moment) old new errors_old errors_new status =
+abbrev pub IsActed : {D C : Type 0} → Ghosts D → Image → (C → ℕ → C → Type 0) → C → C → Action → Streams → Streams → Stream → Stream → ℕ → Type 0
+IsActed g image may_give from to (action.Sample moment) old new errors_old errors_new status =
     IsSampleEnd cached_sql_status moment old new errors_old errors_new status
-IsActed g image (action.Init file dir) old new errors_old errors_new status =
+IsActed g image may_give from to (action.Init file dir) old new errors_old errors_new status =
     IsToldOf (IsInited g image) (codes "made") old new errors_old errors_new status
-IsActed g image (action.Check file) old new errors_old errors_new status =
+IsActed g image may_give from to (action.Check file) old new errors_old errors_new status =
     IsToldOf (IsChecked g image) (codes "books hold") old new errors_old errors_new status
-IsActed g image (action.Run file badges moment) old new errors_old errors_new status =
+IsActed g image may_give from to (action.Run file badges moment) old new errors_old errors_new status =
     IsRunToEnd (IsRun g image badges.now moment old) new errors_old errors_new status
+IsActed g image may_give from to (action.Serve file badges port requests) old new errors_old errors_new status =
+    IsListenedToEnd (λ told result. IsListened g image badges.now may_give port requests old.output told from to result) old new errors_old errors_new status
 
 -- The words name an action, which was carried out; or they are refused, or memory for them is, and why was told.
-abbrev pub IsAnswered : {D : Type 0} → Ghosts D → Image → List Text → Streams → Streams → Stream → Stream → ℕ → Type 0
-IsAnswered g image words old new errors_old errors_new status =
+abbrev pub IsAnswered : {D C : Type 0} → Ghosts D → Image → (C → ℕ → C → Type 0) → C → C → List Text → Streams → Streams → Stream → Stream → ℕ → Type 0
+IsAnswered g image may_give from to words old new errors_old errors_new status =
     ((action : Action) × IsNamedBy (subcommand_of bank_app words) action × (fault_of bank_app words ≡ [])
-    × IsActed g image action old new errors_old errors_new status)
+    × IsActed g image may_give from to action old new errors_old errors_new status)
     ⊎ ((error : Error) × IsRefusal words error × (new.input ≡ old.input)
     × IsExplained error old.output new.output errors_old errors_new status)

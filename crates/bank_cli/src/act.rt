@@ -3,7 +3,8 @@ ghost use Rattle.bank_cli.specs.Acted.{IsActed, IsAnswered};
 ghost use Rattle.ends.specs.Streams.{stream_at, streams_at};
 
 use bank_words::{Action, explain, read_words};
-use cli_file::{Opener, Progress, check_file, end, init_file, run_file, say_done};
+use cli_file::{Opener, Progress, check_file, end, init_file, run_file, say_done, serve_file};
+use counter_api::Clock;
 use money::Tallied;
 use sample_service::answer_behind_cache;
 use sample_sql::sql_sample;
@@ -11,38 +12,41 @@ use sqlite_disk::Disk;
 use std::io::{Read, Write};
 
 /// Does what the words behind the program's name ask for, and answers the status. Help goes to `output`, and why words
-/// are refused to `errors`. A file is opened by the opener. How far long work is goes to `progress`.
-pub fn answer<D: Disk + Drop, O: Opener<D>, R: Read, W: Write, E: Write, P: Write + Drop>(
+/// are refused to `errors`. A file is opened by the opener. Messages of connections bear the moments of the clock. How far long work is goes to
+/// `progress`.
+pub fn answer<D: Disk + Drop, O: Opener<D>, C: Clock, R: Read, W: Write, E: Write, P: Write + Drop>(
     rt: &HostRuntime,
     words: &[&str],
     opener: O,
+    clock: &mut C,
     input: &mut Tallied<R>,
     output: &mut Tallied<W>,
     errors: &mut Tallied<E>,
     progress: &mut Progress<P>,
 ) -> u8
-    ensures { IsAnswered D.Disk O.image (map (λ w. w.now) words.now)
+    ensures { IsAnswered D.Disk O.image C.may_give clock.old clock.new (map (λ w. w.now) words.now)
         (streams_at R.remaining W.contents input.old output.old)
         (streams_at R.remaining W.contents input.new output.new)
         (stream_at E.contents errors.old) (stream_at E.contents errors.new) result }
 {
     match read_words(rt.alloc(), words) {
-        Ok(action) => act(rt, action, opener, input, output, errors, progress),
+        Ok(action) => act(rt, action, opener, clock, input, output, errors, progress),
         Err(error) => explain(rt.alloc(), &error, output, errors),
     }
 }
 
 /// Does what the program is asked for, and answers its status.
-fn act<D: Disk + Drop, O: Opener<D>, R: Read, W: Write, E: Write, P: Write + Drop>(
+fn act<D: Disk + Drop, O: Opener<D>, C: Clock, R: Read, W: Write, E: Write, P: Write + Drop>(
     rt: &HostRuntime,
     action: Action<'_>,
     opener: O,
+    clock: &mut C,
     input: &mut Tallied<R>,
     output: &mut Tallied<W>,
     errors: &mut Tallied<E>,
     progress: &mut Progress<P>,
 ) -> u8
-    ensures { IsActed D.Disk O.image action.entry
+    ensures { IsActed D.Disk O.image C.may_give clock.old clock.new action.entry
         (streams_at R.remaining W.contents input.old output.old)
         (streams_at R.remaining W.contents input.new output.new)
         (stream_at E.contents errors.old) (stream_at E.contents errors.new) result }
@@ -66,6 +70,17 @@ fn act<D: Disk + Drop, O: Opener<D>, R: Read, W: Write, E: Write, P: Write + Dro
             moment,
         } => {
             let done = run_file(rt, file, badges, moment, opener, input, output, progress);
+            end(done, output, errors)
+        }
+        Action::Serve {
+            file,
+            badges,
+            port,
+            requests,
+        } => {
+            let done = serve_file(
+                rt, file, badges, port, requests, opener, clock, output, progress,
+            );
             end(done, output, errors)
         }
     }

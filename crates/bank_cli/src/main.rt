@@ -1,7 +1,7 @@
-//! The bank program. `main` takes the words of the command line, the standard streams and the machine's files,
-//! and hands them to `answer`, which does what the words ask for and answers the status. What each action
-//! promises is said by `IsActed`, over every stream and every start of a file; that the program hands the
-//! right ones on is seen by reading `run`.
+//! The bank program. `main` takes the words of the command line, the standard streams, the machine's files and
+//! its clock, and hands them to `answer`, which does what the words ask for and answers the status. What
+//! each action promises is said by `IsActed`, over every stream, every start of a file and every clock; that
+//! the program hands the right ones on is seen by reading `run`.
 #![tactic(auto)]
 
 mod act;
@@ -9,6 +9,7 @@ mod act;
 use crate::act::answer;
 use bank_words::unread;
 use cli_file::{Machine, Progress};
+use counter_clocks::MachineClock;
 use money::Tallied;
 use sqlite::Unknown;
 use std::io::{BufWriter, IsTerminal};
@@ -43,6 +44,7 @@ fn run(rt: &HostRuntime) -> io::Result<u8> {
         rt,
         words.as_slice(),
         Machine { start: Unknown },
+        &mut MachineClock::of(rt),
         &mut input,
         &mut output,
         &mut errors,

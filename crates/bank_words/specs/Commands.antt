@@ -47,6 +47,20 @@ abbrev pub run_app : App
 run_app =
     with_rule (with_rule (with_rule (new_app (codes "run")) (word_rule (codes "file"))) (option_rule (codes "badges"))) moment_rule
 
+-- the greatest port
+abbrev pub max_port : ℕ
+max_port = 65535
+
+-- the most messages that connections are asked to count
+abbrev pub max_requests : ℕ
+max_requests = 1000000
+
+-- `serve FILE --badges LIST --port P --requests N`
+abbrev pub serve_app : App
+serve_app =
+    with_rule (with_rule (with_rule (with_rule (new_app (codes "serve")) (word_rule (codes "file"))) (option_rule (codes "badges")))
+    (number_rule (codes "port") 1 max_port)) (number_rule (codes "requests") 1 max_requests)
+
 -- the program with no command: its words begin behind its name, and a command must be among them
 abbrev pub top_app : App
 top_app = record {
@@ -59,7 +73,9 @@ top_app = record {
 
 -- the program with its commands
 abbrev pub bank_app : App
-bank_app = with_subcommand (with_subcommand (with_subcommand (with_subcommand top_app sample_app.top) init_app.top) check_app.top) run_app.top
+bank_app =
+    with_subcommand (with_subcommand (with_subcommand (with_subcommand (with_subcommand top_app sample_app.top) init_app.top)
+    check_app.top) run_app.top) serve_app.top
 
 -- the text writes this number in decimal digits; a plus sign may stand before them
 abbrev pub Writes : Text → ℕ → Type 0
@@ -69,6 +85,10 @@ Writes text n =
 -- the matches have this number for an option
 abbrev pub HasNumber : List Row → Text → ℕ → Type 0
 HasNumber rows id n = IsSomeAnd (one_of id rows) (λ text. Writes text n)
+
+-- the same, and it lies in these bounds
+abbrev pub HasNumberIn : List Row → Text → ℕ → ℕ → ℕ → Type 0
+HasNumberIn rows id low high n = HasNumber rows id n × (low ≤ n) × (n ≤ high)
 
 -- the matches have this text for an option or a word
 abbrev pub HasText : List Row → Text → Text → Type 0
@@ -93,6 +113,9 @@ IsNamedIn name rows (action.Init file dir) = (name ≡ codes "init") × AsksInit
 IsNamedIn name rows (action.Check file) = (name ≡ codes "check") × HasText rows (codes "file") file.now
 IsNamedIn name rows (action.Run file badges moment) =
     (name ≡ codes "run") × AsksServed rows file.now badges.now × HasMoment rows moment
+IsNamedIn name rows (action.Serve file badges port requests) =
+    (name ≡ codes "serve") × AsksServed rows file.now badges.now × HasNumberIn rows (codes "port") 1 max_port port
+    × HasNumberIn rows (codes "requests") 1 max_requests requests
 
 -- the command that was met asks for the action
 abbrev pub IsNamedBy : Option (Text × List Row) → Action → Type 0

@@ -2,22 +2,23 @@ ghost use Rattle.std.specs.Prelude.{◌≡◌, IfOk, codes, false};
 ghost use Rattle.bank_terms.specs.Limits.{max_moment};
 ghost use Rattle.clap.specs.Words.{app_of, rule_of};
 ghost use Rattle.clap.specs.declared.builder.Command.TheViews.{out-Command as fields_of};
-ghost use Rattle.bank_words.specs.Commands.{bank_app, check_app, init_app, number_rule, option_rule, run_app, sample_app, top_app, word_rule};
+ghost use Rattle.bank_words.specs.Commands.{bank_app, check_app, init_app, max_port, max_requests, number_rule, option_rule, run_app, sample_app, serve_app, top_app, word_rule};
 
+use crate::words::{MAX_PORT, MAX_REQUESTS};
 use bank_terms::MAX_MOMENT;
 use clap::builder::ValueParser;
 use clap::{Arg, Command};
 use std::alloc::{AllocError, Global};
 
 /// A required option whose value is a number in these bounds.
-fn number<'a>(alloc: Global, id: &'a str, low: u64, high: u64) -> Arg<'a>
+fn number<'a>(alloc: Global, id: &'a str, shown: &'a str, low: u64, high: u64) -> Arg<'a>
     ensures rule { rule_of result ≡ number_rule id.entry.now low high }
     ensures local { result.global ≡ false }
 {
     Arg::new(alloc, id)
         .long(id)
         .required(true)
-        .value_name("N")
+        .value_name(shown)
         .value_parser(ValueParser::unsigned(low, high))
 }
 
@@ -45,7 +46,7 @@ fn moment<'a>(alloc: Global) -> Arg<'a>
     ensures rule { rule_of result ≡ number_rule (codes "moment") 0 max_moment }
     ensures local { result.global ≡ false }
 {
-    number(alloc, "moment", 0, MAX_MOMENT).help(
+    number(alloc, "moment", "N", 0, MAX_MOMENT).help(
         "The moment of every message, in seconds from 0 to 99999999999",
     )
 }
@@ -65,6 +66,24 @@ fn badges<'a>(alloc: Global) -> Arg<'a>
 {
     option(alloc, "badges", "LIST").help(
         "A CSV file with the heading badge,user, which names the user of each badge",
+    )
+}
+
+/// The port at which connections are waited for.
+fn port<'a>(alloc: Global) -> Arg<'a>
+    ensures rule { rule_of result ≡ number_rule (codes "port") 1 max_port }
+    ensures local { result.global ≡ false }
+{
+    number(alloc, "port", "P", 1, MAX_PORT).help("The port of 127.0.0.1, from 1 to 65535")
+}
+
+/// How many messages are counted before the program ends.
+fn requests<'a>(alloc: Global) -> Arg<'a>
+    ensures rule { rule_of result ≡ number_rule (codes "requests") 1 max_requests }
+    ensures local { result.global ≡ false }
+{
+    number(alloc, "requests", "N", 1, MAX_REQUESTS).help(
+        "How many messages are served, from 1 to 1000000; a connection counts at least one",
     )
 }
 
@@ -115,6 +134,20 @@ fn run_command<'a>(alloc: Global) -> Result<Command<'a>, AllocError>
         .arg(moment(alloc))
 }
 
+fn serve_command<'a>(alloc: Global) -> Result<Command<'a>, AllocError>
+    ensures app { IfOk result (λ c. app_of c ≡ serve_app) }
+    ensures local { IfOk result (λ c. (fields_of c).has_globals ≡ false) }
+{
+    Command::new(alloc, "serve")
+        .about(
+            "Serves connections at a port of this machine over the bank of FILE, one after another",
+        )
+        .arg(bank_file(alloc))?
+        .arg(badges(alloc))?
+        .arg(port(alloc))?
+        .arg(requests(alloc))
+}
+
 fn top_command<'a>(alloc: Global) -> Command<'a>
     ensures { app_of result ≡ top_app }
 {
@@ -132,5 +165,6 @@ pub(crate) fn bank_command<'a>(alloc: Global) -> Result<Command<'a>, AllocError>
         .subcommand(sample_command(alloc)?)?
         .subcommand(init_command(alloc)?)?
         .subcommand(check_command(alloc)?)?
-        .subcommand(run_command(alloc)?)
+        .subcommand(run_command(alloc)?)?
+        .subcommand(serve_command(alloc)?)
 }

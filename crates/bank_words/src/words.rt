@@ -1,12 +1,18 @@
-ghost use Rattle.std.specs.Prelude.{◌≡◌, ◌<◌, ◌^◌, ℕ, List, [], IfOk, IfErr, IfSome, IsNone, map, option_map};
+ghost use Rattle.std.specs.Prelude.{◌≡◌, ◌<◌, ◌^◌, ℕ, List, [], IfOk, IfErr, IfSome, IsNone, codes, map, option_map};
 ghost use Rattle.clap.specs.Words.{fault_of, first_of, found_of, rows_of, subcommand_of, subcommand_rows_of};
-ghost use Rattle.bank_words.specs.Commands.{AsksInit, AsksServed, HasMoment, HasNumber, IsNamedBy, IsNamedIn, IsRefusal, NamesNone, bank_app};
+ghost use Rattle.bank_words.specs.Commands.{AsksInit, AsksServed, HasMoment, HasNumber, HasNumberIn, IsNamedBy, IsNamedIn, IsRefusal, NamesNone, bank_app, max_port, max_requests};
 
 use crate::commands::bank_command;
 use clap::error::ErrorKind;
 use clap::{ArgMatches, Error};
 use counter_clocks::Moment;
 use std::alloc::Global;
+
+/// The greatest port.
+pub(crate) const MAX_PORT: u64 = 65_535;
+
+/// The most messages that connections are asked to count.
+pub(crate) const MAX_REQUESTS: u64 = 1_000_000;
 
 /// What the program is asked to do. A file, a folder and a list are told as they were given.
 #[derive(Clone, Copy, Debug, PartialEq, Eq)]
@@ -37,6 +43,17 @@ pub enum Action<'a> {
         /// The moment of every message.
         moment: Moment,
     },
+    /// To serve connections over the bank in a file.
+    Serve {
+        /// The file.
+        file: &'a str,
+        /// The list of badges.
+        badges: &'a str,
+        /// The port, 1 to 65,535.
+        port: u16,
+        /// How many messages are counted, 1 to 1,000,000.
+        requests: u32,
+    },
 }
 
 /// The number among the matches, or none where there is none below 2^64.
@@ -62,6 +79,32 @@ fn moment_in(found: &ArgMatches<'_>) -> Option<Moment>
     Moment::new(number_of(found, "moment")?)
 }
 
+/// The port among the matches, or none where there is none in its range.
+fn port_in(found: &ArgMatches<'_>) -> Option<u16>
+    ensures given { IfSome result (HasNumberIn (rows_of (found_of found.now)) (codes "port") 1 max_port) }
+    ensures missing { IsNone result → (n : ℕ) → ¬ (HasNumberIn (rows_of (found_of found.now)) (codes "port") 1 max_port n) }
+{
+    let port = number_of(found, "port")?;
+    if 1 <= port && port <= MAX_PORT {
+        Some(port as u16)
+    } else {
+        None
+    }
+}
+
+/// How many messages the matches have counted, or none where there is no such number in its range.
+fn requests_in(found: &ArgMatches<'_>) -> Option<u32>
+    ensures given { IfSome result (HasNumberIn (rows_of (found_of found.now)) (codes "requests") 1 max_requests) }
+    ensures missing { IsNone result → (n : ℕ) → ¬ (HasNumberIn (rows_of (found_of found.now)) (codes "requests") 1 max_requests n) }
+{
+    let requests = number_of(found, "requests")?;
+    if 1 <= requests && requests <= MAX_REQUESTS {
+        Some(requests as u32)
+    } else {
+        None
+    }
+}
+
 /// The file and the folder among the matches of `init`.
 fn init_in<'a>(found: &ArgMatches<'a>) -> Option<(&'a str, &'a str)>
     ensures given { IfSome result (λ p. AsksInit (rows_of (found_of found.now)) p.0.now p.1.now) }
@@ -72,7 +115,7 @@ fn init_in<'a>(found: &ArgMatches<'a>) -> Option<(&'a str, &'a str)>
     Some((file, dir))
 }
 
-/// The file and the list of badges among the matches of `run`.
+/// The file and the list of badges among the matches of `run` and of `serve`.
 fn served_in<'a>(found: &ArgMatches<'a>) -> Option<(&'a str, &'a str)>
     ensures given { IfSome result (λ p. AsksServed (rows_of (found_of found.now)) p.0.now p.1.now) }
     ensures missing { IsNone result → (file badges : List ℕ) → ¬ (AsksServed (rows_of (found_of found.now)) file badges) }
@@ -104,6 +147,15 @@ fn action_in<'a>(name: &str, found: &ArgMatches<'a>) -> Option<Action<'a>>
                 file,
                 badges,
                 moment: moment_in(found)?,
+            })
+        }
+        "serve" => {
+            let (file, badges) = served_in(found)?;
+            Some(Action::Serve {
+                file,
+                badges,
+                port: port_in(found)?,
+                requests: requests_in(found)?,
             })
         }
         _ => None,

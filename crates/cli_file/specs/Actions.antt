@@ -5,10 +5,11 @@ use Rattle.sqlite_wal.specs.Recovery.{Image}
 use Rattle.sqlite.specs.declared.FileStore.{FileStore}
 use Rattle.sqlite.specs.Held.{Held}
 use Rattle.bank_books.specs.WorldLists.{WorldLists}
-use Rattle.ends.specs.Streams.{Streams}
+use Rattle.ends.specs.Streams.{Stream, Streams}
 use Rattle.opening_lists.specs.Badges.{Badges, user_of}
 use Rattle.cli_file.specs.Checking.{IsCheckedIn}
 use Rattle.cli_file.specs.Faults.{IsOfFile, IsUnopened}
+use Rattle.cli_file.specs.Listening.{IsListenedIn}
 use Rattle.cli_file.specs.Lists.{AreBadgesRead, IsOpeningRead}
 use Rattle.cli_file.specs.Making.{IsMadeIn}
 use Rattle.cli_file.specs.Opened.{IsOpenedFrom}
@@ -56,3 +57,19 @@ module _ {D : Type 0} (g : Ghosts D) (image : Image) where
   IsRun list moment old new result =
       (IsErrAnd result (λ told. AreBadgesRead list (Err told)) × (new ≡ old))
       ⊎ ((IsErrAnd result IsUnopened × (new ≡ old)) ⊎ IsRunFrom list moment old new result)
+
+module _ {D C : Type 0} (g : Ghosts D) (image : Image) (list : List ℕ) (may_give : C → ℕ → C → Type 0) where
+  -- A list stated badges, the file was opened, and the port was served to their users over the bank that was found there, if one was.
+  pub record IsListenedFrom (port requests : ℕ) (output_old output_new : Stream) (from to : C) (result : Result Unit ActionFault) : Type 0 where
+    pub badges : Badges
+    pub read : AreBadgesRead list (Ok badges)
+    pub opened : Held (FileStore D g)
+    pub from_image : IsOpenedFrom image opened
+    pub left : FileLeft D g
+    pub served : IsListenedIn g (user_of badges) may_give opened port requests output_old output_new from to left result
+
+  -- it was done so; or the list was refused or not read, or the file was not opened, and nothing was listened to or written
+  abbrev pub IsListened : ℕ → ℕ → Stream → Stream → C → C → Result Unit ActionFault → Type 0
+  IsListened port requests output_old output_new from to result =
+      ((IsErrAnd result (λ told. AreBadgesRead list (Err told)) ⊎ IsErrAnd result IsUnopened) × (output_new ≡ output_old) × (to ≡ from))
+      ⊎ IsListenedFrom port requests output_old output_new from to result

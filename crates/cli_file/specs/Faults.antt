@@ -4,6 +4,8 @@ use Rattle.money.specs.declared.fault.Fault.{Fault}
 use Rattle.money.specs.declared.fault.Fault.TheVariants as store
 use Rattle.messages.specs.declared.serving.ServeFault.{ServeFault}
 use Rattle.messages.specs.declared.serving.ServeFault.TheVariants as serving
+use Rattle.counter_connections.specs.declared.fault.PortFault.{PortFault}
+use Rattle.counter_connections.specs.declared.fault.PortFault.TheVariants as port
 use Rattle.open_sql.specs.declared.open_fault.OpenFault.{OpenFault}
 use Rattle.open_sql.specs.declared.open_fault.OpenFault.TheVariants as making
 use Rattle.adopt_sql.specs.declared.adopt_fault.AdoptFault.{AdoptFault}
@@ -54,6 +56,10 @@ fault_of_serving serving.Memory = fault.Memory
 fault_of_serving serving.Read = fault.Broken
 fault_of_serving serving.Write = fault.Broken
 fault_of_serving serving.Report = fault.Broken
+
+abbrev pub fault_of_port : PortFault → ActionFault
+fault_of_port port.Broken = fault.Broken
+fault_of_port port.Memory = fault.Memory
 
 -- the file failed, or memory was refused
 abbrev pub IsOfFile : ActionFault → Type 0

@@ -2,6 +2,7 @@ pub mod Actions
 pub mod Checking
 pub mod Faults
 pub mod Files
+pub mod Listening
 pub mod Lists
 pub mod Making
 pub mod Opened

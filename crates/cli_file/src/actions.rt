@@ -1,14 +1,16 @@
-ghost use Rattle.ends.specs.Streams.{streams_at};
-ghost use Rattle.cli_file.specs.Actions.{IsChecked, IsInited, IsRun};
+ghost use Rattle.ends.specs.Streams.{stream_at, streams_at};
+ghost use Rattle.cli_file.specs.Actions.{IsChecked, IsInited, IsListened, IsRun};
 
 use crate::checking::check_in;
 use crate::fault::ActionFault;
 use crate::gate::BadgeGate;
+use crate::listening::listen_in;
 use crate::lists::{read_badge_list, read_opening};
 use crate::making::make_in;
 use crate::opening::{Opener, open_existing};
 use crate::progress::Progress;
 use crate::serving::serve_in;
+use counter_api::Clock;
 use counter_clocks::Moment;
 use money::Tallied;
 use sqlite_disk::Disk;
@@ -68,6 +70,33 @@ pub fn run_file<'a, D: Disk + Drop, O: Opener<D>, R: Read, W: Write, P: Write + 
     let conn = open_existing(rt, file, opener)?;
     let gate = BadgeGate(&list);
     let (left, done) = serve_in(rt.alloc(), conn, &gate, moment, input, output, progress);
+    drop(left);
+    done
+}
+
+/// Serves a port over the bank that stands in a file that is there, to the users of a list of badges, with the moments that a
+/// clock gives, until so many messages are counted. The list is read before the file is opened, and the port is had behind
+/// that.
+pub fn serve_file<'a, D: Disk + Drop, O: Opener<D>, C: Clock, W: Write, P: Write + Drop>(
+    rt: &HostRuntime,
+    file: &str,
+    badges: &'a str,
+    port: u16,
+    requests: u32,
+    opener: O,
+    clock: &mut C,
+    output: &mut Tallied<W>,
+    progress: &mut Progress<P>,
+) -> Result<(), ActionFault<'a>>
+    ensures { IsListened D.Disk O.image badges.now C.may_give port requests
+        (stream_at W.contents output.old) (stream_at W.contents output.new)
+        clock.old clock.new result }
+{
+    let list = read_badge_list(rt, badges)?;
+    progress.begin("opening the file");
+    let conn = open_existing(rt, file, opener)?;
+    let gate = BadgeGate(&list);
+    let (left, done) = listen_in(rt, conn, &gate, clock, port, requests, output, progress);
     drop(left);
     done
 }

@@ -1,8 +1,9 @@
 ghost use Rattle.std.specs.Prelude.{◌≡◌};
-ghost use Rattle.cli_file.specs.Faults.{IsOfBadges, IsOfFile, fault_of_adopting, fault_of_lists, fault_of_making, fault_of_serving, fault_of_store, is_refusal};
+ghost use Rattle.cli_file.specs.Faults.{IsOfBadges, IsOfFile, fault_of_adopting, fault_of_lists, fault_of_making, fault_of_port, fault_of_serving, fault_of_store, is_refusal};
 
 use adopt_sql::AdoptFault;
 use book_check::BooksFault;
+use counter_connections::PortFault;
 use messages::ServeFault;
 use money::Fault;
 use open_sql::OpenFault;
@@ -46,7 +47,7 @@ pub enum ActionFault<'a> {
     /// The input ended inside a message.
     #[error("stream: cut")]
     Cut,
-    /// A read or a write of a stream failed.
+    /// A read or a write of a stream failed; or a port, or a connection, could not be had.
     #[error("stream: broken")]
     Broken,
     /// Memory was refused.
@@ -142,6 +143,16 @@ impl<'a> ActionFault<'a> {
             ServeFault::Cut => ActionFault::Cut,
             ServeFault::Memory => ActionFault::Memory,
             ServeFault::Read | ServeFault::Write | ServeFault::Report => ActionFault::Broken,
+        }
+    }
+
+    /// Why a port was not served to its end.
+    pub fn of_port(fault: PortFault) -> ActionFault<'a>
+        ensures { result ≡ fault_of_port fault }
+    {
+        match fault {
+            PortFault::Broken => ActionFault::Broken,
+            PortFault::Memory => ActionFault::Memory,
         }
     }
 }

@@ -1,8 +1,8 @@
 //! What the bank program does with files. An `Opener` opens one: `Machine` those of the machine, over every
 //! start, which is what the file and its log held. In an open file `make_in` makes a bank, `check_in` looks
-//! whether one stands there, and `serve_in` serves a stream over it; each hands back what is left of the
-//! file. `init_file`, `check_file` and `run_file` begin with a path. `ActionFault` has the line of each
-//! fault.
+//! whether one stands there, `serve_in` serves a stream over it, and `listen_in` a port; each hands back what
+//! is left of the file. `init_file`, `check_file`, `run_file` and `serve_file` begin with a path.
+//! `ActionFault` has the line of each fault.
 #![tactic(auto)]
 
 mod actions;
@@ -11,6 +11,7 @@ mod fault;
 mod file;
 mod gate;
 mod left;
+mod listening;
 mod lists;
 mod making;
 mod opening;
@@ -18,12 +19,13 @@ mod progress;
 mod serving;
 mod telling;
 
-pub use actions::{check_file, init_file, run_file};
+pub use actions::{check_file, init_file, run_file, serve_file};
 pub use checking::check_in;
 pub use fault::ActionFault;
 pub use file::{BankFile, FileConnection};
 pub use gate::BadgeGate;
 pub use left::FileLeft;
+pub use listening::listen_in;
 pub use lists::{read_badge_list, read_opening};
 pub use making::make_in;
 pub use opening::{Machine, Opener, open_existing};

@@ -1,0 +1,40 @@
+-- A port served over the bank in an open file, from the file as it was opened to what is left of it.
+use Rattle.std.specs.Prelude.{◌≡◌, ℕ, List, Option, Some, None, Result, Ok, Err}
+use Rattle.sqlite_disk.specs.declared.Disk.{Ghosts}
+use Rattle.sqlite_disk.specs.declared.Files.{Files}
+use Rattle.sqlite.specs.declared.FileStore.{FileStore}
+use Rattle.sqlite.specs.Held.{Held}
+use Rattle.counter_connections.specs.Port.{IsPortServedBehindCache}
+use Rattle.counter_connections.specs.declared.fault.PortFault.{PortFault}
+use Rattle.ends.specs.Streams.{Stream}
+use Rattle.cli_file.specs.Faults.{fault_of_port}
+use Rattle.cli_file.specs.Files.{BankStore, IsClosed, IsFound, IsNotClosed, IsNotFound, file_status}
+use Rattle.cli_file.specs.declared.fault.ActionFault.{ActionFault}
+use Rattle.cli_file.specs.declared.left.FileLeft.{FileLeft}
+use Rattle.cli_file.specs.declared.left.FileLeft.TheVariants as left
+
+-- a fault of the port is told before one of closing
+abbrev pub end_of_port : Result Unit PortFault → Option ActionFault → Result Unit ActionFault
+end_of_port (Err fault) closing = Err (fault_of_port fault)
+end_of_port (Ok done) (Some fault) = Err fault
+end_of_port (Ok done) None = Ok tt
+
+module _ {D C : Type 0} (g : Ghosts D) (users : List ℕ → Option ℕ) (may_give : C → ℕ → C → Type 0) (opened : Held (FileStore D g)) (port requests : ℕ) (output_old output_new : Stream) (from to : C) where
+  -- The bank was found, and the port was served over it, to the users whom badges name so.
+  pub record IsListenedOverFile (ended : BankStore D g) (result : Result Unit PortFault) : Type 0 where
+    pub begun : BankStore D g
+    pub found : IsFound opened begun
+    pub served : IsPortServedBehindCache file_status users may_give port requests output_old output_new
+        (record { store = begun; clock = from }) (record { store = ended; clock = to }) result
+
+  -- It was closed behind that, and the file alone is the bank; or it could not be closed; or no bank was found, and nothing was
+  -- listened to or written.
+  abbrev pub IsListenedIn : FileLeft D g → Result Unit ActionFault → Type 0
+  IsListenedIn (left.Open conn) result =
+      (told : ActionFault) × IsNotFound opened told conn × (output_new ≡ output_old) × (to ≡ from) × (result ≡ Err told)
+  IsListenedIn (left.Closed files) result =
+      (ended : BankStore D g) × (served : Result Unit PortFault) × IsListenedOverFile ended served
+      × IsClosed g ended.conn files × (result ≡ end_of_port served None)
+  IsListenedIn (left.Unclosed rest) result =
+      (ended : BankStore D g) × (served : Result Unit PortFault) × (told : ActionFault) × IsListenedOverFile ended served
+      × IsNotClosed ended.conn told rest × (result ≡ end_of_port served (Some told))

@@ -1,0 +1,29 @@
+use Rattle.std.proofs.Common.{◌≡◌, ◌+◌, ◌-◌, ◌<◌, ◌≤◌, ◌∙◌, ◌++◌, ◌∷◌, [], None, ap, arith, subst, sym}
+use Rattle.counter_connections.specs.Connections.{IsConnection, begun, counted}
+use Rattle.counter_connections.proofs.ConnectionLemmas.{counted_more, counts_at_most, served_more}
+use Rattle.counter_connections.proofs.connections.serve_connections.Goals as goal
+
+pub loop-wanted-preserved : goal.loop-wanted-preserved
+loop-wanted-preserved g c =
+    let inv = c.loop-wanted.invariant in
+    let exit = c.serve_connection-exit.result in
+    let left : c.loop-wanted.wanted ≡ c.args.requests - counted inv.exits = omega (arith, inv.counts) in
+    let fewer : counted inv.exits < c.args.requests = omega (arith, inv.counts, c.loop-wanted-test.true) in
+    let more : counted (inv.exits ++ exit ∷ []) ≡ counted inv.exits + c.counted-wanted.result = counted_more inv.exits exit ∙ ap (λ n. counted inv.exits + n) (sym c.counted-wanted.ensures) in
+    let within : c.counted-wanted.result ≤ c.loop-wanted.wanted =
+        subst (λ n. n ≤ c.loop-wanted.wanted) (sym c.counted-wanted.ensures)
+        (counts_at_most exit c.loop-wanted.wanted c.loop-wanted-test.true c.serve_connection-exit.ensures.most) in
+    record {
+      exits = inv.exits ++ exit ∷ [];
+      served = served_more g.S.Stands.status (g.G.Gate.users c.args.gate.now) g.C.Clock.may_give c.args.requests
+          (record { store = c.args.bank.now.store; clock = c.args.clock.now })
+          (record { store = c.loop-wanted.bank.store; clock = c.loop-wanted.clock })
+          (record { store = c.serve_connection-exit.new.bank.store; clock = c.serve_connection-exit.new.clock })
+          inv.exits exit inv.served fewer
+          (subst (λ most. IsConnection g.S.Stands.status (g.G.Gate.users c.args.gate.now) g.C.Clock.may_give most
+              (record { store = c.loop-wanted.bank.store; clock = c.loop-wanted.clock }) (begun None None)
+              (record { store = c.serve_connection-exit.new.bank.store; clock = c.serve_connection-exit.new.clock }) exit)
+          left c.serve_connection-exit.ensures.connection);
+      counts = omega (arith, more, inv.counts, within);
+      never = c.in_ok-stream.ensures.ok ∙ inv.never;
+    }

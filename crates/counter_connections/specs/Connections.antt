@@ -1,0 +1,57 @@
+-- Connections that are served one after another over one bank.
+use Rattle.std.specs.Prelude.{◌≡◌, ℕ, ◌+◌, ◌-◌, ◌<◌, max, List, [], ◌∷◌, Option, None, Result, Ok, Err, MatchResult}
+use Rattle.counter_api.specs.Exit.{IsServed}
+use Rattle.counter_service.specs.Serving.{FailuresByExit}
+use Rattle.ends.specs.Streams.{Streams}
+use Rattle.messages.specs.declared.serving.ServeFault.{ServeFault}
+use Rattle.messages.specs.declared.serving.Served.{Served}
+use Rattle.money.specs.Counted.{counted_once_more}
+use Rattle.store_rows.specs.Status.{Status}
+
+-- A connection counts the messages that were answered on it, and at least one. One that a fault of serving ended counts one.
+abbrev pub counted_by : Result Served ServeFault → ℕ
+counted_by (Ok served) = max served.messages 1
+counted_by (Err fault) = 1
+
+-- what connections count that ended so
+abbrev pub counted : List (Result Served ServeFault) → ℕ
+counted [] = 0
+counted (exit ∷ exits) = counted_by exit + counted exits
+
+-- what a connection takes over from the one before
+pub record At (S C : Type 0) : Type 0 where
+  pub store : S
+  pub clock : C
+
+-- the streams of a connection that has just begun, with what their bytes are known to be
+abbrev pub begun : Option (List ℕ) → Option (List ℕ) → Streams
+begun sent got = record {
+  input = record { bytes = sent; failures = 0 };
+  output = record { bytes = got; failures = 0 };
+}
+
+module _ {S C : Type 0} (status : S → Status) (users : List ℕ → Option ℕ) (may_give : C → ℕ → C → Type 0) where
+  -- A connection was served as a stream of its own, with so many replies at most, and ended so, by an exit of `serve`.
+  pub record IsConnection (most : ℕ) (old : At S C) (from : Streams) (new : At S C) (exit : Result Served ServeFault) : Type 0 where
+    pub to : Streams
+    pub served : IsServed status users may_give most
+        (record { left = from.input.bytes; written = from.output.bytes; store = old.store; clock = old.clock })
+        (record { left = to.input.bytes; written = to.output.bytes; store = new.store; clock = new.clock })
+        exit
+    pub failures : FailuresByExit from to exit
+
+  -- Connections were served one after another, and ended so. Each takes over from the one before, whatever ended that, while
+  -- messages are still wanted, and gets no more replies than those. What bytes it holds no clause says.
+  abbrev pub AreServed : ℕ → At S C → List (Result Served ServeFault) → At S C → Type 0
+  AreServed wanted old [] new = new ≡ old
+  AreServed wanted old (exit ∷ exits) new =
+      (0 < wanted)
+      × ((mid : At S C) × (IsConnection wanted old (begun None None) mid exit × AreServed (wanted - counted_by exit) mid exits new))
+
+  -- They were served until so many messages were counted; or until one connection could not be had. Nothing else ends that.
+  pub record AreAllServed {E : Type 0} (requests : ℕ) (old new : At S C) (failed_old failed_new : ℕ) (result : Result Unit E) : Type 0 where
+    pub exits : List (Result Served ServeFault)
+    pub served : AreServed requests old exits new
+    pub ends : MatchResult result
+        (λ _. (counted exits ≡ requests) × (failed_new ≡ failed_old))
+        (λ _. (counted exits < requests) × (failed_new ≡ counted_once_more failed_old))

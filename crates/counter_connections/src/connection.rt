@@ -1,0 +1,86 @@
+ghost use Rattle.std.specs.Prelude.{◌≡◌, ◌≤◌, None, IfOk};
+ghost use Rattle.counter_connections.specs.Connections.{IsConnection, begun};
+
+use crate::limits::Limited;
+use crate::parting::part;
+use counter_api::{Clock, Gate, ServeFault, Served, serve};
+use money::Tallied;
+use std::alloc::Global;
+use std::io::{BufWriter, Read, Write};
+use std::net::TcpStream;
+use std::time;
+use std::time::Duration;
+use store_rows::{Bank, Store};
+
+/// How many seconds a read or a write may wait for the client.
+const MAX_WAIT: u64 = 30;
+
+/// For how many seconds a connection is read from.
+const MAX_READING: u64 = 120;
+
+/// For how many seconds it is written to: a message that was read last has its reply.
+const MAX_WRITING: u64 = 180;
+
+/// Serves a connection, with so many replies at most, and answers how that ended. Its client may let a read or a write wait
+/// for 30 seconds, and uses it for 120, or for its last replies for 180.
+pub(crate) fn serve_connection<M: time::Clock, S: Store, G: Gate, C: Clock>(
+    machine: &M,
+    alloc: Global,
+    stream: &TcpStream,
+    bank: &mut Bank<S>,
+    gate: &G,
+    clock: &mut C,
+    most: u32,
+) -> Result<Served, ServeFault>
+    ensures connection { IsConnection S.status (G.users gate.now) C.may_give most
+        (record { store = bank.old.store; clock = clock.old }) (begun None None)
+        (record { store = bank.new.store; clock = clock.new }) result }
+    ensures most { IfOk result (λ served. served.messages ≤ most) }
+{
+    set_waits(stream);
+    let reader = Limited::new(stream, machine, MAX_READING);
+    let writer = Limited::new(stream, machine, MAX_WRITING);
+    let served = serve_streams(alloc, reader, writer, bank, gate, clock, most);
+    if served.is_ok() {
+        part(machine, stream);
+    }
+    served
+}
+
+/// Bounds how long a read or a write of a connection may wait, and has what is written go out at once. What the system does not
+/// take of that is passed over.
+fn set_waits(stream: &TcpStream) {
+    let wait = Some(Duration::from_secs(MAX_WAIT));
+    let _ = stream.set_read_timeout(wait);
+    let _ = stream.set_write_timeout(wait);
+    let _ = stream.set_nodelay(true);
+}
+
+/// Serves messages of a reader, with their replies gathered before a writer, so many at most. Where memory is refused for the
+/// gathering, nothing is read.
+pub(crate) fn serve_streams<R: Read + Drop, W: Write + Drop, S: Store, G: Gate, C: Clock>(
+    alloc: Global,
+    reader: R,
+    writer: W,
+    bank: &mut Bank<S>,
+    gate: &G,
+    clock: &mut C,
+    most: u32,
+) -> Result<Served, ServeFault>
+    ensures connection { IsConnection S.status (G.users gate.now) C.may_give most
+        (record { store = bank.old.store; clock = clock.old }) (begun (R.remaining reader) (W.contents writer))
+        (record { store = bank.new.store; clock = clock.new }) result }
+    ensures most { IfOk result (λ served. served.messages ≤ most) }
+{
+    let mut reader = Tallied::new(reader);
+    let Ok(gathered) = BufWriter::new(alloc, writer) else {
+        return Err(ServeFault::Memory);
+    };
+    let mut writer = Tallied::new(gathered);
+    let served = serve(alloc, &mut reader, &mut writer, bank, gate, clock, most);
+    // What a failed write left is not tried again.
+    let (writer, unwritten) = writer.into_inner().into_parts();
+    drop(writer);
+    drop(unwritten);
+    served
+}

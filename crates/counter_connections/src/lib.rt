@@ -1,0 +1,19 @@
+//! Serves connections over any store, to the users of any gate. `serve_connections` serves them one after
+//! another until so many messages are counted: a fault of serving ends its connection alone, and each takes
+//! over the bank as the one before left it. `serve_port` binds a port of 127.0.0.1 first, and says so;
+//! `serve_port_behind_cache` puts a cache before the store. A client that is silent for 30 seconds, or stays
+//! for 120, is let go. That the limits work on the machine's sockets is only tested.
+#![tactic(auto)]
+
+mod connection;
+mod connections;
+mod fault;
+mod limits;
+mod listener;
+mod parting;
+mod port;
+
+pub use connections::serve_connections;
+pub use fault::PortFault;
+pub use listener::CountedListener;
+pub use port::{serve_port, serve_port_behind_cache};

@@ -1,0 +1,115 @@
+"""The built program as it serves connections over a bank in a file."""
+import itertools
+import os
+import socket
+import subprocess
+import time
+
+from sample_file import BADGES, Wrong
+
+SECONDS = 240
+HOST = "127.0.0.1"
+# Ports that are tried, below those that the system gives to clients.
+PORTS = itertools.cycle(range(20_000, 30_000))
+for _ in range(os.getpid() * 37 % 10_000):
+    next(PORTS)
+
+
+def is_free(port):
+    """Whether nobody has a port."""
+    with socket.socket() as held:
+        held.setsockopt(socket.SOL_SOCKET, socket.SO_REUSEADDR, 1)
+        try:
+            held.bind((HOST, port))
+            held.listen()
+        except OSError:
+            return False
+    return True
+
+
+def free_port():
+    """A port that nobody has, and that was not given before for long."""
+    return next(port for port in PORTS if is_free(port))
+
+
+def serve_words(file, port, requests):
+    """The words by which a bank in a file is served at a port, until so many messages are counted."""
+    return ["serve", file, "--badges", BADGES, "--port", str(port), "--requests", str(requests)]
+
+
+def connected(port):
+    """A client's socket, whose bytes go out as they are sent."""
+    client = socket.create_connection((HOST, port), SECONDS)
+    client.setsockopt(socket.IPPROTO_TCP, socket.TCP_NODELAY, 1)
+    return client
+
+
+def read_to_end(client):
+    """What comes until the connection ends, however it ends."""
+    got = b""
+    try:
+        while piece := client.recv(65536):
+            got += piece
+    except ConnectionError:
+        pass
+    return got
+
+
+def asked(port, given):
+    """What a client gets that sends these bytes and says that no more come."""
+    with connected(port) as client:
+        client.sendall(given)
+        client.shutdown(socket.SHUT_WR)
+        return read_to_end(client)
+
+
+class Serving:
+    """A run that serves the bank in a file until so many messages are counted. It is killed where it is left early."""
+
+    def __init__(self, program, file, requests, **more):
+        self.port = free_port()
+        self.words = [program, *serve_words(file, self.port, requests)]
+        self.run = subprocess.Popen(self.words, stdin=subprocess.DEVNULL, stdout=subprocess.PIPE, stderr=subprocess.PIPE, **more)
+        self.line = self.run.stdout.readline()
+
+    def __enter__(self):
+        if not self.is_told():
+            self.run.kill()
+            self.run.communicate()
+            raise Wrong(f"it said {self.line!r} first")
+        return self
+
+    def __exit__(self, *error):
+        if self.run.poll() is None:
+            self.run.kill()
+        self.run.communicate()
+
+    def is_told(self):
+        """Whether the first line says at which port it listens."""
+        return self.line == b"listening %d\n" % self.port
+
+    def ended(self, seconds=SECONDS):
+        """The status, and what was written behind the first line, once it has ended."""
+        output, errors = self.run.communicate(timeout=seconds)
+        return self.run.returncode, output, errors
+
+    def require_done(self, seconds=SECONDS):
+        """Goes through where it has counted its messages, and has nothing more to say."""
+        found = self.ended(seconds)
+        if found != (0, b"", b""):
+            raise Wrong(f"it ended with {found!r}")
+
+    def require_going(self):
+        """Goes through where it still serves."""
+        time.sleep(0.05)
+        if self.run.poll() is not None:
+            raise Wrong(f"it has ended: {self.ended()!r}")
+
+
+def held(pid):
+    """The most memory that a process ever held at once, in kilobytes."""
+    with open(os.path.join("/proc", str(pid), "status"), encoding="ascii") as file:
+        for line in file:
+            if line.startswith("VmHWM:"):
+                return int(line.split()[1])
+    raise Wrong("/proc does not say what memory it held")
