@@ -15,12 +15,12 @@ returns-in_default-clause-connection g c = record {
 pub returns-clause-connection : goal.returns-clause-connection
 returns-clause-connection g c =
     let from = just_begun g.R.Read.remaining g.W.Write.contents c.args.reader c.args.writer c.new-reader.result c.new-writer.result
-        c.new-reader.ensures.stream c.new-reader.ensures.none
-        (ap writer_inner c.new-writer.ensures.stream ∙ c.in-Ok.ensures.inner) (ap writer_buffer c.new-writer.ensures.stream ∙ c.in-Ok.ensures.empty)
-        c.new-writer.ensures.none in
+    c.new-reader.ensures.stream c.new-reader.ensures.none
+    (ap writer_inner c.new-writer.ensures.stream ∙ c.in-Ok.ensures.inner) (ap writer_buffer c.new-writer.ensures.stream ∙ c.in-Ok.ensures.empty)
+    c.new-writer.ensures.none in
     subst (λ (streams : Streams). IsConnection g.S.Stands.status (g.G.Gate.users c.args.gate.now) g.C.Clock.may_give c.args.most
-        (record { store = c.args.bank.now.store; clock = c.args.clock.now }) streams
-        (record { store = c.serve-served.new.bank.store; clock = c.serve-served.new.clock }) c.serve-served.result) from (record {
+    (record { store = c.args.bank.now.store; clock = c.args.clock.now }) streams
+    (record { store = c.serve-served.new.bank.store; clock = c.serve-served.new.clock }) c.serve-served.result) from (record {
       to = streams_at g.R.Read.remaining (writer_contents g.W.Write.contents) c.serve-served.new.reader c.serve-served.new.writer;
       served = c.serve-served.ensures.exit;
       failures = failures_by g.R.Read.remaining (writer_contents g.W.Write.contents) c.new-reader.result c.serve-served.new.reader

@@ -11,8 +11,8 @@ loop-wanted-preserved g c =
     let fewer : counted inv.exits < c.args.requests = omega (arith, inv.counts, c.loop-wanted-test.true) in
     let more : counted (inv.exits ++ exit ∷ []) ≡ counted inv.exits + c.counted-wanted.result = counted_more inv.exits exit ∙ ap (λ n. counted inv.exits + n) (sym c.counted-wanted.ensures) in
     let within : c.counted-wanted.result ≤ c.loop-wanted.wanted =
-        subst (λ n. n ≤ c.loop-wanted.wanted) (sym c.counted-wanted.ensures)
-        (counts_at_most exit c.loop-wanted.wanted c.loop-wanted-test.true c.serve_connection-exit.ensures.most) in
+    subst (λ n. n ≤ c.loop-wanted.wanted) (sym c.counted-wanted.ensures)
+    (counts_at_most exit c.loop-wanted.wanted c.loop-wanted-test.true c.serve_connection-exit.ensures.most) in
     record {
       exits = inv.exits ++ exit ∷ [];
       served = served_more g.S.Stands.status (g.G.Gate.users c.args.gate.now) g.C.Clock.may_give c.args.requests
@@ -21,8 +21,8 @@ loop-wanted-preserved g c =
           (record { store = c.serve_connection-exit.new.bank.store; clock = c.serve_connection-exit.new.clock })
           inv.exits exit inv.served fewer
           (subst (λ most. IsConnection g.S.Stands.status (g.G.Gate.users c.args.gate.now) g.C.Clock.may_give most
-              (record { store = c.loop-wanted.bank.store; clock = c.loop-wanted.clock }) (begun None None)
-              (record { store = c.serve_connection-exit.new.bank.store; clock = c.serve_connection-exit.new.clock }) exit)
+          (record { store = c.loop-wanted.bank.store; clock = c.loop-wanted.clock }) (begun None None)
+          (record { store = c.serve_connection-exit.new.bank.store; clock = c.serve_connection-exit.new.clock }) exit)
           left c.serve_connection-exit.ensures.connection);
       counts = omega (arith, more, inv.counts, within);
       never = c.in_ok-stream.ensures.ok ∙ inv.never;
