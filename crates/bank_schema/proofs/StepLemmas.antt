@@ -13,8 +13,11 @@ use Rattle.sqlite.specs.Effect.{Database}
 use Rattle.sqlite.specs.State.{ShowsRows, IsTooLate, State, Shown, FailsToQuery, FailsToShow, IsNotRun, HasCleanDisk, KeepsCommit, IsUnchanged, IsRolledBack, Executes, ExecutesInside, Survives}
 use Rattle.sqlite.specs.Tree.{Trees}
 use Rattle.kept_rows.specs.Sheets.{Sheets}
+use Rattle.money.specs.declared.fault.Fault.{Fault}
+use Rattle.bank_schema.specs.Faults.{IsNameOf}
 use Rattle.bank_schema.specs.Held.{HoldsTables}
 use Rattle.bank_schema.specs.Schema.{bank_schema}
+use Rattle.bank_schema.specs.Told.{Refuses, Runs}
 
 -- a query leaves the connection as it was
 pub shown_same : (sql : List ℕ) (params : Row) (old new : State) (rows : List Row) → IsPlain (understood old.now.schema sql) → Shown sql params old new rows → IsUnchanged old new
@@ -98,6 +101,24 @@ pub write_steps : (sql : List ℕ) (params : Row) (old new : State) (result : Re
     → ((count : ℕ) → Executes sql params old new (Ok count) → HoldsTables new.now s) → Stepped old new result s
 write_steps sql params old new (Err e) s h does = (tt, refused sql params old new e h)
 write_steps sql params old new (Ok count) s h does = ((h.1.mode, does count h.0), record { was_open = λ _. h.1.was_open; committed = λ _. h.1.committed_is })
+
+-- ---- the same of calls whose error is named
+
+pub rows_open : (sql : List ℕ) (params : Row) (old new : State) (result : Result (Vec Row Global) Fault)
+    → IfOk result (λ rows. Shown sql params old new rows.items) → IfErr result (IsNameOf (Refuses sql params old new)) → OnOk result (IsTrue old.is_open) × (IsTrue new.is_open → IsTrue old.is_open)
+rows_open sql params old new (Ok rows) ok err = query_open sql params old new (Ok rows) ok tt
+rows_open sql params old new (Err fault) ok err = query_open sql params old new (Err err.0) tt err.1
+
+pub rows_steps : (sql : List ℕ) (params : Row) (old new : State) (result : Result (Vec Row Global) Fault) → IsPlain (understood bank_schema sql)
+    → IfOk result (λ rows. Shown sql params old new rows.items) → IfErr result (IsNameOf (Refuses sql params old new))
+    → IsTrue old.in_transaction → (s : Sheets) → HoldsTables old.now s → Stepped old new result s
+rows_steps sql params old new (Ok rows) plain ok err inside s holds = query_steps sql params old new (Ok rows) plain ok tt inside s holds
+rows_steps sql params old new (Err fault) plain ok err inside s holds = query_steps sql params old new (Err err.0) plain tt err.1 inside s holds
+
+pub run_steps : (sql : List ℕ) (params : Row) (old new : State) (result : Result ℕ Fault) (s : Sheets) → Runs sql params old new result
+    → ((count : ℕ) → Executes sql params old new (Ok count) → HoldsTables new.now s) → Stepped old new result s
+run_steps sql params old new (Ok count) s h does = write_steps sql params old new (Ok count) s h does
+run_steps sql params old new (Err fault) s h does = write_steps sql params old new (Err h.0) s h.1 does
 
 -- ---- the first row of an answer
 

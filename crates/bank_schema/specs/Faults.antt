@@ -1,4 +1,5 @@
 -- Which fault an error of the database is: memory and size are told apart, and any other cause is the disk.
+use Rattle.std.specs.Prelude.{◌≡◌}
 use Rattle.sqlite.specs.declared.error.Error.{Error}
 use Rattle.sqlite.specs.declared.error.Error.TheVariants.{SqliteFailure}
 use Rattle.sqlite.specs.declared.error.ErrorCode.TheVariants as code
@@ -9,3 +10,7 @@ abbrev pub fault_named : Error → Fault
 fault_named (SqliteFailure code.OutOfMemory) = Memory
 fault_named (SqliteFailure code.TooBig) = Size
 fault_named _ = Disk
+
+-- a fault names an error of which this holds
+abbrev pub IsNameOf : (Error → Type 0) → Fault → Type 0
+IsNameOf Told fault = (e : Error) × Told e × (fault ≡ fault_named e)

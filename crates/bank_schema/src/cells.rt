@@ -1,4 +1,4 @@
-ghost use Rattle.std.specs.Prelude.{◌≡◌, pos, IfErr, IfOk};
+ghost use Rattle.std.specs.Prelude.{◌≡◌, ◌≤◌, ◌^◌, pos, IfErr, IfOk};
 ghost use Rattle.money.specs.Range.{IsCents};
 ghost use Rattle.money.specs.declared.fault.Fault.TheVariants.{Size};
 ghost use Rattle.sqlite.specs.declared.types.Value.TheVariants.{Int};
@@ -163,10 +163,10 @@ pub fn sum_cell(sum: &i128) -> Result<i64, Fault>
     }
 }
 
-/// A count as a column holds it. One of more than 63 bits is a fault of size.
+/// A count as a column holds it. One of more than 63 bits is a fault of size, and no other is.
 pub fn count_cell(count: u64) -> Result<i64, Fault>
     ensures ok { IfOk result (λ cell. cell ≡ pos count) }
-    ensures err { IfErr result (λ fault. fault ≡ Size) }
+    ensures err { IfErr result (λ fault. (fault ≡ Size) × (2 ^ 63 ≤ count)) }
 {
     match i64::try_from(count) {
         Ok(cell) => Ok(cell),

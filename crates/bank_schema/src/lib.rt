@@ -5,9 +5,11 @@
 //! said.
 #![tactic(auto)]
 
+mod calls;
 mod cells;
 mod values;
 
+pub use calls::{commit, run, shown_rows};
 pub use cells::{
     cents_at, count_at, count_cell, fault_of, kind_at, kind_number, number_at, procedure_at,
     sum_cell, truth_at, whole_at,

@@ -1,32 +1,34 @@
 ghost use Rattle.std.specs.Prelude.{◌≡◌, ◌==◌, map, take, IfOk, IsTrue};
 ghost use Rattle.std.specs.List.{filter, find};
 ghost use Rattle.sqlite.specs.Held.{state};
-ghost use Rattle.sqlite.specs.State.{ExecutesInside, HasCleanDisk, Survives};
+ghost use Rattle.sqlite.specs.State.{HasCleanDisk, Survives};
 ghost use Rattle.keyed_rows.specs.Ordered.{add_row};
 ghost use Rattle.bank_books.specs.declared.records.AccountRecord.{AccountRecord as TheRecord};
 ghost use Rattle.kept_rows.specs.Named.{IsFree};
 ghost use Rattle.kept_rows.specs.Sheets.{Sheets, account_no, set_row};
 ghost use Rattle.bank_schema.specs.Held.{HoldsTables};
 ghost use Rattle.bank_schema.specs.Steps.{StaysOpen, Steps, Tells};
+ghost use Rattle.bank_schema.specs.Told.{Runs};
 ghost use Rattle.book_tables.specs.Given.{given_account};
 ghost use Rattle.book_tables.specs.Picks.{is_account_between};
 ghost use Rattle.book_tables.specs.Shown.{shown_account};
 ghost use Rattle.book_tables.specs.Texts.{add_account_text, set_account_text};
 
 use bank_books::{Account, AccountRecord};
-use bank_schema::{cents_at, count_at, count_cell, fault_of, number_at, sum_cell, whole_at};
+use bank_schema::{cents_at, count_at, count_cell, number_at, run, shown_rows, sum_cell, whole_at};
 use money::Fault;
-use sqlite::{Alter, Error, Row, Transaction, params};
+use sqlite::{Alter, Row, Transaction, params};
 
 /// The row of this account: one, or none.
-fn select_account<S: Alter>(tx: &mut Transaction<'_, S>, account: u32) -> Result<Vec<Row>, Error>
+fn select_account<S: Alter>(tx: &mut Transaction<'_, S>, account: u32) -> Result<Vec<Row>, Fault>
     ensures same_reference { tx.new.conn.ghost_name ≡ tx.old.conn.ghost_name }
     ensures rows { HasCleanDisk (state S.Store tx.new.conn.now) → (s : Sheets) → HoldsTables (state S.Store tx.old.conn.now).now s → IfOk result (λ rows. rows.items ≡ map shown_account (filter (λ r. account_no r == account) s.accounts)) }
     ensures steps { Steps (state S.Store tx.old.conn.now) (state S.Store tx.new.conn.now) (λ s. s) result }
     ensures open { StaysOpen (state S.Store tx.old.conn.now) (state S.Store tx.new.conn.now) result }
     ensures survives { Survives (state S.Store tx.old.conn.now) (state S.Store tx.new.conn.now) (λ _. ⊥) }
 {
-    tx.query_all(
+    shown_rows(
+        tx,
         "SELECT account, home, opening, floor, balance, turns FROM accounts WHERE account = ?1",
         params![account],
     )
@@ -58,10 +60,7 @@ pub fn account_of<S: Alter>(
     ensures open { StaysOpen (state S.Store tx.old.conn.now) (state S.Store tx.new.conn.now) result }
     ensures survives { Survives (state S.Store tx.old.conn.now) (state S.Store tx.new.conn.now) (λ _. ⊥) }
 {
-    let rows = match select_account(tx, account) {
-        Ok(rows) => rows,
-        Err(error) => return Err(fault_of(error)),
-    };
+    let rows = select_account(tx, account)?;
     match rows.first() {
         Some(row) => Ok(Some(read_account(row)?)),
         None => Ok(None),
@@ -73,14 +72,15 @@ fn select_least_account<S: Alter>(
     tx: &mut Transaction<'_, S>,
     low: u32,
     high: u32,
-) -> Result<Vec<Row>, Error>
+) -> Result<Vec<Row>, Fault>
     ensures same_reference { tx.new.conn.ghost_name ≡ tx.old.conn.ghost_name }
     ensures rows { HasCleanDisk (state S.Store tx.new.conn.now) → (s : Sheets) → HoldsTables (state S.Store tx.old.conn.now).now s → IfOk result (λ rows. rows.items ≡ take 1 (map shown_account (filter (is_account_between low high) s.accounts))) }
     ensures steps { Steps (state S.Store tx.old.conn.now) (state S.Store tx.new.conn.now) (λ s. s) result }
     ensures open { StaysOpen (state S.Store tx.old.conn.now) (state S.Store tx.new.conn.now) result }
     ensures survives { Survives (state S.Store tx.old.conn.now) (state S.Store tx.new.conn.now) (λ _. ⊥) }
 {
-    tx.query_all(
+    shown_rows(
+        tx,
         "SELECT account, home, opening, floor, balance, turns FROM accounts WHERE account >= ?1 AND account <= ?2 ORDER BY account LIMIT 1",
         params![low, high],
     )
@@ -98,10 +98,7 @@ pub fn least_account<S: Alter>(
     ensures open { StaysOpen (state S.Store tx.old.conn.now) (state S.Store tx.new.conn.now) result }
     ensures survives { Survives (state S.Store tx.old.conn.now) (state S.Store tx.new.conn.now) (λ _. ⊥) }
 {
-    let rows = match select_least_account(tx, low, high) {
-        Ok(rows) => rows,
-        Err(error) => return Err(fault_of(error)),
-    };
+    let rows = select_least_account(tx, low, high)?;
     match rows.first() {
         Some(row) => Ok(Some(read_account(row)?)),
         None => Ok(None),
@@ -135,12 +132,13 @@ fn cells_of(account: &AccountRecord) -> Result<AccountCells, Fault>
 fn insert_account<S: Alter>(
     tx: &mut Transaction<'_, S>,
     cells: &AccountCells,
-) -> Result<usize, Error>
+) -> Result<usize, Fault>
     ensures same_reference { tx.new.conn.ghost_name ≡ tx.old.conn.ghost_name }
-    ensures runs { HasCleanDisk (state S.Store tx.new.conn.now) → IsTrue (state S.Store tx.old.conn.now).in_transaction → ExecutesInside 0 add_account_text (given_account cells.now) (state S.Store tx.old.conn.now) (state S.Store tx.new.conn.now) result }
+    ensures runs { HasCleanDisk (state S.Store tx.new.conn.now) → IsTrue (state S.Store tx.old.conn.now).in_transaction → Runs add_account_text (given_account cells.now) (state S.Store tx.old.conn.now) (state S.Store tx.new.conn.now) result }
     ensures survives { Survives (state S.Store tx.old.conn.now) (state S.Store tx.new.conn.now) (λ _. ⊥) }
 {
-    tx.execute(
+    run(
+        tx,
         "INSERT INTO accounts (account, home, opening, floor, balance, turns) VALUES (?1, ?2, ?3, ?4, ?5, ?6)",
         params![
             cells.account,
@@ -164,21 +162,20 @@ pub fn add_account<S: Alter>(
     ensures survives { Survives (state S.Store tx.old.conn.now) (state S.Store tx.new.conn.now) (λ _. ⊥) }
 {
     let cells = cells_of(account)?;
-    match insert_account(tx, &cells) {
-        Ok(_) => Ok(()),
-        Err(error) => Err(fault_of(error)),
-    }
+    insert_account(tx, &cells)?;
+    Ok(())
 }
 
 fn update_account<S: Alter>(
     tx: &mut Transaction<'_, S>,
     cells: &AccountCells,
-) -> Result<usize, Error>
+) -> Result<usize, Fault>
     ensures same_reference { tx.new.conn.ghost_name ≡ tx.old.conn.ghost_name }
-    ensures runs { HasCleanDisk (state S.Store tx.new.conn.now) → IsTrue (state S.Store tx.old.conn.now).in_transaction → ExecutesInside 0 set_account_text (given_account cells.now) (state S.Store tx.old.conn.now) (state S.Store tx.new.conn.now) result }
+    ensures runs { HasCleanDisk (state S.Store tx.new.conn.now) → IsTrue (state S.Store tx.old.conn.now).in_transaction → Runs set_account_text (given_account cells.now) (state S.Store tx.old.conn.now) (state S.Store tx.new.conn.now) result }
     ensures survives { Survives (state S.Store tx.old.conn.now) (state S.Store tx.new.conn.now) (λ _. ⊥) }
 {
-    tx.execute(
+    run(
+        tx,
         "UPDATE accounts SET home = ?2, opening = ?3, floor = ?4, balance = ?5, turns = ?6 WHERE account = ?1",
         params![
             cells.account,
@@ -201,8 +198,6 @@ pub fn set_account<S: Alter>(
     ensures survives { Survives (state S.Store tx.old.conn.now) (state S.Store tx.new.conn.now) (λ _. ⊥) }
 {
     let cells = cells_of(account)?;
-    match update_account(tx, &cells) {
-        Ok(_) => Ok(()),
-        Err(error) => Err(fault_of(error)),
-    }
+    update_account(tx, &cells)?;
+    Ok(())
 }

@@ -1,26 +1,27 @@
 ghost use Rattle.std.specs.Prelude.{◌≡◌, ◌∷◌, [], pos, IfOk, IsTrue};
 ghost use Rattle.sqlite.specs.Held.{state};
-ghost use Rattle.sqlite.specs.State.{ExecutesInside, HasCleanDisk, Survives};
+ghost use Rattle.sqlite.specs.State.{HasCleanDisk, Survives};
 ghost use Rattle.sqlite.specs.declared.types.Value.TheVariants.{Int};
 ghost use Rattle.kept_rows.specs.Sheets.{Sheets};
 ghost use Rattle.bank_schema.specs.Held.{HoldsTables};
 ghost use Rattle.bank_schema.specs.Steps.{StaysOpen, Steps};
+ghost use Rattle.bank_schema.specs.Told.{Runs};
 ghost use Rattle.book_tables.specs.Given.{given_version};
 ghost use Rattle.book_tables.specs.Texts.{set_version_text};
 
-use bank_schema::{count_at, count_cell, fault_of};
+use bank_schema::{count_at, count_cell, run, shown_rows};
 use money::Fault;
-use sqlite::{Alter, Error, Row, Transaction, params};
+use sqlite::{Alter, Row, Transaction, params};
 
 /// The version of the policy, in one row.
-fn select_version<S: Alter>(tx: &mut Transaction<'_, S>) -> Result<Vec<Row>, Error>
+fn select_version<S: Alter>(tx: &mut Transaction<'_, S>) -> Result<Vec<Row>, Fault>
     ensures same_reference { tx.new.conn.ghost_name ≡ tx.old.conn.ghost_name }
     ensures rows { HasCleanDisk (state S.Store tx.new.conn.now) → (s : Sheets) → HoldsTables (state S.Store tx.old.conn.now).now s → IfOk result (λ rows. rows.items ≡ (Int (pos s.version) ∷ []) ∷ []) }
     ensures steps { Steps (state S.Store tx.old.conn.now) (state S.Store tx.new.conn.now) (λ s. s) result }
     ensures open { StaysOpen (state S.Store tx.old.conn.now) (state S.Store tx.new.conn.now) result }
     ensures survives { Survives (state S.Store tx.old.conn.now) (state S.Store tx.new.conn.now) (λ _. ⊥) }
 {
-    tx.query_all("SELECT policy FROM bank WHERE id = 1", params![])
+    shown_rows(tx, "SELECT policy FROM bank WHERE id = 1", params![])
 }
 
 /// The version of the policy: how many plans have changed it. A file without the row of the bank is
@@ -32,10 +33,7 @@ pub fn version_of<S: Alter>(tx: &mut Transaction<'_, S>) -> Result<u64, Fault>
     ensures open { StaysOpen (state S.Store tx.old.conn.now) (state S.Store tx.new.conn.now) result }
     ensures survives { Survives (state S.Store tx.old.conn.now) (state S.Store tx.new.conn.now) (λ _. ⊥) }
 {
-    let rows = match select_version(tx) {
-        Ok(rows) => rows,
-        Err(error) => return Err(fault_of(error)),
-    };
+    let rows = select_version(tx)?;
     match rows.first() {
         Some(row) => count_at(row, 0),
         None => Err(Fault::Disk),
@@ -59,12 +57,13 @@ fn cells_of(version: u64) -> Result<VersionCells, Fault>
 fn update_version<S: Alter>(
     tx: &mut Transaction<'_, S>,
     cells: &VersionCells,
-) -> Result<usize, Error>
+) -> Result<usize, Fault>
     ensures same_reference { tx.new.conn.ghost_name ≡ tx.old.conn.ghost_name }
-    ensures runs { HasCleanDisk (state S.Store tx.new.conn.now) → IsTrue (state S.Store tx.old.conn.now).in_transaction → ExecutesInside 0 set_version_text (given_version cells.now) (state S.Store tx.old.conn.now) (state S.Store tx.new.conn.now) result }
+    ensures runs { HasCleanDisk (state S.Store tx.new.conn.now) → IsTrue (state S.Store tx.old.conn.now).in_transaction → Runs set_version_text (given_version cells.now) (state S.Store tx.old.conn.now) (state S.Store tx.new.conn.now) result }
     ensures survives { Survives (state S.Store tx.old.conn.now) (state S.Store tx.new.conn.now) (λ _. ⊥) }
 {
-    tx.execute(
+    run(
+        tx,
         "UPDATE bank SET policy = ?1 WHERE id = 1",
         params![&cells.version],
     )
@@ -77,8 +76,6 @@ pub fn set_version<S: Alter>(tx: &mut Transaction<'_, S>, version: u64) -> Resul
     ensures survives { Survives (state S.Store tx.old.conn.now) (state S.Store tx.new.conn.now) (λ _. ⊥) }
 {
     let cells = cells_of(version)?;
-    match update_version(tx, &cells) {
-        Ok(_) => Ok(()),
-        Err(error) => Err(fault_of(error)),
-    }
+    update_version(tx, &cells)?;
+    Ok(())
 }

@@ -1,31 +1,33 @@
 ghost use Rattle.std.specs.Prelude.{◌≡◌, ◌==◌, map, IfOk, IsTrue};
 ghost use Rattle.std.specs.List.{filter, find};
 ghost use Rattle.sqlite.specs.Held.{state};
-ghost use Rattle.sqlite.specs.State.{ExecutesInside, HasCleanDisk, Survives};
+ghost use Rattle.sqlite.specs.State.{HasCleanDisk, Survives};
 ghost use Rattle.keyed_rows.specs.Ordered.{add_row};
 ghost use Rattle.bank_books.specs.declared.records.BranchRecord.{BranchRecord as TheRecord};
 ghost use Rattle.kept_rows.specs.Named.{IsFree};
 ghost use Rattle.kept_rows.specs.Sheets.{Sheets, branch_no, set_row};
 ghost use Rattle.bank_schema.specs.Held.{HoldsTables};
 ghost use Rattle.bank_schema.specs.Steps.{StaysOpen, Steps, Tells};
+ghost use Rattle.bank_schema.specs.Told.{Runs};
 ghost use Rattle.book_tables.specs.Given.{given_branch};
 ghost use Rattle.book_tables.specs.Shown.{shown_branch};
 ghost use Rattle.book_tables.specs.Texts.{add_branch_text, set_branch_text};
 
 use bank_books::{Branch, BranchRecord};
-use bank_schema::{cents_at, count_at, count_cell, fault_of, number_at, sum_cell, whole_at};
+use bank_schema::{cents_at, count_at, count_cell, number_at, run, shown_rows, sum_cell, whole_at};
 use money::Fault;
-use sqlite::{Alter, Error, Row, Transaction, params};
+use sqlite::{Alter, Row, Transaction, params};
 
 /// The row of this branch: one, or none.
-fn select_branch<S: Alter>(tx: &mut Transaction<'_, S>, branch: u32) -> Result<Vec<Row>, Error>
+fn select_branch<S: Alter>(tx: &mut Transaction<'_, S>, branch: u32) -> Result<Vec<Row>, Fault>
     ensures same_reference { tx.new.conn.ghost_name ≡ tx.old.conn.ghost_name }
     ensures rows { HasCleanDisk (state S.Store tx.new.conn.now) → (s : Sheets) → HoldsTables (state S.Store tx.old.conn.now).now s → IfOk result (λ rows. rows.items ≡ map shown_branch (filter (λ r. branch_no r == branch) s.branches)) }
     ensures steps { Steps (state S.Store tx.old.conn.now) (state S.Store tx.new.conn.now) (λ s. s) result }
     ensures open { StaysOpen (state S.Store tx.old.conn.now) (state S.Store tx.new.conn.now) result }
     ensures survives { Survives (state S.Store tx.old.conn.now) (state S.Store tx.new.conn.now) (λ _. ⊥) }
 {
-    tx.query_all(
+    shown_rows(
+        tx,
         "SELECT branch, opening, cash, day, balance, vault, entries, lines, accounts, history, drawers, cash_entries, differences FROM branches WHERE branch = ?1",
         params![branch],
     )
@@ -64,10 +66,7 @@ pub fn branch_of<S: Alter>(
     ensures open { StaysOpen (state S.Store tx.old.conn.now) (state S.Store tx.new.conn.now) result }
     ensures survives { Survives (state S.Store tx.old.conn.now) (state S.Store tx.new.conn.now) (λ _. ⊥) }
 {
-    let rows = match select_branch(tx, branch) {
-        Ok(rows) => rows,
-        Err(error) => return Err(fault_of(error)),
-    };
+    let rows = select_branch(tx, branch)?;
     match rows.first() {
         Some(row) => Ok(Some(read_branch(row)?)),
         None => Ok(None),
@@ -112,12 +111,13 @@ fn cells_of(branch: &BranchRecord) -> Result<BranchCells, Fault>
     })
 }
 
-fn insert_branch<S: Alter>(tx: &mut Transaction<'_, S>, cells: &BranchCells) -> Result<usize, Error>
+fn insert_branch<S: Alter>(tx: &mut Transaction<'_, S>, cells: &BranchCells) -> Result<usize, Fault>
     ensures same_reference { tx.new.conn.ghost_name ≡ tx.old.conn.ghost_name }
-    ensures runs { HasCleanDisk (state S.Store tx.new.conn.now) → IsTrue (state S.Store tx.old.conn.now).in_transaction → ExecutesInside 0 add_branch_text (given_branch cells.now) (state S.Store tx.old.conn.now) (state S.Store tx.new.conn.now) result }
+    ensures runs { HasCleanDisk (state S.Store tx.new.conn.now) → IsTrue (state S.Store tx.old.conn.now).in_transaction → Runs add_branch_text (given_branch cells.now) (state S.Store tx.old.conn.now) (state S.Store tx.new.conn.now) result }
     ensures survives { Survives (state S.Store tx.old.conn.now) (state S.Store tx.new.conn.now) (λ _. ⊥) }
 {
-    tx.execute(
+    run(
+        tx,
         "INSERT INTO branches (branch, opening, cash, day, balance, vault, entries, lines, accounts, history, drawers, cash_entries, differences) VALUES (?1, ?2, ?3, ?4, ?5, ?6, ?7, ?8, ?9, ?10, ?11, ?12, ?13)",
         params![
             cells.branch,
@@ -145,18 +145,17 @@ pub fn add_branch<S: Alter>(tx: &mut Transaction<'_, S>, branch: &BranchRecord) 
     ensures survives { Survives (state S.Store tx.old.conn.now) (state S.Store tx.new.conn.now) (λ _. ⊥) }
 {
     let cells = cells_of(branch)?;
-    match insert_branch(tx, &cells) {
-        Ok(_) => Ok(()),
-        Err(error) => Err(fault_of(error)),
-    }
+    insert_branch(tx, &cells)?;
+    Ok(())
 }
 
-fn update_branch<S: Alter>(tx: &mut Transaction<'_, S>, cells: &BranchCells) -> Result<usize, Error>
+fn update_branch<S: Alter>(tx: &mut Transaction<'_, S>, cells: &BranchCells) -> Result<usize, Fault>
     ensures same_reference { tx.new.conn.ghost_name ≡ tx.old.conn.ghost_name }
-    ensures runs { HasCleanDisk (state S.Store tx.new.conn.now) → IsTrue (state S.Store tx.old.conn.now).in_transaction → ExecutesInside 0 set_branch_text (given_branch cells.now) (state S.Store tx.old.conn.now) (state S.Store tx.new.conn.now) result }
+    ensures runs { HasCleanDisk (state S.Store tx.new.conn.now) → IsTrue (state S.Store tx.old.conn.now).in_transaction → Runs set_branch_text (given_branch cells.now) (state S.Store tx.old.conn.now) (state S.Store tx.new.conn.now) result }
     ensures survives { Survives (state S.Store tx.old.conn.now) (state S.Store tx.new.conn.now) (λ _. ⊥) }
 {
-    tx.execute(
+    run(
+        tx,
         "UPDATE branches SET opening = ?2, cash = ?3, day = ?4, balance = ?5, vault = ?6, entries = ?7, lines = ?8, accounts = ?9, history = ?10, drawers = ?11, cash_entries = ?12, differences = ?13 WHERE branch = ?1",
         params![
             cells.branch,
@@ -183,8 +182,6 @@ pub fn set_branch<S: Alter>(tx: &mut Transaction<'_, S>, branch: &BranchRecord) 
     ensures survives { Survives (state S.Store tx.old.conn.now) (state S.Store tx.new.conn.now) (λ _. ⊥) }
 {
     let cells = cells_of(branch)?;
-    match update_branch(tx, &cells) {
-        Ok(_) => Ok(()),
-        Err(error) => Err(fault_of(error)),
-    }
+    update_branch(tx, &cells)?;
+    Ok(())
 }

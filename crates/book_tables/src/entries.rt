@@ -1,7 +1,7 @@
 ghost use Rattle.std.specs.Prelude.{◌≡◌, pos, map, length, IfOk, IsTrue};
 ghost use Rattle.std.specs.List.{filter, find, list_any};
 ghost use Rattle.sqlite.specs.Held.{state};
-ghost use Rattle.sqlite.specs.State.{ExecutesInside, HasCleanDisk, Survives};
+ghost use Rattle.sqlite.specs.State.{HasCleanDisk, Survives};
 ghost use Rattle.sqlite.specs.declared.types.Value.TheVariants.{Int};
 ghost use Rattle.sqlite_value.specs.Order.{column};
 ghost use Rattle.keyed_rows.specs.Ordered.{add_row};
@@ -12,28 +12,30 @@ ghost use Rattle.bank_schema.specs.Cells.{EntryFits, entry_cells};
 ghost use Rattle.bank_schema.specs.Numbers.{entry_form_number};
 ghost use Rattle.bank_schema.specs.Held.{HoldsTables};
 ghost use Rattle.bank_schema.specs.Steps.{StaysOpen, Steps, Tells};
+ghost use Rattle.bank_schema.specs.Told.{Runs};
 ghost use Rattle.book_tables.specs.Given.{given_entry};
 ghost use Rattle.book_tables.specs.Picks.{is_entry, undoes_entry};
 ghost use Rattle.book_tables.specs.Texts.{add_entry_text};
 
 use bank_books::{Entry, EntryForm, EntryRecord};
-use bank_schema::{count_at, count_cell, fault_of, number_at, sum_cell, whole_at};
+use bank_schema::{count_at, count_cell, number_at, run, shown_rows, sum_cell, whole_at};
 use money::{Delta, Fault};
-use sqlite::{Alter, Error, Row, Transaction, params};
+use sqlite::{Alter, Row, Transaction, params};
 
 /// The entry of this number in the history of a branch: one, or none.
 fn select_entry<S: Alter>(
     tx: &mut Transaction<'_, S>,
     branch: u32,
     number: u32,
-) -> Result<Vec<Row>, Error>
+) -> Result<Vec<Row>, Fault>
     ensures same_reference { tx.new.conn.ghost_name ≡ tx.old.conn.ghost_name }
     ensures rows { HasCleanDisk (state S.Store tx.new.conn.now) → (s : Sheets) → HoldsTables (state S.Store tx.old.conn.now).now s → IfOk result (λ rows. rows.items ≡ map entry_cells (filter (is_entry branch number) s.entries)) }
     ensures steps { Steps (state S.Store tx.old.conn.now) (state S.Store tx.new.conn.now) (λ s. s) result }
     ensures open { StaysOpen (state S.Store tx.old.conn.now) (state S.Store tx.new.conn.now) result }
     ensures survives { Survives (state S.Store tx.old.conn.now) (state S.Store tx.new.conn.now) (λ _. ⊥) }
 {
-    tx.query_all(
+    shown_rows(
+        tx,
         "SELECT branch, number, account, turn, teller, delta, moment, day, user_no, form, partner, undoes, balance_after FROM entries WHERE branch = ?1 AND number = ?2",
         params![branch, number],
     )
@@ -95,10 +97,7 @@ pub fn entry_of<S: Alter>(
     ensures open { StaysOpen (state S.Store tx.old.conn.now) (state S.Store tx.new.conn.now) result }
     ensures survives { Survives (state S.Store tx.old.conn.now) (state S.Store tx.new.conn.now) (λ _. ⊥) }
 {
-    let rows = match select_entry(tx, branch, number) {
-        Ok(rows) => rows,
-        Err(error) => return Err(fault_of(error)),
-    };
+    let rows = select_entry(tx, branch, number)?;
     match rows.first() {
         Some(row) => Ok(Some(read_entry(row)?)),
         None => Ok(None),
@@ -110,14 +109,15 @@ fn select_undoing<S: Alter>(
     tx: &mut Transaction<'_, S>,
     branch: u32,
     number: u32,
-) -> Result<Vec<Row>, Error>
+) -> Result<Vec<Row>, Fault>
     ensures same_reference { tx.new.conn.ghost_name ≡ tx.old.conn.ghost_name }
     ensures rows { HasCleanDisk (state S.Store tx.new.conn.now) → (s : Sheets) → HoldsTables (state S.Store tx.old.conn.now).now s → IfOk result (λ rows. length rows.items ≡ length (filter (undoes_entry branch number) s.entries)) }
     ensures steps { Steps (state S.Store tx.old.conn.now) (state S.Store tx.new.conn.now) (λ s. s) result }
     ensures open { StaysOpen (state S.Store tx.old.conn.now) (state S.Store tx.new.conn.now) result }
     ensures survives { Survives (state S.Store tx.old.conn.now) (state S.Store tx.new.conn.now) (λ _. ⊥) }
 {
-    tx.query_all(
+    shown_rows(
+        tx,
         "SELECT number FROM entries WHERE branch = ?1 AND undoes = ?2",
         params![branch, number],
     )
@@ -136,10 +136,8 @@ pub fn is_undone<S: Alter>(
     ensures open { StaysOpen (state S.Store tx.old.conn.now) (state S.Store tx.new.conn.now) result }
     ensures survives { Survives (state S.Store tx.old.conn.now) (state S.Store tx.new.conn.now) (λ _. ⊥) }
 {
-    match select_undoing(tx, branch, number) {
-        Ok(rows) => Ok(!rows.is_empty()),
-        Err(error) => Err(fault_of(error)),
-    }
+    let rows = select_undoing(tx, branch, number)?;
+    Ok(!rows.is_empty())
 }
 
 /// What is given with a statement that writes an entry.
@@ -192,12 +190,13 @@ fn cells_of(entry: &EntryRecord) -> Result<EntryCells, Fault>
     })
 }
 
-fn insert_entry<S: Alter>(tx: &mut Transaction<'_, S>, cells: &EntryCells) -> Result<usize, Error>
+fn insert_entry<S: Alter>(tx: &mut Transaction<'_, S>, cells: &EntryCells) -> Result<usize, Fault>
     ensures same_reference { tx.new.conn.ghost_name ≡ tx.old.conn.ghost_name }
-    ensures runs { HasCleanDisk (state S.Store tx.new.conn.now) → IsTrue (state S.Store tx.old.conn.now).in_transaction → ExecutesInside 0 add_entry_text (given_entry cells.now) (state S.Store tx.old.conn.now) (state S.Store tx.new.conn.now) result }
+    ensures runs { HasCleanDisk (state S.Store tx.new.conn.now) → IsTrue (state S.Store tx.old.conn.now).in_transaction → Runs add_entry_text (given_entry cells.now) (state S.Store tx.old.conn.now) (state S.Store tx.new.conn.now) result }
     ensures survives { Survives (state S.Store tx.old.conn.now) (state S.Store tx.new.conn.now) (λ _. ⊥) }
 {
-    tx.execute(
+    run(
+        tx,
         "INSERT INTO entries (branch, number, account, turn, teller, delta, moment, day, user_no, form, partner, undoes, balance_after) VALUES (?1, ?2, ?3, ?4, ?5, ?6, ?7, ?8, ?9, ?10, ?11, ?12, ?13)",
         params![
             cells.branch,
@@ -225,8 +224,6 @@ pub fn add_entry<S: Alter>(tx: &mut Transaction<'_, S>, entry: &EntryRecord) -> 
     ensures survives { Survives (state S.Store tx.old.conn.now) (state S.Store tx.new.conn.now) (λ _. ⊥) }
 {
     let cells = cells_of(entry)?;
-    match insert_entry(tx, &cells) {
-        Ok(_) => Ok(()),
-        Err(error) => Err(fault_of(error)),
-    }
+    insert_entry(tx, &cells)?;
+    Ok(())
 }

@@ -1,34 +1,36 @@
 ghost use Rattle.std.specs.Prelude.{◌≡◌, ◌==◌, map, take, List, IfOk, IsTrue};
 ghost use Rattle.std.specs.List.{filter, find};
 ghost use Rattle.sqlite.specs.Held.{state};
-ghost use Rattle.sqlite.specs.State.{ExecutesInside, HasCleanDisk, Survives};
+ghost use Rattle.sqlite.specs.State.{HasCleanDisk, Survives};
 ghost use Rattle.keyed_rows.specs.Ordered.{add_row};
 ghost use Rattle.kept_rows.specs.declared.records.KeptTeller.{KeptTeller as TheRecord};
 ghost use Rattle.kept_rows.specs.Named.{IsFree};
 ghost use Rattle.kept_rows.specs.Sheets.{Sheets, teller_no, set_row};
 ghost use Rattle.bank_schema.specs.Held.{HoldsTables};
 ghost use Rattle.bank_schema.specs.Steps.{StaysOpen, Steps, Tells};
+ghost use Rattle.bank_schema.specs.Told.{Runs};
 ghost use Rattle.book_tables.specs.Given.{given_teller};
 ghost use Rattle.book_tables.specs.Picks.{is_teller_after, is_teller_of};
 ghost use Rattle.book_tables.specs.Shown.{shown_teller};
 ghost use Rattle.book_tables.specs.Texts.{add_teller_text, set_teller_text};
 
 use bank_books::Teller;
-use bank_schema::{cents_at, fault_of, number_at, sum_cell, whole_at};
+use bank_schema::{cents_at, number_at, run, shown_rows, sum_cell, whole_at};
 use kept_rows::KeptTeller;
 use money::Fault;
-use sqlite::{Alter, Error, Row, Transaction, params};
+use sqlite::{Alter, Row, Transaction, params};
 use std::alloc::Global;
 
 /// The row of this teller: one, or none.
-fn select_teller<S: Alter>(tx: &mut Transaction<'_, S>, teller: u32) -> Result<Vec<Row>, Error>
+fn select_teller<S: Alter>(tx: &mut Transaction<'_, S>, teller: u32) -> Result<Vec<Row>, Fault>
     ensures same_reference { tx.new.conn.ghost_name ≡ tx.old.conn.ghost_name }
     ensures rows { HasCleanDisk (state S.Store tx.new.conn.now) → (s : Sheets) → HoldsTables (state S.Store tx.old.conn.now).now s → IfOk result (λ rows. rows.items ≡ map shown_teller (filter (λ r. teller_no r == teller) s.tellers)) }
     ensures steps { Steps (state S.Store tx.old.conn.now) (state S.Store tx.new.conn.now) (λ s. s) result }
     ensures open { StaysOpen (state S.Store tx.old.conn.now) (state S.Store tx.new.conn.now) result }
     ensures survives { Survives (state S.Store tx.old.conn.now) (state S.Store tx.new.conn.now) (λ _. ⊥) }
 {
-    tx.query_all(
+    shown_rows(
+        tx,
         "SELECT teller, branch, opening, balance, cash, holder FROM tellers WHERE teller = ?1",
         params![teller],
     )
@@ -60,10 +62,7 @@ pub fn teller_of<S: Alter>(
     ensures open { StaysOpen (state S.Store tx.old.conn.now) (state S.Store tx.new.conn.now) result }
     ensures survives { Survives (state S.Store tx.old.conn.now) (state S.Store tx.new.conn.now) (λ _. ⊥) }
 {
-    let rows = match select_teller(tx, teller) {
-        Ok(rows) => rows,
-        Err(error) => return Err(fault_of(error)),
-    };
+    let rows = select_teller(tx, teller)?;
     match rows.first() {
         Some(row) => Ok(Some(read_teller(row)?)),
         None => Ok(None),
@@ -71,14 +70,15 @@ pub fn teller_of<S: Alter>(
 }
 
 /// The tellers of this branch, by number.
-fn select_roster<S: Alter>(tx: &mut Transaction<'_, S>, branch: u32) -> Result<Vec<Row>, Error>
+fn select_roster<S: Alter>(tx: &mut Transaction<'_, S>, branch: u32) -> Result<Vec<Row>, Fault>
     ensures same_reference { tx.new.conn.ghost_name ≡ tx.old.conn.ghost_name }
     ensures rows { HasCleanDisk (state S.Store tx.new.conn.now) → (s : Sheets) → HoldsTables (state S.Store tx.old.conn.now).now s → IfOk result (λ rows. rows.items ≡ map shown_teller (filter (is_teller_of branch) s.tellers)) }
     ensures steps { Steps (state S.Store tx.old.conn.now) (state S.Store tx.new.conn.now) (λ s. s) result }
     ensures open { StaysOpen (state S.Store tx.old.conn.now) (state S.Store tx.new.conn.now) result }
     ensures survives { Survives (state S.Store tx.old.conn.now) (state S.Store tx.new.conn.now) (λ _. ⊥) }
 {
-    tx.query_all(
+    shown_rows(
+        tx,
         "SELECT teller, branch, opening, balance, cash, holder FROM tellers WHERE branch = ?1 ORDER BY teller",
         params![branch],
     )
@@ -106,10 +106,8 @@ pub fn roster<S: Alter>(
     ensures open { StaysOpen (state S.Store tx.old.conn.now) (state S.Store tx.new.conn.now) result }
     ensures survives { Survives (state S.Store tx.old.conn.now) (state S.Store tx.new.conn.now) (λ _. ⊥) }
 {
-    match select_roster(tx, branch) {
-        Ok(rows) => read_tellers(alloc, &rows),
-        Err(error) => Err(fault_of(error)),
-    }
+    let rows = select_roster(tx, branch)?;
+    read_tellers(alloc, &rows)
 }
 
 /// The next teller of this branch above a number: one, or none.
@@ -117,14 +115,15 @@ fn select_next_teller<S: Alter>(
     tx: &mut Transaction<'_, S>,
     branch: u32,
     after: u32,
-) -> Result<Vec<Row>, Error>
+) -> Result<Vec<Row>, Fault>
     ensures same_reference { tx.new.conn.ghost_name ≡ tx.old.conn.ghost_name }
     ensures rows { HasCleanDisk (state S.Store tx.new.conn.now) → (s : Sheets) → HoldsTables (state S.Store tx.old.conn.now).now s → IfOk result (λ rows. rows.items ≡ take 1 (map shown_teller (filter (is_teller_after branch after) s.tellers))) }
     ensures steps { Steps (state S.Store tx.old.conn.now) (state S.Store tx.new.conn.now) (λ s. s) result }
     ensures open { StaysOpen (state S.Store tx.old.conn.now) (state S.Store tx.new.conn.now) result }
     ensures survives { Survives (state S.Store tx.old.conn.now) (state S.Store tx.new.conn.now) (λ _. ⊥) }
 {
-    tx.query_all(
+    shown_rows(
+        tx,
         "SELECT teller, branch, opening, balance, cash, holder FROM tellers WHERE branch = ?1 AND teller > ?2 ORDER BY teller LIMIT 1",
         params![branch, after],
     )
@@ -142,10 +141,7 @@ pub fn next_teller<S: Alter>(
     ensures open { StaysOpen (state S.Store tx.old.conn.now) (state S.Store tx.new.conn.now) result }
     ensures survives { Survives (state S.Store tx.old.conn.now) (state S.Store tx.new.conn.now) (λ _. ⊥) }
 {
-    let rows = match select_next_teller(tx, branch, after) {
-        Ok(rows) => rows,
-        Err(error) => return Err(fault_of(error)),
-    };
+    let rows = select_next_teller(tx, branch, after)?;
     match rows.first() {
         Some(row) => Ok(Some(read_teller(row)?)),
         None => Ok(None),
@@ -176,12 +172,13 @@ fn cells_of(teller: &KeptTeller) -> Result<TellerCells, Fault>
     })
 }
 
-fn insert_teller<S: Alter>(tx: &mut Transaction<'_, S>, cells: &TellerCells) -> Result<usize, Error>
+fn insert_teller<S: Alter>(tx: &mut Transaction<'_, S>, cells: &TellerCells) -> Result<usize, Fault>
     ensures same_reference { tx.new.conn.ghost_name ≡ tx.old.conn.ghost_name }
-    ensures runs { HasCleanDisk (state S.Store tx.new.conn.now) → IsTrue (state S.Store tx.old.conn.now).in_transaction → ExecutesInside 0 add_teller_text (given_teller cells.now) (state S.Store tx.old.conn.now) (state S.Store tx.new.conn.now) result }
+    ensures runs { HasCleanDisk (state S.Store tx.new.conn.now) → IsTrue (state S.Store tx.old.conn.now).in_transaction → Runs add_teller_text (given_teller cells.now) (state S.Store tx.old.conn.now) (state S.Store tx.new.conn.now) result }
     ensures survives { Survives (state S.Store tx.old.conn.now) (state S.Store tx.new.conn.now) (λ _. ⊥) }
 {
-    tx.execute(
+    run(
+        tx,
         "INSERT INTO tellers (teller, branch, opening, balance, cash, holder) VALUES (?1, ?2, ?3, ?4, ?5, ?6)",
         params![
             cells.teller,
@@ -202,18 +199,17 @@ pub fn add_teller<S: Alter>(tx: &mut Transaction<'_, S>, teller: &KeptTeller) ->
     ensures survives { Survives (state S.Store tx.old.conn.now) (state S.Store tx.new.conn.now) (λ _. ⊥) }
 {
     let cells = cells_of(teller)?;
-    match insert_teller(tx, &cells) {
-        Ok(_) => Ok(()),
-        Err(error) => Err(fault_of(error)),
-    }
+    insert_teller(tx, &cells)?;
+    Ok(())
 }
 
-fn update_teller<S: Alter>(tx: &mut Transaction<'_, S>, cells: &TellerCells) -> Result<usize, Error>
+fn update_teller<S: Alter>(tx: &mut Transaction<'_, S>, cells: &TellerCells) -> Result<usize, Fault>
     ensures same_reference { tx.new.conn.ghost_name ≡ tx.old.conn.ghost_name }
-    ensures runs { HasCleanDisk (state S.Store tx.new.conn.now) → IsTrue (state S.Store tx.old.conn.now).in_transaction → ExecutesInside 0 set_teller_text (given_teller cells.now) (state S.Store tx.old.conn.now) (state S.Store tx.new.conn.now) result }
+    ensures runs { HasCleanDisk (state S.Store tx.new.conn.now) → IsTrue (state S.Store tx.old.conn.now).in_transaction → Runs set_teller_text (given_teller cells.now) (state S.Store tx.old.conn.now) (state S.Store tx.new.conn.now) result }
     ensures survives { Survives (state S.Store tx.old.conn.now) (state S.Store tx.new.conn.now) (λ _. ⊥) }
 {
-    tx.execute(
+    run(
+        tx,
         "UPDATE tellers SET branch = ?2, opening = ?3, balance = ?4, cash = ?5, holder = ?6 WHERE teller = ?1",
         params![
             cells.teller,
@@ -233,8 +229,6 @@ pub fn set_teller<S: Alter>(tx: &mut Transaction<'_, S>, teller: &KeptTeller) ->
     ensures survives { Survives (state S.Store tx.old.conn.now) (state S.Store tx.new.conn.now) (λ _. ⊥) }
 {
     let cells = cells_of(teller)?;
-    match update_teller(tx, &cells) {
-        Ok(_) => Ok(()),
-        Err(error) => Err(fault_of(error)),
-    }
+    update_teller(tx, &cells)?;
+    Ok(())
 }

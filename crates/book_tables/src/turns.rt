@@ -13,9 +13,9 @@ ghost use Rattle.book_tables.specs.Turns.{entries_from};
 
 use crate::entries::read_entry;
 use bank_books::EntryRecord;
-use bank_schema::{count_cell, fault_of};
+use bank_schema::{count_cell, shown_rows};
 use money::Fault;
-use sqlite::{Alter, Error, Row, Transaction, params};
+use sqlite::{Alter, Row, Transaction, params};
 use std::alloc::Global;
 
 /// What is given with the query for an account's entry of a turn.
@@ -35,7 +35,7 @@ fn cells_of(account: u32, turn: u64) -> Result<TurnCells, Fault>
 }
 
 /// The entry of an account that is its turn of this number: one, or none.
-fn select_turn<S: Alter>(tx: &mut Transaction<'_, S>, cells: &TurnCells) -> Result<Vec<Row>, Error>
+fn select_turn<S: Alter>(tx: &mut Transaction<'_, S>, cells: &TurnCells) -> Result<Vec<Row>, Fault>
     ensures same_reference { tx.new.conn.ghost_name ≡ tx.old.conn.ghost_name }
     ensures rows { HasCleanDisk (state S.Store tx.new.conn.now) → (s : Sheets) → HoldsTables (state S.Store tx.old.conn.now).now s → (account turn : ℕ) → given_turn cells.now ≡ Int (pos account) ∷ Int (pos turn) ∷ []
         → IfOk result (λ rows. rows.items ≡ take 1 (map entry_cells (filter (is_entry_at account turn) s.entries))) }
@@ -43,7 +43,8 @@ fn select_turn<S: Alter>(tx: &mut Transaction<'_, S>, cells: &TurnCells) -> Resu
     ensures open { StaysOpen (state S.Store tx.old.conn.now) (state S.Store tx.new.conn.now) result }
     ensures survives { Survives (state S.Store tx.old.conn.now) (state S.Store tx.new.conn.now) (λ _. ⊥) }
 {
-    tx.query_all(
+    shown_rows(
+        tx,
         "SELECT branch, number, account, turn, teller, delta, moment, day, user_no, form, partner, undoes, balance_after FROM entries WHERE account = ?1 AND turn = ?2 ORDER BY branch, number LIMIT 1",
         params![cells.account, &cells.turn],
     )
@@ -61,10 +62,7 @@ fn entry_of_turn<S: Alter>(
     ensures survives { Survives (state S.Store tx.old.conn.now) (state S.Store tx.new.conn.now) (λ _. ⊥) }
 {
     let cells = cells_of(account, turn)?;
-    let rows = match select_turn(tx, &cells) {
-        Ok(rows) => rows,
-        Err(error) => return Err(fault_of(error)),
-    };
+    let rows = select_turn(tx, &cells)?;
     match rows.first() {
         Some(row) => Ok(Some(read_entry(row)?)),
         None => Ok(None),

@@ -1,11 +1,12 @@
 -- What a cache that keeps fresh entries tells, and what it keeps.
-use Rattle.std.proofs.Common.{◌≡◌, ◌-◌, List, ◌∷◌, take, refl, sym, ap, subst, inl, inr, arith, Option, Some, None, option_map, ◌∙◌, Result, Ok, Err, IfOk}
+use Rattle.std.proofs.Common.{◌≡◌, ◌≢◌, ◌==◌, ◌-◌, ℕ, Bool, true, false, if◌then◌else◌, List, [], ◌∷◌, take, refl, sym, ap, subst, inl, inr, arith, Option, Some, None, option_map, ◌∙◌, Result, Ok, Err, IfOk, IsSome}
 use Rattle.std.specs.Result.{result_ok}
 use Rattle.std.specs.Map.{lookup, lookup_entry, remove_entry}
-use Rattle.std.specs.Option.{option_map_or}
+use Rattle.std.proofs.lemmas.Bool.{eq-eqb, eqb-true, ne_eqb}
+use Rattle.std.specs.Option.{option_and_then, option_map_or}
 use Rattle.bank_books.specs.WorldLists.{WorldLists}
-use Rattle.cached.proofs.Keys.{same, same_key}
-use Rattle.cached.specs.Fresh.{AreFresh, Fits, HasRows, IsFirst, SameRows}
+use Rattle.cached.proofs.Keys.{same, same_is_key, same_key}
+use Rattle.cached.specs.Fresh.{AreFresh, Fits, HasRows, IsFirst, SameRows, entry_of, is_key, rows_kept}
 use Rattle.cached.specs.declared.entry.Kept.{Kept}
 use Rattle.cached.specs.declared.entry.Key.{Key}
 use Rattle.cached.specs.declared.entry.Rows.{Rows}
@@ -20,6 +21,44 @@ copy-HasRows w key (Triples rows) (Triples copy) same h = (h.0, same ∙ h.1)
 copy-HasRows w key (Triples rows) (Relations copy) same h = absurd same
 copy-HasRows w key (Relations rows) (Triples copy) same h = absurd same
 copy-HasRows w key (Relations rows) (Relations copy) same h = (h.0, same ∙ h.1)
+
+-- a look-up of the cache is one of the definitions
+entry_of-lookup : (entries : List (Key × Kept)) (k : Key) → lookup (same k) entries ≡ entry_of k entries
+entry_of-lookup [] k = refl
+entry_of-lookup (entry ∷ entries) k = rw (same_is_key k entry.0, entry_of-lookup entries k) refl
+
+abbrev rows_of : ℕ → Kept → Option Rows
+rows_of version kept = if kept.version == version then Some kept.rows else None
+
+looked_up : (entries : List (Key × Kept)) (k : Key) (version : ℕ) (o : Option Kept) → o ≡ lookup (same k) entries → option_and_then (rows_of version) o ≡ rows_kept k version entries
+looked_up entries k version o is = ap (option_and_then (rows_of version)) (is ∙ entry_of-lookup entries k)
+
+pub rows_found : (entries : List (Key × Kept)) (k : Key) (version : ℕ) (kept : Kept) → Some kept ≡ lookup (same k) entries → kept.version ≡ version → Some kept.rows ≡ rows_kept k version entries
+rows_found entries k version kept found now = sym (rw (eq-eqb kept.version version now) at (sym (looked_up entries k version (Some kept) found)))
+
+pub rows_outdated : (entries : List (Key × Kept)) (k : Key) (version : ℕ) (kept : Kept) → Some kept ≡ lookup (same k) entries → kept.version ≢ version → None ≡ rows_kept k version entries
+rows_outdated entries k version kept found other = sym (rw (ne_eqb kept.version version other) at (sym (looked_up entries k version (Some kept) found)))
+
+pub rows_missing : (entries : List (Key × Kept)) (k : Key) (version : ℕ) → None ≡ lookup (same k) entries → None ≡ rows_kept k version entries
+rows_missing entries k version none = looked_up entries k version None none
+
+-- the entry whose rows were found
+pub kept_found : (entries : List (Key × Kept)) (k : Key) (version : ℕ) (rows : Rows) → Some rows ≡ rows_kept k version entries
+    → (kept : Kept) × (lookup (same k) entries ≡ Some kept) × (kept.version ≡ version) × (kept.rows ≡ rows)
+kept_found entries k version rows found = by (lookup (same k) entries) refl
+  where
+    by : (o : Option Kept) → lookup (same k) entries ≡ o → (kept : Kept) × (lookup (same k) entries ≡ Some kept) × (kept.version ≡ version) × (kept.rows ≡ rows)
+    by None is =
+        let none : Some rows ≡ None = found ∙ sym (looked_up entries k version None (sym is)) in
+        absurd (cc)
+    by (Some kept) is = tested (kept.version == version) refl (found ∙ sym (looked_up entries k version (Some kept) (sym is)))
+      where
+        tested : (b : Bool) → (kept.version == version) ≡ b → Some rows ≡ (if b then Some kept.rows else None) → (kept : Kept) × (lookup (same k) entries ≡ Some kept) × (kept.version ≡ version) × (kept.rows ≡ rows)
+        tested true same one = (kept, is, eqb-true kept.version version same, cc)
+        tested false other none = absurd (cc)
+
+pub entry_looked_up : (entries : List (Key × Kept)) (k : Key) → IsSome (entry_of k entries) → IsSome (lookup (same k) entries)
+entry_looked_up entries k there = rw (entry_of-lookup entries k) there
 
 -- what a look-up finds at the present version is the World's
 pub found-fresh : (w : WorldLists) (entries : List (Key × Kept)) (k : Key) (kept : Kept) → lookup (same k) entries ≡ Some kept → kept.version ≡ w.version → AreFresh w entries → HasRows w k kept.rows

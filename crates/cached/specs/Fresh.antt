@@ -1,5 +1,7 @@
 -- Entries of a cache that tell what the policy is now.
-use Rattle.std.specs.Prelude.{◌≡◌, ℕ, ◌<◌, ◌≤◌, List, slice_get, Contains, IsSomeAnd}
+use Rattle.std.specs.Prelude.{◌≡◌, ℕ, ◌<◌, ◌≤◌, ◌==◌, ◌&&◌, if◌then◌else◌, Bool, List, [], ◌∷◌, Option, Some, None, slice_get, Contains, IsSomeAnd}
+use Rattle.std.specs.Option.{option_and_then}
+use Rattle.bank_terms.specs.Procedure.{number_of}
 use Rattle.bank_books.specs.WorldLists.{WorldLists}
 use Rattle.bank_policy.specs.HeldRows.{relations_of, triples_of}
 use Rattle.cached.specs.declared.entry.Kept.{Kept}
@@ -30,3 +32,16 @@ SameRows (Triples rows) (Triples copy) = copy.items ≡ rows.items
 SameRows (Triples rows) (Relations copy) = ⊥
 SameRows (Relations rows) (Triples copy) = ⊥
 SameRows (Relations rows) (Relations copy) = copy.items ≡ rows.items
+
+-- the same user and the same procedure
+abbrev pub is_key : Key → Key → Bool
+is_key a b = a.user == b.user && number_of a.procedure == number_of b.procedure
+
+-- what is kept for the key
+abbrev pub entry_of : Key → List (Key × Kept) → Option Kept
+entry_of key [] = None
+entry_of key (entry ∷ entries) = if is_key key entry.0 then Some entry.1 else entry_of key entries
+
+-- its rows, where they are of this version
+abbrev pub rows_kept : Key → ℕ → List (Key × Kept) → Option Rows
+rows_kept key version entries = option_and_then (λ kept. if kept.version == version then Some kept.rows else None) (entry_of key entries)

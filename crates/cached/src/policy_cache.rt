@@ -1,7 +1,8 @@
-ghost use Rattle.std.specs.Prelude.{◌≡◌, ◌<◌, ◌≤◌, [], length, IfOk, IfSome, OnOk, OnErr, OnSome};
+ghost use Rattle.std.specs.Prelude.{◌≡◌, ◌<◌, ◌≤◌, [], length, IfOk, IfSome, IsOk, IsSome, IfNone, OnOk, OnErr, OnSome};
+ghost use Rattle.std.specs.Option.{option_copied};
 ghost use Rattle.bank_books.specs.WorldLists.{WorldLists};
 ghost use Rattle.bank_policy.specs.HeldRows.{relations_of, triples_of};
-ghost use Rattle.cached.specs.Fresh.{AreFresh, HasRows, IsFirst};
+ghost use Rattle.cached.specs.Fresh.{AreFresh, HasRows, IsFirst, entry_of, rows_kept};
 
 use crate::copies::{copied_relations, copied_rows, copied_triples};
 use crate::entry::{Kept, Key, Rows};
@@ -51,17 +52,27 @@ impl PolicyCache {
         self.entries.len()
     }
 
+    /// The rows that are kept for a key at this version, or none where no rows of this version are kept.
+    fn find(&self, key: Key, version: u64) -> Option<&Rows>
+        ensures { option_copied result ≡ rows_kept key version self.now }
+    {
+        match self.entries.peek(&key) {
+            Some(kept) if kept.version == version => Some(&kept.rows),
+            _ => None,
+        }
+    }
+
     /// A copy of the rows that are kept for a key at this version, which are the last used from now on.
-    /// None where no rows of this version are kept, or where memory for the copy is refused.
+    /// None, and nothing is changed, where no rows of this version are kept, or where memory for the copy
+    /// is refused.
     pub fn recall(&mut self, alloc: Global, key: Key, version: u64) -> Option<Rows>
         ensures told { IfSome result (λ rows. (w : WorldLists) → AreFresh w self.old → version ≡ w.version → HasRows w key rows) }
         ensures fresh { (w : WorldLists) → AreFresh w self.old → AreFresh w self.new }
         ensures first { OnSome result (IsFirst key version self.new) }
+        ensures none { IfNone result (self.new ≡ self.old) }
     {
-        let rows = match self.entries.peek(&key) {
-            Some(kept) if kept.version == version => copied_rows(alloc, &kept.rows).ok()?,
-            _ => return None,
-        };
+        let kept = self.find(key, version)?;
+        let rows = copied_rows(alloc, kept).ok()?;
         self.entries.promote(&key);
         Some(rows)
     }
@@ -97,11 +108,12 @@ impl PolicyCache {
     }
 
     /// Keeps the rows of a key as they are at this version, in place of what was kept for it. They are the
-    /// last used from now on. Where memory is refused nothing is kept anew.
+    /// last used from now on. Where memory is refused nothing is kept anew; a key that has an entry needs none.
     fn remember(&mut self, key: Key, version: u64, rows: Rows) -> Result<(), AllocError>
         ensures fresh { (w : WorldLists) → AreFresh w self.old → version ≡ w.version → HasRows w key rows → AreFresh w self.new }
         ensures first { OnOk result (IsFirst key version self.new) }
         ensures err { OnErr result (self.new ≡ self.old) }
+        ensures succeeds { IsSome (entry_of key self.old) → IsOk result }
     {
         match self.entries.put(key, Kept { version, rows }) {
             Ok(_) => Ok(()),

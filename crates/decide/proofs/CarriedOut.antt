@@ -1,10 +1,9 @@
 -- What a plan that was applied, or a report that was counted, makes of the Worlds that gave leave for it.
-use Rattle.std.proofs.Common.{◌≡◌, None, inl, inr, refl, subst, ◌⊎◌, ap, sym, arith}
+use Rattle.std.proofs.Common.{◌≡◌, None, inl, inr, refl, subst, ◌⊎◌, sym}
 use Rattle.bank_books.specs.WorldLists.{WorldLists}
 use Rattle.store_rows.specs.Status.{Status}
 use Rattle.bank_run.specs.Requests.{executes, verdict}
 use Rattle.op_plans.specs.declared.prepared.Prepared.{Prepared}
-use Rattle.op_plans.specs.declared.prepared.Ready.{Ready}
 use Rattle.op_plans.specs.declared.prepared.Ready.TheVariants as ready
 use Rattle.reports.specs.declared.contents.Contents.{Contents}
 use Rattle.reports.proofs.StatusLemmas.{keeps_still}

@@ -1,5 +1,5 @@
 -- The listing of the policy, counted for an officer who is known.
-use Rattle.std.proofs.Common.{◌≡◌, ℕ, None, Option, Some, refl, sym, ap, subst, ◌∙◌}
+use Rattle.std.proofs.Common.{◌≡◌, ℕ, None, Option, Some, refl, sym, ap, ◌∙◌}
 use Rattle.std.specs.Prelude.{option_and_then}
 use Rattle.std.specs.List.{find}
 use Rattle.bank_policy.specs.HeldRows.{standing}
@@ -18,7 +18,7 @@ use Rattle.reports.specs.declared.contents.Contents.{Contents}
 use Rattle.reports.specs.declared.listing.Listing.TheVariants as listing
 
 -- by the row of who asks
-first_is : (w : WorldLists) (who : Who) (user : ℕ) (row : Option Standing) → who.user ≡ Some user → row ≡ standing w.policy user → first w (lists who) ≡ first_against_listing row who.session
+pub first_is : (w : WorldLists) (who : Who) (user : ℕ) (row : Option Standing) → who.user ≡ Some user → row ≡ standing w.policy user → first w (lists who) ≡ first_against_listing row who.session
 first_is w who user row named is =
     let his : standing_of_asker who w ≡ row = ap (option_and_then (standing w.policy)) named ∙ sym is in
     ap (λ (r : Option Standing). find (λ (k : Rule). listing_denies k r who.session) rules) his ∙ refl

@@ -1,5 +1,5 @@
 -- Rows that were loaded for a request.
-use Rattle.std.specs.Prelude.{ℕ, ◌≡◌, Some, option_and_then, option_map}
+use Rattle.std.specs.Prelude.{ℕ, ◌≡◌, option_and_then, option_map}
 use Rattle.bank_policy.specs.HeldRows.{relations_of, standing, triples_of}
 use Rattle.bank_books.specs.WorldLists.{WorldLists}
 use Rattle.counter_ops.specs.Op.{procedure_of}

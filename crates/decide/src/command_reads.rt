@@ -2,7 +2,7 @@ ghost use Rattle.std.specs.Prelude.{◌≡◌};
 ghost use Rattle.std.specs.List.{list_any};
 ghost use Rattle.bank_policy.specs.HeldRows.{standing, triples_of};
 ghost use Rattle.row_reads.specs.PolicyReads.{is_certifier};
-ghost use Rattle.store_rows.specs.Status.{MayRead, Reads};
+ghost use Rattle.store_rows.specs.Status.{MayRead, ReadsRow, count_after, mark_of};
 ghost use Rattle.certify.specs.CommandRows.{certifies_any, command_rows};
 ghost use Rattle.certify.specs.StoredRows.{appoint_rows, dismiss_rows, enrol_rows, suspension_rows};
 
@@ -24,7 +24,7 @@ pub(crate) fn load_command_rows<P: PolicyReads>(
     asks: Option<Standing>,
     command: &PolicyOp,
 ) -> Result<CommandRows, Fault>
-    ensures { Reads (P.status store.old) (P.status store.new) result (λ w rows. asks ≡ standing w.policy by → rows ≡ command_rows w.policy by command.now) }
+    ensures { ReadsRow (P.status store.old) (P.status store.new) result (λ w rows. asks ≡ standing w.policy by → rows ≡ command_rows w.policy by command.now) }
 {
     match command {
         PolicyOp::DefineSet(set) => load_define_set(alloc, store, by, set),
@@ -46,7 +46,7 @@ fn load_define_set<P: PolicyReads>(
     by: u32,
     set: &ItemSet,
 ) -> Result<CommandRows, Fault>
-    ensures { Reads (P.status store.old) (P.status store.new) result (λ w rows. rows ≡ command_rows w.policy by (PolicyOp.DefineSet set.now)) }
+    ensures { ReadsRow (P.status store.old) (P.status store.new) result (λ w rows. rows ≡ command_rows w.policy by (PolicyOp.DefineSet set.now)) }
 {
     let has_set = store.set(alloc, set.set())?;
     let count = store.sets(alloc)?;
@@ -60,7 +60,7 @@ fn load_certify<P: PolicyReads>(
     by: u32,
     key: &RelationKey,
 ) -> Result<CommandRows, Fault>
-    ensures { Reads (P.status store.old) (P.status store.new) result (λ w rows. rows ≡ command_rows w.policy by (PolicyOp.Certify key.now)) }
+    ensures { ReadsRow (P.status store.old) (P.status store.new) result (λ w rows. rows ≡ command_rows w.policy by (PolicyOp.Certify key.now)) }
 {
     let certifies = store.certifier(alloc, by, key.procedure)?;
     let has_set = store.set(alloc, key.set)?;
@@ -74,7 +74,7 @@ fn load_withdraw<P: PolicyReads>(
     by: u32,
     key: &RelationKey,
 ) -> Result<CommandRows, Fault>
-    ensures { Reads (P.status store.old) (P.status store.new) result (λ w rows. rows ≡ command_rows w.policy by (PolicyOp.Withdraw key.now)) }
+    ensures { ReadsRow (P.status store.old) (P.status store.new) result (λ w rows. rows ≡ command_rows w.policy by (PolicyOp.Withdraw key.now)) }
 {
     let certifies = store.certifier(alloc, by, key.procedure)?;
     let relations = store.relations_of(alloc, key.procedure)?;
@@ -87,7 +87,7 @@ fn load_grant<P: PolicyReads>(
     by: u32,
     triple: &Triple,
 ) -> Result<CommandRows, Fault>
-    ensures { Reads (P.status store.old) (P.status store.new) result (λ w rows. rows ≡ command_rows w.policy by (PolicyOp.Grant triple.now)) }
+    ensures { ReadsRow (P.status store.old) (P.status store.new) result (λ w rows. rows ≡ command_rows w.policy by (PolicyOp.Grant triple.now)) }
 {
     let certifies = store.certifier(alloc, by, triple.procedure)?;
     let user = standing_of(alloc, store, triple.user)?;
@@ -112,7 +112,7 @@ fn load_revoke<P: PolicyReads>(
     by: u32,
     key: &TripleKey,
 ) -> Result<CommandRows, Fault>
-    ensures { Reads (P.status store.old) (P.status store.new) result (λ w rows. rows ≡ command_rows w.policy by (PolicyOp.Revoke key.now)) }
+    ensures { ReadsRow (P.status store.old) (P.status store.new) result (λ w rows. rows ≡ command_rows w.policy by (PolicyOp.Revoke key.now)) }
 {
     let certifies = store.certifier(alloc, by, key.procedure)?;
     let triples = store.triples_of(alloc, key.user, key.procedure)?;
@@ -125,7 +125,7 @@ fn load_appoint<P: PolicyReads>(
     asks: Option<Standing>,
     certifier: &Certifier,
 ) -> Result<CommandRows, Fault>
-    ensures { Reads (P.status store.old) (P.status store.new) result (λ w rows. rows ≡ appoint_rows asks (standing w.policy certifier.now.user) (triples_of w.policy certifier.now.user certifier.now.procedure) (is_certifier w certifier.now.user certifier.now.procedure)) }
+    ensures { ReadsRow (P.status store.old) (P.status store.new) result (λ w rows. rows ≡ appoint_rows asks (standing w.policy certifier.now.user) (triples_of w.policy certifier.now.user certifier.now.procedure) (is_certifier w certifier.now.user certifier.now.procedure)) }
 {
     let user = standing_of(alloc, store, certifier.user)?;
     let triples = store.triples_of(alloc, certifier.user, certifier.procedure)?;
@@ -139,7 +139,7 @@ fn load_dismiss<P: PolicyReads>(
     asks: Option<Standing>,
     certifier: &Certifier,
 ) -> Result<CommandRows, Fault>
-    ensures { Reads (P.status store.old) (P.status store.new) result (λ w rows. rows ≡ dismiss_rows asks (is_certifier w certifier.now.user certifier.now.procedure)) }
+    ensures { ReadsRow (P.status store.old) (P.status store.new) result (λ w rows. rows ≡ dismiss_rows asks (is_certifier w certifier.now.user certifier.now.procedure)) }
 {
     let is_there = store.certifier(alloc, certifier.user, certifier.procedure)?;
     Ok(CommandRows::of_dismiss(asks, is_there))
@@ -151,7 +151,7 @@ fn load_enrol<P: PolicyReads>(
     asks: Option<Standing>,
     enrolment: &Enrolment,
 ) -> Result<CommandRows, Fault>
-    ensures { Reads (P.status store.old) (P.status store.new) result (λ w rows. rows ≡ enrol_rows asks (standing w.policy enrolment.now.user)) }
+    ensures { ReadsRow (P.status store.old) (P.status store.new) result (λ w rows. rows ≡ enrol_rows asks (standing w.policy enrolment.now.user)) }
 {
     let user = standing_of(alloc, store, enrolment.user)?;
     Ok(CommandRows::of_enrol(asks, user))
@@ -164,7 +164,7 @@ fn load_suspension<P: PolicyReads>(
     asks: Option<Standing>,
     key: &UserKey,
 ) -> Result<CommandRows, Fault>
-    ensures { Reads (P.status store.old) (P.status store.new) result (λ w rows. rows ≡ suspension_rows asks (standing w.policy key.now.user)) }
+    ensures { ReadsRow (P.status store.old) (P.status store.new) result (λ w rows. rows ≡ suspension_rows asks (standing w.policy key.now.user)) }
 {
     let user = standing_of(alloc, store, key.user)?;
     Ok(CommandRows::of_suspension(asks, user))
@@ -172,7 +172,8 @@ fn load_suspension<P: PolicyReads>(
 
 /// Whether a user is a certifier of any procedure.
 fn certifies_any<P: PolicyReads>(alloc: Global, store: &mut P, user: u32) -> Result<bool, Fault>
-    ensures { MayRead (P.status store.old) (P.status store.new) result (λ w is. is ≡ certifies_any w.policy user) }
+    ensures read { MayRead (P.status store.old) (P.status store.new) result (λ w is. is ≡ certifies_any w.policy user) }
+    ensures counted { (P.status store.new).fault_count ≡ count_after (mark_of result) (P.status store.old).fault_count }
 {
     let procedures = [
         Procedure::Post,
@@ -200,7 +201,8 @@ fn certifies_one_of<P: PolicyReads>(
     user: u32,
     procedures: &[Procedure],
 ) -> Result<bool, Fault>
-    ensures { MayRead (P.status store.old) (P.status store.new) result (λ w is. is ≡ list_any (is_certifier w user) procedures.now) }
+    ensures read { MayRead (P.status store.old) (P.status store.new) result (λ w is. is ≡ list_any (is_certifier w user) procedures.now) }
+    ensures counted { (P.status store.new).fault_count ≡ count_after (mark_of result) (P.status store.old).fault_count }
 {
     for &procedure in procedures {
         if store.certifier(alloc, user, procedure)? {

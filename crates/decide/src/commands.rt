@@ -9,7 +9,7 @@ ghost use Rattle.bank_run.specs.Commands.{done_data, done_text};
 ghost use Rattle.bank_run.specs.Requests.{commands, first, verdict};
 ghost use Rattle.op_plans.specs.Judged.{IsJudged};
 ghost use Rattle.policy_ops.specs.Ranges.{IsPolicyOp};
-ghost use Rattle.decide.specs.Judged.{ChangesPolicy};
+ghost use Rattle.decide.specs.Judged.{ChangesPolicy, DeniesOrCounts};
 ghost use Rattle.decide.specs.Loaded.{IsLoadedForCommand};
 ghost use Rattle.decide.specs.OneRequest.{FindsVersion, IsToldInJson, LeavesBoth, Moves, Replies, Settles};
 
@@ -29,7 +29,8 @@ use store_rows::{Bank, PolicyReads, Store};
 
 /// Carries a command of the policy out, whose members are in their ranges, and replies that it is done. Else the first
 /// rule that denies it. At a fault nothing has changed: `Fault::Size` says that the policy was changed as often as it can
-/// be. Nobody is denied whatever the store holds, and so can't fail.
+/// be. Where a rule denies, a fault is one that the store counted. Nobody is denied whatever the store holds, and so can't
+/// fail.
 pub fn decide_policy<S: Store>(
     bank: &mut Bank<S>,
     alloc: Global,
@@ -46,6 +47,7 @@ pub fn decide_policy<S: Store>(
     ensures room { FindsVersion (S.status bank.old.store) (S.status bank.new.store) result }
     ensures refused { IsSome who.user → Refuses (S.status bank.old.store) (mark_of result) }
     ensures stranger { IsNone who.user → result ≡ Ok (Err Identity) }
+    ensures denied { DeniesOrCounts (S.status bank.old.store) (S.status bank.new.store) (λ w. first w (commands command who)) result }
 {
     if who.user.is_none() {
         return Ok(Err(Rule::Identity));
@@ -64,6 +66,7 @@ fn prepare_command<P: PolicyReads>(
     requires { IsSome who.user }
     ensures judged { Reads (P.status store.old) (P.status store.new) result (IsJudged (verdict (commands command who))) }
     ensures changes { ChangesPolicy result }
+    ensures denied { DeniesOrCounts (P.status store.old) (P.status store.new) (λ w. first w (commands command who)) result }
 {
     let Some(user) = who.user else {
         unreachable!();

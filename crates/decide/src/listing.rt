@@ -5,8 +5,9 @@ ghost use Rattle.std.specs.Borrow.{sem, RestsIfErr};
 ghost use Rattle.store_rows.specs.contracts.bank.Bank.{the_row};
 ghost use Rattle.store_rows.specs.Status.{Keeps, Reads, Refuses, Tells, mark_of};
 ghost use Rattle.bank_run.specs.Listing.{first_against_listing};
-ghost use Rattle.bank_run.specs.Requests.{lists, verdict};
+ghost use Rattle.bank_run.specs.Requests.{first, lists, verdict};
 ghost use Rattle.op_plans.specs.Judged.{IsCountedFor};
+ghost use Rattle.decide.specs.Judged.{DeniesOrCounts};
 ghost use Rattle.decide.specs.Listed.{IsListed, IsListedToStranger, listed_bank};
 
 use crate::permit::Denial;
@@ -57,7 +58,8 @@ fn prepare_listing<S: PolicyReads + ReportReads>(
     who: Who,
 ) -> Result<Result<Contents, Rule>, Fault>
     requires { IsSome who.user }
-    ensures { Reads (S.status store.old) (S.status store.new) result (IsCountedFor (verdict (lists who))) }
+    ensures judged { Reads (S.status store.old) (S.status store.new) result (IsCountedFor (verdict (lists who))) }
+    ensures denied { DeniesOrCounts (S.status store.old) (S.status store.new) (λ w. first w (lists who)) result }
 {
     let Some(user) = who.user else {
         unreachable!();

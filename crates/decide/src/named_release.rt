@@ -2,7 +2,7 @@
 
 ghost use Rattle.std.specs.Prelude.{◌≡◌, option_map};
 ghost use Rattle.bank_policy.specs.Tests.{is_held_for};
-ghost use Rattle.store_rows.specs.Status.{Reads};
+ghost use Rattle.store_rows.specs.Status.{ReadsRow};
 ghost use Rattle.bank_run.specs.NamedRelease.{counts, is_active, is_giver_for, is_of_today, is_same_operation, release_grounds, release_grounds_of};
 ghost use Rattle.decide.specs.NamedRelease.{grounds_of, is_released_by};
 
@@ -36,7 +36,7 @@ pub(crate) fn load_named_release<S: PolicyReads + BookReads>(
     user: u32,
     number: u32,
 ) -> Result<Option<NamedRelease>, Fault>
-    ensures { Reads (S.status store.old) (S.status store.new) result (λ w named. option_map grounds_of named ≡ release_grounds w user number) }
+    ensures { ReadsRow (S.status store.old) (S.status store.new) result (λ w named. option_map grounds_of named ≡ release_grounds w user number) }
 {
     match store.release(alloc, user, number)? {
         Some(row) => Ok(Some(load_grounds_of(alloc, store, row)?)),
@@ -50,7 +50,7 @@ fn load_grounds_of<S: PolicyReads + BookReads>(
     store: &mut S,
     row: Release,
 ) -> Result<NamedRelease, Fault>
-    ensures { Reads (S.status store.old) (S.status store.new) result (λ w named. grounds_of named ≡ release_grounds_of w row) }
+    ensures { ReadsRow (S.status store.old) (S.status store.new) result (λ w named. grounds_of named ≡ release_grounds_of w row) }
 {
     let branch = store.branch(alloc, row.branch)?;
     let giver = standing_of(alloc, store, row.giver)?;

@@ -4,9 +4,10 @@ ghost use Rattle.std.specs.Prelude.{◌≡◌, ◌+◌, None, Some, Ok, Err, IfE
 ghost use Rattle.serde_json.specs.View.{view};
 ghost use Rattle.bank_terms.specs.declared.rule.Rule.TheVariants.{Identity};
 ghost use Rattle.store_rows.specs.Status.{Answers, Reads, Refuses, StaysWhole, mark_of};
-ghost use Rattle.bank_run.specs.Requests.{ends_session, opens_session, verdict};
+ghost use Rattle.bank_run.specs.Requests.{ends_session, first, opens_session, verdict};
 ghost use Rattle.bank_run.specs.Sessions.{ending_data, ending_text, first_against_ending, first_against_opening, latest, opening_data, opening_text};
 ghost use Rattle.op_plans.specs.Judged.{IsJudged};
+ghost use Rattle.decide.specs.Judged.{DeniesOrCounts};
 ghost use Rattle.decide.specs.OneRequest.{IsToldInJson, LeavesBoth, Moves, Replies, Settles};
 
 use crate::carried_out::carry_out_prepared;
@@ -23,8 +24,8 @@ use store_rows::{Bank, PolicyReads, Store};
 
 /// Opens the next session of the user whom the gate names, and replies its number: from then on it is the one that he
 /// has to name. Where a session of his is open, it is replaced. Else the first rule that denies: he isn't there or is
-/// suspended, or his sessions have no number left. At a fault nothing has changed. Nobody is denied whatever the store
-/// holds, and so can't fail.
+/// suspended, or his sessions have no number left. At a fault nothing has changed. Where a rule denies, a fault is one
+/// that the store counted. Nobody is denied whatever the store holds, and so can't fail.
 pub fn begin<S: Store>(
     bank: &mut Bank<S>,
     alloc: Global,
@@ -38,6 +39,7 @@ pub fn begin<S: Store>(
     ensures settled { Settles (S.status bank.old.store) (S.status bank.new.store) (opens_session user) (mark_of result) }
     ensures refused { IsSome user → Refuses (S.status bank.old.store) (mark_of result) }
     ensures stranger { IsNone user → result ≡ Ok (Err Identity) }
+    ensures denied { DeniesOrCounts (S.status bank.old.store) (S.status bank.new.store) (λ w. first w (opens_session user)) result }
 {
     let Some(user) = user else {
         return Ok(Err(Rule::Identity));
@@ -47,8 +49,8 @@ pub fn begin<S: Store>(
 }
 
 /// Ends the session of who asks, and replies its number, which stays: until he opens the next one, he can ask for
-/// nothing else. Else the first rule that denies: he is not known by it. At a fault nothing has changed. Nobody is
-/// denied whatever the store holds, and so can't fail.
+/// nothing else. Else the first rule that denies: he is not known by it. At a fault nothing has changed. Where a rule
+/// denies, a fault is one that the store counted. Nobody is denied whatever the store holds, and so can't fail.
 pub fn end<S: Store>(
     bank: &mut Bank<S>,
     alloc: Global,
@@ -62,6 +64,7 @@ pub fn end<S: Store>(
     ensures settled { Settles (S.status bank.old.store) (S.status bank.new.store) (ends_session who) (mark_of result) }
     ensures refused { IsSome who.user → Refuses (S.status bank.old.store) (mark_of result) }
     ensures stranger { IsNone who.user → result ≡ Ok (Err Identity) }
+    ensures denied { DeniesOrCounts (S.status bank.old.store) (S.status bank.new.store) (λ w. first w (ends_session who)) result }
 {
     if who.user.is_none() {
         return Ok(Err(Rule::Identity));
@@ -76,7 +79,8 @@ fn prepare_opening<P: PolicyReads>(
     store: &mut P,
     user: u32,
 ) -> Result<Result<Prepared, Rule>, Fault>
-    ensures { Reads (P.status store.old) (P.status store.new) result (IsJudged (verdict (opens_session (Some user)))) }
+    ensures judged { Reads (P.status store.old) (P.status store.new) result (IsJudged (verdict (opens_session (Some user)))) }
+    ensures denied { DeniesOrCounts (P.status store.old) (P.status store.new) (λ w. first w (opens_session (Some user))) result }
 {
     let standing = standing_of(alloc, store, user)?;
     match next_session(standing) {
@@ -101,7 +105,8 @@ fn prepare_ending<P: PolicyReads>(
     who: Who,
 ) -> Result<Result<Prepared, Rule>, Fault>
     requires { IsSome who.user }
-    ensures { Reads (P.status store.old) (P.status store.new) result (IsJudged (verdict (ends_session who))) }
+    ensures judged { Reads (P.status store.old) (P.status store.new) result (IsJudged (verdict (ends_session who))) }
+    ensures denied { DeniesOrCounts (P.status store.old) (P.status store.new) (λ w. first w (ends_session who)) result }
 {
     let Some(user) = who.user else {
         unreachable!();

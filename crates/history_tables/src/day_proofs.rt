@@ -1,18 +1,19 @@
 ghost use Rattle.std.specs.Prelude.{◌≡◌, ◌<◌, ◌^◌, IsTrue};
 ghost use Rattle.sqlite.specs.Held.{state};
-ghost use Rattle.sqlite.specs.State.{ExecutesInside, HasCleanDisk, Survives};
+ghost use Rattle.sqlite.specs.State.{HasCleanDisk, Survives};
 ghost use Rattle.bank_books.specs.Keys.{proof_key};
 ghost use Rattle.kept_rows.specs.Changes.{proof_sheets};
 ghost use Rattle.kept_rows.specs.Named.{IsFree};
 ghost use Rattle.bank_schema.specs.Cells.{proof_cells};
 ghost use Rattle.bank_schema.specs.Steps.{Steps, Tells};
+ghost use Rattle.bank_schema.specs.Told.{Runs};
 ghost use Rattle.history_tables.specs.Given.{given_proof};
 ghost use Rattle.history_tables.specs.Texts.{add_proof_text};
 
 use bank_books::Proof;
-use bank_schema::fault_of;
+use bank_schema::run;
 use money::Fault;
-use sqlite::{Alter, Error, Transaction, params};
+use sqlite::{Alter, Transaction, params};
 
 /// What is given with the statement that adds a proof.
 #[derive(Clone, Copy)]
@@ -36,13 +37,14 @@ fn cells_of(proof: &Proof) -> ProofCells
     }
 }
 
-fn insert_proof<S: Alter>(tx: &mut Transaction<'_, S>, cells: &ProofCells) -> Result<usize, Error>
+fn insert_proof<S: Alter>(tx: &mut Transaction<'_, S>, cells: &ProofCells) -> Result<usize, Fault>
     ensures same_reference { tx.new.conn.ghost_name ≡ tx.old.conn.ghost_name }
-    ensures runs { HasCleanDisk (state S.Store tx.new.conn.now) → IsTrue (state S.Store tx.old.conn.now).in_transaction → ExecutesInside 0 add_proof_text (given_proof cells.now) (state S.Store tx.old.conn.now) (state S.Store tx.new.conn.now) result }
+    ensures runs { HasCleanDisk (state S.Store tx.new.conn.now) → IsTrue (state S.Store tx.old.conn.now).in_transaction → Runs add_proof_text (given_proof cells.now) (state S.Store tx.old.conn.now) (state S.Store tx.new.conn.now) result }
     ensures small { cells.now.day < 2 ^ 32 }
     ensures survives { Survives (state S.Store tx.old.conn.now) (state S.Store tx.new.conn.now) (λ _. ⊥) }
 {
-    tx.execute(
+    run(
+        tx,
         "INSERT INTO proofs (branch, day, entries, balance, cash) VALUES (?1, ?2, ?3, ?4, ?5)",
         params![
             cells.branch,
@@ -62,8 +64,6 @@ pub fn add_proof<S: Alter>(tx: &mut Transaction<'_, S>, proof: &Proof) -> Result
     ensures survives { Survives (state S.Store tx.old.conn.now) (state S.Store tx.new.conn.now) (λ _. ⊥) }
 {
     let cells = cells_of(proof);
-    match insert_proof(tx, &cells) {
-        Ok(_) => Ok(()),
-        Err(error) => Err(fault_of(error)),
-    }
+    insert_proof(tx, &cells)?;
+    Ok(())
 }

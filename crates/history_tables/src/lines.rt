@@ -1,18 +1,19 @@
 ghost use Rattle.std.specs.Prelude.{◌≡◌, IfOk, IsTrue};
 ghost use Rattle.sqlite.specs.Held.{state};
-ghost use Rattle.sqlite.specs.State.{ExecutesInside, HasCleanDisk, Survives};
+ghost use Rattle.sqlite.specs.State.{HasCleanDisk, Survives};
 ghost use Rattle.keyed_rows.specs.Ordered.{add_row};
 ghost use Rattle.bank_books.specs.Keys.{line_key};
 ghost use Rattle.bank_schema.specs.Cells.{LineFits, line_cells};
 ghost use Rattle.bank_schema.specs.Numbers.{line_form_number};
 ghost use Rattle.bank_schema.specs.Steps.{Steps};
+ghost use Rattle.bank_schema.specs.Told.{Runs};
 ghost use Rattle.history_tables.specs.Given.{given_line};
 ghost use Rattle.history_tables.specs.Texts.{add_line_text};
 
 use bank_books::{CashLine, LineForm};
-use bank_schema::{count_cell, fault_of};
+use bank_schema::{count_cell, run};
 use money::Fault;
-use sqlite::{Alter, Error, Transaction, params};
+use sqlite::{Alter, Transaction, params};
 
 /// What is given with the statement that adds a line.
 #[derive(Clone, Copy)]
@@ -56,12 +57,13 @@ fn cells_of(line: &CashLine) -> Result<LineCells, Fault>
     })
 }
 
-fn insert_line<S: Alter>(tx: &mut Transaction<'_, S>, cells: &LineCells) -> Result<usize, Error>
+fn insert_line<S: Alter>(tx: &mut Transaction<'_, S>, cells: &LineCells) -> Result<usize, Fault>
     ensures same_reference { tx.new.conn.ghost_name ≡ tx.old.conn.ghost_name }
-    ensures runs { HasCleanDisk (state S.Store tx.new.conn.now) → IsTrue (state S.Store tx.old.conn.now).in_transaction → ExecutesInside 0 add_line_text (given_line cells.now) (state S.Store tx.old.conn.now) (state S.Store tx.new.conn.now) result }
+    ensures runs { HasCleanDisk (state S.Store tx.new.conn.now) → IsTrue (state S.Store tx.old.conn.now).in_transaction → Runs add_line_text (given_line cells.now) (state S.Store tx.old.conn.now) (state S.Store tx.new.conn.now) result }
     ensures survives { Survives (state S.Store tx.old.conn.now) (state S.Store tx.new.conn.now) (λ _. ⊥) }
 {
-    tx.execute(
+    run(
+        tx,
         "INSERT INTO lines (branch, number, place, amount, form, moment, day, user_no) VALUES (?1, ?2, ?3, ?4, ?5, ?6, ?7, ?8)",
         params![
             cells.branch,
@@ -83,8 +85,6 @@ pub fn add_line<S: Alter>(tx: &mut Transaction<'_, S>, line: &CashLine) -> Resul
     ensures survives { Survives (state S.Store tx.old.conn.now) (state S.Store tx.new.conn.now) (λ _. ⊥) }
 {
     let cells = cells_of(line)?;
-    match insert_line(tx, &cells) {
-        Ok(_) => Ok(()),
-        Err(error) => Err(fault_of(error)),
-    }
+    insert_line(tx, &cells)?;
+    Ok(())
 }

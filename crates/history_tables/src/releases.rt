@@ -1,7 +1,7 @@
 ghost use Rattle.std.specs.Prelude.{◌≡◌, ◌==◌, ◌<◌, ◌^◌, ◌∷◌, [], pos, map, IfOk, IsTrue};
 ghost use Rattle.std.specs.List.{cons_option, find};
 ghost use Rattle.sqlite.specs.Held.{state};
-ghost use Rattle.sqlite.specs.State.{ExecutesInside, HasCleanDisk, Survives};
+ghost use Rattle.sqlite.specs.State.{HasCleanDisk, Survives};
 ghost use Rattle.sqlite.specs.declared.types.Value.TheVariants.{Int};
 ghost use Rattle.keyed_rows.specs.Ordered.{add_row};
 ghost use Rattle.bank_books.specs.Keys.{release_key, release_number};
@@ -12,28 +12,30 @@ ghost use Rattle.bank_schema.specs.Cells.{ReleaseFits, release_cells};
 ghost use Rattle.bank_schema.specs.Held.{HoldsTables};
 ghost use Rattle.bank_schema.specs.Numbers.{truth_cell};
 ghost use Rattle.bank_schema.specs.Steps.{StaysOpen, Steps};
+ghost use Rattle.bank_schema.specs.Told.{Runs};
 ghost use Rattle.history_tables.specs.Given.{given_release};
 ghost use Rattle.history_tables.specs.Texts.{add_release_text, use_up_text};
 
 use bank_books::{Release, ReleaseKey};
-use bank_schema::{fault_of, number_at, procedure_at, truth_at, whole_at};
+use bank_schema::{number_at, procedure_at, run, shown_rows, truth_at, whole_at};
 use bank_terms::OperationRow;
 use money::Fault;
-use sqlite::{Alter, Error, Row, Transaction, params};
+use sqlite::{Alter, Row, Transaction, params};
 
 /// The release of this key: one, or none.
 fn select_release<S: Alter>(
     tx: &mut Transaction<'_, S>,
     user: u32,
     number: u32,
-) -> Result<Vec<Row>, Error>
+) -> Result<Vec<Row>, Fault>
     ensures same_reference { tx.new.conn.ghost_name ≡ tx.old.conn.ghost_name }
     ensures rows { HasCleanDisk (state S.Store tx.new.conn.now) → (s : Sheets) → HoldsTables (state S.Store tx.old.conn.now).now s → IfOk result (λ rows. rows.items ≡ map release_cells (cons_option (find (λ r. release_key r == release_number user number) s.releases) [])) }
     ensures steps { Steps (state S.Store tx.old.conn.now) (state S.Store tx.new.conn.now) (λ s. s) result }
     ensures open { StaysOpen (state S.Store tx.old.conn.now) (state S.Store tx.new.conn.now) result }
     ensures survives { Survives (state S.Store tx.old.conn.now) (state S.Store tx.new.conn.now) (λ _. ⊥) }
 {
-    tx.query_all(
+    shown_rows(
+        tx,
         "SELECT user_no, number, giver, branch, day, form, member1, member2, member3, member4, member5, member6, member7, member8, used FROM releases WHERE user_no = ?1 AND number = ?2",
         params![user, number],
     )
@@ -84,10 +86,7 @@ pub fn release_of<S: Alter>(
     ensures open { StaysOpen (state S.Store tx.old.conn.now) (state S.Store tx.new.conn.now) result }
     ensures survives { Survives (state S.Store tx.old.conn.now) (state S.Store tx.new.conn.now) (λ _. ⊥) }
 {
-    let rows = match select_release(tx, user, number) {
-        Ok(rows) => rows,
-        Err(error) => return Err(fault_of(error)),
-    };
+    let rows = select_release(tx, user, number)?;
     match rows.first() {
         Some(row) => Ok(Some(read_release(row)?)),
         None => Ok(None),
@@ -147,12 +146,13 @@ fn cells_of(release: &Release) -> ReleaseCells
 fn insert_release<S: Alter>(
     tx: &mut Transaction<'_, S>,
     cells: &ReleaseCells,
-) -> Result<usize, Error>
+) -> Result<usize, Fault>
     ensures same_reference { tx.new.conn.ghost_name ≡ tx.old.conn.ghost_name }
-    ensures runs { HasCleanDisk (state S.Store tx.new.conn.now) → IsTrue (state S.Store tx.old.conn.now).in_transaction → ExecutesInside 0 add_release_text (given_release cells.now) (state S.Store tx.old.conn.now) (state S.Store tx.new.conn.now) result }
+    ensures runs { HasCleanDisk (state S.Store tx.new.conn.now) → IsTrue (state S.Store tx.old.conn.now).in_transaction → Runs add_release_text (given_release cells.now) (state S.Store tx.old.conn.now) (state S.Store tx.new.conn.now) result }
     ensures survives { Survives (state S.Store tx.old.conn.now) (state S.Store tx.new.conn.now) (λ _. ⊥) }
 {
-    tx.execute(
+    run(
+        tx,
         "INSERT INTO releases (user_no, number, giver, branch, day, form, member1, member2, member3, member4, member5, member6, member7, member8, used) VALUES (?1, ?2, ?3, ?4, ?5, ?6, ?7, ?8, ?9, ?10, ?11, ?12, ?13, ?14, ?15)",
         params![
             cells.user,
@@ -181,19 +181,18 @@ pub fn add_release<S: Alter>(tx: &mut Transaction<'_, S>, release: &Release) -> 
     ensures survives { Survives (state S.Store tx.old.conn.now) (state S.Store tx.new.conn.now) (λ _. ⊥) }
 {
     let cells = cells_of(release);
-    match insert_release(tx, &cells) {
-        Ok(_) => Ok(()),
-        Err(error) => Err(fault_of(error)),
-    }
+    insert_release(tx, &cells)?;
+    Ok(())
 }
 
-fn update_used<S: Alter>(tx: &mut Transaction<'_, S>, key: &ReleaseKey) -> Result<usize, Error>
+fn update_used<S: Alter>(tx: &mut Transaction<'_, S>, key: &ReleaseKey) -> Result<usize, Fault>
     ensures same_reference { tx.new.conn.ghost_name ≡ tx.old.conn.ghost_name }
-    ensures runs { HasCleanDisk (state S.Store tx.new.conn.now) → IsTrue (state S.Store tx.old.conn.now).in_transaction → ExecutesInside 0 use_up_text (Int (pos key.now.user) ∷ Int (pos key.now.number) ∷ []) (state S.Store tx.old.conn.now) (state S.Store tx.new.conn.now) result }
+    ensures runs { HasCleanDisk (state S.Store tx.new.conn.now) → IsTrue (state S.Store tx.old.conn.now).in_transaction → Runs use_up_text (Int (pos key.now.user) ∷ Int (pos key.now.number) ∷ []) (state S.Store tx.old.conn.now) (state S.Store tx.new.conn.now) result }
     ensures small { key.now.number < 2 ^ 32 }
     ensures survives { Survives (state S.Store tx.old.conn.now) (state S.Store tx.new.conn.now) (λ _. ⊥) }
 {
-    tx.execute(
+    run(
+        tx,
         "UPDATE releases SET used = 1 WHERE user_no = ?1 AND number = ?2",
         params![key.user, key.number],
     )
@@ -205,8 +204,6 @@ pub fn use_up<S: Alter>(tx: &mut Transaction<'_, S>, key: &ReleaseKey) -> Result
     ensures steps { Steps (state S.Store tx.old.conn.now) (state S.Store tx.new.conn.now) (used_sheets key.now) result }
     ensures survives { Survives (state S.Store tx.old.conn.now) (state S.Store tx.new.conn.now) (λ _. ⊥) }
 {
-    match update_used(tx, key) {
-        Ok(_) => Ok(()),
-        Err(error) => Err(fault_of(error)),
-    }
+    update_used(tx, key)?;
+    Ok(())
 }

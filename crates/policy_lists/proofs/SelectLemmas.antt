@@ -23,7 +23,7 @@ use Rattle.bank_schema.specs.Held.Sheet.{certifiers as in_certifiers, members as
 use Rattle.bank_schema.specs.HeldRows.{all_but_rowid, all_of_it}
 use Rattle.bank_schema.specs.Schema.{bank_schema}
 use Rattle.bank_schema.proofs.ProcedureNumbers.{small_number}
-use Rattle.bank_schema.proofs.ReadLemmas.{answered, in_order, in_order_of_fitting, no_offset, rises_by_one, rises_by_three, rises_by_two, rising_key}
+use Rattle.bank_schema.proofs.ReadLemmas.{answered, in_order, in_order_of_fitting, is_at_least, no_offset, rises_by_one, rises_by_three, rises_by_two, rising_key}
 use Rattle.bank_schema.proofs.ScanLemmas.{passes, scan}
 use Rattle.policy_lists.specs.Columns.{at_most, is_past, part_of}
 use Rattle.policy_lists.specs.Lines.{cells_of, line_of, rows_of}
@@ -49,10 +49,10 @@ abbrev behind_one : List Term
 behind_one = is_above 0 0 ∷ []
 
 abbrev behind_two : List Term
-behind_two = op2 Or (is_above 1 0) (op2 And (is_same 1 0) (is_above 2 1)) ∷ []
+behind_two = is_at_least 1 0 ∷ op2 Or (is_above 1 0) (op2 And (is_same 1 0) (is_above 2 1)) ∷ []
 
 abbrev behind_three : List Term
-behind_three = op2 Or (is_above 1 0) (op2 And (is_same 1 0) (op2 Or (is_above 2 1) (op2 And (is_same 2 1) (is_above 3 2)))) ∷ []
+behind_three = is_at_least 1 0 ∷ op2 Or (is_above 1 0) (op2 And (is_same 1 0) (op2 Or (is_above 2 1) (op2 And (is_same 2 1) (is_above 3 2)))) ∷ []
 
 abbrev order_one : List (Term × Key)
 order_one = (col 1 0, rising_key) ∷ []

@@ -39,7 +39,7 @@ fn select_certifiers<S: Alter>(tx: &mut Transaction<'_, S>, part: &Part) -> Resu
     ensures survives { Survives (state S.Store tx.old.conn.now) (state S.Store tx.new.conn.now) (λ _. ⊥) }
 {
     tx.query_all(
-        "SELECT user_no, procedure FROM certifiers WHERE user_no > ?1 OR (user_no = ?1 AND procedure > ?2) ORDER BY user_no, procedure LIMIT ?3",
+        "SELECT user_no, procedure FROM certifiers WHERE user_no >= ?1 AND (user_no > ?1 OR (user_no = ?1 AND procedure > ?2)) ORDER BY user_no, procedure LIMIT ?3",
         params![&part.first, part.second, &part.count],
     )
 }
@@ -53,7 +53,7 @@ fn select_members<S: Alter>(tx: &mut Transaction<'_, S>, part: &Part) -> Result<
     ensures survives { Survives (state S.Store tx.old.conn.now) (state S.Store tx.new.conn.now) (λ _. ⊥) }
 {
     tx.query_all(
-        "SELECT set_no, place, kind, low, high FROM members WHERE set_no > ?1 OR (set_no = ?1 AND place > ?2) ORDER BY set_no, place LIMIT ?3",
+        "SELECT set_no, place, kind, low, high FROM members WHERE set_no >= ?1 AND (set_no > ?1 OR (set_no = ?1 AND place > ?2)) ORDER BY set_no, place LIMIT ?3",
         params![&part.first, part.second, &part.count],
     )
 }
@@ -67,7 +67,7 @@ fn select_relations<S: Alter>(tx: &mut Transaction<'_, S>, part: &Part) -> Resul
     ensures survives { Survives (state S.Store tx.old.conn.now) (state S.Store tx.new.conn.now) (λ _. ⊥) }
 {
     tx.query_all(
-        "SELECT procedure, set_no, by_user FROM relations WHERE procedure > ?1 OR (procedure = ?1 AND set_no > ?2) ORDER BY procedure, set_no LIMIT ?3",
+        "SELECT procedure, set_no, by_user FROM relations WHERE procedure >= ?1 AND (procedure > ?1 OR (procedure = ?1 AND set_no > ?2)) ORDER BY procedure, set_no LIMIT ?3",
         params![&part.first, part.second, &part.count],
     )
 }
@@ -81,7 +81,7 @@ fn select_triples<S: Alter>(tx: &mut Transaction<'_, S>, part: &Part) -> Result<
     ensures survives { Survives (state S.Store tx.old.conn.now) (state S.Store tx.new.conn.now) (λ _. ⊥) }
 {
     tx.query_all(
-        "SELECT user_no, procedure, set_no, ceiling FROM triples WHERE user_no > ?1 OR (user_no = ?1 AND (procedure > ?2 OR (procedure = ?2 AND set_no > ?3))) ORDER BY user_no, procedure, set_no LIMIT ?4",
+        "SELECT user_no, procedure, set_no, ceiling FROM triples WHERE user_no >= ?1 AND (user_no > ?1 OR (user_no = ?1 AND (procedure > ?2 OR (procedure = ?2 AND set_no > ?3)))) ORDER BY user_no, procedure, set_no LIMIT ?4",
         params![&part.first, part.second, part.third, &part.count],
     )
 }

@@ -1,7 +1,7 @@
 ghost use Rattle.std.specs.Prelude.{◌≡◌, ◌∷◌, [], pos, map, IfOk, IsTrue};
 ghost use Rattle.std.specs.List.{filter, list_any};
 ghost use Rattle.sqlite.specs.Held.{state};
-ghost use Rattle.sqlite.specs.State.{ExecutesInside, HasCleanDisk, Survives};
+ghost use Rattle.sqlite.specs.State.{HasCleanDisk, Survives};
 ghost use Rattle.sqlite.specs.declared.types.Value.TheVariants.{Int};
 ghost use Rattle.keyed_rows.specs.Changed.{delete_rows};
 ghost use Rattle.keyed_rows.specs.Ordered.{add_row};
@@ -12,28 +12,30 @@ ghost use Rattle.kept_rows.specs.Sheets.{Sheets};
 ghost use Rattle.bank_schema.specs.Cells.{certifier_cells};
 ghost use Rattle.bank_schema.specs.Held.{HoldsTables};
 ghost use Rattle.bank_schema.specs.Steps.{StaysOpen, Steps, Tells};
+ghost use Rattle.bank_schema.specs.Told.{Runs};
 ghost use Rattle.policy_tables.specs.Tests.{is_certifier_of};
 ghost use Rattle.policy_tables.specs.Texts.{add_certifier_text, remove_certifier_text};
 
 use bank_policy::Certifier;
-use bank_schema::fault_of;
+use bank_schema::{run, shown_rows};
 use bank_terms::Procedure;
 use money::Fault;
-use sqlite::{Alter, Error, Row, Transaction, params};
+use sqlite::{Alter, Row, Transaction, params};
 
 /// The row of this user and the procedure of this number: one, or none.
 fn select_certifier<S: Alter>(
     tx: &mut Transaction<'_, S>,
     user: u32,
     procedure: u32,
-) -> Result<Vec<Row>, Error>
+) -> Result<Vec<Row>, Fault>
     ensures same_reference { tx.new.conn.ghost_name ≡ tx.old.conn.ghost_name }
     ensures rows { HasCleanDisk (state S.Store tx.new.conn.now) → (s : Sheets) → HoldsTables (state S.Store tx.old.conn.now).now s → IfOk result (λ rows. rows.items ≡ map certifier_cells (filter (is_certifier_of user procedure) s.certifiers)) }
     ensures steps { Steps (state S.Store tx.old.conn.now) (state S.Store tx.new.conn.now) (λ s. s) result }
     ensures open { StaysOpen (state S.Store tx.old.conn.now) (state S.Store tx.new.conn.now) result }
     ensures survives { Survives (state S.Store tx.old.conn.now) (state S.Store tx.new.conn.now) (λ _. ⊥) }
 {
-    tx.query_all(
+    shown_rows(
+        tx,
         "SELECT user_no, procedure FROM certifiers WHERE user_no = ?1 AND procedure = ?2",
         params![user, procedure],
     )
@@ -51,22 +53,21 @@ pub fn is_certifier<S: Alter>(
     ensures open { StaysOpen (state S.Store tx.old.conn.now) (state S.Store tx.new.conn.now) result }
     ensures survives { Survives (state S.Store tx.old.conn.now) (state S.Store tx.new.conn.now) (λ _. ⊥) }
 {
-    match select_certifier(tx, user, procedure.number() as u32) {
-        Ok(rows) => Ok(!rows.is_empty()),
-        Err(error) => Err(fault_of(error)),
-    }
+    let rows = select_certifier(tx, user, procedure.number() as u32)?;
+    Ok(!rows.is_empty())
 }
 
 fn insert_certifier<S: Alter>(
     tx: &mut Transaction<'_, S>,
     user: u32,
     procedure: u32,
-) -> Result<usize, Error>
+) -> Result<usize, Fault>
     ensures same_reference { tx.new.conn.ghost_name ≡ tx.old.conn.ghost_name }
-    ensures runs { HasCleanDisk (state S.Store tx.new.conn.now) → IsTrue (state S.Store tx.old.conn.now).in_transaction → ExecutesInside 0 add_certifier_text (Int (pos user) ∷ Int (pos procedure) ∷ []) (state S.Store tx.old.conn.now) (state S.Store tx.new.conn.now) result }
+    ensures runs { HasCleanDisk (state S.Store tx.new.conn.now) → IsTrue (state S.Store tx.old.conn.now).in_transaction → Runs add_certifier_text (Int (pos user) ∷ Int (pos procedure) ∷ []) (state S.Store tx.old.conn.now) (state S.Store tx.new.conn.now) result }
     ensures survives { Survives (state S.Store tx.old.conn.now) (state S.Store tx.new.conn.now) (λ _. ⊥) }
 {
-    tx.execute(
+    run(
+        tx,
         "INSERT INTO certifiers (user_no, procedure) VALUES (?1, ?2)",
         params![user, procedure],
     )
@@ -82,22 +83,21 @@ pub fn add_certifier<S: Alter>(
     ensures free { Tells (state S.Store tx.old.conn.now) (state S.Store tx.new.conn.now) (λ s. IsFree certifier_key s.certifiers (certifier_key certifier.now)) result }
     ensures survives { Survives (state S.Store tx.old.conn.now) (state S.Store tx.new.conn.now) (λ _. ⊥) }
 {
-    match insert_certifier(tx, certifier.user, certifier.procedure.number() as u32) {
-        Ok(_) => Ok(()),
-        Err(error) => Err(fault_of(error)),
-    }
+    insert_certifier(tx, certifier.user, certifier.procedure.number() as u32)?;
+    Ok(())
 }
 
 fn delete_certifier<S: Alter>(
     tx: &mut Transaction<'_, S>,
     user: u32,
     procedure: u32,
-) -> Result<usize, Error>
+) -> Result<usize, Fault>
     ensures same_reference { tx.new.conn.ghost_name ≡ tx.old.conn.ghost_name }
-    ensures runs { HasCleanDisk (state S.Store tx.new.conn.now) → IsTrue (state S.Store tx.old.conn.now).in_transaction → ExecutesInside 0 remove_certifier_text (Int (pos user) ∷ Int (pos procedure) ∷ []) (state S.Store tx.old.conn.now) (state S.Store tx.new.conn.now) result }
+    ensures runs { HasCleanDisk (state S.Store tx.new.conn.now) → IsTrue (state S.Store tx.old.conn.now).in_transaction → Runs remove_certifier_text (Int (pos user) ∷ Int (pos procedure) ∷ []) (state S.Store tx.old.conn.now) (state S.Store tx.new.conn.now) result }
     ensures survives { Survives (state S.Store tx.old.conn.now) (state S.Store tx.new.conn.now) (λ _. ⊥) }
 {
-    tx.execute(
+    run(
+        tx,
         "DELETE FROM certifiers WHERE user_no = ?1 AND procedure = ?2",
         params![user, procedure],
     )
@@ -112,8 +112,6 @@ pub fn remove_certifier<S: Alter>(
     ensures steps { Steps (state S.Store tx.old.conn.now) (state S.Store tx.new.conn.now) (λ s. record s { certifiers = delete_rows certifier_key (certifier_key certifier.now) s.certifiers }) result }
     ensures survives { Survives (state S.Store tx.old.conn.now) (state S.Store tx.new.conn.now) (λ _. ⊥) }
 {
-    match delete_certifier(tx, certifier.user, certifier.procedure.number() as u32) {
-        Ok(_) => Ok(()),
-        Err(error) => Err(fault_of(error)),
-    }
+    delete_certifier(tx, certifier.user, certifier.procedure.number() as u32)?;
+    Ok(())
 }

@@ -1,7 +1,7 @@
 ghost use Rattle.std.specs.Prelude.{◌≡◌, ◌==◌, ◌+◌, ◌*◌, ◌^◌, ◌<◌, ◌∷◌, [], ℕ, List, length, pos, map, not, IfOk, IsTrue};
 ghost use Rattle.std.specs.List.{cons_option, filter, find, list_any};
 ghost use Rattle.sqlite.specs.Held.{state};
-ghost use Rattle.sqlite.specs.State.{ExecutesInside, HasCleanDisk, Survives};
+ghost use Rattle.sqlite.specs.State.{HasCleanDisk, Survives};
 ghost use Rattle.sqlite.specs.declared.types.Value.TheVariants.{Int};
 ghost use Rattle.keyed_rows.specs.Changed.{delete_rows};
 ghost use Rattle.keyed_rows.specs.Ordered.{add_row};
@@ -10,6 +10,7 @@ ghost use Rattle.kept_rows.specs.Named.{IsFree};
 ghost use Rattle.kept_rows.specs.Sheets.{Sheets};
 ghost use Rattle.bank_schema.specs.Held.{HoldsTables};
 ghost use Rattle.bank_schema.specs.Steps.{StaysOpen, Steps, Tells};
+ghost use Rattle.bank_schema.specs.Told.{Runs};
 ghost use Rattle.bank_policy.specs.HeldRows.{is_relation_of};
 ghost use Rattle.bank_policy.specs.PolicyKeys.{relation_key, relation_number};
 ghost use Rattle.bank_policy.specs.PolicyWrites.{is_triple_on};
@@ -19,10 +20,10 @@ ghost use Rattle.policy_tables.specs.Tests.{is_relation_numbered};
 ghost use Rattle.policy_tables.specs.Texts.{add_relation_text, remove_relation_text};
 
 use bank_policy::{Relation, RelationKey};
-use bank_schema::{fault_of, number_at, procedure_at};
+use bank_schema::{number_at, procedure_at, run, shown_rows};
 use bank_terms::Procedure;
 use money::Fault;
-use sqlite::{Alter, Error, Row, Transaction, params};
+use sqlite::{Alter, Row, Transaction, params};
 use std::alloc::Global;
 
 /// The row of this key: one, or none.
@@ -30,14 +31,15 @@ fn select_relation<S: Alter>(
     tx: &mut Transaction<'_, S>,
     procedure: u32,
     set: u32,
-) -> Result<Vec<Row>, Error>
+) -> Result<Vec<Row>, Fault>
     ensures same_reference { tx.new.conn.ghost_name ≡ tx.old.conn.ghost_name }
     ensures rows { HasCleanDisk (state S.Store tx.new.conn.now) → (s : Sheets) → HoldsTables (state S.Store tx.old.conn.now).now s → IfOk result (λ rows. rows.items ≡ map relation_cells (cons_option (find (λ r. relation_key r == 2 ^ 32 * procedure + set) s.relations) [])) }
     ensures steps { Steps (state S.Store tx.old.conn.now) (state S.Store tx.new.conn.now) (λ s. s) result }
     ensures open { StaysOpen (state S.Store tx.old.conn.now) (state S.Store tx.new.conn.now) result }
     ensures survives { Survives (state S.Store tx.old.conn.now) (state S.Store tx.new.conn.now) (λ _. ⊥) }
 {
-    tx.query_all(
+    shown_rows(
+        tx,
         "SELECT procedure, set_no, by_user FROM relations WHERE procedure = ?1 AND set_no = ?2",
         params![procedure, set],
     )
@@ -47,14 +49,15 @@ fn select_relation<S: Alter>(
 fn select_relations<S: Alter>(
     tx: &mut Transaction<'_, S>,
     procedure: u32,
-) -> Result<Vec<Row>, Error>
+) -> Result<Vec<Row>, Fault>
     ensures same_reference { tx.new.conn.ghost_name ≡ tx.old.conn.ghost_name }
     ensures rows { HasCleanDisk (state S.Store tx.new.conn.now) → (s : Sheets) → HoldsTables (state S.Store tx.old.conn.now).now s → IfOk result (λ rows. rows.items ≡ map relation_cells (filter (is_relation_numbered procedure) s.relations)) }
     ensures steps { Steps (state S.Store tx.old.conn.now) (state S.Store tx.new.conn.now) (λ s. s) result }
     ensures open { StaysOpen (state S.Store tx.old.conn.now) (state S.Store tx.new.conn.now) result }
     ensures survives { Survives (state S.Store tx.old.conn.now) (state S.Store tx.new.conn.now) (λ _. ⊥) }
 {
-    tx.query_all(
+    shown_rows(
+        tx,
         "SELECT procedure, set_no, by_user FROM relations WHERE procedure = ?1 ORDER BY set_no",
         params![procedure],
     )
@@ -94,10 +97,7 @@ pub fn relation_of<S: Alter>(
     ensures open { StaysOpen (state S.Store tx.old.conn.now) (state S.Store tx.new.conn.now) result }
     ensures survives { Survives (state S.Store tx.old.conn.now) (state S.Store tx.new.conn.now) (λ _. ⊥) }
 {
-    let rows = match select_relation(tx, procedure.number() as u32, set) {
-        Ok(rows) => rows,
-        Err(error) => return Err(fault_of(error)),
-    };
+    let rows = select_relation(tx, procedure.number() as u32, set)?;
     match rows.first() {
         Some(row) => Ok(Some(read_relation(row)?)),
         None => Ok(None),
@@ -116,23 +116,22 @@ pub fn relations_in<S: Alter>(
     ensures open { StaysOpen (state S.Store tx.old.conn.now) (state S.Store tx.new.conn.now) result }
     ensures survives { Survives (state S.Store tx.old.conn.now) (state S.Store tx.new.conn.now) (λ _. ⊥) }
 {
-    match select_relations(tx, procedure.number() as u32) {
-        Ok(rows) => read_relations(alloc, &rows),
-        Err(error) => Err(fault_of(error)),
-    }
+    let rows = select_relations(tx, procedure.number() as u32)?;
+    read_relations(alloc, &rows)
 }
 
 fn insert_relation<S: Alter>(
     tx: &mut Transaction<'_, S>,
     relation: &Relation,
     procedure: u32,
-) -> Result<usize, Error>
+) -> Result<usize, Fault>
     ensures same_reference { tx.new.conn.ghost_name ≡ tx.old.conn.ghost_name }
-    ensures runs { HasCleanDisk (state S.Store tx.new.conn.now) → IsTrue (state S.Store tx.old.conn.now).in_transaction → ExecutesInside 0 add_relation_text (Int (pos procedure) ∷ Int (pos relation.now.set) ∷ Int (pos relation.now.by) ∷ []) (state S.Store tx.old.conn.now) (state S.Store tx.new.conn.now) result }
+    ensures runs { HasCleanDisk (state S.Store tx.new.conn.now) → IsTrue (state S.Store tx.old.conn.now).in_transaction → Runs add_relation_text (Int (pos procedure) ∷ Int (pos relation.now.set) ∷ Int (pos relation.now.by) ∷ []) (state S.Store tx.old.conn.now) (state S.Store tx.new.conn.now) result }
     ensures small { relation.now.set < 2 ^ 32 }
     ensures survives { Survives (state S.Store tx.old.conn.now) (state S.Store tx.new.conn.now) (λ _. ⊥) }
 {
-    tx.execute(
+    run(
+        tx,
         "INSERT INTO relations (procedure, set_no, by_user) VALUES (?1, ?2, ?3)",
         params![procedure, relation.set, relation.by],
     )
@@ -146,23 +145,22 @@ pub fn add_relation<S: Alter>(tx: &mut Transaction<'_, S>, relation: &Relation) 
     ensures survives { Survives (state S.Store tx.old.conn.now) (state S.Store tx.new.conn.now) (λ _. ⊥) }
 {
     let procedure = relation.procedure.number() as u32;
-    match insert_relation(tx, relation, procedure) {
-        Ok(_) => Ok(()),
-        Err(error) => Err(fault_of(error)),
-    }
+    insert_relation(tx, relation, procedure)?;
+    Ok(())
 }
 
 fn delete_relation<S: Alter>(
     tx: &mut Transaction<'_, S>,
     key: &RelationKey,
     procedure: u32,
-) -> Result<usize, Error>
+) -> Result<usize, Fault>
     ensures same_reference { tx.new.conn.ghost_name ≡ tx.old.conn.ghost_name }
-    ensures runs { HasCleanDisk (state S.Store tx.new.conn.now) → IsTrue (state S.Store tx.old.conn.now).in_transaction → ExecutesInside 0 remove_relation_text (Int (pos procedure) ∷ Int (pos key.now.set) ∷ []) (state S.Store tx.old.conn.now) (state S.Store tx.new.conn.now) result }
+    ensures runs { HasCleanDisk (state S.Store tx.new.conn.now) → IsTrue (state S.Store tx.old.conn.now).in_transaction → Runs remove_relation_text (Int (pos procedure) ∷ Int (pos key.now.set) ∷ []) (state S.Store tx.old.conn.now) (state S.Store tx.new.conn.now) result }
     ensures small { key.now.set < 2 ^ 32 }
     ensures survives { Survives (state S.Store tx.old.conn.now) (state S.Store tx.new.conn.now) (λ _. ⊥) }
 {
-    tx.execute(
+    run(
+        tx,
         "DELETE FROM relations WHERE procedure = ?1 AND set_no = ?2",
         params![procedure, key.set],
     )
@@ -178,8 +176,6 @@ pub fn remove_relation<S: Alter>(
     ensures survives { Survives (state S.Store tx.old.conn.now) (state S.Store tx.new.conn.now) (λ _. ⊥) }
 {
     let procedure = key.procedure.number() as u32;
-    match delete_relation(tx, key, procedure) {
-        Ok(_) => Ok(()),
-        Err(error) => Err(fault_of(error)),
-    }
+    delete_relation(tx, key, procedure)?;
+    Ok(())
 }

@@ -1,7 +1,7 @@
 ghost use Rattle.std.specs.Prelude.{◌≡◌, ◌==◌, ◌+◌, ◌*◌, ◌^◌, ◌<◌, ◌∷◌, [], ℕ, List, length, pos, map, IfOk, IsTrue};
 ghost use Rattle.std.specs.List.{cons_option, filter, find, list_any};
 ghost use Rattle.sqlite.specs.Held.{state};
-ghost use Rattle.sqlite.specs.State.{ExecutesInside, HasCleanDisk, Survives};
+ghost use Rattle.sqlite.specs.State.{HasCleanDisk, Survives};
 ghost use Rattle.sqlite.specs.declared.types.Value.TheVariants.{Int};
 ghost use Rattle.keyed_rows.specs.Changed.{delete_rows};
 ghost use Rattle.keyed_rows.specs.Ordered.{add_row};
@@ -10,6 +10,7 @@ ghost use Rattle.kept_rows.specs.Named.{IsFree};
 ghost use Rattle.kept_rows.specs.Sheets.{Sheets};
 ghost use Rattle.bank_schema.specs.Held.{HoldsTables};
 ghost use Rattle.bank_schema.specs.Steps.{StaysOpen, Steps, Tells};
+ghost use Rattle.bank_schema.specs.Told.{Runs};
 ghost use Rattle.bank_policy.specs.HeldRows.{is_triple_of};
 ghost use Rattle.bank_policy.specs.PolicyKeys.{triple_key, triple_number};
 ghost use Rattle.bank_policy.specs.declared.rows.Triple.{Triple as TheTriple};
@@ -18,10 +19,10 @@ ghost use Rattle.policy_tables.specs.Tests.{is_triple_by, is_triple_numbered};
 ghost use Rattle.policy_tables.specs.Texts.{add_triple_text, remove_triple_text};
 
 use bank_policy::{Triple, TripleKey};
-use bank_schema::{fault_of, number_at, procedure_at};
+use bank_schema::{number_at, procedure_at, run, shown_rows};
 use bank_terms::Procedure;
 use money::Fault;
-use sqlite::{Alter, Error, Row, Transaction, params};
+use sqlite::{Alter, Row, Transaction, params};
 use std::alloc::Global;
 
 /// The row of this key: one, or none.
@@ -30,14 +31,15 @@ fn select_triple<S: Alter>(
     user: u32,
     procedure: u32,
     set: u32,
-) -> Result<Vec<Row>, Error>
+) -> Result<Vec<Row>, Fault>
     ensures same_reference { tx.new.conn.ghost_name ≡ tx.old.conn.ghost_name }
     ensures rows { HasCleanDisk (state S.Store tx.new.conn.now) → (s : Sheets) → HoldsTables (state S.Store tx.old.conn.now).now s → IfOk result (λ rows. rows.items ≡ map triple_cells (cons_option (find (λ r. triple_key r == 2 ^ 64 * user + 2 ^ 32 * procedure + set) s.triples) [])) }
     ensures steps { Steps (state S.Store tx.old.conn.now) (state S.Store tx.new.conn.now) (λ s. s) result }
     ensures open { StaysOpen (state S.Store tx.old.conn.now) (state S.Store tx.new.conn.now) result }
     ensures survives { Survives (state S.Store tx.old.conn.now) (state S.Store tx.new.conn.now) (λ _. ⊥) }
 {
-    tx.query_all(
+    shown_rows(
+        tx,
         "SELECT user_no, procedure, set_no, ceiling FROM triples WHERE user_no = ?1 AND procedure = ?2 AND set_no = ?3",
         params![user, procedure, set],
     )
@@ -48,28 +50,30 @@ fn select_triples<S: Alter>(
     tx: &mut Transaction<'_, S>,
     user: u32,
     procedure: u32,
-) -> Result<Vec<Row>, Error>
+) -> Result<Vec<Row>, Fault>
     ensures same_reference { tx.new.conn.ghost_name ≡ tx.old.conn.ghost_name }
     ensures rows { HasCleanDisk (state S.Store tx.new.conn.now) → (s : Sheets) → HoldsTables (state S.Store tx.old.conn.now).now s → IfOk result (λ rows. rows.items ≡ map triple_cells (filter (is_triple_numbered user procedure) s.triples)) }
     ensures steps { Steps (state S.Store tx.old.conn.now) (state S.Store tx.new.conn.now) (λ s. s) result }
     ensures open { StaysOpen (state S.Store tx.old.conn.now) (state S.Store tx.new.conn.now) result }
     ensures survives { Survives (state S.Store tx.old.conn.now) (state S.Store tx.new.conn.now) (λ _. ⊥) }
 {
-    tx.query_all(
+    shown_rows(
+        tx,
         "SELECT user_no, procedure, set_no, ceiling FROM triples WHERE user_no = ?1 AND procedure = ?2 ORDER BY set_no",
         params![user, procedure],
     )
 }
 
 /// The rows of the user, by procedure and set.
-fn select_user_triples<S: Alter>(tx: &mut Transaction<'_, S>, user: u32) -> Result<Vec<Row>, Error>
+fn select_user_triples<S: Alter>(tx: &mut Transaction<'_, S>, user: u32) -> Result<Vec<Row>, Fault>
     ensures same_reference { tx.new.conn.ghost_name ≡ tx.old.conn.ghost_name }
     ensures rows { HasCleanDisk (state S.Store tx.new.conn.now) → (s : Sheets) → HoldsTables (state S.Store tx.old.conn.now).now s → IfOk result (λ rows. length rows.items ≡ length (filter (is_triple_by user) s.triples)) }
     ensures steps { Steps (state S.Store tx.old.conn.now) (state S.Store tx.new.conn.now) (λ s. s) result }
     ensures open { StaysOpen (state S.Store tx.old.conn.now) (state S.Store tx.new.conn.now) result }
     ensures survives { Survives (state S.Store tx.old.conn.now) (state S.Store tx.new.conn.now) (λ _. ⊥) }
 {
-    tx.query_all(
+    shown_rows(
+        tx,
         "SELECT user_no, procedure, set_no, ceiling FROM triples WHERE user_no = ?1 ORDER BY procedure, set_no",
         params![user],
     )
@@ -111,10 +115,7 @@ pub fn triple_of<S: Alter>(
     ensures open { StaysOpen (state S.Store tx.old.conn.now) (state S.Store tx.new.conn.now) result }
     ensures survives { Survives (state S.Store tx.old.conn.now) (state S.Store tx.new.conn.now) (λ _. ⊥) }
 {
-    let rows = match select_triple(tx, user, procedure.number() as u32, set) {
-        Ok(rows) => rows,
-        Err(error) => return Err(fault_of(error)),
-    };
+    let rows = select_triple(tx, user, procedure.number() as u32, set)?;
     match rows.first() {
         Some(row) => Ok(Some(read_triple(row)?)),
         None => Ok(None),
@@ -134,10 +135,8 @@ pub fn triples_in<S: Alter>(
     ensures open { StaysOpen (state S.Store tx.old.conn.now) (state S.Store tx.new.conn.now) result }
     ensures survives { Survives (state S.Store tx.old.conn.now) (state S.Store tx.new.conn.now) (λ _. ⊥) }
 {
-    match select_triples(tx, user, procedure.number() as u32) {
-        Ok(rows) => read_triples(alloc, &rows),
-        Err(error) => Err(fault_of(error)),
-    }
+    let rows = select_triples(tx, user, procedure.number() as u32)?;
+    read_triples(alloc, &rows)
 }
 
 /// How many triples the user has.
@@ -148,23 +147,22 @@ pub fn triple_count<S: Alter>(tx: &mut Transaction<'_, S>, user: u32) -> Result<
     ensures open { StaysOpen (state S.Store tx.old.conn.now) (state S.Store tx.new.conn.now) result }
     ensures survives { Survives (state S.Store tx.old.conn.now) (state S.Store tx.new.conn.now) (λ _. ⊥) }
 {
-    match select_user_triples(tx, user) {
-        Ok(rows) => Ok(rows.len() as u64),
-        Err(error) => Err(fault_of(error)),
-    }
+    let rows = select_user_triples(tx, user)?;
+    Ok(rows.len() as u64)
 }
 
 fn insert_triple<S: Alter>(
     tx: &mut Transaction<'_, S>,
     triple: &Triple,
     procedure: u32,
-) -> Result<usize, Error>
+) -> Result<usize, Fault>
     ensures same_reference { tx.new.conn.ghost_name ≡ tx.old.conn.ghost_name }
-    ensures runs { HasCleanDisk (state S.Store tx.new.conn.now) → IsTrue (state S.Store tx.old.conn.now).in_transaction → ExecutesInside 0 add_triple_text (Int (pos triple.now.user) ∷ Int (pos procedure) ∷ Int (pos triple.now.set) ∷ Int (pos triple.now.limit) ∷ []) (state S.Store tx.old.conn.now) (state S.Store tx.new.conn.now) result }
+    ensures runs { HasCleanDisk (state S.Store tx.new.conn.now) → IsTrue (state S.Store tx.old.conn.now).in_transaction → Runs add_triple_text (Int (pos triple.now.user) ∷ Int (pos procedure) ∷ Int (pos triple.now.set) ∷ Int (pos triple.now.limit) ∷ []) (state S.Store tx.old.conn.now) (state S.Store tx.new.conn.now) result }
     ensures small { triple.now.set < 2 ^ 32 }
     ensures survives { Survives (state S.Store tx.old.conn.now) (state S.Store tx.new.conn.now) (λ _. ⊥) }
 {
-    tx.execute(
+    run(
+        tx,
         "INSERT INTO triples (user_no, procedure, set_no, ceiling) VALUES (?1, ?2, ?3, ?4)",
         params![triple.user, procedure, triple.set, triple.limit],
     )
@@ -178,23 +176,22 @@ pub fn add_triple<S: Alter>(tx: &mut Transaction<'_, S>, triple: &Triple) -> Res
     ensures survives { Survives (state S.Store tx.old.conn.now) (state S.Store tx.new.conn.now) (λ _. ⊥) }
 {
     let procedure = triple.procedure.number() as u32;
-    match insert_triple(tx, triple, procedure) {
-        Ok(_) => Ok(()),
-        Err(error) => Err(fault_of(error)),
-    }
+    insert_triple(tx, triple, procedure)?;
+    Ok(())
 }
 
 fn delete_triple<S: Alter>(
     tx: &mut Transaction<'_, S>,
     key: &TripleKey,
     procedure: u32,
-) -> Result<usize, Error>
+) -> Result<usize, Fault>
     ensures same_reference { tx.new.conn.ghost_name ≡ tx.old.conn.ghost_name }
-    ensures runs { HasCleanDisk (state S.Store tx.new.conn.now) → IsTrue (state S.Store tx.old.conn.now).in_transaction → ExecutesInside 0 remove_triple_text (Int (pos key.now.user) ∷ Int (pos procedure) ∷ Int (pos key.now.set) ∷ []) (state S.Store tx.old.conn.now) (state S.Store tx.new.conn.now) result }
+    ensures runs { HasCleanDisk (state S.Store tx.new.conn.now) → IsTrue (state S.Store tx.old.conn.now).in_transaction → Runs remove_triple_text (Int (pos key.now.user) ∷ Int (pos procedure) ∷ Int (pos key.now.set) ∷ []) (state S.Store tx.old.conn.now) (state S.Store tx.new.conn.now) result }
     ensures small { key.now.set < 2 ^ 32 }
     ensures survives { Survives (state S.Store tx.old.conn.now) (state S.Store tx.new.conn.now) (λ _. ⊥) }
 {
-    tx.execute(
+    run(
+        tx,
         "DELETE FROM triples WHERE user_no = ?1 AND procedure = ?2 AND set_no = ?3",
         params![key.user, procedure, key.set],
     )
@@ -207,8 +204,6 @@ pub fn remove_triple<S: Alter>(tx: &mut Transaction<'_, S>, key: &TripleKey) -> 
     ensures survives { Survives (state S.Store tx.old.conn.now) (state S.Store tx.new.conn.now) (λ _. ⊥) }
 {
     let procedure = key.procedure.number() as u32;
-    match delete_triple(tx, key, procedure) {
-        Ok(_) => Ok(()),
-        Err(error) => Err(fault_of(error)),
-    }
+    delete_triple(tx, key, procedure)?;
+    Ok(())
 }

@@ -1,10 +1,8 @@
 ghost use Rattle.std.specs.Prelude.{◌≡◌, ◌==◌, ◌∷◌, [], pos, map, IfOk, IsTrue};
 ghost use Rattle.std.specs.List.{cons_option, find};
 ghost use Rattle.sqlite.specs.Held.{state};
-ghost use Rattle.sqlite.specs.State.{ExecutesInside, HasCleanDisk, Survives};
-ghost use Rattle.sqlite.specs.declared.types.Value.{Value};
-ghost use Rattle.sqlite.specs.declared.types.Value.TheVariants.{Int, Text};
-ghost use Rattle.sqlite_value.specs.Order.{column};
+ghost use Rattle.sqlite.specs.State.{HasCleanDisk, Survives};
+ghost use Rattle.sqlite.specs.declared.types.Value.TheVariants.{Int};
 ghost use Rattle.keyed_rows.specs.Ordered.{add_row};
 ghost use Rattle.kept_rows.specs.Named.{IsFree};
 ghost use Rattle.kept_rows.specs.Sheets.{Sheets, set_row, user_no};
@@ -12,37 +10,30 @@ ghost use Rattle.kept_rows.specs.declared.records.KeptUser.{KeptUser as TheUser}
 ghost use Rattle.bank_schema.specs.Held.{HoldsTables};
 ghost use Rattle.bank_schema.specs.Numbers.{truth_cell};
 ghost use Rattle.bank_schema.specs.Steps.{StaysOpen, Steps, Tells};
+ghost use Rattle.bank_schema.specs.Told.{Runs};
 ghost use Rattle.policy_tables.specs.Shown.{given_user, shown_user};
 ghost use Rattle.policy_tables.specs.Texts.{add_user_text, set_user_text};
 
-use bank_policy::{Name, User};
-use bank_schema::{count_at, count_cell, fault_of, number_at, truth_at};
+use bank_policy::User;
+use bank_schema::{count_at, count_cell, name_at, number_at, run, shown_rows, truth_at};
 use kept_rows::KeptUser;
 use money::Fault;
-use sqlite::{Alter, Error, Row, Transaction, params};
+use sqlite::{Alter, Row, Transaction, params};
 use std::alloc::Global;
 
 /// The row of this user: one, or none.
-fn select_user<S: Alter>(tx: &mut Transaction<'_, S>, user: u32) -> Result<Vec<Row>, Error>
+fn select_user<S: Alter>(tx: &mut Transaction<'_, S>, user: u32) -> Result<Vec<Row>, Fault>
     ensures same_reference { tx.new.conn.ghost_name ≡ tx.old.conn.ghost_name }
     ensures rows { HasCleanDisk (state S.Store tx.new.conn.now) → (s : Sheets) → HoldsTables (state S.Store tx.old.conn.now).now s → IfOk result (λ rows. rows.items ≡ map shown_user (cons_option (find (λ u. user_no u == user) s.users) [])) }
     ensures steps { Steps (state S.Store tx.old.conn.now) (state S.Store tx.new.conn.now) (λ s. s) result }
     ensures open { StaysOpen (state S.Store tx.old.conn.now) (state S.Store tx.new.conn.now) result }
     ensures survives { Survives (state S.Store tx.old.conn.now) (state S.Store tx.new.conn.now) (λ _. ⊥) }
 {
-    tx.query_all(
+    shown_rows(
+        tx,
         "SELECT user_no, name, officer, suspended, session, is_on, releases FROM users WHERE user_no = ?1",
         params![user],
     )
-}
-
-fn read_name(alloc: Global, row: &Row) -> Result<Name, Fault>
-    ensures { IfOk result (λ name. column row.now 1 ≡ Text name) }
-{
-    match row.get::<String>(1) {
-        Ok(text) => Ok(Name::new(alloc, text.as_str())?),
-        Err(error) => Err(fault_of(error)),
-    }
 }
 
 /// The user of this row as a query shows him, with how many releases he was given. Any other row is a fault of the disk.
@@ -52,7 +43,7 @@ pub fn read_user(alloc: Global, row: &Row) -> Result<KeptUser, Fault>
     Ok(KeptUser {
         row: User {
             user: number_at(row, 0)?,
-            name: read_name(alloc, row)?,
+            name: name_at(alloc, row, 1)?,
             officer: truth_at(row, 2)?,
             suspended: truth_at(row, 3)?,
             session: number_at(row, 4)?,
@@ -74,10 +65,7 @@ pub fn user_of<S: Alter>(
     ensures open { StaysOpen (state S.Store tx.old.conn.now) (state S.Store tx.new.conn.now) result }
     ensures survives { Survives (state S.Store tx.old.conn.now) (state S.Store tx.new.conn.now) (λ _. ⊥) }
 {
-    let rows = match select_user(tx, user) {
-        Ok(rows) => rows,
-        Err(error) => return Err(fault_of(error)),
-    };
+    let rows = select_user(tx, user)?;
     match rows.first() {
         Some(row) => Ok(Some(read_user(alloc, row)?)),
         None => Ok(None),
@@ -118,12 +106,13 @@ fn insert_user<S: Alter>(
     tx: &mut Transaction<'_, S>,
     cells: &UserCells,
     name: &str,
-) -> Result<usize, Error>
+) -> Result<usize, Fault>
     ensures same_reference { tx.new.conn.ghost_name ≡ tx.old.conn.ghost_name }
-    ensures runs { HasCleanDisk (state S.Store tx.new.conn.now) → IsTrue (state S.Store tx.old.conn.now).in_transaction → ExecutesInside 0 add_user_text (given_user cells.now name.now) (state S.Store tx.old.conn.now) (state S.Store tx.new.conn.now) result }
+    ensures runs { HasCleanDisk (state S.Store tx.new.conn.now) → IsTrue (state S.Store tx.old.conn.now).in_transaction → Runs add_user_text (given_user cells.now name.now) (state S.Store tx.old.conn.now) (state S.Store tx.new.conn.now) result }
     ensures survives { Survives (state S.Store tx.old.conn.now) (state S.Store tx.new.conn.now) (λ _. ⊥) }
 {
-    tx.execute(
+    run(
+        tx,
         "INSERT INTO users (user_no, name, officer, suspended, session, is_on, releases) VALUES (?1, ?2, ?3, ?4, ?5, ?6, ?7)",
         params![
             cells.user,
@@ -145,22 +134,21 @@ pub fn add_user<S: Alter>(tx: &mut Transaction<'_, S>, kept: &KeptUser) -> Resul
     ensures survives { Survives (state S.Store tx.old.conn.now) (state S.Store tx.new.conn.now) (λ _. ⊥) }
 {
     let cells = cells_of(kept)?;
-    match insert_user(tx, &cells, kept.row.name.as_str()) {
-        Ok(_) => Ok(()),
-        Err(error) => Err(fault_of(error)),
-    }
+    insert_user(tx, &cells, kept.row.name.as_str())?;
+    Ok(())
 }
 
 fn update_user<S: Alter>(
     tx: &mut Transaction<'_, S>,
     cells: &UserCells,
     name: &str,
-) -> Result<usize, Error>
+) -> Result<usize, Fault>
     ensures same_reference { tx.new.conn.ghost_name ≡ tx.old.conn.ghost_name }
-    ensures runs { HasCleanDisk (state S.Store tx.new.conn.now) → IsTrue (state S.Store tx.old.conn.now).in_transaction → ExecutesInside 0 set_user_text (given_user cells.now name.now) (state S.Store tx.old.conn.now) (state S.Store tx.new.conn.now) result }
+    ensures runs { HasCleanDisk (state S.Store tx.new.conn.now) → IsTrue (state S.Store tx.old.conn.now).in_transaction → Runs set_user_text (given_user cells.now name.now) (state S.Store tx.old.conn.now) (state S.Store tx.new.conn.now) result }
     ensures survives { Survives (state S.Store tx.old.conn.now) (state S.Store tx.new.conn.now) (λ _. ⊥) }
 {
-    tx.execute(
+    run(
+        tx,
         "UPDATE users SET name = ?2, officer = ?3, suspended = ?4, session = ?5, is_on = ?6, releases = ?7 WHERE user_no = ?1",
         params![
             cells.user,
@@ -182,8 +170,6 @@ pub fn set_user<S: Alter>(tx: &mut Transaction<'_, S>, kept: &KeptUser) -> Resul
     ensures survives { Survives (state S.Store tx.old.conn.now) (state S.Store tx.new.conn.now) (λ _. ⊥) }
 {
     let cells = cells_of(kept)?;
-    match update_user(tx, &cells, kept.row.name.as_str()) {
-        Ok(_) => Ok(()),
-        Err(error) => Err(fault_of(error)),
-    }
+    update_user(tx, &cells, kept.row.name.as_str())?;
+    Ok(())
 }

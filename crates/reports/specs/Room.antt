@@ -26,5 +26,5 @@ HasRoom w (listing.Totals from) = ⊤
 HasRoom w (listing.Policy after) = IfSome (next_policy w after) HasLine
 
 -- so has each of the lines from the first on, at most so many
-abbrev pub HaveRoom : WorldLists → Listing → ℕ → Type 0
-HaveRoom w first most = AllFrom (next_listed w) (HasRoom w) most first
+pub record HaveRoom (w : WorldLists) (first : Listing) (most : ℕ) : Type 0 where
+  pub each : AllFrom (next_listed w) (HasRoom w) most first

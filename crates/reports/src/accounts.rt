@@ -1,7 +1,9 @@
 ghost use Rattle.std.specs.Prelude.{◌≤◌, IfOk, IfSome};
 ghost use Rattle.arrayvec.specs.ArrayVec.{array_vec_len};
-ghost use Rattle.store_rows.specs.Status.{MayRead};
-ghost use Rattle.reports.specs.Step.{CountsStep, IsNext};
+ghost use Rattle.store_rows.specs.Status.{MayRead, mark_of};
+ghost use Rattle.reports.specs.Cause.{CountsWhere};
+ghost use Rattle.reports.specs.Room.{HasRoom};
+ghost use Rattle.reports.specs.Step.{IsNext};
 
 use crate::listing::{Listed, Listing};
 use money::Fault;
@@ -25,7 +27,7 @@ pub(crate) fn next_account<S: ReportReads>(
     from: AfterAccount,
 ) -> Result<Option<Listed>, Fault>
     ensures read { MayRead (S.status store.old) (S.status store.new) result (IsNext (Listing.Accounts from)) }
-    ensures cause { CountsStep (S.status store.old) (S.status store.new) (Listing.Accounts from) result }
+    ensures cause { CountsWhere (S.status store.old) (S.status store.new) (mark_of result) (λ w. HasRoom w (Listing.Accounts from)) }
     ensures short { IfOk result (λ next. IfSome next (λ listed. array_vec_len listed.line ≤ 256)) }
 {
     let Some(account) = store.next_shown(alloc, from.user, from.after)? else {

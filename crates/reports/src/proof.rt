@@ -1,9 +1,10 @@
 ghost use Rattle.std.specs.Prelude.{◌≡◌, ◌≤◌, IfOk, IfSome, MatchOption, option_map};
 ghost use Rattle.arrayvec.specs.ArrayVec.{array_vec_len};
-ghost use Rattle.store_rows.specs.Status.{MayRead};
+ghost use Rattle.store_rows.specs.Status.{MayRead, mark_of};
+ghost use Rattle.reports.specs.Cause.{CountsWhere};
 ghost use Rattle.reports.specs.Listing.{listed_teller, listed_total, numbers_of, total_of};
-ghost use Rattle.reports.specs.Room.{HasSumRoom};
-ghost use Rattle.reports.specs.Step.{CountsStep, IsNext, seen};
+ghost use Rattle.reports.specs.Room.{HasRoom, HasSumRoom};
+ghost use Rattle.reports.specs.Step.{IsNext, seen};
 
 use crate::listing::{Listed, Listing};
 use bank_books::{BranchRecord, TellerRecord};
@@ -86,7 +87,7 @@ pub(crate) fn next_teller<S: ReportReads>(
     from: AfterTeller,
 ) -> Result<Option<Listed>, Fault>
     ensures read { MayRead (S.status store.old) (S.status store.new) result (IsNext (Listing.Tellers from)) }
-    ensures cause { CountsStep (S.status store.old) (S.status store.new) (Listing.Tellers from) result }
+    ensures cause { CountsWhere (S.status store.old) (S.status store.new) (mark_of result) (λ w. HasRoom w (Listing.Tellers from)) }
     ensures short { IfOk result (λ next. IfSome next (λ listed. array_vec_len listed.line ≤ 256)) }
 {
     let Some(teller) = store.next_teller(alloc, from.branch.branch, from.after)? else {

@@ -1,7 +1,9 @@
 ghost use Rattle.std.specs.Prelude.{◌≤◌, IfOk, IfSome};
 ghost use Rattle.arrayvec.specs.ArrayVec.{array_vec_len};
-ghost use Rattle.store_rows.specs.Status.{MayRead};
-ghost use Rattle.reports.specs.Step.{CountsStep, IsNext};
+ghost use Rattle.store_rows.specs.Status.{MayRead, mark_of};
+ghost use Rattle.reports.specs.Cause.{CountsWhere};
+ghost use Rattle.reports.specs.Room.{HasRoom};
+ghost use Rattle.reports.specs.Step.{IsNext};
 
 use crate::listing::{Listed, Listing};
 use money::Fault;
@@ -25,7 +27,7 @@ pub(crate) fn next_entry<S: ReportReads>(
     from: FromTurn,
 ) -> Result<Option<Listed>, Fault>
     ensures read { MayRead (S.status store.old) (S.status store.new) result (IsNext (Listing.Statement from)) }
-    ensures cause { CountsStep (S.status store.old) (S.status store.new) (Listing.Statement from) result }
+    ensures cause { CountsWhere (S.status store.old) (S.status store.new) (mark_of result) (λ w. HasRoom w (Listing.Statement from)) }
     ensures short { IfOk result (λ next. IfSome next (λ listed. array_vec_len listed.line ≤ 256)) }
 {
     let Some(entry) = store.entry_at(alloc, from.account, from.turn)? else {

@@ -1,13 +1,14 @@
 //! What of the policy two equal questions read, with a cache and without.
 
 use crate::counting::Counting;
+use bank_terms::Procedure;
 use cached::Cached;
 use counter_ops::Balance;
 use decide::{Decision, Op, Reply, Who, carry_out, decide};
 use sample_bank::sample_world;
 use std::alloc::Global;
 use std::process::Abort;
-use store_rows::{Bank, ListStore, Store};
+use store_rows::{Bank, ListStore, PolicyReads, Store};
 
 /// The sample in lists whose reads are counted.
 fn counted_sample(rt: &impl Abort, alloc: Global) -> Counting<ListStore> {
@@ -80,4 +81,21 @@ fn the_second_question_reads_no_triples_and_no_relations(rt: HostRuntime) {
     assert!(rt; reads_below_after(&rt, alloc, &mut bank) == (1, 1));
     assert!(rt; reads_below_after(&rt, alloc, &mut bank) == (1, 1));
     assert!(rt; bank.store.into_below().reads() == (1, 1));
+}
+
+/// How often triples and relations were read below the cache once it was asked for the triples by which a user
+/// may post who has none.
+fn reads_after_none(rt: &impl Abort, alloc: Global, store: &mut CachedSample) -> (u64, u64) {
+    let rows = store.triples_of(alloc, 9_999, Procedure::Post);
+    assert!(rt; rows.expect(rt, "no fault").is_empty());
+    store.below().reads()
+}
+
+/// That a user has no triples is read once, too.
+#[test]
+fn triples_that_are_not_there_are_read_once(rt: HostRuntime) {
+    let alloc = rt.alloc();
+    let mut store = cached_sample(&rt, alloc).store;
+    assert!(rt; reads_after_none(&rt, alloc, &mut store) == (1, 0));
+    assert!(rt; reads_after_none(&rt, alloc, &mut store) == (1, 0));
 }

@@ -9,7 +9,8 @@ use crate::disks::{
 use crate::making::sample_held;
 use crate::runtime::Runtime;
 use crate::streams::{
-    CLOSING, Exchange, FAILED, POST, RELEASED, STOPPED, TRANSFER, is_reply, reply,
+    CLOSING, COMMANDS, ENDING, Exchange, FAILED, OPENING, POST, RELEASED, STOPPED, TRANSFER, is_reply,
+    reply,
 };
 use crate::tellings::{Tale, tale_of, told};
 use sample_bank::sample_world;
@@ -162,4 +163,19 @@ fn a_release_is_used_with_its_post_or_not(rt: HostRuntime) {
 #[test]
 fn a_day_is_closed_or_not(rt: HostRuntime) {
     fail_both(&rt, &CLOSING);
+}
+
+#[test]
+fn a_command_is_done_or_not(rt: HostRuntime) {
+    fail_both(&rt, &COMMANDS);
+}
+
+#[test]
+fn a_session_is_opened_or_not(rt: HostRuntime) {
+    fail_both(&rt, &OPENING);
+}
+
+#[test]
+fn a_session_is_ended_or_not(rt: HostRuntime) {
+    fail_both(&rt, &ENDING);
 }

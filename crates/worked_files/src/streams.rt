@@ -12,10 +12,10 @@ use store_rows::{Bank, Store};
 /// A reply: its status, and its body.
 pub type Told = (&'static str, &'static str);
 
-/// An operation that is asked for, and the reply to it.
+/// What is asked for, in session 1, and the reply to it.
 #[derive(Clone, Copy, Debug)]
 pub struct Exchange {
-    /// The badge of who asks, the release that he names, the operation, and its body.
+    /// The badge of who asks, the release that he names, the path, and the body.
     pub asked: (&'static str, Option<u32>, &'static str, &'static str),
     /// The reply.
     pub told: Told,
@@ -26,7 +26,7 @@ const POSTED: Exchange = Exchange {
     asked: (
         "tess",
         None,
-        "post",
+        "/do/post",
         r#"{"account":101,"branch":1,"delta":2500,"teller":11}"#,
     ),
     told: ("200 OK", r#"{"balance":52500,"branch":1,"entry":1}"#),
@@ -36,7 +36,7 @@ const POSTED: Exchange = Exchange {
 pub const POST: [Exchange; 2] = [
     POSTED,
     Exchange {
-        asked: ("tess", None, "balance", r#"{"account":101}"#),
+        asked: ("tess", None, "/do/balance", r#"{"account":101}"#),
         told: ("200 OK", r#"{"balance":52500}"#),
     },
 ];
@@ -48,7 +48,7 @@ pub const WORKED: [Exchange; 2] = [
         asked: (
             "sue",
             None,
-            "release",
+            "/do/release",
             r#"{"beneficiary":7,"operation":{"account":101,"branch":1,"delta":-500,"procedure":"post","teller":11}}"#,
         ),
         told: ("200 OK", r#"{"beneficiary":7,"release":1}"#),
@@ -60,7 +60,7 @@ pub const TRANSFER: [Exchange; 1] = [Exchange {
     asked: (
         "tom",
         None,
-        "transfer",
+        "/do/transfer",
         r#"{"amount":20000,"branch":1,"source":101,"target":102,"teller":12}"#,
     ),
     told: (
@@ -75,24 +75,24 @@ const ABOVE: &str = r#"{"account":101,"branch":1,"delta":60000,"teller":12}"#;
 /// That post, the release that Sue gives him for it, the post again, and once more.
 pub const RELEASED: [Exchange; 4] = [
     Exchange {
-        asked: ("tom", None, "post", ABOVE),
+        asked: ("tom", None, "/do/post", ABOVE),
         told: ("403 Forbidden", r#"{"name":"limit","rule":4}"#),
     },
     Exchange {
         asked: (
             "sue",
             None,
-            "release",
+            "/do/release",
             r#"{"beneficiary":8,"operation":{"account":101,"branch":1,"delta":60000,"procedure":"post","teller":12}}"#,
         ),
         told: ("200 OK", r#"{"beneficiary":8,"release":1}"#),
     },
     Exchange {
-        asked: ("tom", Some(1), "post", ABOVE),
+        asked: ("tom", Some(1), "/do/post", ABOVE),
         told: ("200 OK", r#"{"balance":110000,"branch":1,"entry":1}"#),
     },
     Exchange {
-        asked: ("tom", Some(1), "post", ABOVE),
+        asked: ("tom", Some(1), "/do/post", ABOVE),
         told: ("403 Forbidden", r#"{"name":"release","rule":5}"#),
     },
 ];
@@ -103,30 +103,73 @@ pub const CLOSING: [Exchange; 4] = [
         asked: (
             "tom",
             None,
-            "drawer-off",
+            "/do/drawer-off",
             r#"{"branch":1,"counted":4900,"teller":12}"#,
         ),
         told: ("200 OK", r#"{"difference":-100,"teller":12,"vault":59900}"#),
     },
     Exchange {
-        asked: ("sue", None, "close-day", r#"{"branch":1}"#),
+        asked: ("sue", None, "/do/close-day", r#"{"branch":1}"#),
         told: ("409 Conflict", r#"{"name":"day","rule":15}"#),
     },
     Exchange {
         asked: (
             "tess",
             None,
-            "drawer-off",
+            "/do/drawer-off",
             r#"{"branch":1,"counted":40000,"teller":11}"#,
         ),
         told: ("200 OK", r#"{"difference":0,"teller":11,"vault":99900}"#),
     },
     Exchange {
-        asked: ("sue", None, "close-day", r#"{"branch":1}"#),
+        asked: ("sue", None, "/do/close-day", r#"{"branch":1}"#),
         told: (
             "200 OK",
             r#"{"balance":60000,"cash":99900,"closed":1,"entries":0}"#,
         ),
+    },
+];
+
+/// The denial of one who has no open session of that number.
+const UNKNOWN: Told = ("403 Forbidden", r#"{"name":"identity","rule":1}"#);
+
+/// Olga suspends Tess, who may then ask for nothing, and restores her.
+pub const COMMANDS: [Exchange; 3] = [
+    Exchange {
+        asked: ("olga", None, "/policy/suspend", r#"{"user":7}"#),
+        told: ("200 OK", r#"{"done":"suspend"}"#),
+    },
+    Exchange {
+        asked: ("tess", None, "/do/balance", r#"{"account":101}"#),
+        told: UNKNOWN,
+    },
+    Exchange {
+        asked: ("olga", None, "/policy/restore", r#"{"user":7}"#),
+        told: ("200 OK", r#"{"done":"restore"}"#),
+    },
+];
+
+/// Tess opens her next session, and asks in the one before it.
+pub const OPENING: [Exchange; 2] = [
+    Exchange {
+        asked: ("tess", None, "/session", ""),
+        told: ("200 OK", r#"{"session":2}"#),
+    },
+    Exchange {
+        asked: ("tess", None, "/do/balance", r#"{"account":101}"#),
+        told: UNKNOWN,
+    },
+];
+
+/// Tess ends her session, and asks in it.
+pub const ENDING: [Exchange; 2] = [
+    Exchange {
+        asked: ("tess", None, "/end", ""),
+        told: ("200 OK", r#"{"ended":1}"#),
+    },
+    Exchange {
+        asked: ("tess", None, "/do/balance", r#"{"account":101}"#),
+        told: UNKNOWN,
     },
 ];
 
@@ -138,14 +181,14 @@ pub const STOPPED: Told = ("503 Service Unavailable", r#"{"fault":"F4"}"#);
 
 /// The bytes of a request.
 fn request_of(rt: &impl Runtime, exchange: &Exchange) -> String {
-    let (badge, release, operation, body) = exchange.asked;
+    let (badge, release, path, body) = exchange.asked;
     let named = match release {
         Some(number) => format!(in rt.alloc(); "Bank-Release: {number}\r\n").expect(rt, "memory"),
         None => String::new(rt.alloc()),
     };
     let length = body.len();
     let request = format!(in rt.alloc();
-        "POST /do/{operation} HTTP/1.1\r\nHost: bank\r\nBank-Badge: {badge}\r\nBank-Session: 1\r\n{named}Content-Length: {length}\r\n\r\n{body}"
+        "POST {path} HTTP/1.1\r\nHost: bank\r\nBank-Badge: {badge}\r\nBank-Session: 1\r\n{named}Content-Length: {length}\r\n\r\n{body}"
     );
     request.expect(rt, "memory")
 }

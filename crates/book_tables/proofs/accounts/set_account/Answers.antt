@@ -7,9 +7,9 @@ use Rattle.book_tables.specs.Texts.{set_account_text}
 use Rattle.book_tables.proofs.AccountLemmas.{sets_account}
 use Rattle.book_tables.proofs.accounts.set_account.Goals as goal
 
-pub returns-in-Ok-clause-steps : goal.returns-in-Ok-clause-steps
-returns-in-Ok-clause-steps g c clean inside s holds =
+pub returns-clause-steps : goal.returns-clause-steps
+returns-clause-steps g c clean inside s holds =
     let old = state g.S.Store c.args.tx.now.conn.now in
     let new = state g.S.Store c.update_account.new.tx.conn.now in
-    write_steps set_account_text _ old new (Ok c.in-Ok.field-0) (record s { accounts = set_row account_no c.args.account.now s.accounts }) (c.in-Ok.ensures.runs clean inside)
+    write_steps set_account_text _ old new (Ok c.in_ok-update_account.field-0) (record s { accounts = set_row account_no c.args.account.now s.accounts }) (c.in_ok-update_account.ensures.runs clean inside)
     (λ count h. sets_account old new s c.args.account.now count holds (subst (λ ps. Executes set_account_text ps old new (Ok count)) c.in_ok-cells.ensures h))

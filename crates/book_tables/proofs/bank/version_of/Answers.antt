@@ -1,5 +1,6 @@
 use Rattle.std.proofs.Common.{slice_get, ◌∙◌, ap}
 use Rattle.std.proofs.lemmas.Result.{IfOk-weaker}
+use Rattle.bank_schema.proofs.StepLemmas.{none_ok}
 use Rattle.book_tables.proofs.BankLemmas.{version_read}
 use Rattle.book_tables.proofs.PickedRows.{on_any}
 use Rattle.book_tables.proofs.bank.version_of.Goals as goal
@@ -7,11 +8,14 @@ use Rattle.book_tables.proofs.bank.version_of.Goals as goal
 pub returns-in-Some-clause-found : goal.returns-in-Some-clause-found
 returns-in-Some-clause-found g c clean s holds =
     IfOk-weaker c.count_at.result _ _
-    (λ version is. version_read c.in-Some.row.now c.in-Ok.rows.items s.version version (c.in-Some.ensures.value ∙ ap (λ rows. slice_get rows 0) c.deref.ensures.value) (c.in-Ok.ensures.rows clean s holds) is)
+    (λ version is. version_read c.in-Some.row.now c.in_ok-rows.rows.items s.version version (c.in-Some.ensures.value ∙ ap (λ rows. slice_get rows 0) c.deref.ensures.value) (c.in_ok-rows.ensures.rows clean s holds) is)
     c.count_at.ensures.told
 
 pub returns-in-Some-clause-steps : goal.returns-in-Some-clause-steps
-returns-in-Some-clause-steps g c clean inside s holds = let it = c.in-Ok.ensures.steps clean inside s holds in (on_any c.count_at.result _ it.0, it.1)
+returns-in-Some-clause-steps g c clean inside s holds = let it = c.in_ok-rows.ensures.steps clean inside s holds in (on_any c.count_at.result _ it.0, it.1)
 
 pub returns-clause-steps : goal.returns-clause-steps
-returns-clause-steps g c clean inside s holds = (tt, (c.in-Ok.ensures.steps clean inside s holds).1)
+returns-clause-steps g c clean inside s holds = (tt, (c.in_ok-rows.ensures.steps clean inside s holds).1)
+
+pub returns-in_err-rows-clause-steps : goal.returns-in_err-rows-clause-steps
+returns-in_err-rows-clause-steps g c clean inside s holds = (none_ok c.from_residual.result _ c.from_residual.ensures.0, (c.select_version.ensures.steps clean inside s holds).1)

@@ -7,9 +7,9 @@ use Rattle.book_tables.specs.Texts.{set_branch_text}
 use Rattle.book_tables.proofs.BranchLemmas.{sets_branch}
 use Rattle.book_tables.proofs.branches.set_branch.Goals as goal
 
-pub returns-in-Ok-clause-steps : goal.returns-in-Ok-clause-steps
-returns-in-Ok-clause-steps g c clean inside s holds =
+pub returns-clause-steps : goal.returns-clause-steps
+returns-clause-steps g c clean inside s holds =
     let old = state g.S.Store c.args.tx.now.conn.now in
     let new = state g.S.Store c.update_branch.new.tx.conn.now in
-    write_steps set_branch_text _ old new (Ok c.in-Ok.field-0) (record s { branches = set_row branch_no c.args.branch.now s.branches }) (c.in-Ok.ensures.runs clean inside)
+    write_steps set_branch_text _ old new (Ok c.in_ok-update_branch.field-0) (record s { branches = set_row branch_no c.args.branch.now s.branches }) (c.in_ok-update_branch.ensures.runs clean inside)
     (λ count h. sets_branch old new s c.args.branch.now count holds (subst (λ ps. Executes set_branch_text ps old new (Ok count)) c.in_ok-cells.ensures h))

@@ -1,8 +1,12 @@
 use Rattle.std.proofs.Common.{sym}
+use Rattle.bank_schema.proofs.StepLemmas.{none_ok}
 use Rattle.book_tables.specs.Picks.{undoes_entry}
 use Rattle.book_tables.proofs.PickedRows.{any_counted}
 use Rattle.book_tables.proofs.entries.is_undone.Goals as goal
 
-pub returns-in-Ok-clause-found : goal.returns-in-Ok-clause-found
-returns-in-Ok-clause-found g c clean s holds =
-    any_counted (undoes_entry c.args.branch c.args.number) s.entries c.in-Ok.rows.items c.in-Ok.rows.len c.is_empty.result c.is_empty.ensures (sym c.in-Ok.rows.ok.0) (c.in-Ok.ensures.rows clean s holds)
+pub returns-clause-found : goal.returns-clause-found
+returns-clause-found g c clean s holds =
+    any_counted (undoes_entry c.args.branch c.args.number) s.entries c.in_ok-rows.rows.items c.in_ok-rows.rows.len c.is_empty.result c.is_empty.ensures (sym c.in_ok-rows.rows.ok.0) (c.in_ok-rows.ensures.rows clean s holds)
+
+pub returns-in_err-rows-clause-steps : goal.returns-in_err-rows-clause-steps
+returns-in_err-rows-clause-steps g c clean inside s holds = (none_ok c.from_residual.result _ c.from_residual.ensures.0, (c.select_undoing.ensures.steps clean inside s holds).1)

@@ -8,15 +8,15 @@ use Rattle.book_tables.specs.Texts.{add_teller_text}
 use Rattle.book_tables.proofs.TellerLemmas.{adds_teller}
 use Rattle.book_tables.proofs.tellers.add_teller.Goals as goal
 
-pub returns-in-Ok-clause-steps : goal.returns-in-Ok-clause-steps
-returns-in-Ok-clause-steps g c clean inside s holds =
+pub returns-clause-steps : goal.returns-clause-steps
+returns-clause-steps g c clean inside s holds =
     let old = state g.S.Store c.args.tx.now.conn.now in
     let new = state g.S.Store c.insert_teller.new.tx.conn.now in
-    write_steps add_teller_text _ old new (Ok c.in-Ok.field-0) (record s { tellers = add_row teller_no c.args.teller.now s.tellers }) (c.in-Ok.ensures.runs clean inside)
+    write_steps add_teller_text _ old new (Ok c.in_ok-insert_teller.field-0) (record s { tellers = add_row teller_no c.args.teller.now s.tellers }) (c.in_ok-insert_teller.ensures.runs clean inside)
     (λ count h. (adds_teller old new s c.args.teller.now count holds (subst (λ ps. Executes add_teller_text ps old new (Ok count)) c.in_ok-cells.ensures h)).0)
 
-pub returns-in-Ok-clause-free : goal.returns-in-Ok-clause-free
-returns-in-Ok-clause-free g c clean inside s holds =
+pub returns-clause-free : goal.returns-clause-free
+returns-clause-free g c clean inside s holds =
     let old = state g.S.Store c.args.tx.now.conn.now in
     let new = state g.S.Store c.insert_teller.new.tx.conn.now in
-    (adds_teller old new s c.args.teller.now c.in-Ok.field-0 holds (subst (λ ps. Executes add_teller_text ps old new (Ok c.in-Ok.field-0)) c.in_ok-cells.ensures (c.in-Ok.ensures.runs clean inside).0)).1
+    (adds_teller old new s c.args.teller.now c.in_ok-insert_teller.field-0 holds (subst (λ ps. Executes add_teller_text ps old new (Ok c.in_ok-insert_teller.field-0)) c.in_ok-cells.ensures (c.in_ok-insert_teller.ensures.runs clean inside).0)).1

@@ -7,9 +7,9 @@ use Rattle.book_tables.specs.Texts.{set_teller_text}
 use Rattle.book_tables.proofs.TellerLemmas.{sets_teller}
 use Rattle.book_tables.proofs.tellers.set_teller.Goals as goal
 
-pub returns-in-Ok-clause-steps : goal.returns-in-Ok-clause-steps
-returns-in-Ok-clause-steps g c clean inside s holds =
+pub returns-clause-steps : goal.returns-clause-steps
+returns-clause-steps g c clean inside s holds =
     let old = state g.S.Store c.args.tx.now.conn.now in
     let new = state g.S.Store c.update_teller.new.tx.conn.now in
-    write_steps set_teller_text _ old new (Ok c.in-Ok.field-0) (record s { tellers = set_row teller_no c.args.teller.now s.tellers }) (c.in-Ok.ensures.runs clean inside)
+    write_steps set_teller_text _ old new (Ok c.in_ok-update_teller.field-0) (record s { tellers = set_row teller_no c.args.teller.now s.tellers }) (c.in_ok-update_teller.ensures.runs clean inside)
     (λ count h. sets_teller old new s c.args.teller.now count holds (subst (λ ps. Executes set_teller_text ps old new (Ok count)) c.in_ok-cells.ensures h))

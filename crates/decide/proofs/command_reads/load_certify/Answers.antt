@@ -7,4 +7,5 @@ returns g c = record {
   told = λ honest w holds. c.of_certify.ensures ∙ certify_read w c.args.by c.args.key.now _ _ _ (search rules) (search rules) (search rules);
   kept = search rules;
   refused = search rules;
+  counted = search rules;
 }

@@ -12,4 +12,5 @@ returns-in-Appoint g c = record {
       (c.load_appoint.ensures.told honest w holds);
   kept = c.load_appoint.ensures.kept;
   refused = c.load_appoint.ensures.refused;
+  counted = c.load_appoint.ensures.counted;
 }

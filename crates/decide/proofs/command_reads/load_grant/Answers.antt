@@ -16,4 +16,5 @@ returns g c = record {
       c.of_grant.ensures ∙ grant_read w c.args.by c.args.triple.now _ _ _ _ _ _ read;
   kept = search rules;
   refused = search rules;
+  counted = search rules;
 }

@@ -1,13 +1,14 @@
-use Rattle.std.proofs.Common.{◌≡◌, rules, Result, Ok, ap, sym, subst, ◌∙◌}
+use Rattle.std.proofs.Common.{rules, Result, Ok, ap, sym, subst, ◌∙◌}
 use Rattle.bank_books.specs.Effects.{applied}
 use Rattle.op_plans.specs.Judged.{IsReady, LeavesPolicyReady, ReportsOnly}
 use Rattle.bank_run.specs.Meaning.{by_books}
 use Rattle.bank_terms.specs.declared.rule.Rule.{Rule}
 use Rattle.bank_run.specs.Operations.{is_report, meaning_of}
-use Rattle.bank_run.specs.PolicyRules.{used_by}
-use Rattle.bank_run.proofs.PolicyLemmas.{leave_refused}
+use Rattle.bank_run.specs.PolicyRules.{grounds, used_by}
+use Rattle.bank_run.proofs.PolicyLemmas.{leave_given, leave_refused}
 use Rattle.op_plans.specs.declared.prepared.Ready.{Ready}
 use Rattle.op_plans.specs.declared.prepared.Ready.TheVariants as ready
+use Rattle.decide.proofs.CountedDenials.{none_denies, read_counted}
 use Rattle.decide.proofs.JoinedVerdict.{denied_by_books, prepared, reported}
 use Rattle.decide.proofs.judge.prepare.Goals as goal
 
@@ -62,3 +63,16 @@ returns-in-Ok-Report-clause-judged g c =
       kept = search rules;
       refused = search rules;
     }
+
+pub returns-in_err-rule-clause-denied : goal.returns-in_err-rule-clause-denied
+returns-in_err-rule-clause-denied g c = λ honest w holds some. read_counted _ _ _ c.in_err-rule.ensures.counted
+
+pub returns-in_err-plan-in-Ok-clause-denied : goal.returns-in_err-plan-in-Ok-clause-denied
+returns-in_err-plan-in-Ok-clause-denied g c = λ honest w holds some.
+    let before = c.prepare_by_books.ensures.judged.kept.answers.honest honest in
+    none_denies _ (leave_given (grounds w c.args.execution.now) c.in-Ok.leave (sym (c.in_ok-rule.ensures.told before w holds) ∙ c.in-Ok.is)).0 some
+
+pub returns-in_err-plan-in-Ok-Change-clause-denied : goal.returns-in_err-plan-in-Ok-Change-clause-denied
+returns-in_err-plan-in-Ok-Change-clause-denied g c = λ honest w holds some.
+    let before = c.prepare_by_books.ensures.judged.kept.answers.honest honest in
+    none_denies _ (leave_given (grounds w c.args.execution.now) c.in-Ok.leave (sym (c.in_ok-rule.ensures.told before w holds) ∙ c.in-Ok.is)).0 some

@@ -9,6 +9,7 @@ returns-in-Err g c = record {
   told = λ honest w holds. refused_before w c.args.execution.now c.in-Err.rule (sym c.in-Err.is ∙ c.in_ok-rule.ensures.told honest w holds);
   kept = search rules;
   refused = search rules;
+  counted = search rules;
 }
 
 pub returns-then-is_released : goal.returns-then-is_released
@@ -20,6 +21,7 @@ returns-then-is_released g c = record {
       (c.in_ok-named-in-Ok-Release.ensures.told honest w (c.in_ok-rule.ensures.kept.kept w holds)) c.if-is_released.ensures;
   kept = search rules;
   refused = search rules;
+  counted = search rules;
 }
 
 pub returns : goal.returns
@@ -31,4 +33,5 @@ returns g c = record {
       (c.in_ok-named-in-Ok-Release.ensures.told honest w (c.in_ok-rule.ensures.kept.kept w holds)) c.if-is_released.ensures;
   kept = search rules;
   refused = search rules;
+  counted = search rules;
 }

@@ -7,15 +7,15 @@ use Rattle.history_tables.specs.Texts.{add_proof_text}
 use Rattle.history_tables.proofs.ProofLemmas.{adds_proof, fits_by}
 use Rattle.history_tables.proofs.day_proofs.add_proof.Goals as goal
 
-pub returns-in-Ok-clause-steps : goal.returns-in-Ok-clause-steps
-returns-in-Ok-clause-steps g c clean inside s holds =
+pub returns-clause-steps : goal.returns-clause-steps
+returns-clause-steps g c clean inside s holds =
     let old = state g.S.Store c.args.tx.now.conn.now in
     let new = state g.S.Store c.insert_proof.new.tx.conn.now in
-    write_steps add_proof_text _ old new (Ok c.in-Ok.field-0) (proof_sheets c.args.proof.now s) (c.in-Ok.ensures.runs clean inside)
+    write_steps add_proof_text _ old new (Ok c.in_ok-insert_proof.field-0) (proof_sheets c.args.proof.now s) (c.in_ok-insert_proof.ensures.runs clean inside)
     (λ count h. (adds_proof old new s c.args.proof.now count (fits_by _ c.args.proof.now c.cells_of-cells.ensures c.insert_proof.ensures.small) holds (subst (λ ps. Executes add_proof_text ps old new (Ok count)) c.cells_of-cells.ensures h)).0)
 
-pub returns-in-Ok-clause-free : goal.returns-in-Ok-clause-free
-returns-in-Ok-clause-free g c clean inside s holds =
+pub returns-clause-free : goal.returns-clause-free
+returns-clause-free g c clean inside s holds =
     let old = state g.S.Store c.args.tx.now.conn.now in
     let new = state g.S.Store c.insert_proof.new.tx.conn.now in
-    (adds_proof old new s c.args.proof.now c.in-Ok.field-0 (fits_by _ c.args.proof.now c.cells_of-cells.ensures c.insert_proof.ensures.small) holds (subst (λ ps. Executes add_proof_text ps old new (Ok c.in-Ok.field-0)) c.cells_of-cells.ensures (c.in-Ok.ensures.runs clean inside).0)).1
+    (adds_proof old new s c.args.proof.now c.in_ok-insert_proof.field-0 (fits_by _ c.args.proof.now c.cells_of-cells.ensures c.insert_proof.ensures.small) holds (subst (λ ps. Executes add_proof_text ps old new (Ok c.in_ok-insert_proof.field-0)) c.cells_of-cells.ensures (c.in_ok-insert_proof.ensures.runs clean inside).0)).1

@@ -8,9 +8,9 @@ use Rattle.history_tables.specs.Texts.{add_line_text}
 use Rattle.history_tables.proofs.LineLemmas.{adds_line}
 use Rattle.history_tables.proofs.lines.add_line.Goals as goal
 
-pub returns-in-Ok-clause-steps : goal.returns-in-Ok-clause-steps
-returns-in-Ok-clause-steps g c clean inside s holds =
+pub returns-clause-steps : goal.returns-clause-steps
+returns-clause-steps g c clean inside s holds =
     let old = state g.S.Store c.args.tx.now.conn.now in
     let new = state g.S.Store c.insert_line.new.tx.conn.now in
-    write_steps add_line_text _ old new (Ok c.in-Ok.field-0) (record s { lines = add_row line_key c.args.line.now s.lines }) (c.in-Ok.ensures.runs clean inside)
+    write_steps add_line_text _ old new (Ok c.in_ok-insert_line.field-0) (record s { lines = add_row line_key c.args.line.now s.lines }) (c.in_ok-insert_line.ensures.runs clean inside)
     (λ count h. adds_line old new s c.args.line.now count c.in_ok-cells.ensures.fits holds (subst (λ ps. Executes add_line_text ps old new (Ok count)) c.in_ok-cells.ensures.cells h))

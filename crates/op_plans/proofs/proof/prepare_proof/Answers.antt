@@ -11,3 +11,10 @@ returns g c = record {
   kept = search rules;
   refused = search rules;
 }
+
+pub returns-in_err-contents : goal.returns-in_err-contents
+returns-in_err-contents g c = record {
+  told = search rules;
+  kept = search rules;
+  refused = search rules;
+}

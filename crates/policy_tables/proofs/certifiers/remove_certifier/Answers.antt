@@ -9,10 +9,10 @@ use Rattle.policy_tables.specs.Texts.{remove_certifier_text}
 use Rattle.policy_tables.proofs.CertifierLemmas.{removes_certifier}
 use Rattle.policy_tables.proofs.certifiers.remove_certifier.Goals as goal
 
-pub returns-in-Ok-clause-steps : goal.returns-in-Ok-clause-steps
-returns-in-Ok-clause-steps g c clean inside s holds =
+pub returns-clause-steps : goal.returns-clause-steps
+returns-clause-steps g c clean inside s holds =
     let old = state g.S.Store c.args.tx.now.conn.now in
     let new = state g.S.Store c.delete_certifier.new.tx.conn.now in
-    write_steps remove_certifier_text _ old new (Ok c.in-Ok.field-0) (record s { certifiers = delete_rows certifier_key (certifier_key c.args.certifier.now) s.certifiers }) (c.in-Ok.ensures.runs clean inside)
+    write_steps remove_certifier_text _ old new (Ok c.in_ok-delete_certifier.field-0) (record s { certifiers = delete_rows certifier_key (certifier_key c.args.certifier.now) s.certifiers }) (c.in_ok-delete_certifier.ensures.runs clean inside)
     (λ count h. removes_certifier old new s c.args.certifier.now count holds
     (subst (λ n. Executes remove_certifier_text (Int (pos c.args.certifier.now.user) ∷ Int (pos n) ∷ []) old new (Ok count)) c.number.ensures h))

@@ -1,21 +1,21 @@
 use Rattle.std.proofs.Common.{arith}
 use Rattle.std.proofs.lemmas.Result.{IfOk-weaker}
 use Rattle.sqlite.specs.Held.{state}
-use Rattle.bank_schema.proofs.StepLemmas.{query_open, query_steps}
+use Rattle.bank_schema.proofs.StepLemmas.{rows_open, rows_steps}
 use Rattle.policy_tables.specs.Texts.{certifier_text}
 use Rattle.policy_tables.proofs.CertifierLemmas.{certifier_is, selects_certifier}
 use Rattle.policy_tables.proofs.certifiers.select_certifier.Goals as goal
 
 pub returns-clause-rows : goal.returns-clause-rows
 returns-clause-rows g c clean s holds =
-    IfOk-weaker c.query_all.result _ _
-    (λ rows h. selects_certifier (state g.S.Store c.args.tx.now.conn.now) (state g.S.Store c.query_all.new.self.conn.now) s c.args.user c.args.procedure rows.items (omega (arith, c.ranges.procedure.fits)) holds h)
-    (rw (c.params-to_sql.ensures, c.params-to_sql-2.ensures) at (c.query_all.ensures.ok clean))
+    IfOk-weaker c.shown_rows.result _ _
+    (λ rows h. selects_certifier (state g.S.Store c.args.tx.now.conn.now) (state g.S.Store c.shown_rows.new.tx.conn.now) s c.args.user c.args.procedure rows.items (omega (arith, c.ranges.procedure.fits)) holds h)
+    (rw (c.params-to_sql.ensures, c.params-to_sql-2.ensures) at (c.shown_rows.ensures.ok clean))
 
 pub returns-clause-steps : goal.returns-clause-steps
 returns-clause-steps g c clean inside s holds =
-    query_steps certifier_text _ (state g.S.Store c.args.tx.now.conn.now) (state g.S.Store c.query_all.new.self.conn.now) c.query_all.result certifier_is.2 (c.query_all.ensures.ok clean) (c.query_all.ensures.err clean) inside s holds
+    rows_steps certifier_text _ (state g.S.Store c.args.tx.now.conn.now) (state g.S.Store c.shown_rows.new.tx.conn.now) c.shown_rows.result certifier_is.2 (c.shown_rows.ensures.ok clean) (c.shown_rows.ensures.err clean) inside s holds
 
 pub returns-clause-open : goal.returns-clause-open
 returns-clause-open g c clean =
-    query_open certifier_text _ (state g.S.Store c.args.tx.now.conn.now) (state g.S.Store c.query_all.new.self.conn.now) c.query_all.result (c.query_all.ensures.ok clean) (c.query_all.ensures.err clean)
+    rows_open certifier_text _ (state g.S.Store c.args.tx.now.conn.now) (state g.S.Store c.shown_rows.new.tx.conn.now) c.shown_rows.result (c.shown_rows.ensures.ok clean) (c.shown_rows.ensures.err clean)

@@ -9,15 +9,15 @@ use Rattle.policy_tables.specs.Texts.{add_member_text}
 use Rattle.policy_tables.proofs.MemberLemmas.{adds_member}
 use Rattle.policy_tables.proofs.members.add_member.Goals as goal
 
-pub returns-in-Ok-clause-steps : goal.returns-in-Ok-clause-steps
-returns-in-Ok-clause-steps g c clean inside s holds =
+pub returns-clause-steps : goal.returns-clause-steps
+returns-clause-steps g c clean inside s holds =
     let old = state g.S.Store c.args.tx.now.conn.now in
     let new = state g.S.Store c.insert_member.new.tx.conn.now in
-    write_steps add_member_text _ old new (Ok c.in-Ok.field-0) (record s { members = add_row member_no c.args.member.now s.members }) (c.in-Ok.ensures.runs clean inside)
+    write_steps add_member_text _ old new (Ok c.in_ok-insert_member.field-0) (record s { members = add_row member_no c.args.member.now s.members }) (c.in_ok-insert_member.ensures.runs clean inside)
     (λ count h. (adds_member old new s c.args.member.now count c.insert_member.ensures.small holds (subst (λ n. Executes add_member_text (Int (pos c.args.member.now.set) ∷ Int (pos c.args.member.now.place) ∷ Int (pos n) ∷ Int (pos c.args.member.now.member.low) ∷ Int (pos c.args.member.now.member.high) ∷ []) old new (Ok count)) c.kind_number-kind.ensures h)).0)
 
-pub returns-in-Ok-clause-free : goal.returns-in-Ok-clause-free
-returns-in-Ok-clause-free g c clean inside s holds =
+pub returns-clause-free : goal.returns-clause-free
+returns-clause-free g c clean inside s holds =
     let old = state g.S.Store c.args.tx.now.conn.now in
     let new = state g.S.Store c.insert_member.new.tx.conn.now in
-    (adds_member old new s c.args.member.now c.in-Ok.field-0 c.insert_member.ensures.small holds (subst (λ n. Executes add_member_text (Int (pos c.args.member.now.set) ∷ Int (pos c.args.member.now.place) ∷ Int (pos n) ∷ Int (pos c.args.member.now.member.low) ∷ Int (pos c.args.member.now.member.high) ∷ []) old new (Ok c.in-Ok.field-0)) c.kind_number-kind.ensures (c.in-Ok.ensures.runs clean inside).0)).1
+    (adds_member old new s c.args.member.now c.in_ok-insert_member.field-0 c.insert_member.ensures.small holds (subst (λ n. Executes add_member_text (Int (pos c.args.member.now.set) ∷ Int (pos c.args.member.now.place) ∷ Int (pos n) ∷ Int (pos c.args.member.now.member.low) ∷ Int (pos c.args.member.now.member.high) ∷ []) old new (Ok c.in_ok-insert_member.field-0)) c.kind_number-kind.ensures (c.in_ok-insert_member.ensures.runs clean inside).0)).1

@@ -9,15 +9,15 @@ use Rattle.policy_tables.specs.Texts.{add_relation_text}
 use Rattle.policy_tables.proofs.RelationLemmas.{adds_relation}
 use Rattle.policy_tables.proofs.relations.add_relation.Goals as goal
 
-pub returns-in-Ok-clause-steps : goal.returns-in-Ok-clause-steps
-returns-in-Ok-clause-steps g c clean inside s holds =
+pub returns-clause-steps : goal.returns-clause-steps
+returns-clause-steps g c clean inside s holds =
     let old = state g.S.Store c.args.tx.now.conn.now in
     let new = state g.S.Store c.insert_relation.new.tx.conn.now in
-    write_steps add_relation_text _ old new (Ok c.in-Ok.field-0) (record s { relations = add_row relation_key c.args.relation.now s.relations }) (c.in-Ok.ensures.runs clean inside)
+    write_steps add_relation_text _ old new (Ok c.in_ok-insert_relation.field-0) (record s { relations = add_row relation_key c.args.relation.now s.relations }) (c.in_ok-insert_relation.ensures.runs clean inside)
     (λ count h. (adds_relation old new s c.args.relation.now count c.insert_relation.ensures.small holds (subst (λ n. Executes add_relation_text (Int (pos n) ∷ Int (pos c.args.relation.now.set) ∷ Int (pos c.args.relation.now.by) ∷ []) old new (Ok count)) c.number-procedure.ensures h)).0)
 
-pub returns-in-Ok-clause-free : goal.returns-in-Ok-clause-free
-returns-in-Ok-clause-free g c clean inside s holds =
+pub returns-clause-free : goal.returns-clause-free
+returns-clause-free g c clean inside s holds =
     let old = state g.S.Store c.args.tx.now.conn.now in
     let new = state g.S.Store c.insert_relation.new.tx.conn.now in
-    (adds_relation old new s c.args.relation.now c.in-Ok.field-0 c.insert_relation.ensures.small holds (subst (λ n. Executes add_relation_text (Int (pos n) ∷ Int (pos c.args.relation.now.set) ∷ Int (pos c.args.relation.now.by) ∷ []) old new (Ok c.in-Ok.field-0)) c.number-procedure.ensures (c.in-Ok.ensures.runs clean inside).0)).1
+    (adds_relation old new s c.args.relation.now c.in_ok-insert_relation.field-0 c.insert_relation.ensures.small holds (subst (λ n. Executes add_relation_text (Int (pos n) ∷ Int (pos c.args.relation.now.set) ∷ Int (pos c.args.relation.now.by) ∷ []) old new (Ok c.in_ok-insert_relation.field-0)) c.number-procedure.ensures (c.in_ok-insert_relation.ensures.runs clean inside).0)).1

@@ -11,12 +11,12 @@ use Rattle.policy_tables.specs.Texts.{remove_relation_text}
 use Rattle.policy_tables.proofs.RemovalLemmas.{removes_relation}
 use Rattle.policy_tables.proofs.relations.remove_relation.Goals as goal
 
-pub returns-in-Ok-clause-steps : goal.returns-in-Ok-clause-steps
-returns-in-Ok-clause-steps g c clean inside s holds =
+pub returns-clause-steps : goal.returns-clause-steps
+returns-clause-steps g c clean inside s holds =
     let old = state g.S.Store c.args.tx.now.conn.now in
     let new = state g.S.Store c.delete_relation.new.tx.conn.now in
     let key = c.args.key.now in
-    write_steps remove_relation_text _ old new (Ok c.in-Ok.field-0)
-    (record s { relations = delete_rows relation_key (relation_number key.procedure key.set) s.relations; triples = filter (λ row. not (is_triple_on key row)) s.triples }) (c.in-Ok.ensures.runs clean inside)
+    write_steps remove_relation_text _ old new (Ok c.in_ok-delete_relation.field-0)
+    (record s { relations = delete_rows relation_key (relation_number key.procedure key.set) s.relations; triples = filter (λ row. not (is_triple_on key row)) s.triples }) (c.in_ok-delete_relation.ensures.runs clean inside)
     (λ count h. removes_relation old new s (number_of key.procedure) key.set count c.delete_relation.ensures.small holds
     (subst (λ n. Executes remove_relation_text (Int (pos n) ∷ Int (pos key.set) ∷ []) old new (Ok count)) c.number-procedure.ensures h))

@@ -1,20 +1,20 @@
 use Rattle.std.proofs.lemmas.Result.{IfOk-weaker}
 use Rattle.sqlite.specs.Held.{state}
-use Rattle.bank_schema.proofs.StepLemmas.{query_open, query_steps}
+use Rattle.bank_schema.proofs.StepLemmas.{rows_open, rows_steps}
 use Rattle.policy_tables.specs.Texts.{sets_text}
 use Rattle.policy_tables.proofs.SetLemmas.{sets_is, counts_sets}
 use Rattle.policy_tables.proofs.sets.select_sets.Goals as goal
 
 pub returns-clause-rows : goal.returns-clause-rows
 returns-clause-rows g c clean s holds =
-    IfOk-weaker c.query_all.result _ _
-    (λ rows h. counts_sets (state g.S.Store c.args.tx.now.conn.now) (state g.S.Store c.query_all.new.self.conn.now) s rows.items holds h)
-    (c.query_all.ensures.ok clean)
+    IfOk-weaker c.shown_rows.result _ _
+    (λ rows h. counts_sets (state g.S.Store c.args.tx.now.conn.now) (state g.S.Store c.shown_rows.new.tx.conn.now) s rows.items holds h)
+    (c.shown_rows.ensures.ok clean)
 
 pub returns-clause-steps : goal.returns-clause-steps
 returns-clause-steps g c clean inside s holds =
-    query_steps sets_text _ (state g.S.Store c.args.tx.now.conn.now) (state g.S.Store c.query_all.new.self.conn.now) c.query_all.result sets_is.2 (c.query_all.ensures.ok clean) (c.query_all.ensures.err clean) inside s holds
+    rows_steps sets_text _ (state g.S.Store c.args.tx.now.conn.now) (state g.S.Store c.shown_rows.new.tx.conn.now) c.shown_rows.result sets_is.2 (c.shown_rows.ensures.ok clean) (c.shown_rows.ensures.err clean) inside s holds
 
 pub returns-clause-open : goal.returns-clause-open
 returns-clause-open g c clean =
-    query_open sets_text _ (state g.S.Store c.args.tx.now.conn.now) (state g.S.Store c.query_all.new.self.conn.now) c.query_all.result (c.query_all.ensures.ok clean) (c.query_all.ensures.err clean)
+    rows_open sets_text _ (state g.S.Store c.args.tx.now.conn.now) (state g.S.Store c.shown_rows.new.tx.conn.now) c.shown_rows.result (c.shown_rows.ensures.ok clean) (c.shown_rows.ensures.err clean)

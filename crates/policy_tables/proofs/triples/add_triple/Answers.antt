@@ -9,15 +9,15 @@ use Rattle.policy_tables.specs.Texts.{add_triple_text}
 use Rattle.policy_tables.proofs.TripleLemmas.{adds_triple}
 use Rattle.policy_tables.proofs.triples.add_triple.Goals as goal
 
-pub returns-in-Ok-clause-steps : goal.returns-in-Ok-clause-steps
-returns-in-Ok-clause-steps g c clean inside s holds =
+pub returns-clause-steps : goal.returns-clause-steps
+returns-clause-steps g c clean inside s holds =
     let old = state g.S.Store c.args.tx.now.conn.now in
     let new = state g.S.Store c.insert_triple.new.tx.conn.now in
-    write_steps add_triple_text _ old new (Ok c.in-Ok.field-0) (record s { triples = add_row triple_key c.args.triple.now s.triples }) (c.in-Ok.ensures.runs clean inside)
+    write_steps add_triple_text _ old new (Ok c.in_ok-insert_triple.field-0) (record s { triples = add_row triple_key c.args.triple.now s.triples }) (c.in_ok-insert_triple.ensures.runs clean inside)
     (λ count h. (adds_triple old new s c.args.triple.now count c.insert_triple.ensures.small holds (subst (λ n. Executes add_triple_text (Int (pos c.args.triple.now.user) ∷ Int (pos n) ∷ Int (pos c.args.triple.now.set) ∷ Int (pos c.args.triple.now.limit) ∷ []) old new (Ok count)) c.number-procedure.ensures h)).0)
 
-pub returns-in-Ok-clause-free : goal.returns-in-Ok-clause-free
-returns-in-Ok-clause-free g c clean inside s holds =
+pub returns-clause-free : goal.returns-clause-free
+returns-clause-free g c clean inside s holds =
     let old = state g.S.Store c.args.tx.now.conn.now in
     let new = state g.S.Store c.insert_triple.new.tx.conn.now in
-    (adds_triple old new s c.args.triple.now c.in-Ok.field-0 c.insert_triple.ensures.small holds (subst (λ n. Executes add_triple_text (Int (pos c.args.triple.now.user) ∷ Int (pos n) ∷ Int (pos c.args.triple.now.set) ∷ Int (pos c.args.triple.now.limit) ∷ []) old new (Ok c.in-Ok.field-0)) c.number-procedure.ensures (c.in-Ok.ensures.runs clean inside).0)).1
+    (adds_triple old new s c.args.triple.now c.in_ok-insert_triple.field-0 c.insert_triple.ensures.small holds (subst (λ n. Executes add_triple_text (Int (pos c.args.triple.now.user) ∷ Int (pos n) ∷ Int (pos c.args.triple.now.set) ∷ Int (pos c.args.triple.now.limit) ∷ []) old new (Ok c.in_ok-insert_triple.field-0)) c.number-procedure.ensures (c.in_ok-insert_triple.ensures.runs clean inside).0)).1

@@ -8,10 +8,10 @@ use Rattle.policy_tables.specs.Texts.{set_user_text}
 use Rattle.policy_tables.proofs.UserLemmas.{sets_user}
 use Rattle.policy_tables.proofs.users.set_user.Goals as goal
 
-pub returns-in-Ok-clause-steps : goal.returns-in-Ok-clause-steps
-returns-in-Ok-clause-steps g c clean inside s holds =
+pub returns-clause-steps : goal.returns-clause-steps
+returns-clause-steps g c clean inside s holds =
     let old = state g.S.Store c.args.tx.now.conn.now in
     let new = state g.S.Store c.update_user.new.tx.conn.now in
     let given = ap (given_user c.in_ok-cells.cells) c.as_str.ensures ∙ c.in_ok-cells.ensures in
-    write_steps set_user_text _ old new (Ok c.in-Ok.field-0) (record s { users = set_row user_no c.args.kept.now s.users }) (c.in-Ok.ensures.runs clean inside)
+    write_steps set_user_text _ old new (Ok c.in_ok-update_user.field-0) (record s { users = set_row user_no c.args.kept.now s.users }) (c.in_ok-update_user.ensures.runs clean inside)
     (λ count h. sets_user old new s c.args.kept.now count holds (subst (λ ps. Executes set_user_text ps old new (Ok count)) given h))

@@ -1,6 +1,6 @@
 use Rattle.std.proofs.Common.{sym, subst}
 use Rattle.cached.specs.Fresh.{AreFresh}
-use Rattle.cached.proofs.Entries.{put-first, put-fresh}
+use Rattle.cached.proofs.Entries.{entry_looked_up, put-first, put-fresh}
 use Rattle.cached.proofs.policy_cache.PolicyCache.remember.Goals as goal
 
 pub returns-in-Ok-clause-fresh : goal.returns-in-Ok-clause-fresh
@@ -12,3 +12,6 @@ returns-in-Ok-clause-first c = rw c.in-Ok.ensures.entries (put-first c.self.insi
 
 pub returns-clause-fresh : goal.returns-clause-fresh
 returns-clause-fresh c = λ w fresh present rows. rw c.in-Err.ensures.err (subst (AreFresh w) (sym c.self.view_is) fresh)
+
+pub returns-clause-succeeds : goal.returns-clause-succeeds
+returns-clause-succeeds c = λ there. c.in-Err.ensures.succeeds (entry_looked_up c.self.inside.entries.entries c.args.key (rw c.self.view_is there))
