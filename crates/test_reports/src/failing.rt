@@ -37,7 +37,10 @@ pub struct Failing {
     fails_at: u64,
     cause: Cause,
     stopped: bool,
-    faults: u64,
+    /// How often memory was refused.
+    refused: u64,
+    /// How often the disk failed, or a call was refused for that.
+    failed: u64,
 }
 
 impl Failing {
@@ -49,7 +52,8 @@ impl Failing {
             fails_at,
             cause,
             stopped: false,
-            faults: 0,
+            refused: 0,
+            failed: 0,
         }
     }
 
@@ -75,8 +79,13 @@ impl Failing {
         if self.reads != self.fails_at {
             return Ok(());
         }
-        self.faults = self.faults.saturating_add(1);
-        self.stopped = self.cause == Cause::Disk;
+        match self.cause {
+            Cause::Memory => self.refused = self.refused.saturating_add(1),
+            Cause::Disk => {
+                self.failed = self.failed.saturating_add(1);
+                self.stopped = true;
+            }
+        }
         Err(self.cause.fault())
     }
 
@@ -85,7 +94,7 @@ impl Failing {
         if !self.stopped {
             return Ok(());
         }
-        self.faults = self.faults.saturating_add(1);
+        self.failed = self.failed.saturating_add(1);
         Err(Fault::Stopped)
     }
 }
@@ -94,10 +103,16 @@ impl Stands for Failing {
     ghost use Rattle.std.specs.Prelude.{◌+◌};
     ghost use Rattle.store_rows.specs.ListStore.{list_status};
 
-    ghost status = { λ f. record (list_status f.store) { is_stopped = f.stopped; fault_count = f.faults + (list_status f.store).fault_count } };
+    ghost status = { λ f. record (list_status f.store) {
+      is_stopped = f.stopped;
+      fault_count = f.refused + f.failed + (list_status f.store).fault_count;
+      failure_count = f.failed + (list_status f.store).failure_count;
+    } };
 
     fn faults(&self) -> u64 {
-        self.faults.saturating_add(self.store.faults())
+        self.refused
+            .saturating_add(self.failed)
+            .saturating_add(self.store.faults())
     }
 }
 

@@ -4,6 +4,7 @@
 //! such a call the prover shows anew that they give what is asked of them, which takes half a minute.
 
 use crate::bank::{last_command, work};
+use crate::report_replies::{Asked, Ending, reported};
 use crate::runtime::Runtime;
 use crate::serving::answered;
 use crate::streams::Exchange;
@@ -40,6 +41,8 @@ pub enum Act<'a> {
     Work,
     /// These requests are served.
     Serve(&'a [Exchange]),
+    /// A report is asked for.
+    Ask(Asked<'a>),
     /// One more command is given, the last that the version has room for.
     Command,
     /// The bank tells of itself.
@@ -57,6 +60,8 @@ pub enum Outcome {
     Found(Result<(), AdoptFault>),
     /// How many requests got their reply.
     Served(usize),
+    /// How the reply to a report ended.
+    Reported(Ending),
     /// What the command answers: whether no rule denies it.
     Commanded(Result<bool, Fault>),
     /// What the bank tells.
@@ -91,6 +96,7 @@ fn done_over<S: Alter>(
             Outcome::Done
         }
         Act::Serve(stream) => Outcome::Served(answered(rt, &mut bank, stream)),
+        Act::Ask(asked) => Outcome::Reported(reported(rt, &mut bank, asked)),
         Act::Command => Outcome::Commanded(last_command(rt, &mut bank)),
         Act::Tell => Outcome::Told(told(rt, &mut bank.store)),
     };

@@ -23,6 +23,10 @@ mod policies;
 #[cfg(test)]
 mod refusals;
 #[cfg(test)]
+mod report_replies;
+#[cfg(test)]
+mod reporting;
+#[cfg(test)]
 mod runtime;
 #[cfg(test)]
 mod serving;

@@ -9,8 +9,8 @@ use crate::disks::{
 use crate::making::sample_held;
 use crate::runtime::Runtime;
 use crate::streams::{
-    CLOSING, COMMANDS, ENDING, Exchange, FAILED, OPENING, POST, RELEASED, STOPPED, TRANSFER, is_reply,
-    reply,
+    CLOSING, COMMANDS, ENDING, Exchange, FAILED, OPENING, POST, RELEASED, STOPPED, TRANSFER,
+    is_reply, reply,
 };
 use crate::tellings::{Tale, tale_of, told};
 use sample_bank::sample_world;

@@ -1,7 +1,7 @@
 //! Requests, and the replies that are due to them.
 
 use crate::runtime::Runtime;
-use counter_api::serve;
+use counter_api::{ServeFault, Served, serve};
 use counter_clocks::{Fixed, Moment};
 use money::Tallied;
 use sample_service::SampleBadges;
@@ -220,22 +220,40 @@ impl Write for Kept {
     }
 }
 
-/// The reply of a bank to a request, on a connection of its own.
-pub fn reply<S: Store>(rt: &impl Runtime, bank: &mut Bank<S>, exchange: &Exchange) -> Vec<u8> {
-    let request = request_of(rt, exchange);
+/// What came of a message.
+#[derive(Drop)]
+pub struct Run {
+    /// How it ended.
+    pub end: Result<Served, ServeFault>,
+    /// What was written.
+    pub bytes: Vec<u8>,
+}
+
+/// Has a bank answer a message, on a connection of its own.
+pub fn run<S: Store>(rt: &impl Runtime, bank: &mut Bank<S>, message: &[u8]) -> Run {
     let mut written = Tallied::new(Kept {
         bytes: Vec::new(rt.alloc()),
     });
     let moment = Moment::new(700).expect(rt, "a moment");
-    let served = serve(
+    let end = serve(
         rt.alloc(),
-        &mut Tallied::new(request.as_bytes()),
+        &mut Tallied::new(message),
         &mut written,
         bank,
         &SampleBadges,
         &mut Fixed { moment },
         10,
     );
-    assert!(rt; served.is_ok());
-    written.into_inner().bytes
+    Run {
+        end,
+        bytes: written.into_inner().bytes,
+    }
+}
+
+/// The reply of a bank to a request, on a connection of its own.
+pub fn reply<S: Store>(rt: &impl Runtime, bank: &mut Bank<S>, exchange: &Exchange) -> Vec<u8> {
+    let request = request_of(rt, exchange);
+    let run = run(rt, bank, request.as_bytes());
+    assert!(rt; run.end.is_ok());
+    run.bytes
 }
