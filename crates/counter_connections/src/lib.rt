@@ -1,8 +1,8 @@
 //! Serves connections over any store, to the users of any gate. `serve_connections` serves them one after
-//! another until so many messages are counted: a fault of serving ends its connection alone, and each takes
-//! over the bank as the one before left it. `serve_port` binds a port of 127.0.0.1 first, and says so;
+//! another until enough messages are counted: a fault of serving ends its connection alone, and each takes
+//! over the bank as the one before left it. `serve_port` binds a port of 127.0.0.1 first;
 //! `serve_port_behind_cache` puts a cache before the store. A client that is silent for 30 seconds, or stays
-//! for 120, is let go. That the limits work on the machine's sockets is only tested.
+//! for 120, is let go. How sockets keep these limits is only tested.
 #![tactic(auto)]
 
 mod connection;
