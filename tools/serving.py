@@ -1,4 +1,5 @@
 """The built program as it serves connections over a bank in a file."""
+import contextlib
 import itertools
 import os
 import socket
@@ -47,19 +48,18 @@ def connected(port):
 def read_to_end(client):
     """What comes until the connection ends, however it ends."""
     got = b""
-    try:
+    with contextlib.suppress(ConnectionError):
         while piece := client.recv(65536):
             got += piece
-    except ConnectionError:
-        pass
     return got
 
 
 def asked(port, given):
-    """What a client gets that sends these bytes and says that no more come."""
+    """What a client gets that sends these bytes and says that no more come, if the connection is still there."""
     with connected(port) as client:
-        client.sendall(given)
-        client.shutdown(socket.SHUT_WR)
+        with contextlib.suppress(OSError):
+            client.sendall(given)
+            client.shutdown(socket.SHUT_WR)
         return read_to_end(client)
 
 
