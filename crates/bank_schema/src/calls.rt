@@ -1,4 +1,4 @@
-//! The calls of the database. Each names the error that it told, and no other function does.
+//! The calls of the database. Each names the error that it told.
 
 ghost use Rattle.std.specs.Prelude.{◌≡◌, false, [], IfErr, IfOk, IsTrue, OnOk};
 ghost use Rattle.sqlite.specs.Held.{state};
