@@ -1,4 +1,5 @@
-ghost use Rattle.std.specs.Prelude.{◌≡◌, ◌∷◌, [], pos, IfOk, IsTrue};
+ghost use Rattle.std.specs.Prelude.{◌≡◌, ◌≤◌, ◌∷◌, ◌^◌, [], pos, IfErr, IfOk, IsTrue};
+ghost use Rattle.money.specs.declared.fault.Fault.TheVariants.{Size};
 ghost use Rattle.sqlite.specs.Held.{state};
 ghost use Rattle.sqlite.specs.State.{HasCleanDisk, Survives};
 ghost use Rattle.sqlite.specs.declared.types.Value.TheVariants.{Int};
@@ -47,7 +48,8 @@ struct VersionCells {
 }
 
 fn cells_of(version: u64) -> Result<VersionCells, Fault>
-    ensures { IfOk result (λ c. given_version c ≡ Int (pos version) ∷ []) }
+    ensures cells { IfOk result (λ c. given_version c ≡ Int (pos version) ∷ []) }
+    ensures err { IfErr result (λ fault. (fault ≡ Size) × (2 ^ 63 ≤ version)) }
 {
     Ok(VersionCells {
         version: count_cell(version)?,

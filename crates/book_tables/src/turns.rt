@@ -1,5 +1,6 @@
-ghost use Rattle.std.specs.Prelude.{◌≡◌, ◌<◌, ◌∷◌, [], ℕ, pos, map, take, IfOk, IsTrue, OnOk};
+ghost use Rattle.std.specs.Prelude.{◌≡◌, ◌<◌, ◌≤◌, ◌∷◌, ◌^◌, [], ℕ, pos, map, take, IfErr, IfOk, IsTrue, OnOk};
 ghost use Rattle.std.specs.List.{filter, find};
+ghost use Rattle.money.specs.declared.fault.Fault.TheVariants.{Size};
 ghost use Rattle.sqlite.specs.Held.{state};
 ghost use Rattle.sqlite.specs.State.{HasCleanDisk, Survives};
 ghost use Rattle.sqlite.specs.declared.types.Value.TheVariants.{Int};
@@ -26,7 +27,8 @@ struct TurnCells {
 }
 
 fn cells_of(account: u32, turn: u64) -> Result<TurnCells, Fault>
-    ensures { IfOk result (λ c. given_turn c ≡ Int (pos account) ∷ Int (pos turn) ∷ []) }
+    ensures cells { IfOk result (λ c. given_turn c ≡ Int (pos account) ∷ Int (pos turn) ∷ []) }
+    ensures err { IfErr result (λ fault. (fault ≡ Size) × (2 ^ 63 ≤ turn)) }
 {
     Ok(TurnCells {
         account,

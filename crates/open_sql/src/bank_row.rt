@@ -1,16 +1,18 @@
-ghost use Rattle.std.specs.Prelude.{◌≡◌, ◌∷◌, [], pos, IfOk, IsTrue};
+ghost use Rattle.std.specs.Prelude.{◌≡◌, ◌≤◌, ◌∷◌, ◌^◌, [], pos, IfErr, IfOk, IsTrue};
+ghost use Rattle.money.specs.declared.fault.Fault.TheVariants.{Size};
 ghost use Rattle.sqlite.specs.Held.{state};
-ghost use Rattle.sqlite.specs.State.{ExecutesInside, HasCleanDisk, Survives};
+ghost use Rattle.sqlite.specs.State.{HasCleanDisk, Survives};
 ghost use Rattle.sqlite.specs.declared.types.Value.TheVariants.{Int};
 ghost use Rattle.bank_schema.specs.Held.{HoldsTables};
 ghost use Rattle.bank_schema.specs.Schema.{bank_schema};
+ghost use Rattle.bank_schema.specs.Told.{Runs};
 ghost use Rattle.open_sql.specs.Blank.{IsBlank, bare};
 ghost use Rattle.open_sql.specs.Goes.{Goes};
 ghost use Rattle.open_sql.specs.Texts.{add_bank_text};
 
-use bank_schema::{count_cell, fault_of};
+use bank_schema::{count_cell, run};
 use money::Fault;
-use sqlite::{Alter, Error, Transaction, params};
+use sqlite::{Alter, Transaction, params};
 
 /// What is given with the statement that writes the row of the bank.
 #[derive(Drop)]
@@ -19,19 +21,21 @@ struct BankCells {
 }
 
 fn cells_of(version: u64) -> Result<BankCells, Fault>
-    ensures { IfOk result (λ c. c.policy ≡ pos version) }
+    ensures cells { IfOk result (λ c. c.policy ≡ pos version) }
+    ensures err { IfErr result (λ fault. (fault ≡ Size) × (2 ^ 63 ≤ version)) }
 {
     Ok(BankCells {
         policy: count_cell(version)?,
     })
 }
 
-fn insert_bank<S: Alter>(tx: &mut Transaction<'_, S>, cells: &BankCells) -> Result<usize, Error>
+fn insert_bank<S: Alter>(tx: &mut Transaction<'_, S>, cells: &BankCells) -> Result<usize, Fault>
     ensures same_reference { tx.new.conn.ghost_name ≡ tx.old.conn.ghost_name }
-    ensures runs { HasCleanDisk (state S.Store tx.new.conn.now) → IsTrue (state S.Store tx.old.conn.now).in_transaction → ExecutesInside 0 add_bank_text (Int cells.now.policy ∷ []) (state S.Store tx.old.conn.now) (state S.Store tx.new.conn.now) result }
+    ensures runs { HasCleanDisk (state S.Store tx.new.conn.now) → IsTrue (state S.Store tx.old.conn.now).in_transaction → Runs add_bank_text (Int cells.now.policy ∷ []) (state S.Store tx.old.conn.now) (state S.Store tx.new.conn.now) result }
     ensures survives { Survives (state S.Store tx.old.conn.now) (state S.Store tx.new.conn.now) (λ _. ⊥) }
 {
-    tx.execute(
+    run(
+        tx,
         "INSERT INTO bank (id, version, policy) VALUES (1, 1, ?1)",
         params![&cells.policy],
     )
@@ -45,8 +49,6 @@ pub(crate) fn add_bank<S: Alter>(tx: &mut Transaction<'_, S>, version: u64) -> R
     ensures survives { Survives (state S.Store tx.old.conn.now) (state S.Store tx.new.conn.now) (λ _. ⊥) }
 {
     let cells = cells_of(version)?;
-    match insert_bank(tx, &cells) {
-        Ok(_) => Ok(()),
-        Err(error) => Err(fault_of(error)),
-    }
+    insert_bank(tx, &cells)?;
+    Ok(())
 }

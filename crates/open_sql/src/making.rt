@@ -14,7 +14,7 @@ use crate::filling::fill;
 use crate::open_fault::OpenFault;
 use crate::tables::make_tables;
 use bank_books::World;
-use bank_schema::fault_of;
+use bank_schema::commit;
 use book_sums::Kept;
 use money::Fault;
 use sqlite::{Alter, Connection, Transaction};
@@ -65,10 +65,7 @@ fn commit_bank<S: Alter>(
 {
     let mut tx = conn.transaction();
     write_bank(alloc, &mut tx, world, kept)?;
-    match tx.commit() {
-        Ok(()) => Ok(()),
-        Err(error) => Err(fault_of(error)),
-    }
+    commit(tx)
 }
 
 /// Makes a bank of this World in a database that has no table, no index and no view: its tables, and in

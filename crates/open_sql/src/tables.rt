@@ -6,7 +6,7 @@ ghost use Rattle.sqlite.specs.State.{Executes, HasCleanDisk, KeepsCommit, Surviv
 ghost use Rattle.open_sql.specs.Blank.{IsBlank, begun};
 ghost use Rattle.open_sql.specs.Goes.{Goes};
 
-use bank_schema::fault_of;
+use bank_schema::run;
 use money::Fault;
 use sqlite::{Alter, Transaction, params};
 
@@ -16,10 +16,8 @@ fn define<S: Alter>(tx: &mut Transaction<'_, S>, sql: &str) -> Result<(), Fault>
     ensures ran { HasCleanDisk (state S.Store tx.new.conn.now) → IsTrue (state S.Store tx.old.conn.now).in_transaction → OnOk result (IsTrue (state S.Store tx.new.conn.now).in_transaction × (count : ℕ) × Executes sql.now [] (state S.Store tx.old.conn.now) (state S.Store tx.new.conn.now) (Ok count)) × KeepsCommit (state S.Store tx.old.conn.now) (state S.Store tx.new.conn.now) }
     ensures survives { Survives (state S.Store tx.old.conn.now) (state S.Store tx.new.conn.now) (λ _. ⊥) }
 {
-    match tx.execute(sql, params![]) {
-        Ok(_) => Ok(()),
-        Err(error) => Err(fault_of(error)),
-    }
+    run(tx, sql, params![])?;
+    Ok(())
 }
 
 /// The tables of the bank, of users, and of sets with their members.

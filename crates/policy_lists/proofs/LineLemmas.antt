@@ -5,7 +5,7 @@ use Rattle.std.specs.declared.alloc.Global.{Global}
 use Rattle.std.specs.List.{find}
 use Rattle.std.proofs.lemmas.List.{get_or-map, length-map, map-append, take_all, take_more}
 use Rattle.sqlite.specs.Order.{Row}
-use Rattle.sqlite.specs.declared.error.Error.{Error}
+use Rattle.money.specs.declared.fault.Fault.{Fault}
 use Rattle.sqlite_keyed.proofs.ListLemmas.{all_of, filter_all}
 use Rattle.kept_rows.proofs.RowLemmas.{find-map}
 use Rattle.kept_rows.specs.Sheets.{Sheets}
@@ -114,5 +114,5 @@ read_as k l is row line reads = subst (λ m. (there : RowOf m) → row ≡ cells
 abbrev pub Shows : Sheets → Option Columns → ℤ → LineKind → Vec Row Global → Type 0
 Shows s after count k rows = rows.items ≡ at_most count (map (cells_of k) (filter (λ r. is_past after (line_of k r)) (rows_of s k)))
 
-pub shown_as : (k l : LineKind) → k ≡ l → (s : Sheets) (after : Option Columns) (count : ℤ) (result : Result (Vec Row Global) Error) → IfOk result (Shows s after count l) → IfOk result (Shows s after count k)
+pub shown_as : (k l : LineKind) → k ≡ l → (s : Sheets) (after : Option Columns) (count : ℤ) (result : Result (Vec Row Global) Fault) → IfOk result (Shows s after count l) → IfOk result (Shows s after count k)
 shown_as k l is s after count result shows = subst (λ m. IfOk result (Shows s after count m)) (sym is) shows

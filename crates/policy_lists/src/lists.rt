@@ -12,7 +12,6 @@ use crate::kinds::LineKind;
 use crate::parts::whole;
 use crate::read::read_lines;
 use crate::selects::select_lines;
-use bank_schema::fault_of;
 use money::Fault;
 use row_reads::PolicyRow;
 use sqlite::{Alter, Transaction};
@@ -32,10 +31,8 @@ fn add_lines<S: Alter>(
     ensures survives { Survives (state S.Store tx.old.conn.now) (state S.Store tx.new.conn.now) (λ _. ⊥) }
 {
     let part = whole();
-    match select_lines(tx, kind, &part) {
-        Ok(rows) => read_lines(alloc, kind, &rows, lines),
-        Err(error) => Err(fault_of(error)),
-    }
+    let rows = select_lines(tx, kind, &part)?;
+    read_lines(alloc, kind, &rows, lines)
 }
 
 /// Adds the lines of this kind and of those behind it.

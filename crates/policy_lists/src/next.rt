@@ -16,7 +16,6 @@ use crate::kinds::LineKind;
 use crate::parts::next_behind;
 use crate::read::read_line;
 use crate::selects::select_lines;
-use bank_schema::fault_of;
 use money::Fault;
 use row_reads::{PolicyKey, PolicyRow};
 use sqlite::{Alter, Transaction};
@@ -36,10 +35,7 @@ fn next_line<S: Alter>(
     ensures survives { Survives (state S.Store tx.old.conn.now) (state S.Store tx.new.conn.now) (λ _. ⊥) }
 {
     let part = next_behind(after);
-    let rows = match select_lines(tx, kind, &part) {
-        Ok(rows) => rows,
-        Err(error) => return Err(fault_of(error)),
-    };
+    let rows = select_lines(tx, kind, &part)?;
     match rows.first() {
         Some(row) => Ok(Some(read_line(alloc, kind, row)?)),
         None => Ok(None),

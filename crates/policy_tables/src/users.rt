@@ -1,5 +1,6 @@
-ghost use Rattle.std.specs.Prelude.{◌≡◌, ◌==◌, ◌∷◌, [], pos, map, IfOk, IsTrue};
+ghost use Rattle.std.specs.Prelude.{◌≡◌, ◌==◌, ◌≤◌, ◌∷◌, ◌^◌, [], pos, map, IfErr, IfOk, IsTrue};
 ghost use Rattle.std.specs.List.{cons_option, find};
+ghost use Rattle.money.specs.declared.fault.Fault.TheVariants.{Size};
 ghost use Rattle.sqlite.specs.Held.{state};
 ghost use Rattle.sqlite.specs.State.{HasCleanDisk, Survives};
 ghost use Rattle.sqlite.specs.declared.types.Value.TheVariants.{Int};
@@ -90,7 +91,8 @@ fn truth_number(truth: bool) -> u32
 }
 
 fn cells_of(kept: &KeptUser) -> Result<UserCells, Fault>
-    ensures { IfOk result (λ c. given_user c kept.now.row.name ≡ shown_user kept.now) }
+    ensures cells { IfOk result (λ c. given_user c kept.now.row.name ≡ shown_user kept.now) }
+    ensures err { IfErr result (λ fault. (fault ≡ Size) × (2 ^ 63 ≤ kept.now.releases)) }
 {
     Ok(UserCells {
         user: kept.row.user,

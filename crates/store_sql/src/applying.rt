@@ -8,7 +8,7 @@ ghost use Rattle.bank_schema.specs.Held.{AreOfWorld, HoldsBank};
 ghost use Rattle.bank_schema.specs.Steps.{Moves, StaysOpen};
 
 use bank_books::RowWrite;
-use bank_schema::fault_of;
+use bank_schema::commit;
 use book_tables::version_of;
 use money::Fault;
 use sqlite::{Alter, Connection, Transaction};
@@ -46,8 +46,5 @@ pub(crate) fn apply_plan<S: Alter>(
     let mut tx = conn.transaction();
     look(&mut tx)?;
     write_plan(alloc, &mut tx, plan)?;
-    match tx.commit() {
-        Ok(()) => Ok(()),
-        Err(error) => Err(fault_of(error)),
-    }
+    commit(tx)
 }

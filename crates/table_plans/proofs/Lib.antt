@@ -1,5 +1,6 @@
 pub mod KeptLemmas
 pub mod PlaceLemmas
 pub mod PlanLemmas
+pub mod RequiredLemmas
 pub mod SetLemmas
 pub mod ThenLemmas

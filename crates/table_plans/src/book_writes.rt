@@ -8,11 +8,13 @@ ghost use Rattle.bank_books.specs.Effects.{on_day, written};
 ghost use Rattle.bank_books.specs.Keys.{release_key};
 ghost use Rattle.bank_books.specs.declared.row_write.RowWrite.TheVariants as write;
 ghost use Rattle.kept_rows.specs.Changes.{account_sheets, drawer_sheets, entry_sheets, vault_sheets};
-ghost use Rattle.kept_rows.specs.Named.{AreOfEntry, AreOfLine, IsAccountRow, IsBranchRow, IsFree, IsTellerRow, IsUserRow};
+ghost use Rattle.kept_rows.specs.Named.{AreOfEntry, AreOfLine, IsAccountRow, IsBranchRow, IsFree, IsTellerRow};
 ghost use Rattle.kept_rows.specs.Sheets.{Sheets, account_no, set_row, user_no};
 ghost use Rattle.bank_schema.specs.Held.{HoldsTables};
 ghost use Rattle.bank_schema.specs.Steps.{Moves, Steps, Tells};
 
+use crate::policy_writes::user_row;
+use crate::required::required;
 use bank_books::{
     Account, AccountRecord, BranchDay, BranchRecord, CashLine, Entry, Proof, Release, ReleaseKey,
 };
@@ -25,7 +27,7 @@ use kept_rows::{
     with_entry, with_release, with_vault_line,
 };
 use money::Fault;
-use policy_tables::{set_user, user_of};
+use policy_tables::set_user;
 use sqlite::{Alter, Transaction};
 use std::alloc::Global;
 
@@ -36,10 +38,7 @@ fn account_row<S: Alter>(tx: &mut Transaction<'_, S>, account: u32) -> Result<Ac
     ensures steps { Steps (state S.Store tx.old.conn.now) (state S.Store tx.new.conn.now) (λ s. s) result }
     ensures survives { Survives (state S.Store tx.old.conn.now) (state S.Store tx.new.conn.now) (λ _. ⊥) }
 {
-    match account_of(tx, account)? {
-        Some(row) => Ok(row),
-        None => Err(Fault::Disk),
-    }
+    required(account_of(tx, account)?)
 }
 
 /// The teller of this number. One that isn't there is a fault of the disk.
@@ -49,10 +48,7 @@ fn teller_row<S: Alter>(tx: &mut Transaction<'_, S>, teller: u32) -> Result<Kept
     ensures steps { Steps (state S.Store tx.old.conn.now) (state S.Store tx.new.conn.now) (λ s. s) result }
     ensures survives { Survives (state S.Store tx.old.conn.now) (state S.Store tx.new.conn.now) (λ _. ⊥) }
 {
-    match teller_of(tx, teller)? {
-        Some(row) => Ok(row),
-        None => Err(Fault::Disk),
-    }
+    required(teller_of(tx, teller)?)
 }
 
 /// The branch of this number. One that isn't there is a fault of the disk.
@@ -62,10 +58,7 @@ fn branch_row<S: Alter>(tx: &mut Transaction<'_, S>, branch: u32) -> Result<Bran
     ensures steps { Steps (state S.Store tx.old.conn.now) (state S.Store tx.new.conn.now) (λ s. s) result }
     ensures survives { Survives (state S.Store tx.old.conn.now) (state S.Store tx.new.conn.now) (λ _. ⊥) }
 {
-    match branch_of(tx, branch)? {
-        Some(row) => Ok(row),
-        None => Err(Fault::Disk),
-    }
+    required(branch_of(tx, branch)?)
 }
 
 /// The rows whose numbers an entry moves.
@@ -118,10 +111,8 @@ pub(crate) fn write_entry<S: Alter>(tx: &mut Transaction<'_, S>, entry: &Entry) 
     ensures survives { Survives (state S.Store tx.old.conn.now) (state S.Store tx.new.conn.now) (λ _. ⊥) }
 {
     let named = rows_of_entry(tx, entry)?;
-    match with_entry(&named.account, &named.teller, &named.branch, entry) {
-        Some(rows) => put_entry(tx, &rows),
-        None => Err(Fault::Disk),
-    }
+    let rows = required(with_entry(&named.account, &named.teller, &named.branch, entry))?;
+    put_entry(tx, &rows)
 }
 
 /// The rows whose numbers a line at a drawer moves.
@@ -165,10 +156,8 @@ fn write_drawer_line<S: Alter>(tx: &mut Transaction<'_, S>, line: &CashLine) -> 
     ensures survives { Survives (state S.Store tx.old.conn.now) (state S.Store tx.new.conn.now) (λ _. ⊥) }
 {
     let named = rows_of_line(tx, line)?;
-    match with_drawer_line(&named.teller, &named.branch, line) {
-        Some(rows) => put_drawer_line(tx, line, &rows),
-        None => Err(Fault::Disk),
-    }
+    let rows = required(with_drawer_line(&named.teller, &named.branch, line))?;
+    put_drawer_line(tx, line, &rows)
 }
 
 /// Writes the branch that a line at the vault moves, and the line.
@@ -192,10 +181,8 @@ fn write_vault_line<S: Alter>(tx: &mut Transaction<'_, S>, line: &CashLine) -> R
     ensures survives { Survives (state S.Store tx.old.conn.now) (state S.Store tx.new.conn.now) (λ _. ⊥) }
 {
     let branch = branch_row(tx, line.branch)?;
-    match with_vault_line(&branch, line) {
-        Some(after) => put_vault_line(tx, line, &after),
-        None => Err(Fault::Disk),
-    }
+    let after = required(with_vault_line(&branch, line))?;
+    put_vault_line(tx, line, &after)
 }
 
 /// Writes a line of a cash book.
@@ -235,10 +222,8 @@ pub(crate) fn write_account<S: Alter>(
     ensures survives { Survives (state S.Store tx.old.conn.now) (state S.Store tx.new.conn.now) (λ _. ⊥) }
 {
     let home = branch_row(tx, account.home)?;
-    match with_account(&home, account) {
-        Some(rows) => put_account(tx, &rows),
-        None => Err(Fault::Disk),
-    }
+    let rows = required(with_account(&home, account))?;
+    put_account(tx, &rows)
 }
 
 /// Writes the proof of a day that none proves yet.
@@ -282,23 +267,6 @@ pub(crate) fn write_day<S: Alter>(tx: &mut Transaction<'_, S>, day: &BranchDay) 
     set_branch(tx, &after)
 }
 
-/// The user of this number. One who isn't there is a fault of the disk.
-fn user_row<S: Alter>(
-    alloc: Global,
-    tx: &mut Transaction<'_, S>,
-    user: u32,
-) -> Result<KeptUser, Fault>
-    ensures same_reference { tx.new.conn.ghost_name ≡ tx.old.conn.ghost_name }
-    ensures told { HasCleanDisk (state S.Store tx.new.conn.now) → IsTrue (state S.Store tx.old.conn.now).in_transaction → (s : Sheets) → HoldsTables (state S.Store tx.old.conn.now).now s → IfOk result (λ row. IsUserRow s user row) }
-    ensures steps { Steps (state S.Store tx.old.conn.now) (state S.Store tx.new.conn.now) (λ s. s) result }
-    ensures survives { Survives (state S.Store tx.old.conn.now) (state S.Store tx.new.conn.now) (λ _. ⊥) }
-{
-    match user_of(alloc, tx, user)? {
-        Some(row) => Ok(row),
-        None => Err(Fault::Disk),
-    }
-}
-
 /// Writes a release and its user, who has one more.
 fn put_release<S: Alter>(
     tx: &mut Transaction<'_, S>,
@@ -324,11 +292,6 @@ pub(crate) fn write_release<S: Alter>(
     ensures survives { Survives (state S.Store tx.old.conn.now) (state S.Store tx.new.conn.now) (λ _. ⊥) }
 {
     let mut user = user_row(alloc, tx, release.user)?;
-    match with_release(user.releases, release) {
-        Some(releases) => {
-            user.releases = releases;
-            put_release(tx, release, &user)
-        }
-        None => Err(Fault::Disk),
-    }
+    user.releases = required(with_release(user.releases, release))?;
+    put_release(tx, release, &user)
 }

@@ -8,6 +8,7 @@ mod book_writes;
 mod plan_writes;
 mod policy_writes;
 mod posting_writes;
+mod required;
 mod version_writes;
 
 pub use plan_writes::write_plan;

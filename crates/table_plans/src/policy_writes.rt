@@ -1,7 +1,7 @@
 //! Changes of the policy inside a transaction, and a user's session: each makes of the World that the tables hold what its
 //! definition says, or answers the fault that kept it from that.
 
-ghost use Rattle.std.specs.Prelude.{◌≡◌, ◌<◌, ◌^◌, length, IfOk, OnOk};
+ghost use Rattle.std.specs.Prelude.{◌≡◌, ◌<◌, ◌↔◌, ◌^◌, length, IfOk, IsTrue, OnOk};
 ghost use Rattle.sqlite.specs.Held.{state};
 ghost use Rattle.sqlite.specs.State.{HasCleanDisk, Survives};
 ghost use Rattle.bank_policy.specs.declared.policy_write.PolicyWrite.TheVariants as policy;
@@ -14,6 +14,7 @@ ghost use Rattle.kept_rows.specs.Sheets.{Sheets, member_no};
 ghost use Rattle.bank_schema.specs.Held.{HoldsTables};
 ghost use Rattle.bank_schema.specs.Steps.{Moves, Steps};
 
+use crate::required::required;
 use bank_policy::{
     Certifier, ItemSet, Name, PolicyWrite, Relation, RelationKey, Session, Suspension, Triple,
     TripleKey, User,
@@ -116,7 +117,7 @@ fn write_user<S: Alter>(
 }
 
 /// The user of this number. One who isn't there is a fault of the disk.
-fn found_user<S: Alter>(
+pub(crate) fn user_row<S: Alter>(
     alloc: Global,
     tx: &mut Transaction<'_, S>,
     user: u32,
@@ -126,11 +127,7 @@ fn found_user<S: Alter>(
     ensures steps { Steps (state S.Store tx.old.conn.now) (state S.Store tx.new.conn.now) (λ s. s) result }
     ensures survives { Survives (state S.Store tx.old.conn.now) (state S.Store tx.new.conn.now) (λ _. ⊥) }
 {
-    match policy_tables::user_of(alloc, tx, user) {
-        Ok(Some(kept)) => Ok(kept),
-        Ok(None) => Err(Fault::Disk),
-        Err(fault) => Err(fault),
-    }
+    required(policy_tables::user_of(alloc, tx, user)?)
 }
 
 /// A user's latest session. Where the user isn't there it is a fault of the disk.
@@ -143,7 +140,7 @@ pub fn write_session<S: Alter>(
     ensures moves { Moves (state S.Store tx.old.conn.now) (state S.Store tx.new.conn.now) (written (write.Session session.now)) result }
     ensures survives { Survives (state S.Store tx.old.conn.now) (state S.Store tx.new.conn.now) (λ _. ⊥) }
 {
-    let mut kept = found_user(alloc, tx, session.user)?;
+    let mut kept = user_row(alloc, tx, session.user)?;
     kept.row.session = session.session;
     kept.row.on = session.on;
     policy_tables::set_user(tx, &kept)
@@ -159,10 +156,17 @@ fn write_suspension<S: Alter>(
     ensures moves { Moves (state S.Store tx.old.conn.now) (state S.Store tx.new.conn.now) (written (write.Policy (policy.Suspended suspension.now))) result }
     ensures survives { Survives (state S.Store tx.old.conn.now) (state S.Store tx.new.conn.now) (λ _. ⊥) }
 {
-    let mut kept = found_user(alloc, tx, suspension.user)?;
+    let mut kept = user_row(alloc, tx, suspension.user)?;
     kept.row.suspended = suspension.suspended;
     kept.row.on = false;
     policy_tables::set_user(tx, &kept)
+}
+
+/// Whether so many members have a place each, which is a number of 32 bits from 1 on.
+fn has_places(members: usize) -> bool
+    ensures { IsTrue result ↔ (members < 2 ^ 32) }
+{
+    members <= u32::MAX as usize
 }
 
 /// The members of a set, at places 1, 2 and so on. More of them than places go is a fault of size.
@@ -174,7 +178,7 @@ pub fn write_members<S: Alter>(tx: &mut Transaction<'_, S>, row: &ItemSet) -> Re
 {
     let set = row.set();
     let members = row.members();
-    if members.len() > u32::MAX as usize {
+    if !has_places(members.len()) {
         return Err(Fault::Size);
     }
     let mut place = 0;

@@ -9,6 +9,7 @@ ghost use Rattle.kept_rows.specs.Changes.{posting_sheets};
 ghost use Rattle.bank_schema.specs.Steps.{Moves, Steps};
 
 use crate::book_writes::{put_entry, rows_of_entry};
+use crate::required::required;
 use bank_books::{CashLine, Entry};
 use history_tables::add_line;
 use kept_rows::{EntryRows, with_posting};
@@ -41,8 +42,6 @@ pub(crate) fn write_posting<S: Alter>(
     ensures survives { Survives (state S.Store tx.old.conn.now) (state S.Store tx.new.conn.now) (λ _. ⊥) }
 {
     let named = rows_of_entry(tx, entry)?;
-    match with_posting(&named.account, &named.teller, &named.branch, entry, line) {
-        Some(rows) => put_posting(tx, line, &rows),
-        None => Err(Fault::Disk),
-    }
+    let rows = required(with_posting(&named.account, &named.teller, &named.branch, entry, line))?;
+    put_posting(tx, line, &rows)
 }

@@ -1,8 +1,9 @@
 //! The version of the policy inside a transaction.
 
-ghost use Rattle.std.specs.Prelude.{◌≡◌, true, IsTrue, List, OnOk};
+ghost use Rattle.std.specs.Prelude.{◌≡◌, ◌<◌, ◌↔◌, true, IsTrue, List, OnOk};
 ghost use Rattle.sqlite.specs.Held.{state};
 ghost use Rattle.sqlite.specs.State.{HasCleanDisk, Survives};
+ghost use Rattle.bank_terms.specs.Limits.{max_version};
 ghost use Rattle.bank_books.specs.Version.{has_version_for, with_version};
 ghost use Rattle.bank_books.specs.WorldLists.{WorldLists};
 ghost use Rattle.bank_books.specs.declared.row_write.RowWrite.{RowWrite as TheWrite};
@@ -14,6 +15,13 @@ use book_tables::{set_version, version_of};
 use money::Fault;
 use sqlite::{Alter, Transaction};
 
+/// Whether a version comes behind this one.
+fn has_room(version: u64) -> bool
+    ensures { IsTrue result ↔ (version < max_version) }
+{
+    version < MAX_VERSION
+}
+
 /// The next version of the policy. Where the version is the last one it is a fault of size.
 pub fn raise_version<S: Alter>(tx: &mut Transaction<'_, S>) -> Result<(), Fault>
     ensures same_reference { tx.new.conn.ghost_name ≡ tx.old.conn.ghost_name }
@@ -22,9 +30,8 @@ pub fn raise_version<S: Alter>(tx: &mut Transaction<'_, S>) -> Result<(), Fault>
     ensures survives { Survives (state S.Store tx.old.conn.now) (state S.Store tx.new.conn.now) (λ _. ⊥) }
 {
     let version = version_of(tx)?;
-    if version < MAX_VERSION {
-        set_version(tx, version + 1)
-    } else {
-        Err(Fault::Size)
+    if !has_room(version) {
+        return Err(Fault::Size);
     }
+    set_version(tx, version + 1)
 }

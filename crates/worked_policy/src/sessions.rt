@@ -90,3 +90,18 @@ fn sessions_end_with_their_last_number(rt: HostRuntime) {
     door.ends(&rt, tess(999_999_999), r#"{"ended":999999999}"#);
     door.stays_shut(&rt, Some(7), Rule::Full);
 }
+
+/// A session of four digits is ended as any other.
+#[test]
+fn the_session_after_999_others_is_opened_and_ended(rt: HostRuntime) {
+    let mut door = Door::of_sample(&rt, rt.alloc());
+    let before = Session {
+        user: 7,
+        session: 999,
+        on: true,
+    };
+    door.write(&rt, before);
+    door.opens(&rt, 7, r#"{"session":1000}"#);
+    door.ends(&rt, tess(1_000), r#"{"ended":1000}"#);
+    door.opens(&rt, 7, r#"{"session":1001}"#);
+}

@@ -1,15 +1,16 @@
 //! A bank that is made in a database and asked.
 
 use crate::compare::same;
-use crate::store::{connection_of, sample_tables};
-use bank_books::{Account, World};
+use crate::store::{connection_of, sample_tables, store_over};
+use bank_books::{Account, Lists, World};
 use book_check::BooksFault;
 use money::Cents;
 use open_sql::{OpenFault, make_bank};
-use sample_bank::sample_world;
+use sample_bank::{sample_policy, sample_world};
 use sqlite::{Alter, Connection};
 use std::alloc::Global;
 use std::process::Abort;
+use store_rows::PolicyReads;
 
 /// What making a bank of this World in a database answers.
 fn made<S: Alter>(
@@ -53,4 +54,17 @@ fn no_bank_is_made_whose_books_do_not_hold(rt: HostRuntime) {
     same(&rt, made(&rt, alloc, &mut conn, &unsound), refused);
     let sound = sample_world(alloc).expect(&rt, "memory");
     same(&rt, made(&rt, alloc, &mut conn, &sound), Ok(()));
+}
+
+/// A bank whose policy was changed a million times before, as one that was kept in lists.
+#[test]
+fn a_bank_of_a_version_of_seven_digits_is_made_and_found(rt: HostRuntime) {
+    let alloc = rt.alloc();
+    let policy = sample_policy(alloc).expect(&rt, "memory");
+    let world = World::from_lists(Lists::new(alloc), policy, 1_000_000);
+    let world = world.expect(&rt, "rows in order");
+    let mut conn = Connection::open_in_memory(alloc).expect(&rt, "memory");
+    same(&rt, made(&rt, alloc, &mut conn, &world), Ok(()));
+    let mut store = store_over(&rt, conn);
+    same(&rt, store.version(alloc), Ok(1_000_000));
 }

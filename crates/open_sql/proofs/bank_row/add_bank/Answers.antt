@@ -8,9 +8,9 @@ use Rattle.open_sql.specs.Texts.{add_bank_text}
 use Rattle.open_sql.proofs.BankRowLemmas.{adds_bank}
 use Rattle.open_sql.proofs.bank_row.add_bank.Goals as goal
 
-pub returns-in-Ok-clause-goes : goal.returns-in-Ok-clause-goes
-returns-in-Ok-clause-goes g c clean inside blank =
+pub returns-clause-goes : goal.returns-clause-goes
+returns-clause-goes g c clean inside blank =
     let old = state g.S.Store c.args.tx.now.conn.now in
     let new = state g.S.Store c.insert_bank.new.tx.conn.now in
-    write_steps add_bank_text _ old new (Ok c.in-Ok.field-0) (bare c.args.version) (c.in-Ok.ensures.runs clean inside)
-    (λ count h. adds_bank old new c.args.version count blank (subst (λ n. Executes add_bank_text (Int n ∷ []) old new (Ok count)) c.in_ok-cells.ensures h))
+    write_steps add_bank_text _ old new (Ok c.in_ok-insert_bank.field-0) (bare c.args.version) (c.in_ok-insert_bank.ensures.runs clean inside)
+    (λ count h. adds_bank old new c.args.version count blank (subst (λ n. Executes add_bank_text (Int n ∷ []) old new (Ok count)) c.in_ok-cells.ensures.cells h))

@@ -5,14 +5,14 @@ use Rattle.policy_lists.specs.Lines.{cells_of, rows_of}
 use Rattle.policy_lists.proofs.LineLemmas.{every_row}
 use Rattle.policy_lists.proofs.lists.add_lines.Goals as goal
 
-pub returns-in-Ok-clause-found : goal.returns-in-Ok-clause-found
-returns-in-Ok-clause-found g c clean s holds =
+pub returns-clause-found : goal.returns-clause-found
+returns-clause-found g c clean s holds =
     let kind = c.args.kind in
     ok_weaker c.read_lines.result _ _
-    (λ read. read (rows_of s kind) (c.deref.ensures.value ∙ c.in-Ok.ensures.rows clean s holds None (negsuc 0) c.whole-part.ensures ∙ ap (map (cells_of kind)) (every_row (rows_of s kind))))
+    (λ read. read (rows_of s kind) (c.deref.ensures.value ∙ c.in_ok-rows.ensures.rows clean s holds None (negsuc 0) c.whole-part.ensures ∙ ap (map (cells_of kind)) (every_row (rows_of s kind))))
     c.read_lines.ensures
 
-pub returns-in-Ok-clause-steps : goal.returns-in-Ok-clause-steps
-returns-in-Ok-clause-steps g c clean inside s holds =
-    let it = c.in-Ok.ensures.steps clean inside s holds in
+pub returns-clause-steps : goal.returns-clause-steps
+returns-clause-steps g c clean inside s holds =
+    let it = c.in_ok-rows.ensures.steps clean inside s holds in
     (always_ok c.read_lines.result _ it.0, it.1)

@@ -11,9 +11,9 @@ returns-in_err-read_line-in-Some-clause-steps g c clean inside s holds = (none_o
 pub returns-in-Some-clause-found : goal.returns-in-Some-clause-found
 returns-in-Some-clause-found g c clean s holds =
     line_found c.args.kind (is_past c.args.after) (rows_of s c.args.kind) _ _ _ (c.in-Some.ensures.value ∙ ap (λ rows. slice_get rows 0) c.deref.ensures.value)
-    (c.in-Ok.ensures.rows clean s holds c.args.after (pos 1) c.next_behind-part.ensures) c.in_ok-read_line-in-Some.ensures
+    (c.in_ok-rows.ensures.rows clean s holds c.args.after (pos 1) c.next_behind-part.ensures) c.in_ok-read_line-in-Some.ensures
 
 pub returns-clause-found : goal.returns-clause-found
 returns-clause-found g c clean s holds =
     line_missing c.args.kind (is_past c.args.after) (rows_of s c.args.kind) _ (c.in-None.ensures.value ∙ ap (λ rows. slice_get rows 0) c.deref.ensures.value)
-    (c.in-Ok.ensures.rows clean s holds c.args.after (pos 1) c.next_behind-part.ensures)
+    (c.in_ok-rows.ensures.rows clean s holds c.args.after (pos 1) c.next_behind-part.ensures)

@@ -12,6 +12,6 @@ pub returns-clause-steps : goal.returns-clause-steps
 returns-clause-steps g c clean inside s holds =
     let old = state g.S.Store c.args.tx.now.conn.now in
     let new = state g.S.Store c.update_user.new.tx.conn.now in
-    let given = ap (given_user c.in_ok-cells.cells) c.as_str.ensures ∙ c.in_ok-cells.ensures in
+    let given = ap (given_user c.in_ok-cells.cells) c.as_str.ensures ∙ c.in_ok-cells.ensures.cells in
     write_steps set_user_text _ old new (Ok c.in_ok-update_user.field-0) (record s { users = set_row user_no c.args.kept.now s.users }) (c.in_ok-update_user.ensures.runs clean inside)
     (λ count h. sets_user old new s c.args.kept.now count holds (subst (λ ps. Executes set_user_text ps old new (Ok count)) given h))

@@ -2,8 +2,8 @@
 use Rattle.std.proofs.Common.{rules}
 use Rattle.store_sql.proofs.applying.apply_plan.Goals as goal
 
-pub returns-in-Ok-clause-in_full : goal.returns-in-Ok-clause-in_full
-returns-in-Ok-clause-in_full g c = search rules
+pub returns-clause-in_full : goal.returns-clause-in_full
+returns-clause-in_full g c = search rules
 
-pub returns-in-Ok-clause-refused : goal.returns-in-Ok-clause-refused
-returns-in-Ok-clause-refused g c = search rules
+pub returns-clause-refused : goal.returns-clause-refused
+returns-clause-refused g c = search rules

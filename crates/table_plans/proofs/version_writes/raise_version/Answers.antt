@@ -12,22 +12,22 @@ pub returns-in_err-version-clause-moves : goal.returns-in_err-version-clause-mov
 returns-in_err-version-clause-moves g c clean inside w holds =
     (none_ok c.from_residual.result _ c.from_residual.ensures.0, (c.version_of.ensures.steps clean inside (sheets_of w) (tables_of (state g.S.Store c.args.tx.now.conn.now).now w holds)).1)
 
-pub returns-then-version-lt-MAX_VERSION-clause-moves : goal.returns-then-version-lt-MAX_VERSION-clause-moves
-returns-then-version-lt-MAX_VERSION-clause-moves g c =
+pub returns-clause-moves : goal.returns-clause-moves
+returns-clause-moves g c =
     let old = state g.S.Store c.args.tx.now.conn.now in
     let mid = state g.S.Store c.version_of.new.tx.conn.now in
     let new = state g.S.Store c.set_version.new.tx.conn.now in
     version_moves old new c.set_version.result
     (version_steps old mid new c.in_ok-version.version c.set_version.result c.in_ok-version.ensures.found c.in_ok-version.ensures.steps c.set_version.ensures.survives c.set_version.ensures.steps)
 
-pub returns-then-version-lt-MAX_VERSION-clause-room : goal.returns-then-version-lt-MAX_VERSION-clause-room
-returns-then-version-lt-MAX_VERSION-clause-room g c clean inside w holds =
+pub returns-clause-room : goal.returns-clause-room
+returns-clause-room g c clean inside w holds =
     let old = state g.S.Store c.args.tx.now.conn.now in
     let mid = state g.S.Store c.version_of.new.tx.conn.now in
     let new = state g.S.Store c.set_version.new.tx.conn.now in
     let is = c.in_ok-version.ensures.found (early mid new _ c.set_version.ensures.survives clean) (sheets_of w) (tables_of old.now w holds) in
-    on_ok c.set_version.result _ (has_room w.version (subst (λ n. n < max_version) is c.if-version-lt-MAX_VERSION.true))
+    on_ok c.set_version.result _ (has_room w.version (subst (λ n. n < max_version) is (c.has_room.ensures.0 c.if-not-has_room.false)))
 
-pub returns-else-version-lt-MAX_VERSION-clause-moves : goal.returns-else-version-lt-MAX_VERSION-clause-moves
-returns-else-version-lt-MAX_VERSION-clause-moves g c clean inside w holds =
+pub returns-then-not-has_room-clause-moves : goal.returns-then-not-has_room-clause-moves
+returns-then-not-has_room-clause-moves g c clean inside w holds =
     (tt, (c.in_ok-version.ensures.steps clean inside (sheets_of w) (tables_of (state g.S.Store c.args.tx.now.conn.now).now w holds)).1)
