@@ -1,9 +1,9 @@
-ghost use Rattle.std.specs.Prelude.{◌≡◌, ◌≢◌, ◌≤◌, ◌+◌, false, IsTrue, OnOk, Some};
+ghost use Rattle.std.specs.Prelude.{◌≡◌, ◌≢◌, ◌≤◌, ◌+◌, false, Err, IfErr, IfOk, IsErr, IsTrue, Ok, OnOk, Some};
 ghost use Rattle.sqlite.specs.Held.{state};
 ghost use Rattle.bank_books.specs.Effects.{applied};
 ghost use Rattle.bank_books.specs.Version.{has_version_for};
 ghost use Rattle.money.specs.declared.fault.Fault.TheVariants.{Stopped};
-ghost use Rattle.store_rows.specs.Status.{Changes, ReadsRow, RoseBy, Tells, count_after, counts, failures_after, mark_of, stops};
+ghost use Rattle.store_rows.specs.Status.{Changes, ReadsRow, RoseBy, Tells, count_after, counts, counts_at_most, failures_after, mark_of, stops};
 ghost use Rattle.store_sql.specs.Bank.{sql_status};
 
 use crate::applying::apply_plan;
@@ -76,6 +76,25 @@ impl<S: Alter> SqlStore<S> {
         }
     }
 
+    /// What the tables answered. A fault is counted, and told as `refuse` says.
+    fn counted<A>(&mut self, answer: Result<A, Fault>) -> Result<A, Fault>
+        ensures conn { self.new.conn ≡ self.old.conn }
+        ensures ok { IfOk answer (λ it. result ≡ Ok it) }
+        ensures err { IfErr answer (λ _. IsErr result) }
+        ensures told { IfErr answer (λ fault. fault ≢ Stopped → result ≡ Err fault) }
+        ensures named { mark_of result ≢ Some Stopped }
+        ensures state { self.new.is_stopped ≡ stops (mark_of result) self.old.is_stopped }
+        ensures counted { self.new.faults ≡ count_after (mark_of result) self.old.faults }
+        ensures rose { RoseBy (counts (mark_of result)) self.old.faults self.new.faults }
+        ensures no_more { self.new.faults ≤ self.old.faults + counts_at_most (mark_of result) }
+        ensures failed { self.new.failures ≡ failures_after (mark_of result) self.old.failures }
+    {
+        match answer {
+            Ok(it) => Ok(it),
+            Err(fault) => Err(self.refuse(fault)),
+        }
+    }
+
     /// Counts a call of a store that is stopped.
     fn refuse_stopped(&mut self) -> Fault
         ensures conn { self.new.conn ≡ self.old.conn }
@@ -99,10 +118,8 @@ impl<S: Alter> SqlStore<S> {
         if self.is_stopped {
             return Err(self.refuse_stopped());
         }
-        match apply_plan(alloc, &mut self.conn, plan) {
-            Ok(()) => Ok(()),
-            Err(fault) => Err(self.refuse(fault)),
-        }
+        let done = apply_plan(alloc, &mut self.conn, plan);
+        self.counted(done)
     }
 
     /// Asks the tables.
@@ -116,10 +133,8 @@ impl<S: Alter> SqlStore<S> {
         if self.is_stopped {
             Err(self.refuse_stopped())
         } else {
-            match ask(alloc, &mut self.conn, question) {
-                Ok(answer) => Ok(answer),
-                Err(fault) => Err(self.refuse(fault)),
-            }
+            let answer = ask(alloc, &mut self.conn, question);
+            self.counted(answer)
         }
     }
 }
