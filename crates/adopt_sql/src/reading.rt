@@ -100,7 +100,11 @@ fn bank_version<S: Alter>(tx: &mut Transaction<'_, S>, edition: Edition) -> Resu
     }
 }
 
-fn book_rows<S: Alter>(alloc: Global, tx: &mut Transaction<'_, S>, edition: Edition) -> Result<BookRows, AdoptFault>
+fn book_rows<S: Alter>(
+    alloc: Global,
+    tx: &mut Transaction<'_, S>,
+    edition: Edition,
+) -> Result<BookRows, AdoptFault>
     ensures same_reference { tx.new.conn.ghost_name ≡ tx.old.conn.ghost_name }
     ensures whole { Reads edition (state S.Store tx.old.conn.now) (state S.Store tx.new.conn.now) AreBookRows result }
     ensures typed { IfOk result AreBooksTyped }
@@ -135,7 +139,11 @@ fn policy_tables<S: Alter>(
 }
 
 /// The rows of all tables: once each table was asked, those of the books are read, then those of the policy.
-fn rows_inside<S: Alter>(alloc: Global, tx: &mut Transaction<'_, S>, edition: Edition) -> Result<FileRows, AdoptFault>
+fn rows_inside<S: Alter>(
+    alloc: Global,
+    tx: &mut Transaction<'_, S>,
+    edition: Edition,
+) -> Result<FileRows, AdoptFault>
     ensures same_reference { tx.new.conn.ghost_name ≡ tx.old.conn.ghost_name }
     ensures whole { ReadsLast edition (state S.Store tx.old.conn.now) (state S.Store tx.new.conn.now) (AreFileRows edition) result }
     ensures refused { RefusesFor edition (state S.Store tx.old.conn.now) (state S.Store tx.new.conn.now) result }
