@@ -1,4 +1,4 @@
-ghost use Rattle.std.specs.Prelude.{pos};
+ghost use Rattle.std.specs.Prelude.{◌≡◌, pos};
 ghost use Rattle.bank_schema.specs.Cells.{edition_number};
 
 /// How the tables of a bank's file are laid out.
