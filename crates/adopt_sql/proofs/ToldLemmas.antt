@@ -77,7 +77,3 @@ is_bank books tables policy version w kept is verdict world_is kept_is keepable 
   books = subst (ConditionsHold w) verdict.1 verdict.0;
   policy = sound;
 }
-
-pub both_ok : {A E : Type 0} (r : Result A E) (P Q R : Type 0) → OnOk r P → OnOk r Q → (P → Q → R) → OnOk r R
-both_ok (Ok x) P Q R p q from = from p q
-both_ok (Err e) P Q R p q from = tt

@@ -9,7 +9,7 @@ use Rattle.bank_books.specs.Keys.{line_key, proof_key, release_key}
 use Rattle.bank_books.specs.WorldLists.{WorldLists}
 use Rattle.kept_rows.specs.Keepable.{IsKeepable}
 use Rattle.kept_rows.specs.Sheets.{Sheets, account_no, branch_no, entry_no, member_no, sheets_of, teller_no, user_no}
-use Rattle.bank_schema.specs.Cells.{AnyRow, EntryFits, LineFits, MemberFits, ProofFits, RelationFits, ReleaseFits, TripleFits, TripleFitsIn, account_cells, bank_cells, bank_cells_in, branch_cells, certifier_cells, entry_cells, line_cells, member_cells, proof_cells, relation_cells, release_cells, set_cells, teller_cells, triple_cells, triple_cells_in, user_cells}
+use Rattle.bank_schema.specs.Cells.{AnyRow, EntryFits, LineFits, MemberFits, ProofFits, RelationFits, ReleaseFits, TripleFitsIn, account_cells, bank_cells_in, branch_cells, certifier_cells, entry_cells, line_cells, member_cells, proof_cells, relation_cells, release_cells, set_cells, teller_cells, triple_cells_in, user_cells}
 use Rattle.bank_schema.specs.HeldRows.{HoldsRows, all_but_rowid, all_of_it}
 use Rattle.bank_schema.specs.Schema.{bank_schema, newest, schema_of}
 use Rattle.bank_schema.specs.declared.edition.Edition.{Edition}
@@ -71,6 +71,7 @@ HoldsSheetIn e releases s tree = HoldsRows all_but_rowid release_cells release_k
 abbrev pub HoldsSheetsIn : Edition → Trees → Sheets → Type 0
 HoldsSheetsIn e trees s = (t : Sheet) → HoldsSheetIn e t s (trees (tree_of t))
 
+-- as the newest edition has them
 abbrev pub HoldsSheet : Sheet → Sheets → List Row → Type 0
 HoldsSheet = HoldsSheetIn newest
 
@@ -94,7 +95,7 @@ pub record HoldsWorldIn (e : Edition) (db : Database) (w : WorldLists) : Type 0 
   pub schema : db.schema ≡ schema_of e
   pub world : AreOfWorldIn e w db.trees
 
--- as the newest edition lays them out
+-- as the newest edition has it
 abbrev pub AreOfWorld : WorldLists → Trees → Type 0
 AreOfWorld = AreOfWorldIn newest
 

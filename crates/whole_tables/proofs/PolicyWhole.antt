@@ -7,7 +7,7 @@ use Rattle.sqlite_value.specs.declared.keys.Key.{Key}
 use Rattle.bank_terms.specs.Procedure.{number_of}
 use Rattle.bank_policy.specs.PolicyKeys.{certifier_key, relation_key, triple_key}
 use Rattle.kept_rows.specs.Sheets.{member_no, user_no}
-use Rattle.bank_schema.specs.Cells.{AnyRow, MemberFits, RelationFits, TripleFits, TripleFitsIn, certifier_cells, member_cells, relation_cells, set_cells, triple_cells, triple_cells_in, user_cells}
+use Rattle.bank_schema.specs.Cells.{AnyRow, MemberFits, RelationFits, TripleFits, certifier_cells, member_cells, relation_cells, set_cells, triple_cells, user_cells}
 use Rattle.bank_schema.specs.Held.{set_no}
 use Rattle.bank_schema.specs.Held.Sheet.{users as in_users, sets as in_sets, members as in_members, relations as in_relations, triples as in_triples, certifiers as in_certifiers}
 use Rattle.bank_schema.specs.declared.edition.Edition.{Edition}

@@ -5,7 +5,6 @@ use Rattle.kept_rows.specs.Sheets.{sheets_of}
 use Rattle.whole_tables.specs.PolicyTables.{ArePolicyTables}
 use Rattle.whole_tables.specs.Typed.{AreTablesTyped}
 use Rattle.std.proofs.lemmas.Result.{IfOk-weaker}
-use Rattle.adopt_sql.specs.Told.{IsBankOf, sheets_read}
 use Rattle.adopt_sql.proofs.AdoptLemmas.{found_bank}
 use Rattle.adopt_sql.specs.Refused.{IsNamedBy}
 use Rattle.adopt_sql.proofs.NamedLemmas.{handed_named, held_books, held_users}

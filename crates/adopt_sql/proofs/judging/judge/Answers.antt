@@ -1,20 +1,18 @@
-use Rattle.std.proofs.Common.{ℕ, ap, map, Err, IfErr, Result, subst, sym, ◌∙◌}
+use Rattle.std.proofs.Common.{ℕ, ap, map, Err, Result, subst, sym, ◌∙◌}
 use Rattle.std.proofs.lemmas.Option.{none-some, same_Some}
 use Rattle.std.proofs.lemmas.Result.{err_from_is_err_and}
-use Rattle.std.specs.Prelude.{IfSome, Ok}
+use Rattle.std.specs.Prelude.{IfSome}
 use Rattle.bank_books.specs.WorldLists.{WorldLists}
-use Rattle.kept_rows.specs.Keepable.{IsKeepable}
 use Rattle.kept_rows.specs.declared.records.KeptUser.{KeptUser}
-use Rattle.policy_check.specs.PolicyVerdict.{IsPolicyVerdict}
 use Rattle.whole_tables.proofs.ReadsLemmas.{handed_on}
 use Rattle.adopt_sql.specs.Refused.{IsNamedBy, IsOfPolicy, IsOfStore}
 use Rattle.adopt_sql.specs.declared.adopt_fault.AdoptFault.{AdoptFault}
-use Rattle.adopt_sql.specs.Told.{IsBankOf, IsPolicyOf, kept_read, sheets_read, world_read}
+use Rattle.adopt_sql.specs.Told.{IsPolicyOf, kept_read, sheets_read, world_read}
 use Rattle.adopt_sql.proofs.NamedLemmas.{judged, named_of_books, named_of_none, named_of_policy, policy_in_rows, policy_of_tables}
 use Rattle.adopt_sql.proofs.ReadingLemmas.{beyond_books, handed_beyond}
 use Rattle.adopt_sql.proofs.SetLemmas.{some_is}
 use Rattle.adopt_sql.proofs.SoundLemmas.{books_in_order, books_or_store, keepable_told, policy_is, policy_or_store, policy_told, verdict_told}
-use Rattle.adopt_sql.proofs.ToldLemmas.{both_ok, is_bank}
+use Rattle.adopt_sql.proofs.ToldLemmas.{is_bank}
 use Rattle.adopt_sql.proofs.judging.judge.Goals as goal
 
 pub returns-in_ok-judge_policy-in-Some-clause-bank : goal.returns-in_ok-judge_policy-in-Some-clause-bank
