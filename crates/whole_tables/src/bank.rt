@@ -28,7 +28,8 @@ pub struct BankRow {
 
 pub(crate) const QUERY: &str = "SELECT id, version, policy FROM bank ORDER BY id";
 
-/// The one row of the table of the bank, which is alike in all editions, or none where the table has not one row of whole numbers.
+/// The one row of the table of the bank, which is alike in all editions, or none where the table has not
+/// one row of whole numbers.
 pub fn bank_row<S: Alter>(tx: &mut Transaction<'_, S>) -> Result<Option<BankRow>, ReadFault>
     ensures same_reference { tx.new.conn.ghost_name ≡ tx.old.conn.ghost_name }
     ensures whole { (e : Edition) → Reads e (state S.Store tx.old.conn.now) (state S.Store tx.new.conn.now) IsBankTable result }
