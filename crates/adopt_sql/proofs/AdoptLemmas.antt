@@ -3,23 +3,27 @@ use Rattle.std.proofs.Common.{◌≡◌, ◌∙◌, ℕ, ap, sym, subst}
 use Rattle.sqlite.specs.Effect.{Database, IsDatabase}
 use Rattle.sqlite.specs.State.{State}
 use Rattle.sqlite.specs.Tree.{Trees}
-use Rattle.bank_schema.specs.Held.{AreOfWorld, HoldsSheets, HoldsWorld, Sheet, tree_of}
+use Rattle.bank_schema.specs.Held.{AreOfWorld, HoldsSheetsIn, HoldsWorld, HoldsWorldIn, Sheet, tree_of}
 use Rattle.bank_schema.specs.Held.Sheet.{accounts as in_accounts, bank as in_bank, branches as in_branches, certifiers as in_certifiers, entries as in_entries, lines as in_lines, members as in_members, proofs as in_proofs, relations as in_relations, releases as in_releases, sets as in_sets, tellers as in_tellers, triples as in_triples, users as in_users}
-use Rattle.bank_schema.proofs.WorldLemmas.{world_of}
+use Rattle.bank_schema.specs.Schema.{newest, schema_of}
+use Rattle.bank_schema.specs.declared.edition.Edition.{Edition}
+use Rattle.bank_schema.proofs.WorldLemmas.{world_in}
+use Rattle.bank_books.specs.Records.{KeptLists}
+use Rattle.bank_books.specs.WorldLists.{WorldLists}
 use Rattle.kept_rows.specs.Laws.{AreSheetsOrdered}
 use Rattle.kept_rows.proofs.SheetsTell.{sheets_are_ordered}
-use Rattle.store_sql.proofs.WorldLemmas.{same_world}
+use Rattle.store_sql.proofs.WorldLemmas.{same_world_in}
 use Rattle.whole_tables.specs.BookRows.{AreBookRows}
 use Rattle.whole_tables.specs.PolicyTables.{ArePolicyTables}
 use Rattle.whole_tables.specs.Whole.{IsKeptTable}
 use Rattle.whole_tables.specs.declared.book_rows.BookRows.{BookRows}
 use Rattle.whole_tables.specs.declared.policy_tables.PolicyTables.{PolicyTables}
-use Rattle.adopt_sql.specs.Adopted.{Adopts, IsBankFile, IsBankRow, IsLeft}
-use Rattle.adopt_sql.specs.Told.{IsBankOf, sheets_read}
+use Rattle.adopt_sql.specs.Adopted.{Adopts, Finds, IsBankFile, IsBankRow, IsLeft}
+use Rattle.adopt_sql.specs.Told.{AreBankOf, sheets_read}
 
-module _ (db : Trees) (books : BookRows) (tables : PolicyTables) (version : ℕ) (row : IsBankRow db version) (b : AreBookRows db books) (p : ArePolicyTables db tables)
+module _ (e : Edition) (db : Trees) (books : BookRows) (tables : PolicyTables) (version : ℕ) (row : IsBankRow e db version) (b : AreBookRows db books) (p : ArePolicyTables e db tables)
     (kept : (t : Sheet) → IsKeptTable (db (tree_of t))) (o : AreSheetsOrdered (sheets_read books tables version)) where
-  held_sheets : HoldsSheets db (sheets_read books tables version)
+  held_sheets : HoldsSheetsIn e db (sheets_read books tables version)
   held_sheets in_bank = row
   held_sheets in_users = record { same = b.users.users.same; ordered = o.users; fit = b.users.users.fit; shaped = (kept in_users).shaped }
   held_sheets in_sets = record { same = p.sets.sets.same; ordered = o.sets; fit = p.sets.sets.fit; shaped = (kept in_sets).shaped }
@@ -35,18 +39,23 @@ module _ (db : Trees) (books : BookRows) (tables : PolicyTables) (version : ℕ)
   held_sheets in_proofs = record { same = b.history.proofs.same; ordered = o.proofs; fit = b.history.proofs.fit; shaped = (kept in_proofs).shaped }
   held_sheets in_releases = record { same = b.users.releases.same; ordered = o.releases; fit = b.users.releases.fit; shaped = (kept in_releases).shaped }
 
-pub adopted : (old new : State) (books : BookRows) (tables : PolicyTables) (version : ℕ) → IsBankFile old → IsDatabase old.now → IsBankRow old.now.trees version → AreBookRows old.now.trees books
-    → ArePolicyTables old.now.trees tables → IsBankOf (sheets_read books tables version) → IsLeft old new → ((trees : Trees) → new.may_leave trees → trees ≡ old.committed.trees) → Adopts old new
-adopted old new books tables version file sound row are_books are_tables bank left settled =
-    let ordered = subst AreSheetsOrdered bank.sheets (sheets_are_ordered bank.world bank.keepable) in
-    let rows = subst (HoldsSheets old.now.trees) (sym bank.sheets) (held_sheets old.now.trees books tables version row are_books are_tables file.kept ordered) in
-    let held : HoldsWorld old.now bank.world = world_of old.now bank.world bank.keepable (record { schema = file.schema; sound = sound; rows = rows }) in
-    record {
-      world = bank.world;
-      books = bank.books;
-      policy = bank.policy;
-      held = held;
-      only = λ other has. same_world other bank.world old.now.trees has.world held.world;
-      durable = λ trees may. subst (AreOfWorld bank.world) (sym (settled trees may ∙ ap (λ (d : Database). d.trees) file.settled)) held.world;
-      holds = λ is_open. record { now = subst (λ (d : Database). HoldsWorld d bank.world) (sym (left.now is_open)) held; settled = left.settled is_open };
-    }
+-- what stands in tables whose rows were read and judged
+pub found_bank : (e : Edition) (db : Database) (books : BookRows) (tables : PolicyTables) (version : ℕ) (w : WorldLists) (numbers : KeptLists) → db.schema ≡ schema_of e
+    → ((t : Sheet) → IsKeptTable (db.trees (tree_of t))) → IsDatabase db → IsBankRow e db.trees version → AreBookRows db.trees books → ArePolicyTables e db.trees tables
+    → AreBankOf (sheets_read books tables version) w numbers → Finds e db w
+found_bank e db books tables version w numbers schema kept sound row are_books are_tables bank =
+    let ordered = subst AreSheetsOrdered bank.sheets (sheets_are_ordered w bank.keepable) in
+    let rows = subst (HoldsSheetsIn e db.trees) (sym bank.sheets) (held_sheets e db.trees books tables version row are_books are_tables kept ordered) in
+    let held : HoldsWorldIn e db w = world_in e db w bank.keepable schema sound rows in
+    record { books = bank.books; policy = bank.policy; held = held; only = λ other has. same_world_in e other w db.trees has.world held.world }
+
+pub adopted : (old new : State) (w : WorldLists) → IsBankFile old → Finds newest old.now w → IsLeft old new → ((trees : Trees) → new.may_leave trees → trees ≡ old.committed.trees) → Adopts old new
+adopted old new w file found left settled = record {
+  world = w;
+  books = found.books;
+  policy = found.policy;
+  held = found.held;
+  only = found.only;
+  durable = λ trees may. subst (AreOfWorld w) (sym (settled trees may ∙ ap (λ (d : Database). d.trees) file.settled)) found.held.world;
+  holds = λ is_open. record { now = subst (λ (d : Database). HoldsWorld d w) (sym (left.now is_open)) found.held; settled = left.settled is_open };
+}

@@ -7,10 +7,15 @@ use Rattle.sqlite.specs.State.{State}
 use Rattle.sqlite.specs.Tree.{Trees}
 use Rattle.book_growth.proofs.Rows.{Contains-map, Contains-map_source}
 use Rattle.bank_books.specs.WorldLists.{WorldLists}
-use Rattle.bank_schema.specs.Cells.{bank_cells}
-use Rattle.bank_schema.specs.Held.{HoldsBank, HoldsSheets, Sheet, tree_of}
+use Rattle.bank_schema.specs.Cells.{TripleFitsIn, bank_cells_in, triple_cells_in}
+use Rattle.bank_policy.specs.PolicyKeys.{triple_key}
+use Rattle.bank_policy.specs.declared.rows.Triple.{Triple}
+use Rattle.bank_schema.specs.declared.edition.Edition.{Edition}
+use Rattle.bank_schema.specs.declared.edition.Edition.TheVariants.{First}
+use Rattle.bank_schema.specs.Held.{HoldsBank, HoldsSheetsIn, Sheet, tree_of}
 use Rattle.bank_schema.specs.Held.Sheet.{accounts as in_accounts, bank as in_bank, branches as in_branches, certifiers as in_certifiers, entries as in_entries, lines as in_lines, members as in_members, proofs as in_proofs, relations as in_relations, releases as in_releases, sets as in_sets, tellers as in_tellers, triples as in_triples, users as in_users}
 use Rattle.bank_schema.specs.HeldRows.{HoldsRows, all_but_rowid, all_of_it}
+use Rattle.bank_schema.specs.Schema.{newest}
 use Rattle.kept_rows.specs.Sheets.{Sheets, sheets_of}
 use Rattle.whole_tables.specs.Whole.{IsKeptTable}
 use Rattle.adopt_sql.specs.Adopted.{IsBankFile}
@@ -41,33 +46,36 @@ module _ {X : Type 0} (cells : X → Row) (key : X → ℕ) (Fits : X → Type 0
   }
 
 -- the table of the bank has one row
-wide_bank : (version : ℕ) (row : Row) → Contains (bank_cells version ∷ []) row → 1 < length row
-wide_bank version row (zero, within, is) = subst (λ r. 1 < length r) is (omega arith)
-wide_bank version row (suc k, within, is) = let inside : suc k < 1 = within in omega (arith, inside)
+wide_bank : (e : Edition) (version : ℕ) (row : Row) → Contains (bank_cells_in e version ∷ []) row → 1 < length row
+wide_bank e version row (zero, within, is) = subst (λ r. 1 < length r) is (omega arith)
+wide_bank e version row (suc k, within, is) = let inside : suc k < 1 = within in omega (arith, inside)
 
-kept_bank : (version : ℕ) → IsKeptTable (bank_cells version ∷ [])
-kept_bank version = record { shaped = ((tt, tt), (refl, tt)); beside = wide_bank version }
+kept_bank : (e : Edition) (version : ℕ) → IsKeptTable (bank_cells_in e version ∷ [])
+kept_bank e version = record { shaped = ((tt, tt), (refl, tt)); beside = wide_bank e version }
 
-kept_sheets : (db : Trees) (s : Sheets) → HoldsSheets db s → (t : Sheet) → IsKeptTable (db (tree_of t))
-kept_sheets db s holds in_bank = subst IsKeptTable (sym (holds in_bank)) (kept_bank s.version)
-kept_sheets db s holds in_users = kept_by_key _ _ _ _ _ (λ x. omega arith) (holds in_users)
-kept_sheets db s holds in_sets = kept_by_key _ _ _ _ _ (λ x. omega arith) (holds in_sets)
-kept_sheets db s holds in_members = kept_beside_rowid _ _ _ _ _ (λ x. omega arith) (holds in_members)
-kept_sheets db s holds in_relations = kept_beside_rowid _ _ _ _ _ (λ x. omega arith) (holds in_relations)
-kept_sheets db s holds in_triples = kept_beside_rowid _ _ _ _ _ (λ x. omega arith) (holds in_triples)
-kept_sheets db s holds in_certifiers = kept_beside_rowid _ _ _ _ _ (λ x. omega arith) (holds in_certifiers)
-kept_sheets db s holds in_branches = kept_by_key _ _ _ _ _ (λ x. omega arith) (holds in_branches)
-kept_sheets db s holds in_tellers = kept_by_key _ _ _ _ _ (λ x. omega arith) (holds in_tellers)
-kept_sheets db s holds in_accounts = kept_by_key _ _ _ _ _ (λ x. omega arith) (holds in_accounts)
-kept_sheets db s holds in_entries = kept_beside_rowid _ _ _ _ _ (λ x. omega arith) (holds in_entries)
-kept_sheets db s holds in_lines = kept_beside_rowid _ _ _ _ _ (λ x. omega arith) (holds in_lines)
-kept_sheets db s holds in_proofs = kept_beside_rowid _ _ _ _ _ (λ x. omega arith) (holds in_proofs)
-kept_sheets db s holds in_releases = kept_beside_rowid _ _ _ _ _ (λ x. omega arith) (holds in_releases)
+kept_triples : (e : Edition) (rows : List Triple) (tree : List Row) → HoldsRows all_but_rowid (triple_cells_in e) triple_key (TripleFitsIn e) rows tree → IsKeptTable tree
+kept_triples First rows tree held = kept_beside_rowid _ _ _ _ _ (λ x. omega arith) held
+
+kept_sheets : (e : Edition) (db : Trees) (s : Sheets) → HoldsSheetsIn e db s → (t : Sheet) → IsKeptTable (db (tree_of t))
+kept_sheets e db s holds in_bank = subst IsKeptTable (sym (holds in_bank)) (kept_bank e s.version)
+kept_sheets e db s holds in_users = kept_by_key _ _ _ _ _ (λ x. omega arith) (holds in_users)
+kept_sheets e db s holds in_sets = kept_by_key _ _ _ _ _ (λ x. omega arith) (holds in_sets)
+kept_sheets e db s holds in_members = kept_beside_rowid _ _ _ _ _ (λ x. omega arith) (holds in_members)
+kept_sheets e db s holds in_relations = kept_beside_rowid _ _ _ _ _ (λ x. omega arith) (holds in_relations)
+kept_sheets e db s holds in_triples = kept_triples e _ _ (holds in_triples)
+kept_sheets e db s holds in_certifiers = kept_beside_rowid _ _ _ _ _ (λ x. omega arith) (holds in_certifiers)
+kept_sheets e db s holds in_branches = kept_by_key _ _ _ _ _ (λ x. omega arith) (holds in_branches)
+kept_sheets e db s holds in_tellers = kept_by_key _ _ _ _ _ (λ x. omega arith) (holds in_tellers)
+kept_sheets e db s holds in_accounts = kept_by_key _ _ _ _ _ (λ x. omega arith) (holds in_accounts)
+kept_sheets e db s holds in_entries = kept_beside_rowid _ _ _ _ _ (λ x. omega arith) (holds in_entries)
+kept_sheets e db s holds in_lines = kept_beside_rowid _ _ _ _ _ (λ x. omega arith) (holds in_lines)
+kept_sheets e db s holds in_proofs = kept_beside_rowid _ _ _ _ _ (λ x. omega arith) (holds in_proofs)
+kept_sheets e db s holds in_releases = kept_beside_rowid _ _ _ _ _ (λ x. omega arith) (holds in_releases)
 
 -- what holds a World, with nothing uncommitted, is a bank's file
 pub bank_is_file : (s : State) (w : WorldLists) → HoldsBank s w → IsBankFile s
 bank_is_file s w bank = record {
   schema = bank.now.schema;
-  kept = kept_sheets s.now.trees (sheets_of w) bank.now.world.rows;
+  kept = kept_sheets newest s.now.trees (sheets_of w) bank.now.world.rows;
   settled = bank.settled;
 }

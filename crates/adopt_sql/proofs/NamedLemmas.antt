@@ -8,7 +8,8 @@ use Rattle.bank_books.specs.Keys.{account_key, branch_key, entry_key, line_key, 
 use Rattle.bank_books.specs.Records.{KeptLists}
 use Rattle.bank_books.specs.WorldLists.{WorldLists}
 use Rattle.book_check.specs.Verdict.{IsVerdict}
-use Rattle.bank_schema.specs.Held.{HoldsSheets}
+use Rattle.bank_schema.specs.Held.{HoldsSheetsIn}
+use Rattle.bank_schema.specs.declared.edition.Edition.{Edition}
 use Rattle.bank_schema.specs.Held.Sheet.{accounts as in_accounts, branches as in_branches, entries as in_entries, lines as in_lines, proofs as in_proofs, releases as in_releases, tellers as in_tellers, users as in_users}
 use Rattle.kept_rows.proofs.Rising.{IsOrdered-map}
 use Rattle.kept_rows.specs.Keepable.{IsPolicyKeepable}
@@ -101,7 +102,7 @@ module _ (books : BookRows) (tables : PolicyTables) (version : ℕ) where
   named_of_none Version none of = of
 
   -- the rows that tables hold stand in order
-  module _ (db : Trees) (held : Sheets) (holds : HoldsSheets db held) (same : held ≡ s) where
+  module _ (edition : Edition) (db : Trees) (held : Sheets) (holds : HoldsSheetsIn edition db held) (same : held ≡ s) where
     pub held_books : AreBooksInOrder books
     held_books = record {
       branches = subst (λ (z : Sheets). IsNonDecreasingBy branch_key (map (λ b. b.row) z.branches)) same (IsOrdered-map branch_no branch_key (λ b. b.row) (λ b. refl) held.branches (holds in_branches).ordered).in_order;

@@ -1,5 +1,5 @@
 -- That rows whose kept numbers are those that their World gives are the sheets of that World.
-use Rattle.std.proofs.Common.{◌≡◌, ◌==◌, ℕ, Bool, true, false, List, [], ◌∷◌, map, get_or, drop, None, Some, Ok, Err, OnOk, Result, refl, sym, ap, ap₂, subst, ◌∙◌}
+use Rattle.std.proofs.Common.{◌≡◌, ◌==◌, ℕ, Bool, true, false, List, [], ◌∷◌, map, get_or, drop, None, Some, Ok, refl, sym, ap, ap₂, subst, ◌∙◌}
 use Rattle.std.proofs.lemmas.Bool.{eqb-true}
 use Rattle.std.specs.Prelude.{if◌then◌else◌, unwrap_or}
 use Rattle.bank_policy.specs.Policy.{PolicyLists}
@@ -17,7 +17,7 @@ use Rattle.kept_rows.specs.declared.records.KeptUser.{KeptUser}
 use Rattle.policy_check.specs.PolicyVerdict.{IsPolicyVerdict}
 use Rattle.whole_tables.specs.declared.book_rows.BookRows.{BookRows}
 use Rattle.whole_tables.specs.declared.policy_tables.PolicyTables.{PolicyTables}
-use Rattle.adopt_sql.specs.Told.{IsBankOf, IsPolicyOf, count_told, kept_read, sheets_read, teller_told, world_read}
+use Rattle.adopt_sql.specs.Told.{AreBankOf, IsPolicyOf, count_told, kept_read, sheets_read, teller_told, world_read}
 
 holder_back : (n : ℕ) → unwrap_or (if n == 0 then None else Some n) 0 ≡ n
 holder_back n = go (n == 0) refl
@@ -69,15 +69,11 @@ sheets_told books tables policy version is kept =
 
 -- books that are judged beside the numbers that were kept hold, and the numbers are those that they give
 pub is_bank : (books : BookRows) (tables : PolicyTables) (policy : PolicyLists) (version : ℕ) (w : WorldLists) (kept : KeptLists) → IsPolicyOf books.users.users.items tables policy
-    → IsVerdict w kept (Ok tt) → w ≡ world_read books policy version → kept ≡ kept_read books → IsKeepable w → IsPolicyVerdict w.policy (Ok tt) → IsBankOf (sheets_read books tables version)
+    → IsVerdict w kept (Ok tt) → w ≡ world_read books policy version → kept ≡ kept_read books → IsKeepable w → IsPolicyVerdict w.policy (Ok tt) → AreBankOf (sheets_read books tables version) w kept
 is_bank books tables policy version w kept is verdict world_is kept_is keepable sound = record {
-  world = w;
+  numbers = verdict.1;
   sheets = ap sheets_of world_is ∙ sheets_told books tables policy version is (sym kept_is ∙ verdict.1 ∙ ap kept_of world_is);
   keepable = keepable;
   books = subst (ConditionsHold w) verdict.1 verdict.0;
   policy = sound;
 }
-
-pub both_ok : {A E : Type 0} (r : Result A E) (P Q R : Type 0) → OnOk r P → OnOk r Q → (P → Q → R) → OnOk r R
-both_ok (Ok x) P Q R p q from = from p q
-both_ok (Err e) P Q R p q from = tt

@@ -6,7 +6,8 @@ use Rattle.sqlite.specs.Tree.{Trees}
 use Rattle.book_growth.proofs.Rows.{Contains-map, Contains-map_source}
 use Rattle.bank_policy.specs.PolicyKeys.{certifier_key, relation_key, triple_key}
 use Rattle.bank_books.specs.Keys.{line_key, proof_key, release_key}
-use Rattle.bank_schema.specs.Cells.{AnyRow, EntryFits, LineFits, MemberFits, ProofFits, RelationFits, ReleaseFits, TripleFits, account_cells, branch_cells, certifier_cells, entry_cells, line_cells, member_cells, proof_cells, relation_cells, release_cells, set_cells, teller_cells, triple_cells, user_cells}
+use Rattle.bank_schema.specs.Cells.{AnyRow, EntryFits, LineFits, MemberFits, ProofFits, RelationFits, ReleaseFits, TripleFitsIn, account_cells, branch_cells, certifier_cells, entry_cells, line_cells, member_cells, proof_cells, relation_cells, release_cells, set_cells, teller_cells, triple_cells_in, user_cells}
+use Rattle.bank_schema.specs.declared.edition.Edition.{Edition}
 use Rattle.bank_schema.specs.Held.{Sheet, set_no, tree_of}
 use Rattle.bank_schema.specs.Held.Sheet.{accounts as in_accounts, bank as in_bank, branches as in_branches, certifiers as in_certifiers, entries as in_entries, lines as in_lines, members as in_members, proofs as in_proofs, relations as in_relations, releases as in_releases, sets as in_sets, tellers as in_tellers, triples as in_triples, users as in_users}
 use Rattle.bank_schema.specs.HeldRows.{all_but_rowid, all_of_it}
@@ -28,34 +29,34 @@ module _ {X : Type 0} (shows : Row → Row) (cells : X → Row) (key : X → ℕ
       let source = Contains-map_source cells rows (shows found.0) at in
       found.2 source.0 (typed source.0 source.1.0) source.1.1
 
-pub books_read : (db : Trees) (books : BookRows) → AreBookRows db books → AreBooksTyped books → (t : Sheet) → IsBesideBooks t → HasUnread db t → ⊥
-books_read db books b typed in_bank beside found = found
-books_read db books b typed in_users beside found = no_stranger all_of_it user_cells user_no AnyRow IsReadableUser in_users db books.users.users.items b.users.users typed.users.users found
-books_read db books b typed in_sets beside found = beside
-books_read db books b typed in_members beside found = beside
-books_read db books b typed in_relations beside found = beside
-books_read db books b typed in_triples beside found = beside
-books_read db books b typed in_certifiers beside found = beside
-books_read db books b typed in_branches beside found = no_stranger all_of_it branch_cells branch_no AnyRow IsReadableBranch in_branches db books.ledger.branches.items b.ledger.branches typed.ledger.branches found
-books_read db books b typed in_tellers beside found = no_stranger all_of_it teller_cells teller_no AnyRow IsReadableTeller in_tellers db books.ledger.tellers.items b.ledger.tellers typed.ledger.tellers found
-books_read db books b typed in_accounts beside found = no_stranger all_of_it account_cells account_no AnyRow IsReadableAccount in_accounts db books.ledger.accounts.items b.ledger.accounts typed.ledger.accounts found
-books_read db books b typed in_entries beside found = no_stranger all_but_rowid entry_cells entry_no EntryFits IsReadableEntry in_entries db books.history.entries.items b.history.entries typed.history.entries found
-books_read db books b typed in_lines beside found = no_stranger all_but_rowid line_cells line_key LineFits IsReadableLine in_lines db books.history.lines.items b.history.lines typed.history.lines found
-books_read db books b typed in_proofs beside found = no_stranger all_but_rowid proof_cells proof_key ProofFits IsReadableProof in_proofs db books.history.proofs.items b.history.proofs typed.history.proofs found
-books_read db books b typed in_releases beside found = no_stranger all_but_rowid release_cells release_key ReleaseFits IsReadableRelease in_releases db books.users.releases.items b.users.releases typed.users.releases found
+pub books_read : (e : Edition) (db : Trees) (books : BookRows) → AreBookRows db books → AreBooksTyped books → (t : Sheet) → IsBesideBooks t → HasUnread e db t → ⊥
+books_read e db books b typed in_bank beside found = found
+books_read e db books b typed in_users beside found = no_stranger all_of_it user_cells user_no AnyRow IsReadableUser in_users db books.users.users.items b.users.users typed.users.users found
+books_read e db books b typed in_sets beside found = beside
+books_read e db books b typed in_members beside found = beside
+books_read e db books b typed in_relations beside found = beside
+books_read e db books b typed in_triples beside found = beside
+books_read e db books b typed in_certifiers beside found = beside
+books_read e db books b typed in_branches beside found = no_stranger all_of_it branch_cells branch_no AnyRow IsReadableBranch in_branches db books.ledger.branches.items b.ledger.branches typed.ledger.branches found
+books_read e db books b typed in_tellers beside found = no_stranger all_of_it teller_cells teller_no AnyRow IsReadableTeller in_tellers db books.ledger.tellers.items b.ledger.tellers typed.ledger.tellers found
+books_read e db books b typed in_accounts beside found = no_stranger all_of_it account_cells account_no AnyRow IsReadableAccount in_accounts db books.ledger.accounts.items b.ledger.accounts typed.ledger.accounts found
+books_read e db books b typed in_entries beside found = no_stranger all_but_rowid entry_cells entry_no EntryFits IsReadableEntry in_entries db books.history.entries.items b.history.entries typed.history.entries found
+books_read e db books b typed in_lines beside found = no_stranger all_but_rowid line_cells line_key LineFits IsReadableLine in_lines db books.history.lines.items b.history.lines typed.history.lines found
+books_read e db books b typed in_proofs beside found = no_stranger all_but_rowid proof_cells proof_key ProofFits IsReadableProof in_proofs db books.history.proofs.items b.history.proofs typed.history.proofs found
+books_read e db books b typed in_releases beside found = no_stranger all_but_rowid release_cells release_key ReleaseFits IsReadableRelease in_releases db books.users.releases.items b.users.releases typed.users.releases found
 
-pub all_read : (db : Trees) (books : BookRows) (tables : PolicyTables) → AreBookRows db books → AreBooksTyped books → ArePolicyTables db tables → AreTablesTyped tables → (t : Sheet) → HasUnread db t → ⊥
-all_read db books tables b books_typed p typed in_bank found = found
-all_read db books tables b books_typed p typed in_users found = books_read db books b books_typed in_users tt found
-all_read db books tables b books_typed p typed in_sets found = no_stranger all_of_it set_cells set_no AnyRow IsShort in_sets db tables.sets.sets.items p.sets.sets typed.sets.sets found
-all_read db books tables b books_typed p typed in_members found = no_stranger all_but_rowid member_cells member_no MemberFits IsReadableMember in_members db tables.sets.members.items p.sets.members typed.sets.members found
-all_read db books tables b books_typed p typed in_relations found = no_stranger all_but_rowid relation_cells relation_key RelationFits IsReadableRelation in_relations db tables.grants.relations.items p.grants.relations typed.grants.relations found
-all_read db books tables b books_typed p typed in_triples found = no_stranger all_but_rowid triple_cells triple_key TripleFits IsReadableTriple in_triples db tables.grants.triples.items p.grants.triples typed.grants.triples found
-all_read db books tables b books_typed p typed in_certifiers found = no_stranger all_but_rowid certifier_cells certifier_key AnyRow IsReadableCertifier in_certifiers db tables.grants.certifiers.items p.grants.certifiers typed.grants.certifiers found
-all_read db books tables b books_typed p typed in_branches found = books_read db books b books_typed in_branches tt found
-all_read db books tables b books_typed p typed in_tellers found = books_read db books b books_typed in_tellers tt found
-all_read db books tables b books_typed p typed in_accounts found = books_read db books b books_typed in_accounts tt found
-all_read db books tables b books_typed p typed in_entries found = books_read db books b books_typed in_entries tt found
-all_read db books tables b books_typed p typed in_lines found = books_read db books b books_typed in_lines tt found
-all_read db books tables b books_typed p typed in_proofs found = books_read db books b books_typed in_proofs tt found
-all_read db books tables b books_typed p typed in_releases found = books_read db books b books_typed in_releases tt found
+pub all_read : (e : Edition) (db : Trees) (books : BookRows) (tables : PolicyTables) → AreBookRows db books → AreBooksTyped books → ArePolicyTables e db tables → AreTablesTyped tables → (t : Sheet) → HasUnread e db t → ⊥
+all_read e db books tables b books_typed p typed in_bank found = found
+all_read e db books tables b books_typed p typed in_users found = books_read e db books b books_typed in_users tt found
+all_read e db books tables b books_typed p typed in_sets found = no_stranger all_of_it set_cells set_no AnyRow IsShort in_sets db tables.sets.sets.items p.sets.sets typed.sets.sets found
+all_read e db books tables b books_typed p typed in_members found = no_stranger all_but_rowid member_cells member_no MemberFits IsReadableMember in_members db tables.sets.members.items p.sets.members typed.sets.members found
+all_read e db books tables b books_typed p typed in_relations found = no_stranger all_but_rowid relation_cells relation_key RelationFits IsReadableRelation in_relations db tables.grants.relations.items p.grants.relations typed.grants.relations found
+all_read e db books tables b books_typed p typed in_triples found = no_stranger all_but_rowid (triple_cells_in e) triple_key (TripleFitsIn e) IsReadableTriple in_triples db tables.grants.triples.items p.grants.triples typed.grants.triples found
+all_read e db books tables b books_typed p typed in_certifiers found = no_stranger all_but_rowid certifier_cells certifier_key AnyRow IsReadableCertifier in_certifiers db tables.grants.certifiers.items p.grants.certifiers typed.grants.certifiers found
+all_read e db books tables b books_typed p typed in_branches found = books_read e db books b books_typed in_branches tt found
+all_read e db books tables b books_typed p typed in_tellers found = books_read e db books b books_typed in_tellers tt found
+all_read e db books tables b books_typed p typed in_accounts found = books_read e db books b books_typed in_accounts tt found
+all_read e db books tables b books_typed p typed in_entries found = books_read e db books b books_typed in_entries tt found
+all_read e db books tables b books_typed p typed in_lines found = books_read e db books b books_typed in_lines tt found
+all_read e db books tables b books_typed p typed in_proofs found = books_read e db books b books_typed in_proofs tt found
+all_read e db books tables b books_typed p typed in_releases found = books_read e db books b books_typed in_releases tt found

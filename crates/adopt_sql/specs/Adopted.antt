@@ -1,12 +1,14 @@
 -- What is known of a connection to a file, and what its tables hold where it is adopted.
-use Rattle.std.specs.Prelude.{ℕ, ℤ, pos, ◌≡◌, ◌∷◌, [], IfOk, IfSome, IsTrue, Ok, Result}
+use Rattle.std.specs.Prelude.{ℕ, ℤ, pos, ◌≡◌, ◌≢◌, ◌∷◌, [], IfOk, IfSome, IsTrue, Ok, Result}
+use Rattle.sqlite.specs.Effect.{Database}
 use Rattle.sqlite.specs.State.{HasCleanDisk, KeepsCommit, State}
 use Rattle.sqlite.specs.Tree.{Trees}
 use Rattle.bank_books.specs.Books.{Books}
 use Rattle.bank_books.specs.WorldLists.{WorldLists}
-use Rattle.bank_schema.specs.Cells.{bank_cells}
-use Rattle.bank_schema.specs.Held.{AreOfWorld, HoldsBank, HoldsWorld, Sheet, tree_of}
-use Rattle.bank_schema.specs.Schema.{bank_schema}
+use Rattle.bank_schema.specs.Cells.{bank_cells_in, edition_number}
+use Rattle.bank_schema.specs.Held.{AreOfWorld, HoldsBank, HoldsWorld, HoldsWorldIn, Sheet, tree_of}
+use Rattle.bank_schema.specs.Schema.{newest, schema_of}
+use Rattle.bank_schema.specs.declared.edition.Edition.{Edition}
 use Rattle.policy_check.specs.PolicyVerdict.{IsPolicyVerdict}
 use Rattle.whole_tables.specs.BankRow.{bank_row_cells}
 use Rattle.whole_tables.specs.BookRows.{AreBookRows}
@@ -15,31 +17,50 @@ use Rattle.whole_tables.specs.Typed.{AreBooksTyped, AreTablesTyped}
 use Rattle.whole_tables.specs.Whole.{HasBankTables, IsKeptTable}
 use Rattle.adopt_sql.specs.declared.reading.FileRows.{FileRows}
 
--- A connection to a file whose tables are as they were made for a bank, and as a store keeps tables. What stands in them may be anything.
-pub record IsBankFile (s : State) : Type 0 where
-  pub schema : s.now.schema ≡ bank_schema
+-- A connection to a file whose tables are as they were made for a bank in this edition, and as a store keeps tables. What stands in them may
+-- be anything.
+pub record IsBankFileIn (e : Edition) (s : State) : Type 0 where
+  pub schema : s.now.schema ≡ schema_of e
   pub kept : (t : Sheet) → IsKeptTable (s.now.trees (tree_of t))
   pub settled : s.committed ≡ s.now
 
--- The one row of the bank, of the first version of the tables, with this number for the version of its policy.
-abbrev pub IsBankNumber : Trees → ℤ → Type 0
-IsBankNumber db policy = db 0 ≡ bank_row_cells (record { id = pos 1; version = pos 1; policy = policy }) ∷ []
+abbrev pub IsBankFile : State → Type 0
+IsBankFile = IsBankFileIn newest
+
+-- The one row of the bank, of this edition, with this number for the version of its policy.
+abbrev pub IsBankNumber : Edition → Trees → ℤ → Type 0
+IsBankNumber e db policy = db 0 ≡ bank_row_cells (record { id = pos 1; version = pos (edition_number e); policy = policy }) ∷ []
 
 -- the one row of the bank
-abbrev pub IsBankRow : Trees → ℕ → Type 0
-IsBankRow db version = db 0 ≡ bank_cells version ∷ []
+abbrev pub IsBankRow : Edition → Trees → ℕ → Type 0
+IsBankRow e db version = db 0 ≡ bank_cells_in e version ∷ []
 
 -- The rows of all tables, each of the types that it is read as. Those of the policy may be missing, where one of them is out of its limits.
-pub record AreFileRows (db : Trees) (rows : FileRows) : Type 0 where
-  pub version : IsBankRow db rows.version
+pub record AreFileRows (e : Edition) (db : Trees) (rows : FileRows) : Type 0 where
+  pub version : IsBankRow e db rows.version
   pub books : AreBookRows db rows.books
   pub typed : AreBooksTyped rows.books
-  pub policy : IfSome rows.policy (ArePolicyTables db)
+  pub policy : IfSome rows.policy (ArePolicyTables e db)
   pub policy_typed : IfSome rows.policy AreTablesTyped
 
+-- The row of the bank says that the file is of another edition than this.
+pub record IsOfAnother (edition : Edition) (s : State) : Type 0 where
+  pub is : Edition
+  pub file : IsBankFileIn is s
+  pub version : ℕ
+  pub row : IsBankRow is s.now.trees version
+  pub differs : edition_number is ≢ edition_number edition
+
 -- A read after which nothing more is read.
-abbrev pub ReadsLast : {X E : Type 0} → State → State → (Trees → X → Type 0) → Result X E → Type 0
-ReadsLast old new says result = HasCleanDisk new → HasBankTables old → IfOk result (says old.now.trees) × KeepsCommit old new
+abbrev pub ReadsLast : {X E : Type 0} → Edition → State → State → (Trees → X → Type 0) → Result X E → Type 0
+ReadsLast e old new says result = HasCleanDisk new → HasBankTables e old → IfOk result (says old.now.trees) × KeepsCommit old new
+
+-- The tables hold this World as an edition lays it out, its books hold and its policy is sound, and they hold no other.
+pub record Finds (e : Edition) (db : Database) (world : WorldLists) : Type 0 where
+  pub books : Books world
+  pub policy : IsPolicyVerdict world.policy (Ok tt)
+  pub held : HoldsWorldIn e db world
+  pub only : (other : WorldLists) → HoldsWorldIn e db other → other ≡ world
 
 -- The tables hold a World whose books hold and whose policy is sound, and no other, and hold it still; and a crash leaves it alone.
 pub record Adopts (old new : State) : Type 0 where

@@ -1,5 +1,5 @@
 -- What it tells of a file that it is refused.
-use Rattle.std.specs.Prelude.{ℕ, ℤ, pos, ◌≡◌, ◌≢◌, [], ◌∷◌, IfErr, Ok, Err, Result, ⊤}
+use Rattle.std.specs.Prelude.{ℕ, ℤ, pos, ◌≡◌, ◌≢◌, [], ◌∷◌, IfErr, IsErrAnd, Ok, Err, Result, ⊤}
 use Rattle.sqlite.specs.Effect.{Database}
 use Rattle.sqlite.specs.State.{HasCleanDisk, State}
 use Rattle.sqlite.specs.Tree.{Trees}
@@ -10,8 +10,11 @@ use Rattle.bank_books.specs.WorldLists.{WorldLists}
 use Rattle.book_check.specs.Verdict.{IsVerdict}
 use Rattle.book_check.specs.declared.check.BooksFault.{BooksFault}
 use Rattle.book_check.specs.declared.check.BooksFault.TheVariants.{Range}
-use Rattle.bank_schema.specs.Held.{HoldsWorld, Sheet}
+use Rattle.bank_schema.specs.Cells.{edition_number}
+use Rattle.bank_schema.specs.Held.{HoldsWorldIn, Sheet}
 use Rattle.bank_schema.specs.Readable.{AreReadable}
+use Rattle.bank_schema.specs.Schema.{newest}
+use Rattle.bank_schema.specs.declared.edition.Edition.{Edition}
 use Rattle.kept_rows.specs.Keepable.{IsPolicyKeepable}
 use Rattle.kept_rows.specs.Sheets.{Sheets, sheets_of}
 use Rattle.policy_check.specs.PolicyVerdict.{IsPolicyVerdict}
@@ -26,28 +29,31 @@ use Rattle.adopt_sql.specs.Told.{AreBooksJudged, IsPolicyIn}
 use Rattle.adopt_sql.specs.Unread.{HasUnread, IsBesideBooks}
 use Rattle.adopt_sql.specs.declared.adopt_fault.AdoptFault.TheVariants.{Books, Fault, NotABank, Policy, Version}
 
--- Of the books it is told where the row of the bank is of the first version, and that they are out of range where its version of the policy
+-- Of the books it is told where the row of the bank is of this edition, and that they are out of range where its version of the policy
 -- is no count, or a row of them or of the users can't be read.
-pub record TellsOfBooks (db : Trees) (fault : BooksFault) : Type 0 where
+pub record TellsOfBooks (e : Edition) (db : Trees) (fault : BooksFault) : Type 0 where
   pub policy : ℤ
-  pub row : IsBankNumber db policy
+  pub row : IsBankNumber e db policy
   pub range : ((version : ℕ) → policy ≢ pos version) → fault ≡ Range
-  pub unread : (t : Sheet) → IsBesideBooks t → HasUnread db t → fault ≡ Range
+  pub unread : (t : Sheet) → IsBesideBooks t → HasUnread e db t → fault ≡ Range
 
 -- and of the policy where that is one, and that it dangles where any row can't be read
-pub record TellsOfPolicy (db : Trees) (fault : PolicyFault) : Type 0 where
+pub record TellsOfPolicy (e : Edition) (db : Trees) (fault : PolicyFault) : Type 0 where
   pub version : ℕ
-  pub row : IsBankRow db version
-  pub unread : (t : Sheet) → HasUnread db t → fault ≡ Dangling
+  pub row : IsBankRow e db version
+  pub unread : (t : Sheet) → HasUnread e db t → fault ≡ Dangling
 
 -- It is no bank where its table has not the one row of a bank, it is of another version where that row says so, and no other fault but one of
 -- the database is told before these.
+abbrev pub IsRefusedIn : Edition → Trees → AdoptFault → Type 0
+IsRefusedIn e db NotABank = (b : BankRow) → b.id ≡ pos 1 → db 0 ≢ bank_row_cells b ∷ []
+IsRefusedIn e db Version = (b : BankRow) × (b.id ≡ pos 1) × (b.version ≢ pos (edition_number e)) × (db 0 ≡ bank_row_cells b ∷ [])
+IsRefusedIn e db (Books fault) = TellsOfBooks e db fault
+IsRefusedIn e db (Policy fault) = TellsOfPolicy e db fault
+IsRefusedIn e db (Fault _) = ⊤
+
 abbrev pub IsRefused : Trees → AdoptFault → Type 0
-IsRefused db NotABank = (b : BankRow) → b.id ≡ pos 1 → db 0 ≢ bank_row_cells b ∷ []
-IsRefused db Version = (b : BankRow) × (b.id ≡ pos 1) × (b.version ≢ pos 1) × (db 0 ≡ bank_row_cells b ∷ [])
-IsRefused db (Books fault) = TellsOfBooks db fault
-IsRefused db (Policy fault) = TellsOfPolicy db fault
-IsRefused db (Fault _) = ⊤
+IsRefused = IsRefusedIn newest
 
 -- the books are out of range
 abbrev pub IsOutOfRange : AdoptFault → Type 0
@@ -77,19 +83,32 @@ abbrev pub IsOfStore : AdoptFault → Type 0
 IsOfStore (Fault _) = ⊤
 IsOfStore _ = ⊥
 
+-- the tables are those of another version, or the database failed
+abbrev pub IsOfOther : AdoptFault → Type 0
+IsOfOther Version = ⊤
+IsOfOther (Fault _) = ⊤
+IsOfOther _ = ⊥
+
+-- Of tables whose row says that they are of another edition this is told.
+abbrev pub TellsOther : {X : Type 0} → Edition → State → State → Result X AdoptFault → Type 0
+TellsOther edition old new result = HasCleanDisk new → (e : Edition) → HasBankTables e old → (version : ℕ) → IsBankRow e old.now.trees version → edition_number e ≢ edition_number edition → IsErrAnd result IsOfOther
+
 -- what a read inside a transaction tells where it is refused
-abbrev pub RefusesFor : {X : Type 0} → State → State → Result X AdoptFault → Type 0
-RefusesFor old new result = HasCleanDisk new → HasBankTables old → IfErr result (IsRefused old.now.trees)
+abbrev pub RefusesFor : {X : Type 0} → Edition → State → State → Result X AdoptFault → Type 0
+RefusesFor e old new result = HasCleanDisk new → HasBankTables e old → IfErr result (IsRefusedIn e old.now.trees)
 
 -- ---- a sound bank
 
 -- The tables hold a bank whose books hold and whose policy is sound and separated, each row of which is of the types that it is read as.
-pub record HoldsSoundBank (db : Database) : Type 0 where
+pub record HoldsSoundBankIn (e : Edition) (db : Database) : Type 0 where
   pub world : WorldLists
-  pub held : HoldsWorld db world
+  pub held : HoldsWorldIn e db world
   pub readable : AreReadable (sheets_of world)
   pub books : BooksHold world
   pub policy : IsPolicyVerdict world.policy (Ok tt)
+
+abbrev pub HoldsSoundBank : Database → Type 0
+HoldsSoundBank = HoldsSoundBankIn newest
 
 -- ---- which fault is named
 

@@ -8,7 +8,7 @@ use Rattle.bank_policy.specs.SetRow.{SetRow}
 use Rattle.bank_policy.specs.declared.rows.Member.{Member}
 use Rattle.bank_books.specs.Books.{Books}
 use Rattle.bank_books.specs.Keys.{account_key, branch_key, entry_key, line_key, proof_key, release_key, teller_key}
-use Rattle.bank_books.specs.Records.{KeptLists}
+use Rattle.bank_books.specs.Records.{KeptLists, kept_of}
 use Rattle.bank_books.specs.WorldLists.{WorldLists}
 use Rattle.bank_books.specs.declared.records.ReleaseCount.{ReleaseCount}
 use Rattle.bank_books.specs.declared.records.TellerRecord.{TellerRecord}
@@ -126,7 +126,15 @@ sheets_read books tables version = record {
   version = version;
 }
 
--- These are the rows and the numbers of a World whose books hold, and whose policy is sound and separated.
+-- These are the rows of this World, and these its kept numbers; its books hold, and its policy is sound and separated.
+pub record AreBankOf (s : Sheets) (world : WorldLists) (kept : KeptLists) : Type 0 where
+  pub sheets : sheets_of world ≡ s
+  pub numbers : kept ≡ kept_of world
+  pub keepable : IsKeepable world
+  pub books : Books world
+  pub policy : IsPolicyVerdict world.policy (Ok tt)
+
+-- such a World is there
 pub record IsBankOf (s : Sheets) : Type 0 where
   pub world : WorldLists
   pub sheets : sheets_of world ≡ s

@@ -2,7 +2,8 @@
 use Rattle.std.specs.Prelude.{◌≢◌, List, Contains, ⊤}
 use Rattle.sqlite.specs.Order.{Row}
 use Rattle.sqlite.specs.Tree.{Trees}
-use Rattle.bank_schema.specs.Cells.{account_cells, branch_cells, certifier_cells, entry_cells, line_cells, member_cells, proof_cells, relation_cells, release_cells, set_cells, teller_cells, triple_cells, user_cells}
+use Rattle.bank_schema.specs.Cells.{account_cells, branch_cells, certifier_cells, entry_cells, line_cells, member_cells, proof_cells, relation_cells, release_cells, set_cells, teller_cells, triple_cells_in, user_cells}
+use Rattle.bank_schema.specs.declared.edition.Edition.{Edition}
 use Rattle.bank_schema.specs.Held.{Sheet, tree_of}
 use Rattle.bank_schema.specs.Held.Sheet.{accounts, bank, branches, certifiers, entries, lines, members, proofs, relations, releases, sets, tellers, triples, users}
 use Rattle.bank_schema.specs.HeldRows.{all_but_rowid, all_of_it}
@@ -13,21 +14,21 @@ abbrev pub HasStranger : {X : Type 0} → (Row → Row) → (X → Row) → (X �
 HasStranger {X = X} shows cells Readable tree = (row : Row) × Contains tree row × ((x : X) → Readable x → cells x ≢ shows row)
 
 -- a row of this table can't be read; the row of the bank is judged apart
-abbrev pub HasUnread : Trees → Sheet → Type 0
-HasUnread db bank = ⊥
-HasUnread db users = HasStranger all_of_it user_cells IsReadableUser (db (tree_of users))
-HasUnread db sets = HasStranger all_of_it set_cells IsShort (db (tree_of sets))
-HasUnread db members = HasStranger all_but_rowid member_cells IsReadableMember (db (tree_of members))
-HasUnread db relations = HasStranger all_but_rowid relation_cells IsReadableRelation (db (tree_of relations))
-HasUnread db triples = HasStranger all_but_rowid triple_cells IsReadableTriple (db (tree_of triples))
-HasUnread db certifiers = HasStranger all_but_rowid certifier_cells IsReadableCertifier (db (tree_of certifiers))
-HasUnread db branches = HasStranger all_of_it branch_cells IsReadableBranch (db (tree_of branches))
-HasUnread db tellers = HasStranger all_of_it teller_cells IsReadableTeller (db (tree_of tellers))
-HasUnread db accounts = HasStranger all_of_it account_cells IsReadableAccount (db (tree_of accounts))
-HasUnread db entries = HasStranger all_but_rowid entry_cells IsReadableEntry (db (tree_of entries))
-HasUnread db lines = HasStranger all_but_rowid line_cells IsReadableLine (db (tree_of lines))
-HasUnread db proofs = HasStranger all_but_rowid proof_cells IsReadableProof (db (tree_of proofs))
-HasUnread db releases = HasStranger all_but_rowid release_cells IsReadableRelease (db (tree_of releases))
+abbrev pub HasUnread : Edition → Trees → Sheet → Type 0
+HasUnread e db bank = ⊥
+HasUnread e db users = HasStranger all_of_it user_cells IsReadableUser (db (tree_of users))
+HasUnread e db sets = HasStranger all_of_it set_cells IsShort (db (tree_of sets))
+HasUnread e db members = HasStranger all_but_rowid member_cells IsReadableMember (db (tree_of members))
+HasUnread e db relations = HasStranger all_but_rowid relation_cells IsReadableRelation (db (tree_of relations))
+HasUnread e db triples = HasStranger all_but_rowid (triple_cells_in e) IsReadableTriple (db (tree_of triples))
+HasUnread e db certifiers = HasStranger all_but_rowid certifier_cells IsReadableCertifier (db (tree_of certifiers))
+HasUnread e db branches = HasStranger all_of_it branch_cells IsReadableBranch (db (tree_of branches))
+HasUnread e db tellers = HasStranger all_of_it teller_cells IsReadableTeller (db (tree_of tellers))
+HasUnread e db accounts = HasStranger all_of_it account_cells IsReadableAccount (db (tree_of accounts))
+HasUnread e db entries = HasStranger all_but_rowid entry_cells IsReadableEntry (db (tree_of entries))
+HasUnread e db lines = HasStranger all_but_rowid line_cells IsReadableLine (db (tree_of lines))
+HasUnread e db proofs = HasStranger all_but_rowid proof_cells IsReadableProof (db (tree_of proofs))
+HasUnread e db releases = HasStranger all_but_rowid release_cells IsReadableRelease (db (tree_of releases))
 
 -- the tables of the books, and that of the users, which are read with them
 abbrev pub IsBesideBooks : Sheet → Type 0

@@ -11,7 +11,7 @@ use whole_tables::{BookRows, HistoryRows, LedgerRows, UserRows};
 
 /// A World and the numbers that are kept beside its rows.
 #[derive(Drop)]
-pub(crate) struct BankRows {
+pub struct BankRows {
     /// The World.
     pub world: World,
     /// The numbers, in the order of the rows.

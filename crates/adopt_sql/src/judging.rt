@@ -3,7 +3,7 @@ ghost use Rattle.book_check.specs.Verdict.{IsVerdict};
 ghost use Rattle.policy_check.specs.PolicyVerdict.{IsPolicyVerdict};
 ghost use Rattle.kept_rows.specs.Keepable.{IsKeepable};
 ghost use Rattle.adopt_sql.specs.Refused.{IsBeyondBankRow, IsNamedBy, IsOfBooks, IsOfBooksRead, IsOfNoPolicy, IsOfPolicy, IsOfStore};
-ghost use Rattle.adopt_sql.specs.Told.{AreBooksInOrder, AreUsersOrdered, IsBankOf, kept_read, sheets_read, world_read};
+ghost use Rattle.adopt_sql.specs.Told.{AreBankOf, AreBooksInOrder, AreUsersOrdered, IsBankOf, kept_read, sheets_read, world_read};
 
 use crate::adopt_fault::AdoptFault;
 use crate::bank_rows::{BankRows, bank_rows};
@@ -22,8 +22,8 @@ pub(crate) fn judge(
     books: BookRows,
     tables: PolicyTables,
     version: u64,
-) -> Result<(), AdoptFault>
-    ensures bank { OnOk result (IsBankOf (sheets_read books tables version)) }
+) -> Result<BankRows, AdoptFault>
+    ensures bank { IfOk result (λ bank. AreBankOf (sheets_read books tables version) bank.world bank.kept) }
     ensures sound { IsBankOf (sheets_read books tables version) → IfErr result IsOfStore }
     ensures named { AreBooksInOrder books → AreUsersOrdered books.users.users.items → IfErr result (IsNamedBy (sheets_read books tables version)) }
     ensures beyond { IfErr result IsBeyondBankRow }
@@ -35,7 +35,8 @@ pub(crate) fn judge(
     match found {
         Some(policy) => {
             let bank = judged_books(alloc, books, policy, version)?;
-            judge_policy(&bank)
+            judge_policy(&bank)?;
+            Ok(bank)
         }
         None => Err(with_no_policy(alloc, books, version)),
     }

@@ -3,18 +3,20 @@ ghost use Rattle.sqlite.specs.Held.{state};
 ghost use Rattle.sqlite.specs.State.{HasCleanDisk, Survives};
 ghost use Rattle.bank_schema.specs.Held.{HoldsSheets};
 ghost use Rattle.bank_schema.specs.Readable.{AreReadable};
+ghost use Rattle.bank_schema.specs.Schema.{newest};
 ghost use Rattle.kept_rows.specs.Sheets.{Sheets};
-ghost use Rattle.adopt_sql.specs.Adopted.{Adopts, IsBankFile, IsLeft};
-ghost use Rattle.adopt_sql.specs.Refused.{HoldsSoundBank, IsNamedBy, IsOfStore, IsRefused};
+ghost use Rattle.adopt_sql.specs.Adopted.{Adopts, IsBankFile, IsLeft, IsOfAnother};
+ghost use Rattle.adopt_sql.specs.Refused.{HoldsSoundBank, IsNamedBy, IsOfOther, IsOfStore, IsRefused};
 
 use crate::adopt_fault::AdoptFault;
-use crate::adopting::adopt_bank;
+use crate::adopting::read_bank;
+use bank_schema::Edition;
 use sqlite::{Alter, Connection};
 use std::alloc::Global;
 use store_sql::SqlStore;
 
-/// The store of the bank that stands in the database. It is refused as `adopt_bank` says, and the connection
-/// is then handed back beside the fault, with nothing changed.
+/// The store of the bank that stands in the database, in the newest tables. It is refused as `read_bank` says,
+/// and the connection is then handed back beside the fault, with nothing changed.
 pub fn adopt<S: Alter>(
     alloc: Global,
     mut conn: Connection<S>,
@@ -26,12 +28,13 @@ pub fn adopt<S: Alter>(
     ensures refused { IfErr result (λ e. HasCleanDisk (state S.Store e.1) → IsBankFile (state S.Store conn) → IsRefused (state S.Store conn).now.trees e.0) }
     ensures sound { IfErr result (λ e. HasCleanDisk (state S.Store e.1) → IsBankFile (state S.Store conn) → HoldsSoundBank (state S.Store conn).now → IsOfStore e.0) }
     ensures named { IfErr result (λ e. HasCleanDisk (state S.Store e.1) → IsBankFile (state S.Store conn) → (s : Sheets) → HoldsSheets (state S.Store conn).now.trees s → AreReadable s → IsNamedBy s e.0) }
+    ensures other { MatchResult result (λ store. HasCleanDisk (state S.Store store.conn) → IsOfAnother newest (state S.Store conn) → ⊥) (λ e. HasCleanDisk (state S.Store e.1) → IsOfAnother newest (state S.Store conn) → IsOfOther e.0) }
     ensures unchanged { IfErr result (λ e. HasCleanDisk (state S.Store e.1) → IsBankFile (state S.Store conn) → IsLeft (state S.Store conn) (state S.Store e.1)) }
     ensures mode { IfErr result (λ e. e.1.in_transaction ≡ false) }
     ensures survives { MatchResult result (λ store. Survives (state S.Store conn) (state S.Store store.conn) (λ _. ⊥)) (λ e. Survives (state S.Store conn) (state S.Store e.1) (λ _. ⊥)) }
 {
-    match adopt_bank(alloc, &mut conn) {
-        Ok(()) => Ok(SqlStore::over(conn)),
+    match read_bank(alloc, &mut conn, Edition::First) {
+        Ok(_) => Ok(SqlStore::over(conn)),
         Err(fault) => Err((fault, conn)),
     }
 }

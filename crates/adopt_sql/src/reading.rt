@@ -1,9 +1,10 @@
-ghost use Rattle.std.specs.Prelude.{ℕ, ◌≡◌, ◌≢◌, Some, false, pos, IfErr, IfOk, IfSome, IsOk, IsSome, IsTrue, OnOk};
+ghost use Rattle.std.specs.Prelude.{ℕ, ◌≡◌, ◌≢◌, Some, false, pos, IfErr, IfOk, IsErrAnd, IfSome, IsOk, IsSome, IsTrue, OnOk};
 ghost use Rattle.sqlite.specs.Effect.{IsDatabase};
 ghost use Rattle.sqlite.specs.Held.{state};
 ghost use Rattle.sqlite.specs.State.{HasCleanDisk, Survives};
 ghost use Rattle.sqlite.specs.Tree.{Trees};
-ghost use Rattle.bank_schema.specs.Held.{HoldsSheets};
+ghost use Rattle.bank_schema.specs.Cells.{edition_number};
+ghost use Rattle.bank_schema.specs.Held.{HoldsSheetsIn};
 ghost use Rattle.bank_schema.specs.Readable.{AreReadable};
 ghost use Rattle.bank_schema.specs.Steps.{StaysOpen};
 ghost use Rattle.kept_rows.specs.Sheets.{Sheets};
@@ -12,10 +13,11 @@ ghost use Rattle.whole_tables.specs.BookRows.{AreBookRows};
 ghost use Rattle.whole_tables.specs.BankRow.{IsBankTable};
 ghost use Rattle.whole_tables.specs.Typed.{AreBooksTyped, AreTablesTyped};
 ghost use Rattle.whole_tables.specs.Whole.{OnReadable, Reads};
-ghost use Rattle.adopt_sql.specs.Adopted.{AreFileRows, IsBankFile, IsBankNumber, IsBankRow, IsLeft, ReadsLast};
-ghost use Rattle.adopt_sql.specs.Refused.{IsOfStore, IsOfUnread, IsOutOfRange, IsRefused, RefusesFor};
+ghost use Rattle.adopt_sql.specs.Adopted.{AreFileRows, IsBankFileIn, IsBankNumber, IsBankRow, IsLeft, IsOfAnother, ReadsLast};
+ghost use Rattle.adopt_sql.specs.Refused.{IsOfOther, IsOfStore, IsOfUnread, IsOutOfRange, IsRefusedIn, RefusesFor, TellsOther};
 
 use crate::adopt_fault::{AdoptFault, books_unread, table_unread};
+use bank_schema::Edition;
 use book_check::BooksFault;
 use sqlite::{Alter, Connection, Transaction};
 use std::alloc::Global;
@@ -35,15 +37,15 @@ pub(crate) struct FileRows {
     pub policy: Option<PolicyTables>,
 }
 
-/// The row of the bank, where this is what its table has, and it is of the first version of the tables.
-fn first_version(found: Option<BankRow>) -> Result<BankRow, AdoptFault>
-    ensures row { IfOk result (λ row. (found ≡ Some row) × (row.id ≡ pos 1) × (row.version ≡ pos 1)) }
-    ensures refused { (db : Trees) → IsBankTable db found → IfErr result (IsRefused db) }
-    ensures first { (db : Trees) (version : ℕ) → IsBankTable db found → IsBankRow db version → IsOk result }
+/// The row of the bank, where this is what its table has, and it is of this edition.
+fn row_of_edition(found: Option<BankRow>, edition: Edition) -> Result<BankRow, AdoptFault>
+    ensures row { IfOk result (λ row. (found ≡ Some row) × (row.id ≡ pos 1) × (row.version ≡ pos (edition_number edition))) }
+    ensures refused { (db : Trees) → IsBankTable db found → IfErr result (IsRefusedIn edition db) }
+    ensures first { (db : Trees) (version : ℕ) → IsBankTable db found → IsBankRow edition db version → IsOk result }
 {
     match found {
         Some(row) if row.id == 1 => {
-            if row.version == 1 {
+            if row.version == edition.number() {
                 Ok(row)
             } else {
                 Err(AdoptFault::Version)
@@ -53,16 +55,17 @@ fn first_version(found: Option<BankRow>) -> Result<BankRow, AdoptFault>
     }
 }
 
-fn told_row<S: Alter>(tx: &mut Transaction<'_, S>) -> Result<BankRow, AdoptFault>
+fn told_row<S: Alter>(tx: &mut Transaction<'_, S>, edition: Edition) -> Result<BankRow, AdoptFault>
     ensures same_reference { tx.new.conn.ghost_name ≡ tx.old.conn.ghost_name }
-    ensures whole { Reads (state S.Store tx.old.conn.now) (state S.Store tx.new.conn.now) (λ trees row. IsBankNumber trees row.policy) result }
-    ensures refused { RefusesFor (state S.Store tx.old.conn.now) (state S.Store tx.new.conn.now) result }
-    ensures takes { OnReadable (state S.Store tx.old.conn.now) (state S.Store tx.new.conn.now) (IfErr result IsOfStore) }
+    ensures whole { Reads edition (state S.Store tx.old.conn.now) (state S.Store tx.new.conn.now) (λ trees row. IsBankNumber edition trees row.policy) result }
+    ensures refused { RefusesFor edition (state S.Store tx.old.conn.now) (state S.Store tx.new.conn.now) result }
+    ensures other { TellsOther edition (state S.Store tx.old.conn.now) (state S.Store tx.new.conn.now) result }
+    ensures takes { OnReadable edition (state S.Store tx.old.conn.now) (state S.Store tx.new.conn.now) (IfErr result IsOfStore) }
     ensures open { StaysOpen (state S.Store tx.old.conn.now) (state S.Store tx.new.conn.now) result }
     ensures survives { Survives (state S.Store tx.old.conn.now) (state S.Store tx.new.conn.now) (λ _. ⊥) }
 {
     match bank_row(tx) {
-        Ok(found) => first_version(found),
+        Ok(found) => row_of_edition(found, edition),
         Err(fault) => Err(table_unread(fault)),
     }
 }
@@ -81,30 +84,35 @@ fn version_in(row: &BankRow) -> Result<u64, AdoptFault>
 
 /// The version of the policy. It is not judged before each of the other tables was asked for its rows: the row
 /// of the bank is told first, then that a table is not there, then what is out of its limits.
-fn bank_version<S: Alter>(tx: &mut Transaction<'_, S>) -> Result<u64, AdoptFault>
+fn bank_version<S: Alter>(tx: &mut Transaction<'_, S>, edition: Edition) -> Result<u64, AdoptFault>
     ensures same_reference { tx.new.conn.ghost_name ≡ tx.old.conn.ghost_name }
-    ensures whole { Reads (state S.Store tx.old.conn.now) (state S.Store tx.new.conn.now) IsBankRow result }
-    ensures refused { RefusesFor (state S.Store tx.old.conn.now) (state S.Store tx.new.conn.now) result }
-    ensures takes { OnReadable (state S.Store tx.old.conn.now) (state S.Store tx.new.conn.now) (IfErr result IsOfStore) }
+    ensures whole { Reads edition (state S.Store tx.old.conn.now) (state S.Store tx.new.conn.now) (IsBankRow edition) result }
+    ensures refused { RefusesFor edition (state S.Store tx.old.conn.now) (state S.Store tx.new.conn.now) result }
+    ensures other { TellsOther edition (state S.Store tx.old.conn.now) (state S.Store tx.new.conn.now) result }
+    ensures takes { OnReadable edition (state S.Store tx.old.conn.now) (state S.Store tx.new.conn.now) (IfErr result IsOfStore) }
     ensures open { HasCleanDisk (state S.Store tx.new.conn.now) → OnOk result (IsTrue (state S.Store tx.old.conn.now).is_open) }
     ensures survives { Survives (state S.Store tx.old.conn.now) (state S.Store tx.new.conn.now) (λ _. ⊥) }
 {
-    let row = told_row(tx)?;
-    match ask_tables(tx) {
+    let row = told_row(tx, edition)?;
+    match ask_tables(tx, edition) {
         Ok(()) => version_in(&row),
         Err(fault) => Err(table_unread(fault)),
     }
 }
 
-fn book_rows<S: Alter>(alloc: Global, tx: &mut Transaction<'_, S>) -> Result<BookRows, AdoptFault>
+fn book_rows<S: Alter>(
+    alloc: Global,
+    tx: &mut Transaction<'_, S>,
+    edition: Edition,
+) -> Result<BookRows, AdoptFault>
     ensures same_reference { tx.new.conn.ghost_name ≡ tx.old.conn.ghost_name }
-    ensures whole { Reads (state S.Store tx.old.conn.now) (state S.Store tx.new.conn.now) AreBookRows result }
+    ensures whole { Reads edition (state S.Store tx.old.conn.now) (state S.Store tx.new.conn.now) AreBookRows result }
     ensures typed { IfOk result AreBooksTyped }
-    ensures takes { OnReadable (state S.Store tx.old.conn.now) (state S.Store tx.new.conn.now) (IfErr result IsOfStore) }
+    ensures takes { OnReadable edition (state S.Store tx.old.conn.now) (state S.Store tx.new.conn.now) (IfErr result IsOfStore) }
     ensures beyond { IfErr result IsOfUnread }
     ensures survives { Survives (state S.Store tx.old.conn.now) (state S.Store tx.new.conn.now) (λ _. ⊥) }
 {
-    match all_book_rows(alloc, tx) {
+    match all_book_rows(alloc, tx, edition) {
         Ok(rows) => Ok(rows),
         Err(fault) => Err(books_unread(fault)),
     }
@@ -114,15 +122,16 @@ fn book_rows<S: Alter>(alloc: Global, tx: &mut Transaction<'_, S>) -> Result<Boo
 fn policy_tables<S: Alter>(
     alloc: Global,
     tx: &mut Transaction<'_, S>,
+    edition: Edition,
 ) -> Result<Option<PolicyTables>, AdoptFault>
     ensures same_reference { tx.new.conn.ghost_name ≡ tx.old.conn.ghost_name }
-    ensures whole { ReadsLast (state S.Store tx.old.conn.now) (state S.Store tx.new.conn.now) (λ trees found. IfSome found (ArePolicyTables trees)) result }
+    ensures whole { ReadsLast edition (state S.Store tx.old.conn.now) (state S.Store tx.new.conn.now) (λ trees found. IfSome found (ArePolicyTables edition trees)) result }
     ensures typed { IfOk result (λ found. IfSome found AreTablesTyped) }
-    ensures takes { OnReadable (state S.Store tx.old.conn.now) (state S.Store tx.new.conn.now) (IfOk result IsSome × IfErr result IsOfStore) }
+    ensures takes { OnReadable edition (state S.Store tx.old.conn.now) (state S.Store tx.new.conn.now) (IfOk result IsSome × IfErr result IsOfStore) }
     ensures beyond { IfErr result IsOfUnread }
     ensures survives { Survives (state S.Store tx.old.conn.now) (state S.Store tx.new.conn.now) (λ _. ⊥) }
 {
-    match all_policy_tables(alloc, tx) {
+    match all_policy_tables(alloc, tx, edition) {
         Ok(rows) => Ok(Some(rows)),
         Err(ReadFault::OutOfLimits(_)) => Ok(None),
         Err(fault) => Err(books_unread(fault)),
@@ -130,17 +139,22 @@ fn policy_tables<S: Alter>(
 }
 
 /// The rows of all tables: once each table was asked, those of the books are read, then those of the policy.
-fn rows_inside<S: Alter>(alloc: Global, tx: &mut Transaction<'_, S>) -> Result<FileRows, AdoptFault>
+fn rows_inside<S: Alter>(
+    alloc: Global,
+    tx: &mut Transaction<'_, S>,
+    edition: Edition,
+) -> Result<FileRows, AdoptFault>
     ensures same_reference { tx.new.conn.ghost_name ≡ tx.old.conn.ghost_name }
-    ensures whole { ReadsLast (state S.Store tx.old.conn.now) (state S.Store tx.new.conn.now) AreFileRows result }
-    ensures refused { RefusesFor (state S.Store tx.old.conn.now) (state S.Store tx.new.conn.now) result }
-    ensures takes { OnReadable (state S.Store tx.old.conn.now) (state S.Store tx.new.conn.now) (IfOk result (λ rows. IsSome rows.policy) × IfErr result IsOfStore) }
+    ensures whole { ReadsLast edition (state S.Store tx.old.conn.now) (state S.Store tx.new.conn.now) (AreFileRows edition) result }
+    ensures refused { RefusesFor edition (state S.Store tx.old.conn.now) (state S.Store tx.new.conn.now) result }
+    ensures other { TellsOther edition (state S.Store tx.old.conn.now) (state S.Store tx.new.conn.now) result }
+    ensures takes { OnReadable edition (state S.Store tx.old.conn.now) (state S.Store tx.new.conn.now) (IfOk result (λ rows. IsSome rows.policy) × IfErr result IsOfStore) }
     ensures open { HasCleanDisk (state S.Store tx.new.conn.now) → OnOk result (IsTrue (state S.Store tx.old.conn.now).is_open) }
     ensures survives { Survives (state S.Store tx.old.conn.now) (state S.Store tx.new.conn.now) (λ _. ⊥) }
 {
-    let version = bank_version(tx)?;
-    let books = book_rows(alloc, tx)?;
-    let policy = policy_tables(alloc, tx)?;
+    let version = bank_version(tx, edition)?;
+    let books = book_rows(alloc, tx, edition)?;
+    let policy = policy_tables(alloc, tx, edition)?;
     Ok(FileRows {
         version,
         books,
@@ -152,13 +166,15 @@ fn rows_inside<S: Alter>(alloc: Global, tx: &mut Transaction<'_, S>) -> Result<F
 pub(crate) fn read_file<S: Alter>(
     alloc: Global,
     conn: &mut Connection<S>,
+    edition: Edition,
 ) -> Result<FileRows, AdoptFault>
     requires { conn.old.in_transaction ≡ false }
     ensures mode { conn.new.in_transaction ≡ false }
-    ensures whole { HasCleanDisk (state S.Store conn.new) → IsBankFile (state S.Store conn.old) → IfOk result (AreFileRows (state S.Store conn.old).now.trees) }
-    ensures refused { HasCleanDisk (state S.Store conn.new) → IsBankFile (state S.Store conn.old) → IfErr result (IsRefused (state S.Store conn.old).now.trees) }
-    ensures takes { HasCleanDisk (state S.Store conn.new) → IsBankFile (state S.Store conn.old) → (s : Sheets) → HoldsSheets (state S.Store conn.old).now.trees s → AreReadable s → IfOk result (λ rows. IsSome rows.policy) × IfErr result IsOfStore }
-    ensures left { HasCleanDisk (state S.Store conn.new) → IsBankFile (state S.Store conn.old) → IsLeft (state S.Store conn.old) (state S.Store conn.new) }
+    ensures whole { HasCleanDisk (state S.Store conn.new) → IsBankFileIn edition (state S.Store conn.old) → IfOk result (AreFileRows edition (state S.Store conn.old).now.trees) }
+    ensures refused { HasCleanDisk (state S.Store conn.new) → IsBankFileIn edition (state S.Store conn.old) → IfErr result (IsRefusedIn edition (state S.Store conn.old).now.trees) }
+    ensures other { HasCleanDisk (state S.Store conn.new) → IsOfAnother edition (state S.Store conn.old) → IsErrAnd result IsOfOther }
+    ensures takes { HasCleanDisk (state S.Store conn.new) → IsBankFileIn edition (state S.Store conn.old) → (s : Sheets) → HoldsSheetsIn edition (state S.Store conn.old).now.trees s → AreReadable s → IfOk result (λ rows. IsSome rows.policy) × IfErr result IsOfStore }
+    ensures left { HasCleanDisk (state S.Store conn.new) → IsBankFileIn edition (state S.Store conn.old) → IsLeft (state S.Store conn.old) (state S.Store conn.new) }
     ensures open { HasCleanDisk (state S.Store conn.new) → OnOk result (IsTrue (state S.Store conn.old).is_open) }
     ensures sound { HasCleanDisk (state S.Store conn.new) → OnOk result (IsDatabase (state S.Store conn.old).now) }
     ensures survives { Survives (state S.Store conn.old) (state S.Store conn.new) (λ _. ⊥) }
@@ -166,7 +182,7 @@ pub(crate) fn read_file<S: Alter>(
     // With its schema a connection tells that its state is one that it can be in, which the clauses rest on.
     let _schema = conn.schema();
     let mut tx = conn.transaction();
-    let rows = rows_inside(alloc, &mut tx);
+    let rows = rows_inside(alloc, &mut tx, edition);
     tx.rollback();
     rows
 }

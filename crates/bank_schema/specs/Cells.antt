@@ -16,11 +16,21 @@ use Rattle.bank_books.specs.declared.rows.Release.{Release}
 use Rattle.kept_rows.specs.declared.records.KeptTeller.{KeptTeller}
 use Rattle.kept_rows.specs.declared.records.KeptUser.{KeptUser}
 use Rattle.kept_rows.specs.declared.records.MemberRow.{MemberRow}
+use Rattle.bank_schema.specs.declared.edition.Edition.{Edition}
+use Rattle.bank_schema.specs.declared.edition.Edition.TheVariants.{First}
 use Rattle.bank_schema.specs.Numbers.{entry_form_number, kind_cell, line_form_number, procedure_cell, truth_cell}
+use Rattle.bank_schema.specs.Schema.{newest}
 
--- the first version of the schema, and the version of the policy
+-- the number of the edition, as the row of the bank bears it
+abbrev pub edition_number : Edition → ℕ
+edition_number First = 1
+
+-- the edition, and the version of the policy
+abbrev pub bank_cells_in : Edition → ℕ → Row
+bank_cells_in e policy = Int (pos 1) ∷ Null ∷ Int (pos (edition_number e)) ∷ Int (pos policy) ∷ []
+
 abbrev pub bank_cells : ℕ → Row
-bank_cells policy = Int (pos 1) ∷ Null ∷ Int (pos 1) ∷ Int (pos policy) ∷ []
+bank_cells = bank_cells_in newest
 
 -- ---- the policy
 
@@ -40,6 +50,9 @@ relation_cells r = procedure_cell r.procedure ∷ Int (pos r.set) ∷ Int (pos r
 
 abbrev pub triple_cells : Triple → Row
 triple_cells t = Int (pos t.user) ∷ procedure_cell t.procedure ∷ Int (pos t.set) ∷ Int (pos t.limit) ∷ []
+
+abbrev pub triple_cells_in : Edition → Triple → Row
+triple_cells_in First t = triple_cells t
 
 abbrev pub certifier_cells : Certifier → Row
 certifier_cells c = Int (pos c.user) ∷ procedure_cell c.procedure ∷ []
@@ -91,6 +104,10 @@ RelationFits r = r.set < 2 ^ 32
 
 abbrev pub TripleFits : Triple → Type 0
 TripleFits t = t.set < 2 ^ 32
+
+-- a triple as an edition can keep it
+abbrev pub TripleFitsIn : Edition → Triple → Type 0
+TripleFitsIn First t = TripleFits t
 
 abbrev pub EntryFits : EntryRecord → Type 0
 EntryFits e = e.row.number < 2 ^ 32

@@ -9,9 +9,10 @@ use Rattle.bank_books.specs.Keys.{line_key, proof_key, release_key}
 use Rattle.bank_books.specs.WorldLists.{WorldLists}
 use Rattle.kept_rows.specs.Keepable.{IsKeepable}
 use Rattle.kept_rows.specs.Sheets.{Sheets, account_no, branch_no, entry_no, member_no, sheets_of, teller_no, user_no}
-use Rattle.bank_schema.specs.Cells.{AnyRow, EntryFits, LineFits, MemberFits, ProofFits, RelationFits, ReleaseFits, TripleFits, account_cells, bank_cells, branch_cells, certifier_cells, entry_cells, line_cells, member_cells, proof_cells, relation_cells, release_cells, set_cells, teller_cells, triple_cells, user_cells}
+use Rattle.bank_schema.specs.Cells.{AnyRow, EntryFits, LineFits, MemberFits, ProofFits, RelationFits, ReleaseFits, TripleFitsIn, account_cells, bank_cells_in, branch_cells, certifier_cells, entry_cells, line_cells, member_cells, proof_cells, relation_cells, release_cells, set_cells, teller_cells, triple_cells_in, user_cells}
 use Rattle.bank_schema.specs.HeldRows.{HoldsRows, all_but_rowid, all_of_it}
-use Rattle.bank_schema.specs.Schema.{bank_schema}
+use Rattle.bank_schema.specs.Schema.{bank_schema, newest, schema_of}
+use Rattle.bank_schema.specs.declared.edition.Edition.{Edition}
 
 -- the tables
 pub data Sheet : Type 0 where
@@ -51,24 +52,31 @@ abbrev pub set_no : ℕ → ℕ
 set_no set = set
 
 -- the rows of one table
+abbrev pub HoldsSheetIn : Edition → Sheet → Sheets → List Row → Type 0
+HoldsSheetIn e bank s tree = tree ≡ bank_cells_in e s.version ∷ []
+HoldsSheetIn e users s tree = HoldsRows all_of_it user_cells user_no AnyRow s.users tree
+HoldsSheetIn e sets s tree = HoldsRows all_of_it set_cells set_no AnyRow s.sets tree
+HoldsSheetIn e members s tree = HoldsRows all_but_rowid member_cells member_no MemberFits s.members tree
+HoldsSheetIn e relations s tree = HoldsRows all_but_rowid relation_cells relation_key RelationFits s.relations tree
+HoldsSheetIn e triples s tree = HoldsRows all_but_rowid (triple_cells_in e) triple_key (TripleFitsIn e) s.triples tree
+HoldsSheetIn e certifiers s tree = HoldsRows all_but_rowid certifier_cells certifier_key AnyRow s.certifiers tree
+HoldsSheetIn e branches s tree = HoldsRows all_of_it branch_cells branch_no AnyRow s.branches tree
+HoldsSheetIn e tellers s tree = HoldsRows all_of_it teller_cells teller_no AnyRow s.tellers tree
+HoldsSheetIn e accounts s tree = HoldsRows all_of_it account_cells account_no AnyRow s.accounts tree
+HoldsSheetIn e entries s tree = HoldsRows all_but_rowid entry_cells entry_no EntryFits s.entries tree
+HoldsSheetIn e lines s tree = HoldsRows all_but_rowid line_cells line_key LineFits s.lines tree
+HoldsSheetIn e proofs s tree = HoldsRows all_but_rowid proof_cells proof_key ProofFits s.proofs tree
+HoldsSheetIn e releases s tree = HoldsRows all_but_rowid release_cells release_key ReleaseFits s.releases tree
+
+abbrev pub HoldsSheetsIn : Edition → Trees → Sheets → Type 0
+HoldsSheetsIn e trees s = (t : Sheet) → HoldsSheetIn e t s (trees (tree_of t))
+
+-- as the newest edition has them
 abbrev pub HoldsSheet : Sheet → Sheets → List Row → Type 0
-HoldsSheet bank s tree = tree ≡ bank_cells s.version ∷ []
-HoldsSheet users s tree = HoldsRows all_of_it user_cells user_no AnyRow s.users tree
-HoldsSheet sets s tree = HoldsRows all_of_it set_cells set_no AnyRow s.sets tree
-HoldsSheet members s tree = HoldsRows all_but_rowid member_cells member_no MemberFits s.members tree
-HoldsSheet relations s tree = HoldsRows all_but_rowid relation_cells relation_key RelationFits s.relations tree
-HoldsSheet triples s tree = HoldsRows all_but_rowid triple_cells triple_key TripleFits s.triples tree
-HoldsSheet certifiers s tree = HoldsRows all_but_rowid certifier_cells certifier_key AnyRow s.certifiers tree
-HoldsSheet branches s tree = HoldsRows all_of_it branch_cells branch_no AnyRow s.branches tree
-HoldsSheet tellers s tree = HoldsRows all_of_it teller_cells teller_no AnyRow s.tellers tree
-HoldsSheet accounts s tree = HoldsRows all_of_it account_cells account_no AnyRow s.accounts tree
-HoldsSheet entries s tree = HoldsRows all_but_rowid entry_cells entry_no EntryFits s.entries tree
-HoldsSheet lines s tree = HoldsRows all_but_rowid line_cells line_key LineFits s.lines tree
-HoldsSheet proofs s tree = HoldsRows all_but_rowid proof_cells proof_key ProofFits s.proofs tree
-HoldsSheet releases s tree = HoldsRows all_but_rowid release_cells release_key ReleaseFits s.releases tree
+HoldsSheet = HoldsSheetIn newest
 
 abbrev pub HoldsSheets : Trees → Sheets → Type 0
-HoldsSheets trees s = (t : Sheet) → HoldsSheet t s (trees (tree_of t))
+HoldsSheets = HoldsSheetsIn newest
 
 -- The tables hold these rows, and keep the rules of the schema: a triple is of a relation that is there.
 pub record HoldsTables (db : Database) (s : Sheets) : Type 0 where
@@ -76,15 +84,23 @@ pub record HoldsTables (db : Database) (s : Sheets) : Type 0 where
   pub sound : IsDatabase db
   pub rows : HoldsSheets db.trees s
 
--- These trees list the tables of a bank and keep the rules of the schema, and hold the rows and the numbers of this World.
-pub record AreOfWorld (w : WorldLists) (trees : Trees) : Type 0 where
-  pub listed : IsDatabase (record { schema = bank_schema; trees = trees })
-  pub rows : HoldsSheets trees (sheets_of w)
+-- These trees list the tables of a bank as an edition lays them out and keep the rules of its schema, and hold the rows and the numbers of
+-- this World.
+pub record AreOfWorldIn (e : Edition) (w : WorldLists) (trees : Trees) : Type 0 where
+  pub listed : IsDatabase (record { schema = schema_of e; trees = trees })
+  pub rows : HoldsSheetsIn e trees (sheets_of w)
   pub keepable : IsKeepable w
 
-pub record HoldsWorld (db : Database) (w : WorldLists) : Type 0 where
-  pub schema : db.schema ≡ bank_schema
-  pub world : AreOfWorld w db.trees
+pub record HoldsWorldIn (e : Edition) (db : Database) (w : WorldLists) : Type 0 where
+  pub schema : db.schema ≡ schema_of e
+  pub world : AreOfWorldIn e w db.trees
+
+-- as the newest edition has it
+abbrev pub AreOfWorld : WorldLists → Trees → Type 0
+AreOfWorld = AreOfWorldIn newest
+
+abbrev pub HoldsWorld : Database → WorldLists → Type 0
+HoldsWorld = HoldsWorldIn newest
 
 -- between calls: the last commit has it too
 pub record HoldsBank (s : State) (w : WorldLists) : Type 0 where

@@ -7,6 +7,7 @@
 
 mod calls;
 mod cells;
+mod edition;
 mod values;
 
 pub use calls::{commit, run, shown_rows};
@@ -14,4 +15,5 @@ pub use cells::{
     cents_at, count_at, count_cell, fault_of, kind_at, kind_number, number_at, procedure_at,
     sum_cell, truth_at, whole_at,
 };
+pub use edition::Edition;
 pub use values::{delta_at, entry_form_at, line_form_at, members_of, name_at, sum_at};

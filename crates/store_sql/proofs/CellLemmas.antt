@@ -26,7 +26,9 @@ use Rattle.bank_books.specs.declared.rows.Release.{Release}
 use Rattle.kept_rows.specs.declared.records.KeptTeller.{KeptTeller}
 use Rattle.kept_rows.specs.declared.records.KeptUser.{KeptUser}
 use Rattle.kept_rows.specs.declared.records.MemberRow.{MemberRow}
-use Rattle.bank_schema.specs.Cells.{ReleaseFits, account_cells, branch_cells, certifier_cells, entry_cells, line_cells, member_cells, proof_cells, relation_cells, release_cells, set_cells, teller_cells, triple_cells, user_cells}
+use Rattle.bank_schema.specs.Cells.{ReleaseFits, TripleFitsIn, account_cells, branch_cells, certifier_cells, entry_cells, line_cells, member_cells, proof_cells, relation_cells, release_cells, set_cells, teller_cells, triple_cells, triple_cells_in, user_cells}
+use Rattle.bank_schema.specs.declared.edition.Edition.{Edition}
+use Rattle.bank_schema.specs.declared.edition.Edition.TheVariants.{First}
 use Rattle.bank_schema.specs.Numbers.{entry_form_number, kind_number, line_form_number, truth_cell}
 
 -- ---- single cells
@@ -136,6 +138,12 @@ triple_back r = record { user = nat_of (column r 0); procedure = procedure_of (n
 
 pub triple_tells : (t : Triple) → triple_back (triple_cells t) ≡ t
 triple_tells t = λ i. record t { procedure = procedure_back t.procedure i }
+
+abbrev pub triple_back_in : Edition → Row → Triple
+triple_back_in First r = triple_back r
+
+pub triple_tells_in : (e : Edition) (t : Triple) → TripleFitsIn e t → triple_back_in e (triple_cells_in e t) ≡ t
+triple_tells_in First t fits = triple_tells t
 
 abbrev pub certifier_back : Row → Certifier
 certifier_back r = record { user = nat_of (column r 0); procedure = procedure_of (nat_of (column r 1)) }

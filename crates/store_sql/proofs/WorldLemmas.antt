@@ -7,10 +7,12 @@ use Rattle.bank_books.specs.Keys.{line_key, proof_key, release_key}
 use Rattle.bank_books.specs.WorldLists.{WorldLists}
 use Rattle.kept_rows.specs.Sheets.{Sheets, account_no, branch_no, entry_no, member_no, sheets_of, teller_no, user_no}
 use Rattle.kept_rows.proofs.SheetsTell.{sheets_tell_world}
-use Rattle.bank_schema.specs.Cells.{AnyRow, EntryFits, LineFits, MemberFits, ProofFits, RelationFits, ReleaseFits, TripleFits, account_cells, branch_cells, certifier_cells, entry_cells, line_cells, member_cells, proof_cells, relation_cells, release_cells, set_cells, teller_cells, triple_cells, user_cells}
-use Rattle.bank_schema.specs.Held.{AreOfWorld, HoldsSheets, set_no}
+use Rattle.bank_schema.specs.Cells.{AnyRow, EntryFits, LineFits, MemberFits, ProofFits, RelationFits, ReleaseFits, TripleFitsIn, account_cells, branch_cells, certifier_cells, entry_cells, line_cells, member_cells, proof_cells, relation_cells, release_cells, set_cells, teller_cells, triple_cells_in, user_cells}
+use Rattle.bank_schema.specs.Held.{AreOfWorld, AreOfWorldIn, HoldsSheetsIn, set_no}
+use Rattle.bank_schema.specs.declared.edition.Edition.{Edition}
 use Rattle.bank_schema.specs.Held.Sheet.{accounts as in_accounts, bank as in_bank, branches as in_branches, certifiers as in_certifiers, entries as in_entries, lines as in_lines, members as in_members, proofs as in_proofs, relations as in_relations, releases as in_releases, sets as in_sets, tellers as in_tellers, triples as in_triples, users as in_users}
 use Rattle.bank_schema.specs.HeldRows.{all_but_rowid, all_of_it}
+use Rattle.bank_schema.specs.Schema.{newest}
 use Rattle.store_sql.proofs.CellLemmas as cells
 use Rattle.store_sql.proofs.OrderLemmas.{one_list}
 
@@ -19,13 +21,13 @@ first_version [] = 0
 first_version (r ∷ rows) = cells.version_back r
 
 -- trees hold one list of rows for each table
-pub same_sheets : (s t : Sheets) (trees : Trees) → HoldsSheets trees s → HoldsSheets trees t → s ≡ t
-same_sheets s t trees h k =
+pub same_sheets : (e : Edition) (s t : Sheets) (trees : Trees) → HoldsSheetsIn e trees s → HoldsSheetsIn e trees t → s ≡ t
+same_sheets e s t trees h k =
     let users : s.users ≡ t.users = one_list all_of_it user_cells user_no AnyRow cells.user_back (λ x fits. cells.user_tells x) s.users t.users (trees 1) (h in_users) (k in_users) in
     let sets : s.sets ≡ t.sets = one_list all_of_it set_cells set_no AnyRow cells.set_back (λ x fits. cells.set_tells x) s.sets t.sets (trees 2) (h in_sets) (k in_sets) in
     let members : s.members ≡ t.members = one_list all_but_rowid member_cells member_no MemberFits cells.member_back (λ x fits. cells.member_tells x) s.members t.members (trees 3) (h in_members) (k in_members) in
     let relations : s.relations ≡ t.relations = one_list all_but_rowid relation_cells relation_key RelationFits cells.relation_back (λ x fits. cells.relation_tells x) s.relations t.relations (trees 5) (h in_relations) (k in_relations) in
-    let triples : s.triples ≡ t.triples = one_list all_but_rowid triple_cells triple_key TripleFits cells.triple_back (λ x fits. cells.triple_tells x) s.triples t.triples (trees 7) (h in_triples) (k in_triples) in
+    let triples : s.triples ≡ t.triples = one_list all_but_rowid (triple_cells_in e) triple_key (TripleFitsIn e) (cells.triple_back_in e) (cells.triple_tells_in e) s.triples t.triples (trees 7) (h in_triples) (k in_triples) in
     let certifiers : s.certifiers ≡ t.certifiers = one_list all_but_rowid certifier_cells certifier_key AnyRow cells.certifier_back (λ x fits. cells.certifier_tells x) s.certifiers t.certifiers (trees 9) (h in_certifiers) (k in_certifiers) in
     let branches : s.branches ≡ t.branches = one_list all_of_it branch_cells branch_no AnyRow cells.branch_back (λ x fits. cells.branch_tells x) s.branches t.branches (trees 11) (h in_branches) (k in_branches) in
     let tellers : s.tellers ≡ t.tellers = one_list all_of_it teller_cells teller_no AnyRow cells.teller_back (λ x fits. cells.teller_tells x) s.tellers t.tellers (trees 12) (h in_tellers) (k in_tellers) in
@@ -38,5 +40,8 @@ same_sheets s t trees h k =
     λ i. record { users = users i; sets = sets i; members = members i; relations = relations i; triples = triples i; certifiers = certifiers i; branches = branches i; tellers = tellers i; accounts = accounts i; entries = entries i; lines = lines i; proofs = proofs i; releases = releases i; version = version i }
 
 -- a crash that may leave trees may leave one World
+pub same_world_in : (e : Edition) (v w : WorldLists) (trees : Trees) → AreOfWorldIn e v trees → AreOfWorldIn e w trees → v ≡ w
+same_world_in e v w trees h k = sheets_tell_world v w h.keepable k.keepable (same_sheets e (sheets_of v) (sheets_of w) trees h.rows k.rows)
+
 pub same_world : (v w : WorldLists) (trees : Trees) → AreOfWorld v trees → AreOfWorld w trees → v ≡ w
-same_world v w trees h k = sheets_tell_world v w h.keepable k.keepable (same_sheets (sheets_of v) (sheets_of w) trees h.rows k.rows)
+same_world = same_world_in newest

@@ -7,6 +7,8 @@ use Rattle.sqlite_value.specs.declared.keys.Key.{Key}
 use Rattle.bank_books.specs.Keys.{line_key, proof_key, release_key}
 use Rattle.bank_schema.specs.Cells.{LineFits, ProofFits, ReleaseFits, line_cells, proof_cells, release_cells}
 use Rattle.bank_schema.specs.Held.Sheet.{lines as in_lines, proofs as in_proofs, releases as in_releases}
+use Rattle.bank_schema.specs.declared.edition.Edition.{Edition}
+use Rattle.bank_schema.specs.declared.edition.Edition.TheVariants.{First}
 use Rattle.bank_schema.specs.HeldRows.{all_but_rowid}
 use Rattle.bank_schema.specs.Schema.{lines_table, proofs_table, releases_table}
 use Rattle.bank_schema.specs.Told.{told_by_columns}
@@ -23,17 +25,17 @@ lines_columns = col 1 1 ∷ col 1 2 ∷ col 1 3 ∷ col 1 4 ∷ col 1 5 ∷ col 
 abbrev lines_order : List (Term × Key)
 lines_order = (col 1 1, rising_key) ∷ (col 1 2, rising_key) ∷ []
 
-lines_is : IsScanOf all_lines_text 17 lines_columns lines_order (codes "branch" ∷ codes "number" ∷ codes "place" ∷ codes "amount" ∷ codes "form" ∷ codes "moment" ∷ codes "day" ∷ codes "user_no" ∷ [])
+lines_is : (e : Edition) → IsScanOf e all_lines_text 17 lines_columns lines_order (codes "branch" ∷ codes "number" ∷ codes "place" ∷ codes "amount" ∷ codes "form" ∷ codes "moment" ∷ codes "day" ∷ codes "user_no" ∷ [])
 unfolding understood everything
-lines_is = (refl, refl, (refl, refl), (refl, refl), refl)
+lines_is First = (refl, refl, (refl, refl), (refl, refl), refl)
 
 lines_alike : ReadsNoRowid (whole_scan 17 lines_columns lines_order)
 lines_alike [] = refl
 lines_alike (id ∷ r) = refl
 
-pub tells_lines : TellsWhole all_but_rowid (told_by_columns 8) line_cells line_key LineFits in_lines all_lines_text
-tells_lines =
-    by_columns_whole line_cells line_key LineFits in_lines lines_table all_lines_text lines_columns lines_order _ 8 lines_is
+pub tells_lines : (e : Edition) → TellsWhole e all_but_rowid (told_by_columns 8) line_cells line_key LineFits in_lines all_lines_text
+tells_lines e =
+    by_columns_whole e line_cells line_key LineFits in_lines lines_table all_lines_text lines_columns lines_order _ 8 (lines_is e)
     (inr (inr (inr (inr (inr (inr (inr (inr (inr (inr (inr (inl refl)))))))))))) refl (λ db. refl) refl refl (λ r. refl) lines_alike (λ x. refl)
     (λ x y p q less. rises_by_two x.branch x.number y.branch y.number p q less)
 
@@ -45,17 +47,17 @@ proofs_columns = col 1 1 ∷ col 1 2 ∷ col 1 3 ∷ col 1 4 ∷ col 1 5 ∷ []
 abbrev proofs_order : List (Term × Key)
 proofs_order = (col 1 1, rising_key) ∷ (col 1 2, rising_key) ∷ []
 
-proofs_is : IsScanOf all_proofs_text 19 proofs_columns proofs_order (codes "branch" ∷ codes "day" ∷ codes "entries" ∷ codes "balance" ∷ codes "cash" ∷ [])
+proofs_is : (e : Edition) → IsScanOf e all_proofs_text 19 proofs_columns proofs_order (codes "branch" ∷ codes "day" ∷ codes "entries" ∷ codes "balance" ∷ codes "cash" ∷ [])
 unfolding understood everything
-proofs_is = (refl, refl, (refl, refl), (refl, refl), refl)
+proofs_is First = (refl, refl, (refl, refl), (refl, refl), refl)
 
 proofs_alike : ReadsNoRowid (whole_scan 19 proofs_columns proofs_order)
 proofs_alike [] = refl
 proofs_alike (id ∷ r) = refl
 
-pub tells_proofs : TellsWhole all_but_rowid (told_by_columns 5) proof_cells proof_key ProofFits in_proofs all_proofs_text
-tells_proofs =
-    by_columns_whole proof_cells proof_key ProofFits in_proofs proofs_table all_proofs_text proofs_columns proofs_order _ 5 proofs_is
+pub tells_proofs : (e : Edition) → TellsWhole e all_but_rowid (told_by_columns 5) proof_cells proof_key ProofFits in_proofs all_proofs_text
+tells_proofs e =
+    by_columns_whole e proof_cells proof_key ProofFits in_proofs proofs_table all_proofs_text proofs_columns proofs_order _ 5 (proofs_is e)
     (inr (inr (inr (inr (inr (inr (inr (inr (inr (inr (inr (inr (inl refl))))))))))))) refl (λ db. refl) refl refl (λ r. refl) proofs_alike (λ x. refl)
     (λ x y p q less. rises_by_two x.branch x.day y.branch y.day p q less)
 
@@ -67,16 +69,16 @@ releases_columns = col 1 1 ∷ col 1 2 ∷ col 1 3 ∷ col 1 4 ∷ col 1 5 ∷ c
 abbrev releases_order : List (Term × Key)
 releases_order = (col 1 1, rising_key) ∷ (col 1 2, rising_key) ∷ []
 
-releases_is : IsScanOf all_releases_text 21 releases_columns releases_order (codes "user_no" ∷ codes "number" ∷ codes "giver" ∷ codes "branch" ∷ codes "day" ∷ codes "form" ∷ codes "member1" ∷ codes "member2" ∷ codes "member3" ∷ codes "member4" ∷ codes "member5" ∷ codes "member6" ∷ codes "member7" ∷ codes "member8" ∷ codes "used" ∷ [])
+releases_is : (e : Edition) → IsScanOf e all_releases_text 21 releases_columns releases_order (codes "user_no" ∷ codes "number" ∷ codes "giver" ∷ codes "branch" ∷ codes "day" ∷ codes "form" ∷ codes "member1" ∷ codes "member2" ∷ codes "member3" ∷ codes "member4" ∷ codes "member5" ∷ codes "member6" ∷ codes "member7" ∷ codes "member8" ∷ codes "used" ∷ [])
 unfolding understood everything
-releases_is = (refl, refl, (refl, refl), (refl, refl), refl)
+releases_is First = (refl, refl, (refl, refl), (refl, refl), refl)
 
 releases_alike : ReadsNoRowid (whole_scan 21 releases_columns releases_order)
 releases_alike [] = refl
 releases_alike (id ∷ r) = refl
 
-pub tells_releases : TellsWhole all_but_rowid (told_by_columns 15) release_cells release_key ReleaseFits in_releases all_releases_text
-tells_releases =
-    by_columns_whole release_cells release_key ReleaseFits in_releases releases_table all_releases_text releases_columns releases_order _ 15 releases_is
+pub tells_releases : (e : Edition) → TellsWhole e all_but_rowid (told_by_columns 15) release_cells release_key ReleaseFits in_releases all_releases_text
+tells_releases e =
+    by_columns_whole e release_cells release_key ReleaseFits in_releases releases_table all_releases_text releases_columns releases_order _ 15 (releases_is e)
     (inr (inr (inr (inr (inr (inr (inr (inr (inr (inr (inr (inr (inr (inl refl)))))))))))))) refl (λ db. refl) refl refl (λ r. refl) releases_alike (λ x. refl)
     (λ x y p q less. rises_by_two x.user x.number y.user y.number p.number q.number less)

@@ -10,6 +10,8 @@ use Rattle.kept_rows.specs.Sheets.{member_no, user_no}
 use Rattle.bank_schema.specs.Cells.{AnyRow, MemberFits, RelationFits, TripleFits, certifier_cells, member_cells, relation_cells, set_cells, triple_cells, user_cells}
 use Rattle.bank_schema.specs.Held.{set_no}
 use Rattle.bank_schema.specs.Held.Sheet.{users as in_users, sets as in_sets, members as in_members, relations as in_relations, triples as in_triples, certifiers as in_certifiers}
+use Rattle.bank_schema.specs.declared.edition.Edition.{Edition}
+use Rattle.bank_schema.specs.declared.edition.Edition.TheVariants.{First}
 use Rattle.bank_schema.specs.HeldRows.{all_but_rowid, all_of_it}
 use Rattle.bank_schema.specs.Schema.{certifiers_table, members_table, relations_table, sets_table, triples_table, users_table}
 use Rattle.bank_schema.specs.Told.{told_by_columns, told_by_key}
@@ -27,13 +29,13 @@ users_columns = col 1 0 ∷ col 1 2 ∷ col 1 3 ∷ col 1 4 ∷ col 1 5 ∷ col 
 abbrev users_order : List (Term × Key)
 users_order = (col 1 0, rising_key) ∷ []
 
-users_is : IsScanOf all_users_text 1 users_columns users_order (codes "user_no" ∷ codes "name" ∷ codes "officer" ∷ codes "suspended" ∷ codes "session" ∷ codes "is_on" ∷ codes "releases" ∷ [])
+users_is : (e : Edition) → IsScanOf e all_users_text 1 users_columns users_order (codes "user_no" ∷ codes "name" ∷ codes "officer" ∷ codes "suspended" ∷ codes "session" ∷ codes "is_on" ∷ codes "releases" ∷ [])
 unfolding understood everything
-users_is = (refl, refl, (refl, refl), (refl, refl), refl)
+users_is First = (refl, refl, (refl, refl), (refl, refl), refl)
 
-pub tells_users : TellsWhole all_of_it (told_by_key 6) user_cells user_no AnyRow in_users all_users_text
-tells_users =
-    by_rowid_whole user_cells user_no AnyRow in_users users_table all_users_text users_columns users_order _ 6 users_is
+pub tells_users : (e : Edition) → TellsWhole e all_of_it (told_by_key 6) user_cells user_no AnyRow in_users all_users_text
+tells_users e =
+    by_rowid_whole e user_cells user_no AnyRow in_users users_table all_users_text users_columns users_order _ 6 (users_is e)
     (inr (inl refl)) refl (λ db. refl) refl refl (inr refl) (λ r. refl) (λ x. refl)
     (λ x y _ _ less. rises_by_one x.row.user y.row.user less)
 
@@ -45,13 +47,13 @@ sets_columns = col 1 0 ∷ []
 abbrev sets_order : List (Term × Key)
 sets_order = (col 1 0, rising_key) ∷ []
 
-sets_is : IsScanOf all_sets_text 2 sets_columns sets_order (codes "set_no" ∷ [])
+sets_is : (e : Edition) → IsScanOf e all_sets_text 2 sets_columns sets_order (codes "set_no" ∷ [])
 unfolding understood everything
-sets_is = (refl, refl, (refl, refl), (refl, refl), refl)
+sets_is First = (refl, refl, (refl, refl), (refl, refl), refl)
 
-pub tells_sets : TellsWhole all_of_it (told_by_key 0) set_cells set_no AnyRow in_sets all_sets_text
-tells_sets =
-    by_rowid_whole set_cells set_no AnyRow in_sets sets_table all_sets_text sets_columns sets_order _ 0 sets_is
+pub tells_sets : (e : Edition) → TellsWhole e all_of_it (told_by_key 0) set_cells set_no AnyRow in_sets all_sets_text
+tells_sets e =
+    by_rowid_whole e set_cells set_no AnyRow in_sets sets_table all_sets_text sets_columns sets_order _ 0 (sets_is e)
     (inr (inr (inl refl))) refl (λ db. refl) refl refl (inl refl) (λ r. refl) (λ x. refl)
     (λ x y _ _ less. rises_by_one x y less)
 
@@ -63,17 +65,17 @@ members_columns = col 1 1 ∷ col 1 2 ∷ col 1 3 ∷ col 1 4 ∷ col 1 5 ∷ []
 abbrev members_order : List (Term × Key)
 members_order = (col 1 1, rising_key) ∷ (col 1 2, rising_key) ∷ []
 
-members_is : IsScanOf all_members_text 3 members_columns members_order (codes "set_no" ∷ codes "place" ∷ codes "kind" ∷ codes "low" ∷ codes "high" ∷ [])
+members_is : (e : Edition) → IsScanOf e all_members_text 3 members_columns members_order (codes "set_no" ∷ codes "place" ∷ codes "kind" ∷ codes "low" ∷ codes "high" ∷ [])
 unfolding understood everything
-members_is = (refl, refl, (refl, refl), (refl, refl), refl)
+members_is First = (refl, refl, (refl, refl), (refl, refl), refl)
 
 members_alike : ReadsNoRowid (whole_scan 3 members_columns members_order)
 members_alike [] = refl
 members_alike (id ∷ r) = refl
 
-pub tells_members : TellsWhole all_but_rowid (told_by_columns 5) member_cells member_no MemberFits in_members all_members_text
-tells_members =
-    by_columns_whole member_cells member_no MemberFits in_members members_table all_members_text members_columns members_order _ 5 members_is
+pub tells_members : (e : Edition) → TellsWhole e all_but_rowid (told_by_columns 5) member_cells member_no MemberFits in_members all_members_text
+tells_members e =
+    by_columns_whole e member_cells member_no MemberFits in_members members_table all_members_text members_columns members_order _ 5 (members_is e)
     (inr (inr (inr (inl refl)))) refl (λ db. refl) refl refl (λ r. refl) members_alike (λ x. refl)
     (λ x y p q less. rises_by_two x.set x.place y.set y.place p q less)
 
@@ -85,17 +87,17 @@ relations_columns = col 1 1 ∷ col 1 2 ∷ col 1 3 ∷ []
 abbrev relations_order : List (Term × Key)
 relations_order = (col 1 1, rising_key) ∷ (col 1 2, rising_key) ∷ []
 
-relations_is : IsScanOf all_relations_text 5 relations_columns relations_order (codes "procedure" ∷ codes "set_no" ∷ codes "by_user" ∷ [])
+relations_is : (e : Edition) → IsScanOf e all_relations_text 5 relations_columns relations_order (codes "procedure" ∷ codes "set_no" ∷ codes "by_user" ∷ [])
 unfolding understood everything
-relations_is = (refl, refl, (refl, refl), (refl, refl), refl)
+relations_is First = (refl, refl, (refl, refl), (refl, refl), refl)
 
 relations_alike : ReadsNoRowid (whole_scan 5 relations_columns relations_order)
 relations_alike [] = refl
 relations_alike (id ∷ r) = refl
 
-pub tells_relations : TellsWhole all_but_rowid (told_by_columns 3) relation_cells relation_key RelationFits in_relations all_relations_text
-tells_relations =
-    by_columns_whole relation_cells relation_key RelationFits in_relations relations_table all_relations_text relations_columns relations_order _ 3 relations_is
+pub tells_relations : (e : Edition) → TellsWhole e all_but_rowid (told_by_columns 3) relation_cells relation_key RelationFits in_relations all_relations_text
+tells_relations e =
+    by_columns_whole e relation_cells relation_key RelationFits in_relations relations_table all_relations_text relations_columns relations_order _ 3 (relations_is e)
     (inr (inr (inr (inr (inl refl))))) refl (λ db. refl) refl refl (λ r. refl) relations_alike (λ x. refl)
     (λ x y p q less. rises_by_two (number_of x.procedure) x.set (number_of y.procedure) y.set p q less)
 
@@ -107,7 +109,7 @@ triples_columns = col 1 1 ∷ col 1 2 ∷ col 1 3 ∷ col 1 4 ∷ []
 abbrev triples_order : List (Term × Key)
 triples_order = (col 1 1, rising_key) ∷ (col 1 2, rising_key) ∷ (col 1 3, rising_key) ∷ []
 
-triples_is : IsScanOf all_triples_text 7 triples_columns triples_order (codes "user_no" ∷ codes "procedure" ∷ codes "set_no" ∷ codes "ceiling" ∷ [])
+triples_is : IsScanOf First all_triples_text 7 triples_columns triples_order (codes "user_no" ∷ codes "procedure" ∷ codes "set_no" ∷ codes "ceiling" ∷ [])
 unfolding understood everything
 triples_is = (refl, refl, (refl, refl), (refl, refl), refl)
 
@@ -115,9 +117,9 @@ triples_alike : ReadsNoRowid (whole_scan 7 triples_columns triples_order)
 triples_alike [] = refl
 triples_alike (id ∷ r) = refl
 
-pub tells_triples : TellsWhole all_but_rowid (told_by_columns 4) triple_cells triple_key TripleFits in_triples all_triples_text
+pub tells_triples : TellsWhole First all_but_rowid (told_by_columns 4) triple_cells triple_key TripleFits in_triples all_triples_text
 tells_triples =
-    by_columns_whole triple_cells triple_key TripleFits in_triples triples_table all_triples_text triples_columns triples_order _ 4 triples_is
+    by_columns_whole First triple_cells triple_key TripleFits in_triples triples_table all_triples_text triples_columns triples_order _ 4 triples_is
     (inr (inr (inr (inr (inr (inl refl)))))) refl (λ db. refl) refl refl (λ r. refl) triples_alike (λ x. refl)
     (λ x y p q less. rises_by_three x.user (number_of x.procedure) x.set y.user (number_of y.procedure) y.set (small_number x.procedure) (small_number y.procedure) p q less)
 
@@ -129,16 +131,16 @@ certifiers_columns = col 1 1 ∷ col 1 2 ∷ []
 abbrev certifiers_order : List (Term × Key)
 certifiers_order = (col 1 1, rising_key) ∷ (col 1 2, rising_key) ∷ []
 
-certifiers_is : IsScanOf all_certifiers_text 9 certifiers_columns certifiers_order (codes "user_no" ∷ codes "procedure" ∷ [])
+certifiers_is : (e : Edition) → IsScanOf e all_certifiers_text 9 certifiers_columns certifiers_order (codes "user_no" ∷ codes "procedure" ∷ [])
 unfolding understood everything
-certifiers_is = (refl, refl, (refl, refl), (refl, refl), refl)
+certifiers_is First = (refl, refl, (refl, refl), (refl, refl), refl)
 
 certifiers_alike : ReadsNoRowid (whole_scan 9 certifiers_columns certifiers_order)
 certifiers_alike [] = refl
 certifiers_alike (id ∷ r) = refl
 
-pub tells_certifiers : TellsWhole all_but_rowid (told_by_columns 2) certifier_cells certifier_key AnyRow in_certifiers all_certifiers_text
-tells_certifiers =
-    by_columns_whole certifier_cells certifier_key AnyRow in_certifiers certifiers_table all_certifiers_text certifiers_columns certifiers_order _ 2 certifiers_is
+pub tells_certifiers : (e : Edition) → TellsWhole e all_but_rowid (told_by_columns 2) certifier_cells certifier_key AnyRow in_certifiers all_certifiers_text
+tells_certifiers e =
+    by_columns_whole e certifier_cells certifier_key AnyRow in_certifiers certifiers_table all_certifiers_text certifiers_columns certifiers_order _ 2 (certifiers_is e)
     (inr (inr (inr (inr (inr (inr (inl refl))))))) refl (λ db. refl) refl refl (λ r. refl) certifiers_alike (λ x. refl)
     (λ x y _ _ less. rises_by_two x.user (number_of x.procedure) y.user (number_of y.procedure) (small_number x.procedure) (small_number y.procedure) less)

@@ -5,17 +5,18 @@ use Rattle.money.specs.declared.fault.Fault.TheVariants.{Disk, Memory, Size, Sto
 use Rattle.sqlite.specs.Effect.{Database, IsDatabase}
 use Rattle.sqlite.specs.State.{HasCleanDisk, IsUnchanged, KeepsCommit, State, Survives}
 use Rattle.sqlite.specs.Tree.{Trees}
-use Rattle.bank_schema.specs.Held.{HoldsSheets, tree_of}
+use Rattle.bank_schema.specs.Held.{HoldsSheetsIn, tree_of}
+use Rattle.bank_schema.specs.declared.edition.Edition.{Edition}
 use Rattle.bank_schema.proofs.StepLemmas.{early, kept_then}
 use Rattle.whole_tables.specs.Whole.{HasBankTables, IsKeptTable, OnReadable, Reads}
 
 -- reads that went through, which told this
-abbrev pub Done : State → State → (Trees → Type 0) → Type 0
-Done old new says = HasCleanDisk new → HasBankTables old → says old.now.trees × IsUnchanged old new × KeepsCommit old new
+abbrev pub Done : Edition → State → State → (Trees → Type 0) → Type 0
+Done e old new says = HasCleanDisk new → HasBankTables e old → says old.now.trees × IsUnchanged old new × KeepsCommit old new
 
 -- reads of which one failed
-abbrev pub Gave : State → State → Type 0
-Gave old new = HasCleanDisk new → HasBankTables old → KeepsCommit old new
+abbrev pub Gave : Edition → State → State → Type 0
+Gave e old new = HasCleanDisk new → HasBankTables e old → KeepsCommit old new
 
 unchanged_then : (a b c : State) → IsUnchanged a b → IsUnchanged b c → IsUnchanged a c
 unchanged_then a b c p q = (
@@ -25,37 +26,37 @@ unchanged_then a b c p q = (
 )
 
 -- the tables are those of a bank still
-pub still_bank : (a b : State) → IsUnchanged a b → HasBankTables a → HasBankTables b
-still_bank a b same has = record {
+pub still_bank : (e : Edition) (a b : State) → IsUnchanged a b → HasBankTables e a → HasBankTables e b
+still_bank e a b same has = record {
   schema = ap (λ (d : Database). d.schema) same.0.now_is ∙ has.schema;
   sound = λ _. subst IsDatabase (sym same.0.now_is) (has.sound same.0.was_open);
   kept = λ t. subst (λ (d : Database). IsKeptTable (d.trees (tree_of t))) (sym same.0.now_is) (has.kept t);
 }
 
-pub done_then : (a b c : State) (P Q : Trees → Type 0) → Survives b c (λ _. ⊥) → Done a b P → Done b c Q → Done a c (λ db. P db × Q db)
-done_then a b c P Q survives first second clean has =
+pub done_then : (e : Edition) (a b c : State) (P Q : Trees → Type 0) → Survives b c (λ _. ⊥) → Done e a b P → Done e b c Q → Done e a c (λ db. P db × Q db)
+done_then e a b c P Q survives first second clean has =
     let p = first (early b c _ survives clean) has in
-    let q = second clean (still_bank a b p.1 has) in
+    let q = second clean (still_bank e a b p.1 has) in
     ((p.0, subst (λ (d : Database). Q d.trees) p.1.0.now_is q.0), unchanged_then a b c p.1 q.1, kept_then a b c p.2 q.2)
 
-pub gave_then : (a b c : State) (P : Trees → Type 0) → Survives b c (λ _. ⊥) → Done a b P → Gave b c → Gave a c
-gave_then a b c P survives first second clean has =
+pub gave_then : (e : Edition) (a b c : State) (P : Trees → Type 0) → Survives b c (λ _. ⊥) → Done e a b P → Gave e b c → Gave e a c
+gave_then e a b c P survives first second clean has =
     let p = first (early b c _ survives clean) has in
-    kept_then a b c p.2 (second clean (still_bank a b p.1 has))
+    kept_then a b c p.2 (second clean (still_bank e a b p.1 has))
 
 -- what a later read says of readable rows, it says of those that the tables held before
-pub readable_then : (a b c : State) (P : Trees → Type 0) (Q : Type 0) → Survives b c (λ _. ⊥) → Done a b P → OnReadable b c Q → OnReadable a c Q
-readable_then a b c P Q survives first second clean has s holds readable =
+pub readable_then : (e : Edition) (a b c : State) (P : Trees → Type 0) (Q : Type 0) → Survives b c (λ _. ⊥) → Done e a b P → OnReadable e b c Q → OnReadable e a c Q
+readable_then e a b c P Q survives first second clean has s holds readable =
     let p = first (early b c _ survives clean) has in
-    second clean (still_bank a b p.1 has) s (subst (λ (d : Database). HoldsSheets d.trees s) (sym p.1.0.now_is) holds) readable
+    second clean (still_bank e a b p.1 has) s (subst (λ (d : Database). HoldsSheetsIn e d.trees s) (sym p.1.0.now_is) holds) readable
 
 -- nothing more is said of what a refusal gives
-pub gave_whole : {X E : Type 0} (old new : State) (says : Trees → X → Type 0) (r : Result X E) → IsErr r → Gave old new → Reads old new says r
-gave_whole old new says (Ok x) is gave = absurd cc
-gave_whole old new says (Err e) is gave = λ clean has. (tt, tt, gave clean has)
+pub gave_whole : {X E : Type 0} (e : Edition) (old new : State) (says : Trees → X → Type 0) (r : Result X E) → IsErr r → Gave e old new → Reads e old new says r
+gave_whole e old new says (Ok x) is gave = absurd cc
+gave_whole e old new says (Err x) is gave = λ clean has. (tt, tt, gave clean has)
 
-pub done_whole : (old new : State) (P Q : Trees → Type 0) → ((db : Trees) → P db → Q db) → Done old new P → Done old new Q
-done_whole old new P Q from done clean has = let it = done clean has in (from _ it.0, it.1, it.2)
+pub done_whole : (e : Edition) (old new : State) (P Q : Trees → Type 0) → ((db : Trees) → P db → Q db) → Done e old new P → Done e old new Q
+done_whole e old new P Q from done clean has = let it = done clean has in (from _ it.0, it.1, it.2)
 
 -- a fault that is handed on is what it was
 pub handed_on : {X E : Type 0} (r : Result X E) (fault : E) (P : E → Type 0) → IsErrAnd r (λ e. e ≡ fault) → P fault → IfErr r P

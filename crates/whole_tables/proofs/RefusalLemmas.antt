@@ -13,7 +13,8 @@ use Rattle.sqlite_resolve.specs.declared.error.CompileError.{CompileError}
 use Rattle.sqlite_trees.specs.declared.error.StoreError.{StoreError}
 use Rattle.sqlite_trees.specs.declared.error.StoreError.TheVariants.{OutOfMemory, Io, Corrupt, Full, Broken, Unstorable}
 use Rattle.sqlite_typing.specs.Types.{accepts_program}
-use Rattle.bank_schema.specs.Schema.{bank_schema}
+use Rattle.bank_schema.specs.Schema.{schema_of}
+use Rattle.bank_schema.specs.declared.edition.Edition.{Edition}
 use Rattle.whole_tables.specs.Faults.{IsOfDatabase, read_fault_named}
 use Rattle.whole_tables.specs.Whole.{IsAlone, IsAnswered, IsQueryFor}
 use Rattle.whole_tables.specs.declared.fault.Table.{Table}
@@ -26,8 +27,8 @@ of_store old new table Full e is h = subst (λ x. IsOfDatabase (read_fault_named
 of_store old new table Broken e is h = subst (λ x. IsOfDatabase (read_fault_named x table)) (sym is) tt
 of_store old new table Unstorable e is h = absurd h
 
-module _ (text : List ℕ) (asks : IsAnswered text) (table : Table) (old new : State) (e : Error) (has : old.now.schema ≡ bank_schema) where
-  at_bank : (r : Result Compiled CompileError) → understood old.now.schema text ≡ r → understood bank_schema text ≡ r
+module _ (edition : Edition) (text : List ℕ) (asks : IsAnswered edition text) (table : Table) (old new : State) (e : Error) (has : old.now.schema ≡ schema_of edition) where
+  at_bank : (r : Result Compiled CompileError) → understood old.now.schema text ≡ r → understood (schema_of edition) text ≡ r
   at_bank r is = ap (λ s. understood s text) (sym has) ∙ is
 
   no_statement : IsNoStatement old text [] e → ⊥

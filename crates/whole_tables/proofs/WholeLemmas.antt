@@ -11,7 +11,7 @@ use Rattle.sqlite.specs.Query.{Query, output, Output}
 use Rattle.sqlite.specs.State.{State, Shown}
 use Rattle.sqlite.specs.Term.{Term}
 use Rattle.sqlite.specs.Tree.{Trees}
-use Rattle.sqlite.proofs.Callers.{IsPlain, command_of}
+use Rattle.sqlite.proofs.Callers.{IsPlain, command_of, reads_as}
 use Rattle.sqlite_keyed.proofs.ListLemmas.{map-map, filter_all, all_of}
 use Rattle.sqlite_resolve.specs.declared.compiled.Compiled.{Compiled}
 use Rattle.sqlite_resolve.specs.declared.error.CompileError.{CompileError}
@@ -27,9 +27,10 @@ use Rattle.sqlite_value.specs.declared.keys.Key.{Key}
 use Rattle.sqlite_value.specs.Order.{column}
 use Rattle.bank_schema.specs.Held.{Sheet, tree_of}
 use Rattle.bank_schema.specs.HeldRows.{HoldsRows, all_but_rowid, all_of_it}
-use Rattle.bank_schema.specs.Schema.{bank_schema}
+use Rattle.bank_schema.specs.Schema.{schema_of}
+use Rattle.bank_schema.specs.declared.edition.Edition.{Edition}
 use Rattle.bank_schema.specs.Told.{columns_from, told_by_columns, told_by_key}
-use Rattle.bank_schema.proofs.ReadLemmas.{answered, in_order_of_fitting, no_limit, no_offset}
+use Rattle.bank_schema.proofs.ReadLemmas.{in_order_of_fitting, no_limit, no_offset}
 use Rattle.bank_schema.proofs.ScanLemmas.{passes, scan, scanned}
 use Rattle.bank_schema.proofs.StepLemmas.{shown_open}
 use Rattle.whole_tables.specs.Whole.{AreAll, HasBankTables, IsAlone, IsAnswered, IsQueryFor, TellsWhole}
@@ -44,10 +45,10 @@ first_true : (a b : Bool) → (a && b) ≡ true → a ≡ true
 first_true true b h = refl
 first_true false b h = absurd cc
 
-pub of_table : (db : Trees) (table : Table) → Obeys bank_schema db → Has bank_schema.tables table → IsOfTable table (db table.tree)
-of_table db table obeys listed row there =
-    let typed = all_has (λ r. passes_rule Datatype bank_schema db table r ≡ true) (db table.tree) row (all_has (λ t. AllByRecursion (λ r. passes_rule Datatype bank_schema db t r ≡ true) (db t.tree)) bank_schema.tables table (obeys.rules Datatype) listed) there in
-    let present = all_has (λ r. passes_rule NotNull bank_schema db table r ≡ true) (db table.tree) row (all_has (λ t. AllByRecursion (λ r. passes_rule NotNull bank_schema db t r ≡ true) (db t.tree)) bank_schema.tables table (obeys.rules NotNull) listed) there in
+pub of_table : (e : Edition) (db : Trees) (table : Table) → Obeys (schema_of e) db → Has (schema_of e).tables table → IsOfTable table (db table.tree)
+of_table e db table obeys listed row there =
+    let typed = all_has (λ r. passes_rule Datatype (schema_of e) db table r ≡ true) (db table.tree) row (all_has (λ t. AllByRecursion (λ r. passes_rule Datatype (schema_of e) db t r ≡ true) (db t.tree)) (schema_of e).tables table (obeys.rules Datatype) listed) there in
+    let present = all_has (λ r. passes_rule NotNull (schema_of e) db table r ≡ true) (db table.tree) row (all_has (λ t. AllByRecursion (λ r. passes_rule NotNull (schema_of e) db t r ≡ true) (db t.tree)) (schema_of e).tables table (obeys.rules NotNull) listed) there in
     (first_true _ _ typed, present)
 
 -- ---- all rows
@@ -125,10 +126,10 @@ tells_key table row more keyed wide long fits =
 -- ---- the text of a query for a whole table
 
 -- what is computed of it
-abbrev pub IsScanOf : List ℕ → ℕ → List Term → List (Term × Key) → List (List ℕ) → Type 0
-IsScanOf text tree columns order names =
-    (command_of (understood bank_schema text) ≡ Select (record { lets = []; body = whole_scan tree columns order }) names) × (reads_listing bank_schema text ≡ false)
-    × IsPlain (understood bank_schema text) × IsAlone (length text) (understood bank_schema text) × (accepts_program bank_schema [] (whole_scan tree columns order) [] ≡ true)
+abbrev pub IsScanOf : Edition → List ℕ → ℕ → List Term → List (Term × Key) → List (List ℕ) → Type 0
+IsScanOf e text tree columns order names =
+    (command_of (understood (schema_of e) text) ≡ Select (record { lets = []; body = whole_scan tree columns order }) names) × (reads_listing (schema_of e) text ≡ false)
+    × IsPlain (understood (schema_of e) text) × IsAlone (length text) (understood (schema_of e) text) × (accepts_program (schema_of e) [] (whole_scan tree columns order) [] ≡ true)
 
 known : (query : Query) (names : List (List ℕ)) (r : Result Compiled CompileError) → IsQueryFor query names r → command_of r ≡ Select (record { lets = []; body = query }) names
 known query names (Ok c) is = is
@@ -142,11 +143,11 @@ adds_nothing : (tree : ℕ) (columns : List Term) (order : List (Term × Key)) (
 adds_nothing tree columns order db (inl none) = none
 adds_nothing tree columns order db (inr any) = any.4
 
-abbrev answers : (text : List ℕ) (tree : ℕ) (columns : List Term) (order : List (Term × Key)) (names : List (List ℕ)) → IsScanOf text tree columns order names → IsAnswered text
-answers text tree columns order names is = record {
+abbrev answers : (e : Edition) (text : List ℕ) (tree : ℕ) (columns : List Term) (order : List (Term × Key)) (names : List (List ℕ)) → IsScanOf e text tree columns order names → IsAnswered e text
+answers e text tree columns order names is = record {
   query = whole_scan tree columns order;
   names = names;
-  is = query_for (whole_scan tree columns order) names (understood bank_schema text) is.0 is.2;
+  is = query_for (whole_scan tree columns order) names (understood (schema_of e) text) is.0 is.2;
   unlisted = is.1;
   plain = is.2;
   alone = is.3;
@@ -156,23 +157,23 @@ answers text tree columns order names is = record {
 
 -- ---- the clauses of a read
 
-module _ {X : Type 0} (shows told : Row → Row) (cells : X → Row) (key : X → ℕ) (fits : X → Type 0) (t : Sheet) (text : List ℕ) (tells : TellsWhole shows told cells key fits t text) where
-  is_answer : (old new : State) (rows : List Row) → HasBankTables old → Shown text [] old new rows → IsProgramAnswer [] tells.asks.query old.now.trees [] rows
+module _ {X : Type 0} (e : Edition) (shows told : Row → Row) (cells : X → Row) (key : X → ℕ) (fits : X → Type 0) (t : Sheet) (text : List ℕ) (tells : TellsWhole e shows told cells key fits t text) where
+  is_answer : (old new : State) (rows : List Row) → HasBankTables e old → Shown text [] old new rows → IsProgramAnswer [] tells.asks.query old.now.trees [] rows
   is_answer old new rows has h =
       let asks = tells.asks in
-      answered text asks.names asks.query [] (known asks.query asks.names (understood bank_schema text) asks.is) asks.unlisted asks.plain old new rows has.schema h
+      (reads_as text [] old new (schema_of e) has.schema (Select (record { lets = []; body = asks.query }) asks.names) (known asks.query asks.names (understood (schema_of e) text) asks.is) asks.plain asks.unlisted rows h).answer
 
   -- what the rows of an answer tell are the rows of the table
-  pub all_answered : (old new : State) (rows : List Row) → HasBankTables old → Shown text [] old new rows → IsPermutation (map told rows) (map shows (old.now.trees (tree_of t)))
+  pub all_answered : (old new : State) (rows : List Row) → HasBankTables e old → Shown text [] old new rows → IsPermutation (map told rows) (map shows (old.now.trees (tree_of t)))
   all_answered old new rows has h =
       let sound = has.sound (shown_open text [] old new rows h) in
       tells.whole old.now.trees rows (subst (λ z. Obeys z old.now.trees) has.schema sound.obeys) (has.kept t) (is_answer old new rows has h)
 
   -- in order of their keys
-  pub in_order_answered : (old new : State) (rows : List Row) (xs : List X) → HasBankTables old → HoldsRows shows cells key fits xs (old.now.trees (tree_of t)) → Shown text [] old new rows → map told rows ≡ map cells xs
+  pub in_order_answered : (old new : State) (rows : List Row) (xs : List X) → HasBankTables e old → HoldsRows shows cells key fits xs (old.now.trees (tree_of t)) → Shown text [] old new rows → map told rows ≡ map cells xs
   in_order_answered old new rows xs has held h = tells.ordered old.now.trees xs rows held (is_answer old new rows has h)
 
-  pub are_all : (old new : State) (rows : List Row) (xs : List X) → HasBankTables old → Shown text [] old new rows → map told rows ≡ map cells xs → ((x : X) → Contains xs x → fits x)
+  pub are_all : (old new : State) (rows : List Row) (xs : List X) → HasBankTables e old → Shown text [] old new rows → map told rows ≡ map cells xs → ((x : X) → Contains xs x → fits x)
       → AreAll shows cells key fits t old.now.trees xs
   are_all old new rows xs has h same fit = record {
     same = subst (λ l. IsPermutation l (map shows (old.now.trees (tree_of t)))) same (all_answered old new rows has h);
@@ -181,13 +182,13 @@ module _ {X : Type 0} (shows told : Row → Row) (cells : X → Row) (key : X �
   }
 
 -- the query is plain on a connection to the tables of a bank
-pub plain_there : (text : List ℕ) (s : State) → IsPlain (understood bank_schema text) → HasBankTables s → IsPlain (understood s.now.schema text)
-plain_there text s plain has = subst (λ z. IsPlain (understood z text)) (sym has.schema) plain
+pub plain_there : (e : Edition) (text : List ℕ) (s : State) → IsPlain (understood (schema_of e) text) → HasBankTables e s → IsPlain (understood s.now.schema text)
+plain_there e text s plain has = subst (λ z. IsPlain (understood z text)) (sym has.schema) plain
 
 -- ---- the queries for whole tables
 
-module _ {X : Type 0} (cells : X → Row) (key : X → ℕ) (Fits : X → Type 0) (t : Sheet) (table : Table) (text : List ℕ) (columns : List Term) (order : List (Term × Key)) (names : List (List ℕ)) (count : ℕ)
-    (is : IsScanOf text (tree_of t) columns order names) (listed : Has bank_schema.tables table) (place : table.tree ≡ tree_of t) (over : (db : Trees) → overlay db [] (tree_of t) ≡ db (tree_of t)) where
+module _ {X : Type 0} (e : Edition) (cells : X → Row) (key : X → ℕ) (Fits : X → Type 0) (t : Sheet) (table : Table) (text : List ℕ) (columns : List Term) (order : List (Term × Key)) (names : List (List ℕ)) (count : ℕ)
+    (is : IsScanOf e text (tree_of t) columns order names) (listed : Has (schema_of e).tables table) (place : table.tree ≡ tree_of t) (over : (db : Trees) → overlay db [] (tree_of t) ≡ db (tree_of t)) where
   there : (db : Trees) (row : Row) → Has (db (tree_of t)) row → Has (db table.tree) row
   there db row h = subst (λ n. Has (db n) row) (sym place) h
 
@@ -195,12 +196,12 @@ module _ {X : Type 0} (cells : X → Row) (key : X → ℕ) (Fits : X → Type 0
   pub by_rowid_whole : table.key ≡ Some 0 → length table.columns ≡ count + 1 → (count ≡ 0) ⊎ (ends_needed table.key 0 table.columns ≡ true)
       → ((r : Row) → told_by_key count (output (whole_scan (tree_of t) columns order) ([] ∷ r ∷ [])).1 ≡ column r 0 ∷ Null ∷ columns_from 2 count r)
       → ((x : X) → column (cells x) 0 ∷ Null ∷ columns_from 2 count (cells x) ≡ cells x) → ComesInOrder cells key Fits (whole_scan (tree_of t) columns order)
-      → TellsWhole all_of_it (told_by_key count) cells key Fits t text
+      → TellsWhole e all_of_it (told_by_key count) cells key Fits t text
   by_rowid_whole keyed wide need told same rises = record {
-    asks = answers text (tree_of t) columns order names is;
+    asks = answers e text (tree_of t) columns order names is;
     whole = λ db answer obeys kept h. all_told (tree_of t) over columns order all_of_it (told_by_key count) db answer
         (λ r here.
-        let fits = of_table db table obeys listed r (there db r here) in
+        let fits = of_table e db table obeys listed r (there db r here) in
         told r ∙ tells_key table r count keyed wide (long r (kept.beside r (contains_had _ r here)) fits.1 need) fits)
         h;
     ordered = told_in_order all_of_it (λ r. r) (told_by_key count) cells key Fits (tree_of t) over columns order (λ r. refl) (λ x. told (cells x) ∙ same x) rises;
@@ -214,11 +215,11 @@ module _ {X : Type 0} (cells : X → Row) (key : X → ℕ) (Fits : X → Type 0
   pub by_columns_whole : length table.columns ≡ count → ends_needed table.key 0 table.columns ≡ true
       → ((r : Row) → told_by_columns count (output (whole_scan (tree_of t) columns order) ([] ∷ r ∷ [])).1 ≡ columns_from 1 count r) → ReadsNoRowid (whole_scan (tree_of t) columns order)
       → ((x : X) → columns_from 1 count (Null ∷ cells x) ≡ cells x) → ComesInOrder (λ x. Null ∷ cells x) key Fits (whole_scan (tree_of t) columns order)
-      → TellsWhole all_but_rowid (told_by_columns count) cells key Fits t text
+      → TellsWhole e all_but_rowid (told_by_columns count) cells key Fits t text
   by_columns_whole wide need told reads same rises = record {
-    asks = answers text (tree_of t) columns order names is;
+    asks = answers e text (tree_of t) columns order names is;
     whole = λ db answer obeys kept h. all_told (tree_of t) over columns order all_but_rowid (told_by_columns count) db answer
-        (λ r here. told r ∙ ap (λ n. columns_from 1 n r) (sym wide) ∙ tells_columns table r need (of_table db table obeys listed r (there db r here)))
+        (λ r here. told r ∙ ap (λ n. columns_from 1 n r) (sym wide) ∙ tells_columns table r need (of_table e db table obeys listed r (there db r here)))
         h;
     ordered = told_in_order all_but_rowid (λ r. Null ∷ r) (told_by_columns count) cells key Fits (tree_of t) over columns order reads (λ x. told (Null ∷ cells x) ∙ same x) rises;
   }

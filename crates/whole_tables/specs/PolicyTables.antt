@@ -1,5 +1,6 @@
 -- That these are all rows of the policy but the users, each table in order of key.
 use Rattle.sqlite.specs.Tree.{Trees}
+use Rattle.bank_schema.specs.declared.edition.Edition.{Edition}
 use Rattle.whole_tables.specs.Tables.{AreCertifiers, AreMembers, AreRelations, AreSets, AreTriples}
 use Rattle.whole_tables.specs.declared.policy_tables.GrantRows.{GrantRows}
 use Rattle.whole_tables.specs.declared.policy_tables.PolicyTables.{PolicyTables}
@@ -9,11 +10,11 @@ pub record AreSetRows (db : Trees) (rows : SetRows) : Type 0 where
   pub sets : AreSets db rows.sets.items
   pub members : AreMembers db rows.members.items
 
-pub record AreGrantRows (db : Trees) (rows : GrantRows) : Type 0 where
+pub record AreGrantRows (e : Edition) (db : Trees) (rows : GrantRows) : Type 0 where
   pub relations : AreRelations db rows.relations.items
-  pub triples : AreTriples db rows.triples.items
+  pub triples : AreTriples e db rows.triples.items
   pub certifiers : AreCertifiers db rows.certifiers.items
 
-pub record ArePolicyTables (db : Trees) (rows : PolicyTables) : Type 0 where
+pub record ArePolicyTables (e : Edition) (db : Trees) (rows : PolicyTables) : Type 0 where
   pub sets : AreSetRows db rows.sets
-  pub grants : AreGrantRows db rows.grants
+  pub grants : AreGrantRows e db rows.grants

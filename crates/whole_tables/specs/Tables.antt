@@ -16,7 +16,8 @@ use Rattle.kept_rows.specs.Sheets.{account_no, branch_no, entry_no, member_no, t
 use Rattle.kept_rows.specs.declared.records.KeptTeller.{KeptTeller}
 use Rattle.kept_rows.specs.declared.records.KeptUser.{KeptUser}
 use Rattle.kept_rows.specs.declared.records.MemberRow.{MemberRow}
-use Rattle.bank_schema.specs.Cells.{AnyRow, EntryFits, LineFits, MemberFits, ProofFits, RelationFits, ReleaseFits, TripleFits, account_cells, branch_cells, certifier_cells, entry_cells, line_cells, member_cells, proof_cells, relation_cells, release_cells, set_cells, teller_cells, triple_cells, user_cells}
+use Rattle.bank_schema.specs.Cells.{AnyRow, EntryFits, LineFits, MemberFits, ProofFits, RelationFits, ReleaseFits, TripleFitsIn, account_cells, branch_cells, certifier_cells, entry_cells, line_cells, member_cells, proof_cells, relation_cells, release_cells, set_cells, teller_cells, triple_cells_in, user_cells}
+use Rattle.bank_schema.specs.declared.edition.Edition.{Edition}
 use Rattle.bank_schema.specs.Held.{set_no}
 use Rattle.bank_schema.specs.Held.Sheet.{accounts as in_accounts, branches as in_branches, certifiers as in_certifiers, entries as in_entries, lines as in_lines, members as in_members, proofs as in_proofs, relations as in_relations, releases as in_releases, sets as in_sets, tellers as in_tellers, triples as in_triples, users as in_users}
 use Rattle.bank_schema.specs.HeldRows.{all_but_rowid, all_of_it}
@@ -36,8 +37,8 @@ AreMembers db rows = AreAll all_but_rowid member_cells member_no MemberFits in_m
 abbrev pub AreRelations : Trees → List Relation → Type 0
 AreRelations db rows = AreAll all_but_rowid relation_cells relation_key RelationFits in_relations db rows
 
-abbrev pub AreTriples : Trees → List Triple → Type 0
-AreTriples db rows = AreAll all_but_rowid triple_cells triple_key TripleFits in_triples db rows
+abbrev pub AreTriples : Edition → Trees → List Triple → Type 0
+AreTriples e db rows = AreAll all_but_rowid (triple_cells_in e) triple_key (TripleFitsIn e) in_triples db rows
 
 abbrev pub AreCertifiers : Trees → List Certifier → Type 0
 AreCertifiers db rows = AreAll all_but_rowid certifier_cells certifier_key AnyRow in_certifiers db rows

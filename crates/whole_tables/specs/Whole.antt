@@ -16,10 +16,11 @@ use Rattle.sqlite_sql.specs.Program.{IsProgramAnswer, ProgramOverflows}
 use Rattle.sqlite_typing.specs.Types.{accepts_program}
 use Rattle.sqlite_trees.specs.View.{IsShaped}
 use Rattle.sqlite_trees.specs.declared.store.Shape.TheVariants.{Table}
-use Rattle.bank_schema.specs.Held.{HoldsSheets, Sheet, tree_of}
+use Rattle.bank_schema.specs.Held.{HoldsSheetsIn, Sheet, tree_of}
 use Rattle.bank_schema.specs.HeldRows.{HoldsRows}
 use Rattle.bank_schema.specs.Readable.{AreReadable}
-use Rattle.bank_schema.specs.Schema.{bank_schema}
+use Rattle.bank_schema.specs.Schema.{schema_of}
+use Rattle.bank_schema.specs.declared.edition.Edition.{Edition}
 use Rattle.kept_rows.specs.Sheets.{Sheets}
 use Rattle.whole_tables.specs.Faults.{IsOfDatabase}
 use Rattle.whole_tables.specs.declared.fault.ReadFault.{ReadFault}
@@ -29,9 +30,9 @@ pub record IsKeptTable (tree : List Row) : Type 0 where
   pub shaped : IsShaped Table tree
   pub beside : (row : Row) → Contains tree row → 1 < length row
 
--- A connection to tables as they were made for a bank. What stands in them may be anything.
-pub record HasBankTables (s : State) : Type 0 where
-  pub schema : s.now.schema ≡ bank_schema
+-- A connection to tables as they were made for a bank, in an edition. What stands in them may be anything.
+pub record HasBankTables (e : Edition) (s : State) : Type 0 where
+  pub schema : s.now.schema ≡ schema_of e
   pub sound : IsTrue s.is_open → IsDatabase s.now
   pub kept : (t : Sheet) → IsKeptTable (s.now.trees (tree_of t))
 
@@ -43,16 +44,16 @@ pub record AreAll {X : Type 0} (shows : Row → Row) (cells : X → Row) (key : 
   pub in_order : (xs : List X) → HoldsRows shows cells key Fits xs (db (tree_of t)) → map cells rows ≡ map cells xs
 
 -- A read that went through tells this of the trees, and leaves all as it was. One that failed commits nothing.
-abbrev pub Reads : {X E : Type 0} → State → State → (Trees → X → Type 0) → Result X E → Type 0
-Reads old new says result = HasCleanDisk new → HasBankTables old → IfOk result (says old.now.trees) × OnOk result (IsUnchanged old new) × KeepsCommit old new
+abbrev pub Reads : {X E : Type 0} → Edition → State → State → (Trees → X → Type 0) → Result X E → Type 0
+Reads e old new says result = HasCleanDisk new → HasBankTables e old → IfOk result (says old.now.trees) × OnOk result (IsUnchanged old new) × KeepsCommit old new
 
 -- A read that is refused is refused for the database itself, or for a limit on the steps of its connection: no table is missing.
-abbrev pub IsThere : {X : Type 0} → State → State → Result X ReadFault → Type 0
-IsThere old new result = HasCleanDisk new → HasBankTables old → IfErr result IsOfDatabase
+abbrev pub IsThere : {X : Type 0} → Edition → State → State → Result X ReadFault → Type 0
+IsThere e old new result = HasCleanDisk new → HasBankTables e old → IfErr result IsOfDatabase
 
 -- on tables whose rows can all be read, a read says this
-abbrev pub OnReadable : State → State → Type 0 → Type 0
-OnReadable old new says = HasCleanDisk new → HasBankTables old → (s : Sheets) → HoldsSheets old.now.trees s → AreReadable s → says
+abbrev pub OnReadable : Edition → State → State → Type 0 → Type 0
+OnReadable e old new says = HasCleanDisk new → HasBankTables e old → (s : Sheets) → HoldsSheetsIn e old.now.trees s → AreReadable s → says
 
 -- ---- queries for whole tables
 
@@ -67,21 +68,21 @@ IsAlone size (Err e) = ⊥
 
 -- The text is one query of the tables of a bank, without parameters, whose types are right and which adds nothing up. So only the database
 -- itself, or a limit on the steps of its connection, keeps it from an answer.
-pub record IsAnswered (text : List ℕ) : Type 0 where
+pub record IsAnswered (e : Edition) (text : List ℕ) : Type 0 where
   pub query : Query
   pub names : List (List ℕ)
-  pub is : IsQueryFor query names (understood bank_schema text)
-  pub unlisted : reads_listing bank_schema text ≡ false
-  pub plain : IsPlain (understood bank_schema text)
-  pub alone : IsAlone (length text) (understood bank_schema text)
-  pub typed : accepts_program bank_schema [] query [] ≡ true
+  pub is : IsQueryFor query names (understood (schema_of e) text)
+  pub unlisted : reads_listing (schema_of e) text ≡ false
+  pub plain : IsPlain (understood (schema_of e) text)
+  pub alone : IsAlone (length text) (understood (schema_of e) text)
+  pub typed : accepts_program (schema_of e) [] query [] ≡ true
   pub adds_nothing : (db : Trees) → ProgramOverflows db [] [] [] query → ⊥
 
 -- The text is a query of which each answer tells the rows of a table, each once, in order of their keys where these differ: `shows` gives
 -- what of a row counts, and `told` what a row of the answer tells of it.
-pub record TellsWhole {X : Type 0} (shows told : Row → Row) (cells : X → Row) (key : X → ℕ) (Fits : X → Type 0) (t : Sheet) (text : List ℕ) : Type 0 where
-  pub asks : IsAnswered text
-  pub whole : (db : Trees) (answer : List Row) → Obeys bank_schema db → IsKeptTable (db (tree_of t)) → IsProgramAnswer [] asks.query db [] answer
+pub record TellsWhole {X : Type 0} (e : Edition) (shows told : Row → Row) (cells : X → Row) (key : X → ℕ) (Fits : X → Type 0) (t : Sheet) (text : List ℕ) : Type 0 where
+  pub asks : IsAnswered e text
+  pub whole : (db : Trees) (answer : List Row) → Obeys (schema_of e) db → IsKeptTable (db (tree_of t)) → IsProgramAnswer [] asks.query db [] answer
       → IsPermutation (map told answer) (map shows (db (tree_of t)))
   pub ordered : (db : Trees) (xs : List X) (answer : List Row) → HoldsRows shows cells key Fits xs (db (tree_of t)) → IsProgramAnswer [] asks.query db [] answer
       → map told answer ≡ map cells xs

@@ -9,6 +9,7 @@ use crate::fault::Table::{
     Releases, Sets, Tellers, Triples, Users,
 };
 use crate::table_row::shown_rows;
+use bank_schema::Edition;
 use sqlite::{Alter, Transaction};
 
 /// All tables of a bank but that of its one row.
@@ -18,8 +19,8 @@ const OTHERS: [Table; 13] = [
 ];
 
 /// The query by which the whole table is read.
-fn query_for(table: Table) -> &'static str
-    ensures { IsAnswered result.now }
+fn query_for(table: Table, edition: Edition) -> &'static str
+    ensures { IsAnswered edition result.now }
 {
     match table {
         Bank => crate::bank::QUERY,
@@ -27,7 +28,7 @@ fn query_for(table: Table) -> &'static str
         Sets => crate::sets::QUERY,
         Members => crate::members::QUERY,
         Relations => crate::relations::QUERY,
-        Triples => crate::triples::QUERY,
+        Triples => crate::triples::query(edition),
         Certifiers => crate::certifiers::QUERY,
         Branches => crate::branches::QUERY,
         Tellers => crate::tellers::QUERY,
@@ -40,26 +41,30 @@ fn query_for(table: Table) -> &'static str
 }
 
 /// Asks a table for all of its rows, of which nothing is read.
-fn ask_table<S: Alter>(tx: &mut Transaction<'_, S>, table: Table) -> Result<(), ReadFault>
+fn ask_table<S: Alter>(
+    tx: &mut Transaction<'_, S>,
+    edition: Edition,
+    table: Table,
+) -> Result<(), ReadFault>
     ensures same_reference { tx.new.conn.ghost_name ≡ tx.old.conn.ghost_name }
-    ensures whole { Reads (state S.Store tx.old.conn.now) (state S.Store tx.new.conn.now) (λ _ _. ⊤) result }
-    ensures there { IsThere (state S.Store tx.old.conn.now) (state S.Store tx.new.conn.now) result }
+    ensures whole { Reads edition (state S.Store tx.old.conn.now) (state S.Store tx.new.conn.now) (λ _ _. ⊤) result }
+    ensures there { IsThere edition (state S.Store tx.old.conn.now) (state S.Store tx.new.conn.now) result }
     ensures survives { Survives (state S.Store tx.old.conn.now) (state S.Store tx.new.conn.now) (λ _. ⊥) }
 {
-    shown_rows(tx, query_for(table), table)?;
+    shown_rows(tx, query_for(table, edition), table)?;
     Ok(())
 }
 
 /// Asks all tables but that of the bank's row for their rows, so that a table which is not there is told
 /// before any value of the others is read.
-pub fn ask_tables<S: Alter>(tx: &mut Transaction<'_, S>) -> Result<(), ReadFault>
+pub fn ask_tables<S: Alter>(tx: &mut Transaction<'_, S>, edition: Edition) -> Result<(), ReadFault>
     ensures same_reference { tx.new.conn.ghost_name ≡ tx.old.conn.ghost_name }
-    ensures whole { IsTrue (state S.Store tx.old.conn.now).is_open → Reads (state S.Store tx.old.conn.now) (state S.Store tx.new.conn.now) (λ _ _. ⊤) result }
-    ensures there { IsTrue (state S.Store tx.old.conn.now).is_open → IsThere (state S.Store tx.old.conn.now) (state S.Store tx.new.conn.now) result }
+    ensures whole { IsTrue (state S.Store tx.old.conn.now).is_open → Reads edition (state S.Store tx.old.conn.now) (state S.Store tx.new.conn.now) (λ _ _. ⊤) result }
+    ensures there { IsTrue (state S.Store tx.old.conn.now).is_open → IsThere edition (state S.Store tx.old.conn.now) (state S.Store tx.new.conn.now) result }
     ensures survives { Survives (state S.Store tx.old.conn.now) (state S.Store tx.new.conn.now) (λ _. ⊥) }
 {
     for table in OTHERS {
-        ask_table(tx, table)?;
+        ask_table(tx, edition, table)?;
     }
     Ok(())
 }

@@ -6,6 +6,7 @@ ghost use Rattle.bank_schema.specs.Steps.{StaysOpen};
 ghost use Rattle.whole_tables.specs.BankRow.{IsBankTable, IsToldBy, bank_row_cells};
 ghost use Rattle.whole_tables.specs.Faults.{IsOfDatabase};
 ghost use Rattle.bank_schema.specs.Told.{told_by_key};
+ghost use Rattle.bank_schema.specs.declared.edition.Edition.{Edition};
 ghost use Rattle.whole_tables.specs.Whole.{IsThere, Reads};
 
 use crate::fault::{ReadFault, Table};
@@ -27,11 +28,12 @@ pub struct BankRow {
 
 pub(crate) const QUERY: &str = "SELECT id, version, policy FROM bank ORDER BY id";
 
-/// The one row of the table of the bank, or none where the table has not one row of whole numbers.
+/// The one row of the table of the bank, which is alike in all editions, or none where the table has not
+/// one row of whole numbers.
 pub fn bank_row<S: Alter>(tx: &mut Transaction<'_, S>) -> Result<Option<BankRow>, ReadFault>
     ensures same_reference { tx.new.conn.ghost_name ≡ tx.old.conn.ghost_name }
-    ensures whole { Reads (state S.Store tx.old.conn.now) (state S.Store tx.new.conn.now) IsBankTable result }
-    ensures there { IsThere (state S.Store tx.old.conn.now) (state S.Store tx.new.conn.now) result }
+    ensures whole { (e : Edition) → Reads e (state S.Store tx.old.conn.now) (state S.Store tx.new.conn.now) IsBankTable result }
+    ensures there { (e : Edition) → IsThere e (state S.Store tx.old.conn.now) (state S.Store tx.new.conn.now) result }
     ensures open { StaysOpen (state S.Store tx.old.conn.now) (state S.Store tx.new.conn.now) result }
     ensures survives { Survives (state S.Store tx.old.conn.now) (state S.Store tx.new.conn.now) (λ _. ⊥) }
 {

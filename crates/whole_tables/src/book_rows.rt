@@ -12,6 +12,7 @@ use crate::{
     all_users,
 };
 use bank_books::{AccountRecord, BranchRecord, CashLine, EntryRecord, Proof, Release};
+use bank_schema::Edition;
 use kept_rows::{KeptTeller, KeptUser};
 use sqlite::{Alter, Transaction};
 use std::alloc::Global;
@@ -61,16 +62,17 @@ pub struct BookRows {
 fn ledger_rows<S: Alter>(
     alloc: Global,
     tx: &mut Transaction<'_, S>,
+    edition: Edition,
 ) -> Result<LedgerRows, ReadFault>
     ensures same_reference { tx.new.conn.ghost_name ≡ tx.old.conn.ghost_name }
-    ensures whole { Reads (state S.Store tx.old.conn.now) (state S.Store tx.new.conn.now) AreLedgerRows result }
+    ensures whole { Reads edition (state S.Store tx.old.conn.now) (state S.Store tx.new.conn.now) AreLedgerRows result }
     ensures typed { IfOk result IsLedgerTyped }
-    ensures takes { OnReadable (state S.Store tx.old.conn.now) (state S.Store tx.new.conn.now) (IfErr result IsOfDatabase) }
+    ensures takes { OnReadable edition (state S.Store tx.old.conn.now) (state S.Store tx.new.conn.now) (IfErr result IsOfDatabase) }
     ensures survives { Survives (state S.Store tx.old.conn.now) (state S.Store tx.new.conn.now) (λ _. ⊥) }
 {
-    let branches = all_branches(alloc, tx)?;
-    let tellers = all_tellers(alloc, tx)?;
-    let accounts = all_accounts(alloc, tx)?;
+    let branches = all_branches(alloc, tx, edition)?;
+    let tellers = all_tellers(alloc, tx, edition)?;
+    let accounts = all_accounts(alloc, tx, edition)?;
     Ok(LedgerRows {
         branches,
         tellers,
@@ -81,16 +83,17 @@ fn ledger_rows<S: Alter>(
 fn history_rows<S: Alter>(
     alloc: Global,
     tx: &mut Transaction<'_, S>,
+    edition: Edition,
 ) -> Result<HistoryRows, ReadFault>
     ensures same_reference { tx.new.conn.ghost_name ≡ tx.old.conn.ghost_name }
-    ensures whole { Reads (state S.Store tx.old.conn.now) (state S.Store tx.new.conn.now) AreHistoryRows result }
+    ensures whole { Reads edition (state S.Store tx.old.conn.now) (state S.Store tx.new.conn.now) AreHistoryRows result }
     ensures typed { IfOk result IsHistoryTyped }
-    ensures takes { OnReadable (state S.Store tx.old.conn.now) (state S.Store tx.new.conn.now) (IfErr result IsOfDatabase) }
+    ensures takes { OnReadable edition (state S.Store tx.old.conn.now) (state S.Store tx.new.conn.now) (IfErr result IsOfDatabase) }
     ensures survives { Survives (state S.Store tx.old.conn.now) (state S.Store tx.new.conn.now) (λ _. ⊥) }
 {
-    let entries = all_entries(alloc, tx)?;
-    let lines = all_lines(alloc, tx)?;
-    let proofs = all_proofs(alloc, tx)?;
+    let entries = all_entries(alloc, tx, edition)?;
+    let lines = all_lines(alloc, tx, edition)?;
+    let proofs = all_proofs(alloc, tx, edition)?;
     Ok(HistoryRows {
         entries,
         lines,
@@ -98,15 +101,19 @@ fn history_rows<S: Alter>(
     })
 }
 
-fn user_rows<S: Alter>(alloc: Global, tx: &mut Transaction<'_, S>) -> Result<UserRows, ReadFault>
+fn user_rows<S: Alter>(
+    alloc: Global,
+    tx: &mut Transaction<'_, S>,
+    edition: Edition,
+) -> Result<UserRows, ReadFault>
     ensures same_reference { tx.new.conn.ghost_name ≡ tx.old.conn.ghost_name }
-    ensures whole { Reads (state S.Store tx.old.conn.now) (state S.Store tx.new.conn.now) AreUserRows result }
+    ensures whole { Reads edition (state S.Store tx.old.conn.now) (state S.Store tx.new.conn.now) AreUserRows result }
     ensures typed { IfOk result AreUsersTyped }
-    ensures takes { OnReadable (state S.Store tx.old.conn.now) (state S.Store tx.new.conn.now) (IfErr result IsOfDatabase) }
+    ensures takes { OnReadable edition (state S.Store tx.old.conn.now) (state S.Store tx.new.conn.now) (IfErr result IsOfDatabase) }
     ensures survives { Survives (state S.Store tx.old.conn.now) (state S.Store tx.new.conn.now) (λ _. ⊥) }
 {
-    let releases = all_releases(alloc, tx)?;
-    let users = all_users(alloc, tx)?;
+    let releases = all_releases(alloc, tx, edition)?;
+    let users = all_users(alloc, tx, edition)?;
     Ok(UserRows { releases, users })
 }
 
@@ -114,16 +121,17 @@ fn user_rows<S: Alter>(alloc: Global, tx: &mut Transaction<'_, S>) -> Result<Use
 pub fn all_book_rows<S: Alter>(
     alloc: Global,
     tx: &mut Transaction<'_, S>,
+    edition: Edition,
 ) -> Result<BookRows, ReadFault>
     ensures same_reference { tx.new.conn.ghost_name ≡ tx.old.conn.ghost_name }
-    ensures whole { Reads (state S.Store tx.old.conn.now) (state S.Store tx.new.conn.now) AreBookRows result }
+    ensures whole { Reads edition (state S.Store tx.old.conn.now) (state S.Store tx.new.conn.now) AreBookRows result }
     ensures typed { IfOk result AreBooksTyped }
-    ensures takes { OnReadable (state S.Store tx.old.conn.now) (state S.Store tx.new.conn.now) (IfErr result IsOfDatabase) }
+    ensures takes { OnReadable edition (state S.Store tx.old.conn.now) (state S.Store tx.new.conn.now) (IfErr result IsOfDatabase) }
     ensures survives { Survives (state S.Store tx.old.conn.now) (state S.Store tx.new.conn.now) (λ _. ⊥) }
 {
-    let ledger = ledger_rows(alloc, tx)?;
-    let history = history_rows(alloc, tx)?;
-    let users = user_rows(alloc, tx)?;
+    let ledger = ledger_rows(alloc, tx, edition)?;
+    let history = history_rows(alloc, tx, edition)?;
+    let users = user_rows(alloc, tx, edition)?;
     Ok(BookRows {
         ledger,
         history,

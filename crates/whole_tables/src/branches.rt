@@ -15,7 +15,7 @@ ghost use Rattle.whole_tables.specs.Whole.{OnReadable, Reads};
 use crate::fault::{ReadFault, Table};
 use crate::table_row::{TableRow, whole_table};
 use bank_books::{Branch, BranchRecord};
-use bank_schema::{cents_at, count_at, number_at, sum_at};
+use bank_schema::{Edition, cents_at, count_at, number_at, sum_at};
 use money::Fault;
 use sqlite::{Alter, Row, Transaction};
 use std::alloc::Global;
@@ -27,15 +27,16 @@ pub(crate) const QUERY: &str =
 pub fn all_branches<S: Alter>(
     alloc: Global,
     tx: &mut Transaction<'_, S>,
+    edition: Edition,
 ) -> Result<Vec<BranchRecord>, ReadFault>
     ensures same_reference { tx.new.conn.ghost_name ≡ tx.old.conn.ghost_name }
-    ensures whole { Reads (state S.Store tx.old.conn.now) (state S.Store tx.new.conn.now) (λ trees rows. AreBranches trees rows.items) result }
+    ensures whole { Reads edition (state S.Store tx.old.conn.now) (state S.Store tx.new.conn.now) (λ trees rows. AreBranches trees rows.items) result }
     ensures typed { IfOk result (λ rows. Each IsReadableBranch rows.items) }
-    ensures takes { OnReadable (state S.Store tx.old.conn.now) (state S.Store tx.new.conn.now) (IfErr result IsOfDatabase) }
+    ensures takes { OnReadable edition (state S.Store tx.old.conn.now) (state S.Store tx.new.conn.now) (IfErr result IsOfDatabase) }
     ensures open { StaysOpen (state S.Store tx.old.conn.now) (state S.Store tx.new.conn.now) result }
     ensures survives { Survives (state S.Store tx.old.conn.now) (state S.Store tx.new.conn.now) (λ _. ⊥) }
 {
-    whole_table(alloc, tx, QUERY, Table::Branches)
+    whole_table(alloc, tx, edition, QUERY, Table::Branches)
 }
 
 impl TableRow for BranchRecord {

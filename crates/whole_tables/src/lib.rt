@@ -1,6 +1,6 @@
-//! The tables of a bank, each read whole for `adopt_sql`. `all_accounts`, `all_entries` and the others
-//! answer every row of a table once, in order of key where the keys differ. A `ReadFault` tells why not,
-//! and of which table. A read is refused only where a column holds what its type has not, or for the
+//! The tables of a bank in an edition, each read whole for `adopt_sql`. `all_accounts`, `all_entries` and the
+//! others answer every row of a table once, in order of key where the keys differ. A `ReadFault` tells why
+//! not, and of which table. A read is refused only where a column holds what its type has not, or for the
 //! database itself. Whether the rows are a bank is judged in `adopt_sql`.
 #![tactic(auto)]
 

@@ -9,6 +9,7 @@ ghost use Rattle.whole_tables.specs.Whole.{OnReadable, Reads};
 use crate::fault::ReadFault;
 use crate::{all_certifiers, all_members, all_relations, all_sets, all_triples};
 use bank_policy::{Certifier, Relation, Triple};
+use bank_schema::Edition;
 use kept_rows::MemberRow;
 use sqlite::{Alter, Transaction};
 use std::alloc::Global;
@@ -42,28 +43,36 @@ pub struct PolicyTables {
     pub grants: GrantRows,
 }
 
-fn set_rows<S: Alter>(alloc: Global, tx: &mut Transaction<'_, S>) -> Result<SetRows, ReadFault>
+fn set_rows<S: Alter>(
+    alloc: Global,
+    tx: &mut Transaction<'_, S>,
+    edition: Edition,
+) -> Result<SetRows, ReadFault>
     ensures same_reference { tx.new.conn.ghost_name ≡ tx.old.conn.ghost_name }
-    ensures whole { Reads (state S.Store tx.old.conn.now) (state S.Store tx.new.conn.now) AreSetRows result }
+    ensures whole { Reads edition (state S.Store tx.old.conn.now) (state S.Store tx.new.conn.now) AreSetRows result }
     ensures typed { IfOk result AreSetsTyped }
-    ensures takes { OnReadable (state S.Store tx.old.conn.now) (state S.Store tx.new.conn.now) (IfErr result IsOfDatabase) }
+    ensures takes { OnReadable edition (state S.Store tx.old.conn.now) (state S.Store tx.new.conn.now) (IfErr result IsOfDatabase) }
     ensures survives { Survives (state S.Store tx.old.conn.now) (state S.Store tx.new.conn.now) (λ _. ⊥) }
 {
-    let sets = all_sets(alloc, tx)?;
-    let members = all_members(alloc, tx)?;
+    let sets = all_sets(alloc, tx, edition)?;
+    let members = all_members(alloc, tx, edition)?;
     Ok(SetRows { sets, members })
 }
 
-fn grant_rows<S: Alter>(alloc: Global, tx: &mut Transaction<'_, S>) -> Result<GrantRows, ReadFault>
+fn grant_rows<S: Alter>(
+    alloc: Global,
+    tx: &mut Transaction<'_, S>,
+    edition: Edition,
+) -> Result<GrantRows, ReadFault>
     ensures same_reference { tx.new.conn.ghost_name ≡ tx.old.conn.ghost_name }
-    ensures whole { Reads (state S.Store tx.old.conn.now) (state S.Store tx.new.conn.now) AreGrantRows result }
+    ensures whole { Reads edition (state S.Store tx.old.conn.now) (state S.Store tx.new.conn.now) (AreGrantRows edition) result }
     ensures typed { IfOk result AreGrantsTyped }
-    ensures takes { OnReadable (state S.Store tx.old.conn.now) (state S.Store tx.new.conn.now) (IfErr result IsOfDatabase) }
+    ensures takes { OnReadable edition (state S.Store tx.old.conn.now) (state S.Store tx.new.conn.now) (IfErr result IsOfDatabase) }
     ensures survives { Survives (state S.Store tx.old.conn.now) (state S.Store tx.new.conn.now) (λ _. ⊥) }
 {
-    let relations = all_relations(alloc, tx)?;
-    let triples = all_triples(alloc, tx)?;
-    let certifiers = all_certifiers(alloc, tx)?;
+    let relations = all_relations(alloc, tx, edition)?;
+    let triples = all_triples(alloc, tx, edition)?;
+    let certifiers = all_certifiers(alloc, tx, edition)?;
     Ok(GrantRows {
         relations,
         triples,
@@ -75,14 +84,15 @@ fn grant_rows<S: Alter>(alloc: Global, tx: &mut Transaction<'_, S>) -> Result<Gr
 pub fn all_policy_tables<S: Alter>(
     alloc: Global,
     tx: &mut Transaction<'_, S>,
+    edition: Edition,
 ) -> Result<PolicyTables, ReadFault>
     ensures same_reference { tx.new.conn.ghost_name ≡ tx.old.conn.ghost_name }
-    ensures whole { Reads (state S.Store tx.old.conn.now) (state S.Store tx.new.conn.now) ArePolicyTables result }
+    ensures whole { Reads edition (state S.Store tx.old.conn.now) (state S.Store tx.new.conn.now) (ArePolicyTables edition) result }
     ensures typed { IfOk result AreTablesTyped }
-    ensures takes { OnReadable (state S.Store tx.old.conn.now) (state S.Store tx.new.conn.now) (IfErr result IsOfDatabase) }
+    ensures takes { OnReadable edition (state S.Store tx.old.conn.now) (state S.Store tx.new.conn.now) (IfErr result IsOfDatabase) }
     ensures survives { Survives (state S.Store tx.old.conn.now) (state S.Store tx.new.conn.now) (λ _. ⊥) }
 {
-    let sets = set_rows(alloc, tx)?;
-    let grants = grant_rows(alloc, tx)?;
+    let sets = set_rows(alloc, tx, edition)?;
+    let grants = grant_rows(alloc, tx, edition)?;
     Ok(PolicyTables { sets, grants })
 }

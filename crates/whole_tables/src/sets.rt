@@ -10,7 +10,7 @@ ghost use Rattle.whole_tables.specs.Whole.{OnReadable, Reads};
 
 use crate::fault::{ReadFault, Table};
 use crate::table_row::{TableRow, whole_table};
-use bank_schema::number_at;
+use bank_schema::{Edition, number_at};
 use money::Fault;
 use sqlite::{Alter, Row, Transaction};
 use std::alloc::Global;
@@ -18,15 +18,19 @@ use std::alloc::Global;
 pub(crate) const QUERY: &str = "SELECT set_no FROM sets ORDER BY set_no";
 
 /// The numbers of all sets, in order.
-pub fn all_sets<S: Alter>(alloc: Global, tx: &mut Transaction<'_, S>) -> Result<Vec<u32>, ReadFault>
+pub fn all_sets<S: Alter>(
+    alloc: Global,
+    tx: &mut Transaction<'_, S>,
+    edition: Edition,
+) -> Result<Vec<u32>, ReadFault>
     ensures same_reference { tx.new.conn.ghost_name ≡ tx.old.conn.ghost_name }
-    ensures whole { Reads (state S.Store tx.old.conn.now) (state S.Store tx.new.conn.now) (λ trees rows. AreSets trees rows.items) result }
+    ensures whole { Reads edition (state S.Store tx.old.conn.now) (state S.Store tx.new.conn.now) (λ trees rows. AreSets trees rows.items) result }
     ensures typed { IfOk result (λ rows. Each IsShort rows.items) }
-    ensures takes { OnReadable (state S.Store tx.old.conn.now) (state S.Store tx.new.conn.now) (IfErr result IsOfDatabase) }
+    ensures takes { OnReadable edition (state S.Store tx.old.conn.now) (state S.Store tx.new.conn.now) (IfErr result IsOfDatabase) }
     ensures open { StaysOpen (state S.Store tx.old.conn.now) (state S.Store tx.new.conn.now) result }
     ensures survives { Survives (state S.Store tx.old.conn.now) (state S.Store tx.new.conn.now) (λ _. ⊥) }
 {
-    whole_table(alloc, tx, QUERY, Table::Sets)
+    whole_table(alloc, tx, edition, QUERY, Table::Sets)
 }
 
 impl TableRow for u32 {

@@ -6,13 +6,14 @@ ghost use Rattle.sqlite.specs.State.{HasCleanDisk, IsUnchanged, KeepsCommit, Sho
 ghost use Rattle.bank_schema.specs.Held.{tree_of};
 ghost use Rattle.bank_schema.specs.HeldRows.{HoldsRows};
 ghost use Rattle.bank_schema.specs.Readable.{IsUnread};
-ghost use Rattle.bank_schema.specs.Schema.{bank_schema};
+ghost use Rattle.bank_schema.specs.Schema.{schema_of};
 ghost use Rattle.bank_schema.specs.Steps.{StaysOpen};
 ghost use Rattle.whole_tables.specs.Faults.{IsOfDatabase};
 ghost use Rattle.whole_tables.specs.Typed.{Each};
 ghost use Rattle.whole_tables.specs.Whole.{AreAll, HasBankTables, IsAnswered, Reads, TellsWhole};
 
 use crate::fault::{ReadFault, Table, read_fault, value_fault};
+use bank_schema::Edition;
 use money::Fault;
 use sqlite::{Alter, Row, Transaction};
 use std::alloc::Global;
@@ -62,14 +63,15 @@ pub trait TableRow: Sized {
 pub(crate) fn whole_table<S: Alter, T: TableRow + Drop>(
     alloc: Global,
     tx: &mut Transaction<'_, S>,
+    edition: Edition,
     sql: &str,
     table: Table,
 ) -> Result<Vec<T>, ReadFault>
-    requires { TellsWhole T.shows T.told T.cells T.key T.fits T.sheet sql.now }
+    requires { TellsWhole edition T.shows T.told T.cells T.key T.fits T.sheet sql.now }
     ensures same_reference { tx.new.conn.ghost_name ≡ tx.old.conn.ghost_name }
-    ensures whole { Reads (state S.Store tx.old.conn.now) (state S.Store tx.new.conn.now) (λ trees rows. AreAll T.shows T.cells T.key T.fits T.sheet trees rows.items) result }
+    ensures whole { Reads edition (state S.Store tx.old.conn.now) (state S.Store tx.new.conn.now) (λ trees rows. AreAll T.shows T.cells T.key T.fits T.sheet trees rows.items) result }
     ensures typed { IfOk result (λ rows. Each T.readable rows.items) }
-    ensures takes { HasCleanDisk (state S.Store tx.new.conn.now) → HasBankTables (state S.Store tx.old.conn.now) → (xs : List T) → HoldsRows T.shows T.cells T.key T.fits xs ((state S.Store tx.old.conn.now).now.trees (tree_of T.sheet)) → ((x : T) → Contains xs x → T.readable x) → IfErr result IsOfDatabase }
+    ensures takes { HasCleanDisk (state S.Store tx.new.conn.now) → HasBankTables edition (state S.Store tx.old.conn.now) → (xs : List T) → HoldsRows T.shows T.cells T.key T.fits xs ((state S.Store tx.old.conn.now).now.trees (tree_of T.sheet)) → ((x : T) → Contains xs x → T.readable x) → IfErr result IsOfDatabase }
     ensures open { StaysOpen (state S.Store tx.old.conn.now) (state S.Store tx.new.conn.now) result }
     ensures survives { Survives (state S.Store tx.old.conn.now) (state S.Store tx.new.conn.now) (λ _. ⊥) }
 {
@@ -89,7 +91,7 @@ pub(crate) fn shown_rows<S: Alter>(
     ensures same_reference { tx.new.conn.ghost_name ≡ tx.old.conn.ghost_name }
     ensures shown { HasCleanDisk (state S.Store tx.new.conn.now) → IfOk result (λ rows. Shown sql.now [] (state S.Store tx.old.conn.now) (state S.Store tx.new.conn.now) rows.items) }
     ensures still { HasCleanDisk (state S.Store tx.new.conn.now) → IsPlain (understood (state S.Store tx.old.conn.now).now.schema sql.now) → OnOk result (IsUnchanged (state S.Store tx.old.conn.now) (state S.Store tx.new.conn.now)) × KeepsCommit (state S.Store tx.old.conn.now) (state S.Store tx.new.conn.now) }
-    ensures there { HasCleanDisk (state S.Store tx.new.conn.now) → (state S.Store tx.old.conn.now).now.schema ≡ bank_schema → IsAnswered sql.now → IfErr result IsOfDatabase }
+    ensures there { HasCleanDisk (state S.Store tx.new.conn.now) → (e : Edition) → (state S.Store tx.old.conn.now).now.schema ≡ schema_of e → IsAnswered e sql.now → IfErr result IsOfDatabase }
     ensures open { StaysOpen (state S.Store tx.old.conn.now) (state S.Store tx.new.conn.now) result }
     ensures survives { Survives (state S.Store tx.old.conn.now) (state S.Store tx.new.conn.now) (λ _. ⊥) }
 {

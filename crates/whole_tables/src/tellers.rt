@@ -11,7 +11,7 @@ ghost use Rattle.whole_tables.specs.Whole.{OnReadable, Reads};
 use crate::fault::{ReadFault, Table};
 use crate::table_row::{TableRow, whole_table};
 use bank_books::Teller;
-use bank_schema::{cents_at, number_at, sum_at};
+use bank_schema::{Edition, cents_at, number_at, sum_at};
 use kept_rows::KeptTeller;
 use money::Fault;
 use sqlite::{Alter, Row, Transaction};
@@ -24,15 +24,16 @@ pub(crate) const QUERY: &str =
 pub fn all_tellers<S: Alter>(
     alloc: Global,
     tx: &mut Transaction<'_, S>,
+    edition: Edition,
 ) -> Result<Vec<KeptTeller>, ReadFault>
     ensures same_reference { tx.new.conn.ghost_name ≡ tx.old.conn.ghost_name }
-    ensures whole { Reads (state S.Store tx.old.conn.now) (state S.Store tx.new.conn.now) (λ trees rows. AreTellers trees rows.items) result }
+    ensures whole { Reads edition (state S.Store tx.old.conn.now) (state S.Store tx.new.conn.now) (λ trees rows. AreTellers trees rows.items) result }
     ensures typed { IfOk result (λ rows. Each IsReadableTeller rows.items) }
-    ensures takes { OnReadable (state S.Store tx.old.conn.now) (state S.Store tx.new.conn.now) (IfErr result IsOfDatabase) }
+    ensures takes { OnReadable edition (state S.Store tx.old.conn.now) (state S.Store tx.new.conn.now) (IfErr result IsOfDatabase) }
     ensures open { StaysOpen (state S.Store tx.old.conn.now) (state S.Store tx.new.conn.now) result }
     ensures survives { Survives (state S.Store tx.old.conn.now) (state S.Store tx.new.conn.now) (λ _. ⊥) }
 {
-    whole_table(alloc, tx, QUERY, Table::Tellers)
+    whole_table(alloc, tx, edition, QUERY, Table::Tellers)
 }
 
 impl TableRow for KeptTeller {

@@ -3,35 +3,63 @@ ghost use Rattle.sqlite.specs.Held.{state};
 ghost use Rattle.sqlite.specs.State.{Survives};
 ghost use Rattle.bank_schema.specs.Readable.{IsReadableTriple};
 ghost use Rattle.bank_schema.specs.Steps.{StaysOpen};
+ghost use Rattle.bank_schema.specs.declared.edition.Edition.TheVariants.{First};
 ghost use Rattle.whole_tables.specs.Tables.{AreTriples};
 ghost use Rattle.whole_tables.specs.Faults.{IsOfDatabase};
 ghost use Rattle.whole_tables.specs.Typed.{Each};
-ghost use Rattle.whole_tables.specs.Whole.{OnReadable, Reads};
+ghost use Rattle.whole_tables.specs.Whole.{IsAnswered, OnReadable, Reads};
 
 use crate::fault::{ReadFault, Table};
 use crate::table_row::{TableRow, whole_table};
 use bank_policy::Triple;
-use bank_schema::{number_at, procedure_at};
+use bank_schema::{Edition, number_at, procedure_at};
 use money::Fault;
 use sqlite::{Alter, Row, Transaction};
 use std::alloc::Global;
 
-pub(crate) const QUERY: &str =
+/// The query for the table that holds the triples.
+pub(crate) fn query(edition: Edition) -> &'static str
+    ensures { IsAnswered edition result.now }
+{
+    match edition {
+        Edition::First => FIRST_QUERY,
+    }
+}
+
+const FIRST_QUERY: &str =
     "SELECT user_no, procedure, set_no, ceiling FROM triples ORDER BY user_no, procedure, set_no";
 
 /// All triples, by user, then procedure, then set.
 pub fn all_triples<S: Alter>(
     alloc: Global,
     tx: &mut Transaction<'_, S>,
+    edition: Edition,
 ) -> Result<Vec<Triple>, ReadFault>
     ensures same_reference { tx.new.conn.ghost_name ≡ tx.old.conn.ghost_name }
-    ensures whole { Reads (state S.Store tx.old.conn.now) (state S.Store tx.new.conn.now) (λ trees rows. AreTriples trees rows.items) result }
+    ensures whole { Reads edition (state S.Store tx.old.conn.now) (state S.Store tx.new.conn.now) (λ trees rows. AreTriples edition trees rows.items) result }
     ensures typed { IfOk result (λ rows. Each IsReadableTriple rows.items) }
-    ensures takes { OnReadable (state S.Store tx.old.conn.now) (state S.Store tx.new.conn.now) (IfErr result IsOfDatabase) }
+    ensures takes { OnReadable edition (state S.Store tx.old.conn.now) (state S.Store tx.new.conn.now) (IfErr result IsOfDatabase) }
     ensures open { StaysOpen (state S.Store tx.old.conn.now) (state S.Store tx.new.conn.now) result }
     ensures survives { Survives (state S.Store tx.old.conn.now) (state S.Store tx.new.conn.now) (λ _. ⊥) }
 {
-    whole_table(alloc, tx, QUERY, Table::Triples)
+    match edition {
+        Edition::First => first_triples(alloc, tx),
+    }
+}
+
+/// Those of the table `triples`.
+fn first_triples<S: Alter>(
+    alloc: Global,
+    tx: &mut Transaction<'_, S>,
+) -> Result<Vec<Triple>, ReadFault>
+    ensures same_reference { tx.new.conn.ghost_name ≡ tx.old.conn.ghost_name }
+    ensures whole { Reads First (state S.Store tx.old.conn.now) (state S.Store tx.new.conn.now) (λ trees rows. AreTriples First trees rows.items) result }
+    ensures typed { IfOk result (λ rows. Each IsReadableTriple rows.items) }
+    ensures takes { OnReadable First (state S.Store tx.old.conn.now) (state S.Store tx.new.conn.now) (IfErr result IsOfDatabase) }
+    ensures open { StaysOpen (state S.Store tx.old.conn.now) (state S.Store tx.new.conn.now) result }
+    ensures survives { Survives (state S.Store tx.old.conn.now) (state S.Store tx.new.conn.now) (λ _. ⊥) }
+{
+    whole_table(alloc, tx, Edition::First, FIRST_QUERY, Table::Triples)
 }
 
 impl TableRow for Triple {

@@ -11,7 +11,7 @@ ghost use Rattle.whole_tables.specs.Whole.{OnReadable, Reads};
 use crate::fault::{ReadFault, Table, value_fault};
 use crate::table_row::{TableRow, whole_table};
 use bank_policy::User;
-use bank_schema::{count_at, name_at, number_at, truth_at};
+use bank_schema::{Edition, count_at, name_at, number_at, truth_at};
 use kept_rows::KeptUser;
 use money::Fault;
 use sqlite::{Alter, Row, Transaction};
@@ -24,15 +24,16 @@ pub(crate) const QUERY: &str =
 pub fn all_users<S: Alter>(
     alloc: Global,
     tx: &mut Transaction<'_, S>,
+    edition: Edition,
 ) -> Result<Vec<KeptUser>, ReadFault>
     ensures same_reference { tx.new.conn.ghost_name ≡ tx.old.conn.ghost_name }
-    ensures whole { Reads (state S.Store tx.old.conn.now) (state S.Store tx.new.conn.now) (λ trees rows. AreUsers trees rows.items) result }
+    ensures whole { Reads edition (state S.Store tx.old.conn.now) (state S.Store tx.new.conn.now) (λ trees rows. AreUsers trees rows.items) result }
     ensures typed { IfOk result (λ rows. Each IsReadableUser rows.items) }
-    ensures takes { OnReadable (state S.Store tx.old.conn.now) (state S.Store tx.new.conn.now) (IfErr result IsOfDatabase) }
+    ensures takes { OnReadable edition (state S.Store tx.old.conn.now) (state S.Store tx.new.conn.now) (IfErr result IsOfDatabase) }
     ensures open { StaysOpen (state S.Store tx.old.conn.now) (state S.Store tx.new.conn.now) result }
     ensures survives { Survives (state S.Store tx.old.conn.now) (state S.Store tx.new.conn.now) (λ _. ⊥) }
 {
-    whole_table(alloc, tx, QUERY, Table::Users)
+    whole_table(alloc, tx, edition, QUERY, Table::Users)
 }
 
 impl TableRow for KeptUser {

@@ -1,28 +1,26 @@
-use Rattle.std.proofs.Common.{ap, map, IfErr, subst, sym, ◌∙◌}
+use Rattle.std.proofs.Common.{ℕ, ap, map, Err, Result, subst, sym, ◌∙◌}
 use Rattle.std.proofs.lemmas.Option.{none-some, same_Some}
 use Rattle.std.proofs.lemmas.Result.{err_from_is_err_and}
-use Rattle.std.specs.Prelude.{IfSome, Ok}
+use Rattle.std.specs.Prelude.{IfSome}
 use Rattle.bank_books.specs.WorldLists.{WorldLists}
-use Rattle.kept_rows.specs.Keepable.{IsKeepable}
 use Rattle.kept_rows.specs.declared.records.KeptUser.{KeptUser}
-use Rattle.policy_check.specs.PolicyVerdict.{IsPolicyVerdict}
-use Rattle.adopt_sql.specs.Refused.{IsOfPolicy}
-use Rattle.adopt_sql.specs.Told.{IsBankOf, IsPolicyOf, kept_read, sheets_read, world_read}
+use Rattle.whole_tables.proofs.ReadsLemmas.{handed_on}
+use Rattle.adopt_sql.specs.Refused.{IsNamedBy, IsOfPolicy, IsOfStore}
+use Rattle.adopt_sql.specs.declared.adopt_fault.AdoptFault.{AdoptFault}
+use Rattle.adopt_sql.specs.Told.{IsPolicyOf, kept_read, sheets_read, world_read}
 use Rattle.adopt_sql.proofs.NamedLemmas.{judged, named_of_books, named_of_none, named_of_policy, policy_in_rows, policy_of_tables}
 use Rattle.adopt_sql.proofs.ReadingLemmas.{beyond_books, handed_beyond}
 use Rattle.adopt_sql.proofs.SetLemmas.{some_is}
 use Rattle.adopt_sql.proofs.SoundLemmas.{books_in_order, books_or_store, keepable_told, policy_is, policy_or_store, policy_told, verdict_told}
-use Rattle.adopt_sql.proofs.ToldLemmas.{both_ok, is_bank}
+use Rattle.adopt_sql.proofs.ToldLemmas.{is_bank}
 use Rattle.adopt_sql.proofs.judging.judge.Goals as goal
 
-pub returns-in_ok-bank-in-Some-clause-bank : goal.returns-in_ok-bank-in-Some-clause-bank
-returns-in_ok-bank-in-Some-clause-bank c =
+pub returns-in_ok-judge_policy-in-Some-clause-bank : goal.returns-in_ok-judge_policy-in-Some-clause-bank
+returns-in_ok-judge_policy-in-Some-clause-bank c =
     let bank = c.in_ok-bank-in-Some.bank in
-    both_ok c.judge_policy.result (IsPolicyVerdict bank.world.policy (Ok tt)) (IsKeepable bank.world) (IsBankOf (sheets_read c.args.books c.args.tables c.args.version))
-    c.judge_policy.ensures.policy c.judge_policy.ensures.keepable
-    (λ sound keepable. is_bank c.args.books c.args.tables c.in-Some.policy c.args.version bank.world bank.kept
+    is_bank c.args.books c.args.tables c.in-Some.policy c.args.version bank.world bank.kept
     (subst (λ users. IsPolicyOf users c.args.tables c.in-Some.policy) c.deref.ensures.value (subst (λ found. IfSome found (IsPolicyOf c.deref.result.now c.args.tables)) c.in-Some.is c.in-Ok.ensures.told))
-    c.in_ok-bank-in-Some.ensures.verdict c.in_ok-bank-in-Some.ensures.world c.in_ok-bank-in-Some.ensures.kept keepable sound)
+    c.in_ok-bank-in-Some.ensures.verdict c.in_ok-bank-in-Some.ensures.world c.in_ok-bank-in-Some.ensures.kept c.in_ok-judge_policy-in-Some.ensures.keepable c.in_ok-judge_policy-in-Some.ensures.policy
 
 pub returns-in_err-bank-in-Some-clause-sound : goal.returns-in_err-bank-in-Some-clause-sound
 returns-in_err-bank-in-Some-clause-sound c bank =
@@ -33,12 +31,15 @@ returns-in_err-bank-in-Some-clause-sound c bank =
     (verdict_told c.args.books c.args.tables c.args.version bank c.in-Ok.found c.in-Some.policy right c.in-Some.is)
     (c.in_err-bank-in-Some.ensures.named (books_in_order c.args.books c.in-Some.policy c.args.version can)))
 
-pub returns-in_ok-bank-in-Some-clause-sound : goal.returns-in_ok-bank-in-Some-clause-sound
-returns-in_ok-bank-in-Some-clause-sound c bank =
+pub returns-in_err-judge_policy-in-Some-clause-sound : goal.returns-in_err-judge_policy-in-Some-clause-sound
+returns-in_err-judge_policy-in-Some-clause-sound c bank =
     let right = c.in-Ok.ensures.found bank.world.policy (policy_is c.args.books c.args.tables c.args.version bank c.deref.result.now c.deref.ensures.value) bank.keepable.policy in
-    let bank_policy = c.in_ok-bank-in-Some.bank.world.policy in
-    policy_or_store bank_policy c.judge_policy.result
-    (policy_told c.args.books c.args.tables c.args.version bank c.in-Ok.found c.in-Some.policy right c.in-Some.is c.in_ok-bank-in-Some.bank.world c.in_ok-bank-in-Some.ensures.world) c.judge_policy.ensures.named
+    let found = c.in_ok-bank-in-Some.bank.world in
+    let fault = c.in_err-judge_policy-in-Some.field-0.0 in
+    let failed : Result ℕ AdoptFault = Err fault in
+    handed_on c.from_residual-in_err-judge_policy-in-Some.result fault IsOfStore c.from_residual-in_err-judge_policy-in-Some.ensures.1
+    (policy_or_store found.policy failed
+    (policy_told c.args.books c.args.tables c.args.version bank c.in-Ok.found c.in-Some.policy right c.in-Some.is found c.in_ok-bank-in-Some.ensures.world) c.in_err-judge_policy-in-Some.ensures.named)
 
 pub returns-in-None-clause-sound : goal.returns-in-None-clause-sound
 returns-in-None-clause-sound c bank =
@@ -51,16 +52,19 @@ returns-in_err-bank-in-Some-clause-named c order users =
     let told = some_is c.in-Ok.found c.in-Some.policy (IsPolicyOf c.deref.result.now c.args.tables) c.in-Ok.ensures.told c.in-Some.is in
     rw (exit.1, exit.2) (named_of_books c.args.books c.args.tables c.args.version c.in-Some.policy (told.users_are ∙ ap (map (λ (u : KeptUser). u.row)) c.deref.ensures.value) c.in_err-bank-in-Some.field-0.0 (c.in_err-bank-in-Some.ensures.named order))
 
-pub returns-in_ok-bank-in-Some-clause-named : goal.returns-in_ok-bank-in-Some-clause-named
-returns-in_ok-bank-in-Some-clause-named c order users =
+pub returns-in_err-judge_policy-in-Some-clause-named : goal.returns-in_err-judge_policy-in-Some-clause-named
+returns-in_err-judge_policy-in-Some-clause-named c order users =
     let bank = c.in_ok-bank-in-Some.bank in
     let policy = c.in-Some.policy in
+    let fault = c.in_err-judge_policy-in-Some.field-0.0 in
+    let failed : Result ℕ AdoptFault = Err fault in
     let told = some_is c.in-Ok.found policy (IsPolicyOf c.deref.result.now c.args.tables) c.in-Ok.ensures.told c.in-Some.is in
     let hold = judged c.args.books c.args.tables c.args.version policy (told.users_are ∙ ap (map (λ (u : KeptUser). u.row)) c.deref.ensures.value) bank.world bank.kept
     c.in_ok-bank-in-Some.ensures.world c.in_ok-bank-in-Some.ensures.kept c.in_ok-bank-in-Some.ensures.verdict in
-    named_of_policy c.args.books c.args.tables c.args.version c.judge_policy.result policy hold (policy_in_rows c.args.books c.args.tables c.args.version c.deref.result.now c.deref.ensures.value policy told)
+    handed_on c.from_residual-in_err-judge_policy-in-Some.result fault (IsNamedBy (sheets_read c.args.books c.args.tables c.args.version)) c.from_residual-in_err-judge_policy-in-Some.ensures.1
+    (named_of_policy c.args.books c.args.tables c.args.version failed policy hold (policy_in_rows c.args.books c.args.tables c.args.version c.deref.result.now c.deref.ensures.value policy told)
     (λ other is can. same_Some other policy (sym (c.in-Ok.ensures.found other (policy_of_tables c.args.books c.args.tables c.args.version c.deref.result.now c.deref.ensures.value other is) can) ∙ c.in-Some.is))
-    (subst (λ (w : WorldLists). IfErr c.judge_policy.result (IsOfPolicy w.policy)) c.in_ok-bank-in-Some.ensures.world c.judge_policy.ensures.named)
+    (subst (λ (w : WorldLists). IsOfPolicy w.policy fault) c.in_ok-bank-in-Some.ensures.world c.in_err-judge_policy-in-Some.ensures.named))
 
 pub returns-in-None-clause-named : goal.returns-in-None-clause-named
 returns-in-None-clause-named c order users =

@@ -8,11 +8,11 @@ pub returns-in_err-shown_rows-clause-whole : goal.returns-in_err-shown_rows-clau
 returns-in_err-shown_rows-clause-whole g c =
     let old = state g.S.Store c.args.tx.now.conn.now in
     let new = state g.S.Store c.shown_rows.new.tx.conn.now in
-    gave_whole old new (λ _ _. ⊤) c.from_residual.result c.from_residual.ensures.0
-    (λ clean has. (c.in_err-shown_rows.ensures.still clean (plain_there c.query_for.result.now old c.query_for.ensures.plain has)).1)
+    gave_whole c.args.edition old new (λ _ _. ⊤) c.from_residual.result c.from_residual.ensures.0
+    (λ clean has. (c.in_err-shown_rows.ensures.still clean (plain_there c.args.edition c.query_for.result.now old c.query_for.ensures.plain has)).1)
 
 pub returns-clause-whole : goal.returns-clause-whole
 returns-clause-whole g c clean has =
     let old = state g.S.Store c.args.tx.now.conn.now in
-    let still = c.in_ok-shown_rows.ensures.still clean (plain_there c.query_for.result.now old c.query_for.ensures.plain has) in
+    let still = c.in_ok-shown_rows.ensures.still clean (plain_there c.args.edition c.query_for.result.now old c.query_for.ensures.plain has) in
     (tt, still.0, still.1)

@@ -8,6 +8,6 @@ use Rattle.whole_tables.proofs.asking.ask_tables.Given as goal
 abbrev pub invariant-loop-table : goal.invariant-loop-table
 invariant-loop-table g l = record {
   same : l.tx.conn.ghost_name ≡ l.fn.tx.conn.ghost_name;
-  done : IsTrue (state g.S.Store l.fn.tx.conn.now).is_open → Done (state g.S.Store l.fn.tx.conn.now) (state g.S.Store l.tx.conn.now) (λ _. ⊤);
+  done : IsTrue (state g.S.Store l.fn.tx.conn.now).is_open → Done l.edition (state g.S.Store l.fn.tx.conn.now) (state g.S.Store l.tx.conn.now) (λ _. ⊤);
   survives : Survives (state g.S.Store l.fn.tx.conn.now) (state g.S.Store l.tx.conn.now) (λ _. ⊥);
 }

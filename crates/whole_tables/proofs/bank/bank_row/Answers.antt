@@ -15,21 +15,21 @@ use Rattle.whole_tables.proofs.WholeLemmas.{all_answered, plain_there}
 use Rattle.whole_tables.proofs.bank.bank_row.Goals as goal
 
 pub returns-in_err-rows-clause-whole : goal.returns-in_err-rows-clause-whole
-returns-in_err-rows-clause-whole g c =
+returns-in_err-rows-clause-whole g c e =
     let old = state g.S.Store c.args.tx.now.conn.now in
     let new = state g.S.Store c.shown_rows.new.tx.conn.now in
-    gave_whole old new IsBankTable c.from_residual.result c.from_residual.ensures.0
-    (λ clean has. (c.in_err-rows.ensures.still clean (plain_there all_bank_text old tells_bank.asks.plain has)).1)
+    gave_whole e old new IsBankTable c.from_residual.result c.from_residual.ensures.0
+    (λ clean has. (c.in_err-rows.ensures.still clean (plain_there e all_bank_text old (tells_bank e).asks.plain has)).1)
 
 pub returns-clause-whole : goal.returns-clause-whole
-returns-clause-whole g c clean has =
+returns-clause-whole g c e clean has =
     let old = state g.S.Store c.args.tx.now.conn.now in
     let new = state g.S.Store c.shown_rows.new.tx.conn.now in
     tells_table old new c.in_ok-rows.rows.items c.only_row.result
     (subst (λ rows. IfOk c.only_row.result (IsToldBy rows)) c.deref.ensures.value c.only_row.ensures.told)
-    (all_answered all_of_it (told_by_key 2) bank_cells bank_no AnyRow in_bank all_bank_text tells_bank old new c.in_ok-rows.rows.items has (c.in_ok-rows.ensures.shown clean))
-    (c.in_ok-rows.ensures.still clean (plain_there all_bank_text old tells_bank.asks.plain has))
+    (all_answered e all_of_it (told_by_key 2) bank_cells bank_no AnyRow in_bank all_bank_text (tells_bank e) old new c.in_ok-rows.rows.items has (c.in_ok-rows.ensures.shown clean))
+    (c.in_ok-rows.ensures.still clean (plain_there e all_bank_text old (tells_bank e).asks.plain has))
 
 pub returns-in_err-rows-clause-there : goal.returns-in_err-rows-clause-there
-returns-in_err-rows-clause-there g c clean has =
-    handed_on c.from_residual.result c.in_err-rows.field-0.0 IsOfDatabase c.from_residual.ensures.1 (c.in_err-rows.ensures.there clean has.schema tells_bank.asks)
+returns-in_err-rows-clause-there g c e clean has =
+    handed_on c.from_residual.result c.in_err-rows.field-0.0 IsOfDatabase c.from_residual.ensures.1 (c.in_err-rows.ensures.there clean e has.schema (tells_bank e).asks)

@@ -9,8 +9,8 @@ returns-in_err-history-clause-whole g c =
     let s0 = state g.S.Store c.args.tx.now.conn.now in
     let s1 = state g.S.Store c.ledger_rows.new.tx.conn.now in
     let s2 = state g.S.Store c.history_rows.new.tx.conn.now in
-    gave_whole s0 s2 AreBookRows c.from_residual-in_err-history.result c.from_residual-in_err-history.ensures.0
-    (gave_then s0 s1 s2 (λ db. AreLedgerRows db c.in_ok-ledger.ledger) c.history_rows.ensures.survives c.in_ok-ledger.ensures.whole (λ clean has. (c.in_err-history.ensures.whole clean has).2))
+    gave_whole c.args.edition s0 s2 AreBookRows c.from_residual-in_err-history.result c.from_residual-in_err-history.ensures.0
+    (gave_then c.args.edition s0 s1 s2 (λ db. AreLedgerRows db c.in_ok-ledger.ledger) c.history_rows.ensures.survives c.in_ok-ledger.ensures.whole (λ clean has. (c.in_err-history.ensures.whole clean has).2))
 
 pub returns-in_err-users-clause-whole : goal.returns-in_err-users-clause-whole
 returns-in_err-users-clause-whole g c =
@@ -18,8 +18,8 @@ returns-in_err-users-clause-whole g c =
     let s1 = state g.S.Store c.ledger_rows.new.tx.conn.now in
     let s2 = state g.S.Store c.history_rows.new.tx.conn.now in
     let s3 = state g.S.Store c.user_rows.new.tx.conn.now in
-    gave_whole s0 s3 AreBookRows c.from_residual-in_err-users.result c.from_residual-in_err-users.ensures.0
-    (gave_then s0 s2 s3 (λ db. AreLedgerRows db c.in_ok-ledger.ledger × AreHistoryRows db c.in_ok-history.history) c.user_rows.ensures.survives (done_then s0 s1 s2 (λ db. AreLedgerRows db c.in_ok-ledger.ledger) (λ db. AreHistoryRows db c.in_ok-history.history) c.history_rows.ensures.survives c.in_ok-ledger.ensures.whole c.in_ok-history.ensures.whole) (λ clean has. (c.in_err-users.ensures.whole clean has).2))
+    gave_whole c.args.edition s0 s3 AreBookRows c.from_residual-in_err-users.result c.from_residual-in_err-users.ensures.0
+    (gave_then c.args.edition s0 s2 s3 (λ db. AreLedgerRows db c.in_ok-ledger.ledger × AreHistoryRows db c.in_ok-history.history) c.user_rows.ensures.survives (done_then c.args.edition s0 s1 s2 (λ db. AreLedgerRows db c.in_ok-ledger.ledger) (λ db. AreHistoryRows db c.in_ok-history.history) c.history_rows.ensures.survives c.in_ok-ledger.ensures.whole c.in_ok-history.ensures.whole) (λ clean has. (c.in_err-users.ensures.whole clean has).2))
 
 pub returns-clause-whole : goal.returns-clause-whole
 returns-clause-whole g c =
@@ -27,8 +27,8 @@ returns-clause-whole g c =
     let s1 = state g.S.Store c.ledger_rows.new.tx.conn.now in
     let s2 = state g.S.Store c.history_rows.new.tx.conn.now in
     let s3 = state g.S.Store c.user_rows.new.tx.conn.now in
-    done_whole s0 s3 (λ db. (AreLedgerRows db c.in_ok-ledger.ledger × AreHistoryRows db c.in_ok-history.history) × AreUserRows db c.in_ok-users.users) (λ db. AreBookRows db (record { ledger = c.in_ok-ledger.ledger; history = c.in_ok-history.history; users = c.in_ok-users.users })) (λ db h. record { ledger = h.0.0; history = h.0.1; users = h.1 })
-    (done_then s0 s2 s3 (λ db. AreLedgerRows db c.in_ok-ledger.ledger × AreHistoryRows db c.in_ok-history.history) (λ db. AreUserRows db c.in_ok-users.users) c.user_rows.ensures.survives (done_then s0 s1 s2 (λ db. AreLedgerRows db c.in_ok-ledger.ledger) (λ db. AreHistoryRows db c.in_ok-history.history) c.history_rows.ensures.survives c.in_ok-ledger.ensures.whole c.in_ok-history.ensures.whole) c.in_ok-users.ensures.whole)
+    done_whole c.args.edition s0 s3 (λ db. (AreLedgerRows db c.in_ok-ledger.ledger × AreHistoryRows db c.in_ok-history.history) × AreUserRows db c.in_ok-users.users) (λ db. AreBookRows db (record { ledger = c.in_ok-ledger.ledger; history = c.in_ok-history.history; users = c.in_ok-users.users })) (λ db h. record { ledger = h.0.0; history = h.0.1; users = h.1 })
+    (done_then c.args.edition s0 s2 s3 (λ db. AreLedgerRows db c.in_ok-ledger.ledger × AreHistoryRows db c.in_ok-history.history) (λ db. AreUserRows db c.in_ok-users.users) c.user_rows.ensures.survives (done_then c.args.edition s0 s1 s2 (λ db. AreLedgerRows db c.in_ok-ledger.ledger) (λ db. AreHistoryRows db c.in_ok-history.history) c.history_rows.ensures.survives c.in_ok-ledger.ensures.whole c.in_ok-history.ensures.whole) c.in_ok-users.ensures.whole)
 
 pub returns-in_err-history-clause-takes : goal.returns-in_err-history-clause-takes
 returns-in_err-history-clause-takes g c clean has s holds readable =
@@ -37,7 +37,7 @@ returns-in_err-history-clause-takes g c clean has s holds readable =
     let s2 = state g.S.Store c.history_rows.new.tx.conn.now in
     let fault = c.in_err-history.field-0.0 in
     handed_on c.from_residual-in_err-history.result fault IsOfDatabase c.from_residual-in_err-history.ensures.1
-    (readable_then s0 s1 s2 (λ db. AreLedgerRows db c.in_ok-ledger.ledger) (IsOfDatabase fault) c.history_rows.ensures.survives c.in_ok-ledger.ensures.whole c.in_err-history.ensures.takes clean has s holds readable)
+    (readable_then c.args.edition s0 s1 s2 (λ db. AreLedgerRows db c.in_ok-ledger.ledger) (IsOfDatabase fault) c.history_rows.ensures.survives c.in_ok-ledger.ensures.whole c.in_err-history.ensures.takes clean has s holds readable)
 
 pub returns-in_err-users-clause-takes : goal.returns-in_err-users-clause-takes
 returns-in_err-users-clause-takes g c clean has s holds readable =
@@ -47,4 +47,4 @@ returns-in_err-users-clause-takes g c clean has s holds readable =
     let s3 = state g.S.Store c.user_rows.new.tx.conn.now in
     let fault = c.in_err-users.field-0.0 in
     handed_on c.from_residual-in_err-users.result fault IsOfDatabase c.from_residual-in_err-users.ensures.1
-    (readable_then s0 s2 s3 (λ db. AreLedgerRows db c.in_ok-ledger.ledger × AreHistoryRows db c.in_ok-history.history) (IsOfDatabase fault) c.user_rows.ensures.survives (done_then s0 s1 s2 (λ db. AreLedgerRows db c.in_ok-ledger.ledger) (λ db. AreHistoryRows db c.in_ok-history.history) c.history_rows.ensures.survives c.in_ok-ledger.ensures.whole c.in_ok-history.ensures.whole) c.in_err-users.ensures.takes clean has s holds readable)
+    (readable_then c.args.edition s0 s2 s3 (λ db. AreLedgerRows db c.in_ok-ledger.ledger × AreHistoryRows db c.in_ok-history.history) (IsOfDatabase fault) c.user_rows.ensures.survives (done_then c.args.edition s0 s1 s2 (λ db. AreLedgerRows db c.in_ok-ledger.ledger) (λ db. AreHistoryRows db c.in_ok-history.history) c.history_rows.ensures.survives c.in_ok-ledger.ensures.whole c.in_ok-history.ensures.whole) c.in_err-users.ensures.takes clean has s holds readable)

@@ -3,7 +3,7 @@ use Rattle.whole_tables.proofs.HistoryWhole.{tells_lines}
 use Rattle.whole_tables.proofs.lines.all_lines.Goals as goal
 
 pub whole_table-requires : goal.whole_table-requires
-whole_table-requires g c = tells_lines
+whole_table-requires g c = tells_lines c.args.edition
 
 pub returns-clause-takes : goal.returns-clause-takes
 returns-clause-takes g c clean has s holds readable = c.whole_table.ensures.takes clean has s.lines (holds in_lines) readable.lines

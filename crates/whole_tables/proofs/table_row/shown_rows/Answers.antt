@@ -26,6 +26,6 @@ returns-in-Err-clause-open g c clean =
     query_open c.args.sql.now [] (state g.S.Store c.args.tx.now.conn.now) (state g.S.Store c.query_all.new.self.conn.now) (Err c.in-Err.error) (c.in-Err.ensures.ok clean) (c.in-Err.ensures.err clean)
 
 pub returns-in-Err-clause-there : goal.returns-in-Err-clause-there
-returns-in-Err-clause-there g c clean has asks =
+returns-in-Err-clause-there g c clean e has asks =
     subst IsOfDatabase (sym c.read_fault.ensures)
-    (of_database c.args.sql.now asks c.args.table (state g.S.Store c.args.tx.now.conn.now) (state g.S.Store c.query_all.new.self.conn.now) c.in-Err.error has (c.in-Err.ensures.err clean))
+    (of_database e c.args.sql.now asks c.args.table (state g.S.Store c.args.tx.now.conn.now) (state g.S.Store c.query_all.new.self.conn.now) c.in-Err.error has (c.in-Err.ensures.err clean))

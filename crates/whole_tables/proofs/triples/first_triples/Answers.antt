@@ -1,6 +1,6 @@
 use Rattle.bank_schema.specs.Held.Sheet.{triples as in_triples}
 use Rattle.whole_tables.proofs.PolicyWhole.{tells_triples}
-use Rattle.whole_tables.proofs.triples.all_triples.Goals as goal
+use Rattle.whole_tables.proofs.triples.first_triples.Goals as goal
 
 pub whole_table-requires : goal.whole_table-requires
 whole_table-requires g c = tells_triples

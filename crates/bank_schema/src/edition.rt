@@ -1,0 +1,20 @@
+ghost use Rattle.std.specs.Prelude.{◌≡◌, pos};
+ghost use Rattle.bank_schema.specs.Cells.{edition_number};
+
+/// How the tables of a bank's file are laid out.
+#[derive(Clone, Copy, Debug, PartialEq, Eq)]
+pub enum Edition {
+    /// The triples stand in the table `triples`.
+    First,
+}
+
+impl Edition {
+    /// The number by which the row of the bank names it.
+    pub fn number(self) -> i64
+        ensures named { result ≡ pos (edition_number self) }
+    {
+        match self {
+            Edition::First => 1,
+        }
+    }
+}
