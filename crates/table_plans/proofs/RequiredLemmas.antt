@@ -1,5 +1,6 @@
 -- What has to be there is what was found.
-use Rattle.std.specs.Prelude.{◌≡◌, Option, Some, None, Result, Ok, Err, IfOk, IfSome, option_map_or}
+use Rattle.std.specs.Prelude.{◌≡◌, Option, Some, None, Result, Ok, Err, IfOk, IfSome}
+use Rattle.std.specs.Option.{option_map_or}
 use Rattle.std.proofs.Common.{◌∙◌, ap, refl, subst, sym}
 use Rattle.money.specs.declared.fault.Fault.{Fault}
 use Rattle.money.specs.declared.fault.Fault.TheVariants.{Disk}
@@ -7,7 +8,7 @@ use Rattle.money.specs.declared.fault.Fault.TheVariants.{Disk}
 abbrev pub required_of : {X : Type 0} → Option X → Result X Fault
 required_of found = option_map_or Ok found (Err Disk)
 
-there : {X : Type 0} → Result X Fault → Option X
+abbrev there : {X : Type 0} → Result X Fault → Option X
 there (Ok it) = Some it
 there (Err fault) = None
 

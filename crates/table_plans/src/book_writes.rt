@@ -292,6 +292,7 @@ pub(crate) fn write_release<S: Alter>(
     ensures survives { Survives (state S.Store tx.old.conn.now) (state S.Store tx.new.conn.now) (λ _. ⊥) }
 {
     let mut user = user_row(alloc, tx, release.user)?;
-    user.releases = required(with_release(user.releases, release))?;
+    let releases = required(with_release(user.releases, release))?;
+    user.releases = releases;
     put_release(tx, release, &user)
 }

@@ -1,6 +1,7 @@
 //! What a plan finds in the tables, or makes of what it finds.
 
-ghost use Rattle.std.specs.Prelude.{◌≡◌, Err, Ok, option_map_or};
+ghost use Rattle.std.specs.Prelude.{◌≡◌, Err, Ok};
+ghost use Rattle.std.specs.Option.{option_map_or};
 ghost use Rattle.money.specs.declared.fault.Fault.TheVariants.{Disk};
 
 use money::Fault;

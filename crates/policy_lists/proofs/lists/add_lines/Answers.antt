@@ -1,9 +1,12 @@
 use Rattle.std.proofs.Common.{◌∙◌, None, ap, map, negsuc}
-use Rattle.bank_schema.proofs.StepLemmas.{ok_weaker}
+use Rattle.bank_schema.proofs.StepLemmas.{none_ok, ok_weaker}
 use Rattle.policy_tables.proofs.ResultLemmas.{always_ok}
 use Rattle.policy_lists.specs.Lines.{cells_of, rows_of}
 use Rattle.policy_lists.proofs.LineLemmas.{every_row}
 use Rattle.policy_lists.proofs.lists.add_lines.Goals as goal
+
+pub returns-in_err-rows-clause-steps : goal.returns-in_err-rows-clause-steps
+returns-in_err-rows-clause-steps g c clean inside s holds = (none_ok c.from_residual.result _ c.from_residual.ensures.0, (c.select_lines.ensures.steps clean inside s holds).1)
 
 pub returns-clause-found : goal.returns-clause-found
 returns-clause-found g c clean s holds =

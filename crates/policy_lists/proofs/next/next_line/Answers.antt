@@ -5,8 +5,11 @@ use Rattle.policy_lists.specs.Lines.{rows_of}
 use Rattle.policy_lists.proofs.LineLemmas.{line_found, line_missing}
 use Rattle.policy_lists.proofs.next.next_line.Goals as goal
 
+pub returns-in_err-rows-clause-steps : goal.returns-in_err-rows-clause-steps
+returns-in_err-rows-clause-steps g c clean inside s holds = (none_ok c.from_residual.result _ c.from_residual.ensures.0, (c.select_lines.ensures.steps clean inside s holds).1)
+
 pub returns-in_err-read_line-in-Some-clause-steps : goal.returns-in_err-read_line-in-Some-clause-steps
-returns-in_err-read_line-in-Some-clause-steps g c clean inside s holds = (none_ok c.from_residual.result _ c.from_residual.ensures.0, (c.select_lines.ensures.steps clean inside s holds).1)
+returns-in_err-read_line-in-Some-clause-steps g c clean inside s holds = (none_ok c.from_residual-in_err-read_line-in-Some.result _ c.from_residual-in_err-read_line-in-Some.ensures.0, (c.select_lines.ensures.steps clean inside s holds).1)
 
 pub returns-in-Some-clause-found : goal.returns-in-Some-clause-found
 returns-in-Some-clause-found g c clean s holds =
