@@ -41,8 +41,14 @@ def below(uses, names):
 
 
 def tests_to_run(uses):
-    """The crates of tests alone that tools/worked runs, and that the gate does not prove."""
+    """The crates of tests alone that tools/worked runs, and what they share. The gate does not prove them."""
     return [it for it in uses if it.startswith(("worked_", "test_"))]
+
+
+def shared_by_tests(uses):
+    """Those of them that have no tests, and that others of them use."""
+    used = {word for words in uses.values() for word in words}
+    return [it for it in tests_to_run(uses) if it in used]
 
 
 def copy_crates(folder, names):
