@@ -23,6 +23,7 @@ pub enum Read {
 
 /// Is told of each call of a store before it is carried out, and may have it fail. It stands for any World.
 pub trait Watch: Stands {
+    ghost use Rattle.std.specs.Prelude.{⊤};
     ghost use Rattle.store_rows.specs.Status.{ReadsRow};
 
     /// These rows are to be read.

@@ -59,16 +59,6 @@ impl Failing {
     pub fn reads(&self) -> u64 {
         self.reads
     }
-
-    /// Counts a call that fails, and answers why.
-    fn fails(&mut self, fault: Fault) -> Result<(), Fault> {
-        self.faults = self.faults.saturating_add(1);
-        if fault != Fault::Memory {
-            self.failures = self.failures.saturating_add(1);
-            self.stopped = true;
-        }
-        Err(fault)
-    }
 }
 
 impl Stands for Failing {
@@ -93,19 +83,27 @@ impl Watch for Failing {
     fn on_read(&mut self, _read: Read) -> Result<(), Fault> {
         self.reads = self.reads.saturating_add(1);
         self.on_apply()?;
-        if self.reads == self.fails_at {
-            self.fails(self.cause.fault())
-        } else {
-            Ok(())
+        if self.reads != self.fails_at {
+            return Ok(());
+        }
+        self.faults = self.faults.saturating_add(1);
+        match self.cause {
+            Cause::Memory => Err(Fault::Memory),
+            Cause::Disk => {
+                self.failures = self.failures.saturating_add(1);
+                self.stopped = true;
+                Err(Fault::Disk)
+            }
         }
     }
 
     /// Where the disk has failed, each call is refused.
     fn on_apply(&mut self) -> Result<(), Fault> {
-        if self.stopped {
-            self.fails(Fault::Stopped)
-        } else {
-            Ok(())
+        if !self.stopped {
+            return Ok(());
         }
+        self.faults = self.faults.saturating_add(1);
+        self.failures = self.failures.saturating_add(1);
+        Err(Fault::Stopped)
     }
 }
