@@ -3,6 +3,7 @@ import os
 import re
 import shutil
 import subprocess
+import sys
 
 TOP = os.path.dirname(os.path.dirname(os.path.abspath(__file__)))
 # The programs that take times over banks made up, and what makes these up. tools/bench and tools/check-bench prove them.
@@ -10,8 +11,18 @@ BENCHES = ("made_up_bank", "check_bench", "post_bench")
 # The bank program, and the one that serves the sample in a store of one's choice, which tools/rows-over proves and builds.
 BANK_PROGRAM = "bank_cli"
 ROWS_OVER = "rows_over"
+# These two, as tools/build leaves them.
+PROGRAM, OVER = (os.path.join(TOP, "crates", it, "out", it) for it in (BANK_PROGRAM, ROWS_OVER))
 # What rt ci says of a crate that is proved.
 PROVED = re.compile(rb"rt: (\w+) (?:proved$|is kept: )")
+
+
+def are_built(*programs):
+    """Whether these programs are there. Says of each that is not."""
+    missing = [it for it in programs if not os.path.isfile(it)]
+    for it in missing:
+        print(f"{os.path.basename(sys.argv[0])}: there is no program {it}: tools/build builds it")
+    return not missing
 
 
 def words_of_all():
@@ -41,8 +52,14 @@ def below(uses, names):
 
 
 def tests_to_run(uses):
-    """The crates of tests alone that tools/worked runs, and that the gate does not prove."""
+    """The crates of tests alone that tools/worked runs, and what they share. The gate does not prove them."""
     return [it for it in uses if it.startswith(("worked_", "test_"))]
+
+
+def shared_by_tests(uses):
+    """Those of them that have no tests, and that others of them use."""
+    used = {word for words in uses.values() for word in words}
+    return [it for it in tests_to_run(uses) if it in used]
 
 
 def copy_crates(folder, names):

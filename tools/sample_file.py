@@ -4,7 +4,8 @@ import os
 import shutil
 import subprocess
 
-TOP = os.path.dirname(os.path.dirname(os.path.abspath(__file__)))
+from repository import TOP
+
 LISTS = os.path.join(TOP, "sample")
 BADGES = os.path.join(LISTS, "badges.csv")
 # A bank is a file and the log that may stand beside it.

@@ -104,12 +104,3 @@ class Serving:
         time.sleep(0.05)
         if self.run.poll() is not None:
             raise Wrong(f"it has ended: {self.ended()!r}")
-
-
-def held(pid):
-    """The most memory that a process ever held at once, in kilobytes."""
-    with open(os.path.join("/proc", str(pid), "status"), encoding="ascii") as file:
-        for line in file:
-            if line.startswith("VmHWM:"):
-                return int(line.split()[1])
-    raise Wrong("/proc does not say what memory it held")

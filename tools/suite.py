@@ -11,8 +11,8 @@ import shutil
 import sqlite3
 
 import made_rows
+from repository import TOP
 
-TOP = os.path.dirname(os.path.dirname(os.path.abspath(__file__)))
 ROWS = os.path.join(TOP, "rows")
 # The opening lists of the sample bank, and among them its badges.
 SAMPLE = os.path.join(TOP, "sample")

@@ -34,6 +34,15 @@ pub(crate) fn opened(alloc: Global, session: u32, closes: bool) -> Result<String
     )?)
 }
 
+/// The replies to the openings of the sessions from the first number to the last, none of which ends the connection.
+pub(crate) fn all_opened(alloc: Global, first: u32, last: u32) -> Result<String, Fail> {
+    let mut text = String::new(alloc);
+    for session in first..=last {
+        text.push_str(opened(alloc, session, false)?.as_str())?;
+    }
+    Ok(text)
+}
+
 /// Whether the client got this, and then the end of the connection.
 pub(crate) fn got(alloc: Global, client: &TcpStream, text: &str) -> Result<bool, Fail> {
     let all = io::read_to_string(alloc, client)?;

@@ -1,5 +1,5 @@
 //! Connections of the machine, served in one process: what each client gets, and how many messages are counted.
-use crate::clients::{LAST_OPENING, OPENING, client, got, listening, opened};
+use crate::clients::{LAST_OPENING, OPENING, all_opened, client, got, listening, opened};
 use crate::clocks::ToldClock;
 use counter_clocks::{Fixed, Moment};
 use counter_connections::{CountedListener, serve_connections};
@@ -96,19 +96,9 @@ fn messages_before_a_fault_count_one(rt: HostRuntime) -> Result<(), Fail> {
         format!(in alloc; "{OPENING}{OPENING}{OPENING}{OPENING}")?.as_str(),
     )?;
     assert!(&rt; served(&rt, &rt, listener, &mut bank, &mut clock, 4) == (true, 0));
-    let replies = format!(in alloc;
-        "{}{}{}",
-        opened(alloc, 2, false)?,
-        opened(alloc, 3, false)?,
-        opened(alloc, 4, false)?
-    )?;
+    let replies = all_opened(alloc, 2, 4)?;
     assert!(&rt; got(alloc, &cut, replies.as_str())?);
-    let replies = format!(in alloc;
-        "{}{}{}",
-        opened(alloc, 5, false)?,
-        opened(alloc, 6, false)?,
-        opened(alloc, 7, false)?
-    )?;
+    let replies = all_opened(alloc, 5, 7)?;
     assert!(&rt; got(alloc, &stream, replies.as_str())?);
     Ok(())
 }
@@ -124,7 +114,7 @@ fn no_more_replies_than_are_wanted(rt: HostRuntime) -> Result<(), Fail> {
         format!(in alloc; "{OPENING}{OPENING}{OPENING}")?.as_str(),
     )?;
     assert!(&rt; served(&rt, &rt, listener, &mut bank, &mut clock, 2) == (true, 0));
-    let replies = format!(in alloc; "{}{}", opened(alloc, 2, false)?, opened(alloc, 3, false)?)?;
+    let replies = all_opened(alloc, 2, 3)?;
     assert!(&rt; got(alloc, &stream, replies.as_str())?);
     Ok(())
 }

@@ -1,11 +1,10 @@
 //! Reports to writers that are broken behind each byte: what was written, and that nothing has changed.
 
-use crate::counter::{answer, asked_of, reply, tale, with_post};
+use crate::counter::{asked_of, tale, with_post};
 use crate::questions::{OF_ACCOUNTS, OF_LISTING, OF_PROOF, OF_STATEMENT, Question};
-use crate::runtime::Runtime;
-use crate::sinks::{Broken, sink};
 use counter_api::ServeFault;
 use store_rows::{Bank, ListStore};
+use test_counter::{Broken, Runtime, answer, reply, sink};
 
 /// Asks for a report and for a post behind it, with a writer that has this room. It has to take a beginning of the reply
 /// to the report, which is told as a write that failed, and that is all.

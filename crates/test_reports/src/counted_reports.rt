@@ -2,13 +2,12 @@
 
 use crate::counter::asked_of;
 use crate::questions::{BRANCH, OF_ACCOUNTS, OF_PROOF, OF_STATEMENT, QUESTIONS, Question};
-use crate::runtime::Runtime;
-use crate::sinks::{Broken, sink};
 use money::Fault;
 use reports::{
     AfterAccount, BranchNumbers, Contents, FromTurn, Listing, Report, ReportFault, counted,
 };
 use store_rows::{Bank, BookReads, ListStore};
+use test_counter::{Broken, Runtime, sink};
 
 /// What is counted of a listing of the sample.
 fn counted_of(rt: &impl Runtime, first: Listing, most: u32) -> Result<Contents, Fault> {

@@ -3,12 +3,11 @@
 use crate::counter::asked_of;
 use crate::failing::{Cause, Failing};
 use crate::questions::{OF_ACCOUNTS, OF_LISTING, OF_PROOF, OF_STATEMENT, Question};
-use crate::runtime::Runtime;
-use crate::sinks::{Broken, sink};
 use counter_ops::{Accounts, Proof, Statement};
 use decide::{Decision, Listed, Op, Reply, Rule, Who, carry_out, decide, list_policy};
 use reports::Report;
-use store_rows::{Bank, ReportReads, Stands, Store};
+use store_rows::{Bank, ReportReads, Stands};
+use test_counter::{Runtime, whole_sink};
 
 /// Who asks in his first session.
 fn who(user: u32) -> Who {
@@ -23,7 +22,7 @@ fn who(user: u32) -> Who {
 fn is_due<S: ReportReads>(rt: &impl Runtime, report: Report<'_, S>, question: &Question) {
     let due = question.text.as_bytes();
     assert!(rt; report.length() == due.len() as u64);
-    let mut writer = sink(rt, usize::MAX, Broken::Fails);
+    let mut writer = whole_sink(rt);
     assert!(rt; report.write(&mut writer).is_ok());
     assert!(rt; writer.into_inner().bytes.as_slice() == due);
 }

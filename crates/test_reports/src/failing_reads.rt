@@ -3,17 +3,16 @@
 use crate::counter::asked_of;
 use crate::failing::{Cause, Failing};
 use crate::questions::{QUESTIONS, Question, first_lines};
-use crate::runtime::Runtime;
-use crate::sinks::{Broken, sink};
 use reports::{Report, ReportFault, counted};
 use store_rows::{Bank, Stands};
+use test_counter::{Runtime, whole_sink};
 
 /// How often a store is read while a report is counted.
 fn reads_counting(rt: &impl Runtime, question: &Question) -> u64 {
     let mut store = Failing::calm(asked_of(rt, question));
     let (first, most) = (question.contents.first, question.contents.most);
     assert!(rt; counted(rt.alloc(), &mut store, first, most) == Ok(question.contents));
-    store.reads()
+    store.watch().reads()
 }
 
 /// Has a read fail while a report is counted.
@@ -22,7 +21,10 @@ fn fails_counting(rt: &impl Runtime, question: &Question, read: u64, cause: Caus
     let (first, most) = (question.contents.first, question.contents.most);
     let given = counted(rt.alloc(), &mut store, first, most);
     assert!(rt; given == Err(cause.fault()), "at {read}");
-    assert!(rt; store.reads() == read && store.faults() == 1, "at {read}");
+    assert!(rt;
+        store.watch().reads() == read && store.faults() == 1,
+        "at {read}"
+    );
 }
 
 /// Has a read fail while a report is written. The lines of the rows before it were written.
@@ -30,14 +32,14 @@ fn fails_writing(rt: &impl Runtime, question: &Question, read: u64, cause: Cause
     let mut bank = Bank {
         store: Failing::over(asked_of(rt, question), read, cause),
     };
-    let mut writer = sink(rt, usize::MAX, Broken::Fails);
+    let mut writer = whole_sink(rt);
     let end = Report::new(rt.alloc(), &mut bank, question.contents).write(&mut writer);
     assert!(rt; end == Err(ReportFault::Store(cause.fault())), "at {read}");
     assert!(rt; writer.failures() == 0, "at {read}");
     let due = first_lines(question.text.as_bytes(), read);
     assert!(rt; writer.into_inner().bytes.as_slice() == due, "at {read}");
     assert!(rt;
-        bank.store.reads() == read && bank.store.faults() == 1,
+        bank.store.watch().reads() == read && bank.store.faults() == 1,
         "at {read}"
     );
 }

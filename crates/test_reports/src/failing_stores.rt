@@ -1,14 +1,13 @@
 //! Reports over stores that fail at each read: what was written, and what is answered next.
 
-use crate::counter::{Answer, answer, asked_of, reply, tale, with_post};
+use crate::counter::{asked_of, tale, with_post};
 use crate::failing::{Cause, Failing};
 use crate::questions::{
     OF_ACCOUNTS, OF_LISTING, OF_PROOF, OF_STATEMENT, Question, fault_reply, first_lines,
 };
-use crate::runtime::Runtime;
-use crate::sinks::{Broken, sink};
 use counter_api::{ServeFault, Served};
 use store_rows::Bank;
+use test_counter::{Answer, Runtime, Watched, answer, reply, whole_sink};
 
 /// How many lines of a reply to a report stand before those of its rows: those of its head, and the first of its text.
 const LINES_BEFORE_ROWS: u64 = 5;
@@ -33,7 +32,7 @@ fn calm(rt: &impl Runtime, question: &Question) -> Calm {
         store: Failing::calm(asked_of(rt, question)),
     };
     let given = reply(rt, &mut bank, question.message);
-    let reads = bank.store.reads();
+    let reads = bank.store.watch().reads();
     assert!(rt; given == question.reply(rt) && reads > question.rows);
     Calm {
         question: *question,
@@ -68,7 +67,7 @@ fn is_broken(rt: &impl Runtime, run: &Answer, due: &[u8], rows: u64) {
 }
 
 /// Asks that the bank answers as before, or that it is stopped, and that nothing has changed.
-fn goes_on(rt: &impl Runtime, mut bank: Bank<Failing>, calm: &Calm, cause: Cause) {
+fn goes_on(rt: &impl Runtime, mut bank: Bank<Watched<Failing>>, calm: &Calm, cause: Cause) {
     let next = reply(rt, &mut bank, calm.question.message);
     match names(cause).1 {
         Some(name) => assert!(rt; next == fault_reply(rt, name)),
@@ -85,7 +84,7 @@ fn fails_at(rt: &impl Runtime, calm: &Calm, read: u64, cause: Cause) {
     let mut bank = Bank {
         store: Failing::over(asked_of(rt, &calm.question), read, cause),
     };
-    let writer = sink(rt, usize::MAX, Broken::Fails);
+    let writer = whole_sink(rt);
     if read <= calm.before_head {
         let run = answer(rt, &mut bank, calm.question.message, writer);
         is_refused(rt, &run, cause);

@@ -21,8 +21,4 @@ mod lines;
 #[cfg(test)]
 mod questions;
 #[cfg(test)]
-mod runtime;
-#[cfg(test)]
-mod sinks;
-#[cfg(test)]
 mod texts;

@@ -2,7 +2,6 @@
 
 use crate::counter::asked_of;
 use crate::questions::{OF_ACCOUNTS, OF_LISTING, OF_PROOF, OF_STATEMENT};
-use crate::runtime::Runtime;
 use crate::texts::{ACCOUNTS, EMPTY_STATEMENT, LISTING, PROOF, STATEMENT};
 use bank_policy::{Name, User};
 use report_lines::{
@@ -12,6 +11,7 @@ use report_lines::{
 use row_reads::PolicyRow;
 use std::process::Abort;
 use store_rows::{BookReads, ListStore, ReportReads};
+use test_counter::Runtime;
 
 /// Adds a line to a text.
 fn add(rt: &impl Abort, text: &mut Vec<u8>, line: &Line) {

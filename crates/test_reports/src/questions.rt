@@ -1,8 +1,8 @@
 //! Reports that are asked for over the sample, and what is due.
 
-use crate::runtime::Runtime;
 use crate::texts::{ACCOUNTS, LISTING, PROOF, STATEMENT};
 use reports::{AfterAccount, AfterTeller, BranchNumbers, Contents, FromTurn, Listing};
+use test_counter::{ASKS_LISTING, ASKS_PROOF, ASKS_STATEMENT, Runtime, reply_bytes};
 
 /// A report that is asked for.
 #[derive(Clone, Copy, Debug)]
@@ -41,8 +41,7 @@ pub const BRANCH: BranchNumbers = BranchNumbers {
 /// Tess asks for the statement of account 101, behind that post.
 pub const OF_STATEMENT: Question = Question {
     before: POST,
-    message: b"POST /do/statement HTTP/1.1\r\nHost: bank\r\nBank-Badge: tess\r\nBank-Session: 1\r\n\
-        Content-Length: 36\r\n\r\n{\"account\":101,\"count\":10,\"start\":1}",
+    message: ASKS_STATEMENT,
     text: STATEMENT,
     contents: Contents {
         first: Listing::Statement(FromTurn {
@@ -74,8 +73,7 @@ pub const OF_ACCOUNTS: Question = Question {
 /// Sue asks for the proof of branch 1. Behind the last teller it is read that there is no other.
 pub const OF_PROOF: Question = Question {
     before: b"",
-    message: b"POST /do/proof HTTP/1.1\r\nHost: bank\r\nBank-Badge: sue\r\nBank-Session: 1\r\n\
-        Content-Length: 12\r\n\r\n{\"branch\":1}",
+    message: ASKS_PROOF,
     text: PROOF,
     contents: Contents {
         first: Listing::Tellers(AfterTeller {
@@ -93,7 +91,7 @@ pub const OF_PROOF: Question = Question {
 /// Olga asks for the listing of the policy.
 pub const OF_LISTING: Question = Question {
     before: b"",
-    message: b"GET /policy HTTP/1.1\r\nHost: bank\r\nBank-Badge: olga\r\nBank-Session: 1\r\n\r\n",
+    message: ASKS_LISTING,
     text: LISTING,
     contents: Contents {
         first: Listing::Policy(None),
@@ -121,19 +119,18 @@ pub fn first_lines(text: &[u8], count: u64) -> &[u8] {
 
 /// The reply to a message that a fault kept from being answered, by the name of the fault.
 pub fn fault_reply(rt: &impl Runtime, name: &str) -> Vec<u8> {
-    let reply = format!(in rt.alloc();
-        "HTTP/1.1 503 Service Unavailable\r\nContent-Type: application/json\r\nContent-Length: 14\r\n\r\n{{\"fault\":\"{name}\"}}"
-    );
-    reply.expect(rt, "memory").into_bytes()
+    let body = format!(in rt.alloc(); "{{\"fault\":\"{name}\"}}").expect(rt, "memory");
+    reply_bytes(
+        rt,
+        "503 Service Unavailable",
+        "application/json",
+        body.as_str(),
+    )
 }
 
 impl Question {
     /// Its reply.
     pub fn reply(&self, rt: &impl Runtime) -> Vec<u8> {
-        let (length, text) = (self.text.len(), self.text);
-        let reply = format!(in rt.alloc();
-            "HTTP/1.1 200 OK\r\nContent-Type: text/plain\r\nContent-Length: {length}\r\n\r\n{text}"
-        );
-        reply.expect(rt, "memory").into_bytes()
+        reply_bytes(rt, "200 OK", "text/plain", self.text)
     }
 }

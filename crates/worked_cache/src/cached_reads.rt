@@ -9,10 +9,12 @@ use sample_bank::sample_world;
 use std::alloc::Global;
 use std::process::Abort;
 use store_rows::{Bank, ListStore, PolicyReads, Store};
+use test_counter::Watched;
 
 /// The sample in lists whose reads are counted.
-fn counted_sample(rt: &impl Abort, alloc: Global) -> Counting<ListStore> {
-    Counting::over(ListStore::new(sample_world(alloc).expect(rt, "memory")))
+fn counted_sample(rt: &impl Abort, alloc: Global) -> Watched<Counting> {
+    let world = sample_world(alloc).expect(rt, "memory");
+    Watched::new(ListStore::new(world), Counting::NEW)
 }
 
 /// Asks, as Tess, for the balance of account 101, which has to be told.
@@ -41,9 +43,9 @@ fn balance_is_told<S: Store>(rt: &impl Abort, alloc: Global, bank: &mut Bank<S>)
 }
 
 /// How often triples and relations were read once that balance was told.
-fn reads_after(rt: &impl Abort, alloc: Global, bank: &mut Bank<Counting<ListStore>>) -> (u64, u64) {
+fn reads_after(rt: &impl Abort, alloc: Global, bank: &mut Bank<Watched<Counting>>) -> (u64, u64) {
     balance_is_told(rt, alloc, bank);
-    bank.store.reads()
+    bank.store.watch().reads()
 }
 
 /// Without a cache each question reads the triples and the relations.
@@ -58,7 +60,7 @@ fn each_question_reads_triples_and_relations(rt: HostRuntime) {
 }
 
 /// That sample behind a cache.
-type CachedSample = Cached<Counting<ListStore>>;
+type CachedSample = Cached<Watched<Counting>>;
 
 fn cached_sample(rt: &impl Abort, alloc: Global) -> Bank<CachedSample> {
     let store = Cached::new(alloc, counted_sample(rt, alloc)).ok();
@@ -70,7 +72,7 @@ fn cached_sample(rt: &impl Abort, alloc: Global) -> Bank<CachedSample> {
 /// How often triples and relations were read below the cache once that balance was told.
 fn reads_below_after(rt: &impl Abort, alloc: Global, bank: &mut Bank<CachedSample>) -> (u64, u64) {
     balance_is_told(rt, alloc, bank);
-    bank.store.below().reads()
+    bank.store.below().watch().reads()
 }
 
 /// Behind a cache the second of two equal questions reads neither.
@@ -80,7 +82,7 @@ fn the_second_question_reads_no_triples_and_no_relations(rt: HostRuntime) {
     let mut bank = cached_sample(&rt, alloc);
     assert!(rt; reads_below_after(&rt, alloc, &mut bank) == (1, 1));
     assert!(rt; reads_below_after(&rt, alloc, &mut bank) == (1, 1));
-    assert!(rt; bank.store.into_below().reads() == (1, 1));
+    assert!(rt; bank.store.into_below().watch().reads() == (1, 1));
 }
 
 /// How often triples and relations were read below the cache once it was asked for the triples by which a user
@@ -88,7 +90,7 @@ fn the_second_question_reads_no_triples_and_no_relations(rt: HostRuntime) {
 fn reads_after_none(rt: &impl Abort, alloc: Global, store: &mut CachedSample) -> (u64, u64) {
     let rows = store.triples_of(alloc, 9_999, Procedure::Post);
     assert!(rt; rows.expect(rt, "no fault").is_empty());
-    store.below().reads()
+    store.below().watch().reads()
 }
 
 /// That a user has no triples is read once, too.

@@ -5,6 +5,8 @@
 #![tactic(auto)]
 
 #[cfg(test)]
+mod broken_streams;
+#[cfg(test)]
 mod command_bodies_read;
 #[cfg(test)]
 mod message_streams;

@@ -1,113 +1,15 @@
 //! Posts over streams that give them in pieces, end within them or fail: what is written, and that a message that did
 //! not come whole made no entry.
 
-use counter_api::{Clock, Gate, ServeFault, Served, serve};
+use crate::broken_streams::{Broken, Pieces, Sink, pieces, sink};
+use counter_api::{ServeFault, Served, serve};
+use counter_clocks::{Fixed, Moment};
 use money::Tallied;
-use sample_bank::{badge_user, sample_world};
+use sample_bank::sample_world;
+use sample_service::SampleBadges;
 use std::alloc::Global;
-use std::io;
-use std::io::{ErrorKind, Read, Write};
 use std::process::Abort;
 use store_rows::{Bank, BookReads, ListStore};
-
-/// Gives one piece a call, then the other, and fails at one of its calls.
-#[derive(Drop)]
-struct Pieces<'a> {
-    piece: &'a [u8],
-    next: &'a [u8],
-    calls: usize,
-    fails_at: usize,
-}
-
-impl Read for Pieces<'_> {
-    fn read(&mut self, buf: &mut [u8]) -> io::Result<usize> {
-        self.calls = self.calls.saturating_add(1);
-        if self.calls == self.fails_at {
-            return Err(ErrorKind::Interrupted.into());
-        }
-        if self.piece.is_empty() {
-            self.piece = self.next;
-            self.next = b"";
-        }
-        let mut rest = self.piece;
-        let n = rest.read(buf)?;
-        self.piece = rest;
-        Ok(n.min(buf.len()))
-    }
-}
-
-/// What a writer does at the call that it does not carry out.
-#[derive(Clone, Copy, Debug, PartialEq, Eq)]
-enum Broken {
-    /// It fails. Its flushes are calls too.
-    Fails,
-    /// It takes none of the bytes.
-    TakesNone,
-}
-
-/// Takes at most so many bytes a call, but at one call, where it is broken.
-#[derive(Drop)]
-struct Sink {
-    bytes: Vec<u8>,
-    size: usize,
-    calls: usize,
-    broken_at: usize,
-    broken: Broken,
-}
-
-impl Write for Sink {
-    fn write(&mut self, buf: &[u8]) -> io::Result<usize> {
-        self.calls = self.calls.saturating_add(1);
-        if self.calls == self.broken_at {
-            return match self.broken {
-                Broken::Fails => Err(ErrorKind::BrokenPipe.into()),
-                Broken::TakesNone => Ok(0),
-            };
-        }
-        let len = self.size.min(buf.len());
-        self.bytes.extend_from_slice(&buf[..len])?;
-        Ok(len)
-    }
-
-    fn flush(&mut self) -> io::Result<()> {
-        if self.broken == Broken::TakesNone {
-            return Ok(());
-        }
-        self.calls = self.calls.saturating_add(1);
-        if self.calls == self.broken_at {
-            return Err(ErrorKind::BrokenPipe.into());
-        }
-        Ok(())
-    }
-}
-
-/// The gate of the sample bank.
-#[derive(Clone, Copy, Debug, PartialEq, Eq)]
-struct SampleGate;
-
-impl Gate for SampleGate {
-    ghost use Rattle.sample_bank.specs.Badges.{badge_user};
-
-    ghost users = { λ _ badge. badge_user badge };
-
-    fn user_of(&self, badge: &[u8]) -> Option<u32> {
-        badge_user(badge)
-    }
-}
-
-/// A clock that stands at 700 seconds.
-#[derive(Clone, Copy, Debug, PartialEq, Eq)]
-struct Standing;
-
-impl Clock for Standing {
-    ghost use Rattle.std.specs.Prelude.{◌≡◌};
-
-    ghost may_give = { λ _ n _. n ≡ 700 };
-
-    fn moment(&mut self) -> u64 {
-        700
-    }
-}
 
 /// What came of a run: how it ended, what was written, and how often account 101 was posted to, its balance and the
 /// cash of drawer 11 then.
@@ -119,45 +21,34 @@ struct Outcome {
 }
 
 /// A reader that gives the pieces, and fails at this call.
-fn reader<'a>(piece: &'a [u8], next: &'a [u8], fails_at: usize) -> Pieces<'a> {
-    Pieces {
-        piece,
-        next,
-        calls: 0,
-        fails_at,
-    }
-}
-
-/// A writer that takes at most so many bytes a call, and is broken at this call.
-fn writer(alloc: Global, size: usize, broken: Broken, broken_at: usize) -> Sink {
-    Sink {
-        bytes: Vec::new(alloc),
-        size,
-        calls: 0,
-        broken_at,
-        broken,
-    }
+fn reader<'a>(piece: &'a [u8], next: &'a [u8], fails_at: usize) -> Tallied<Pieces<'a>> {
+    pieces((piece, next), usize::MAX, fails_at)
 }
 
 /// A writer that takes at most so many bytes a call, and never fails.
-fn whole_writer(alloc: Global, size: usize) -> Sink {
-    writer(alloc, size, Broken::Fails, 0)
+fn whole_writer(alloc: Global, size: usize) -> Tallied<Sink> {
+    sink(alloc, size, Broken::Fails, 0)
 }
 
 /// Serves a stream over the sample bank.
-fn served(rt: &impl Abort, alloc: Global, reader: Pieces<'_>, writer: Sink) -> Outcome {
+fn served(
+    rt: &impl Abort,
+    alloc: Global,
+    mut reader: Tallied<Pieces<'_>>,
+    mut writer: Tallied<Sink>,
+) -> Outcome {
     let world = sample_world(alloc).expect(rt, "memory");
     let mut bank = Bank {
         store: ListStore::new(world),
     };
-    let mut writer = Tallied::new(writer);
+    let moment = Moment::new(700).expect(rt, "a moment");
     let result = serve(
         alloc,
-        &mut Tallied::new(reader),
+        &mut reader,
         &mut writer,
         &mut bank,
-        &SampleGate,
-        &mut Standing,
+        &SampleBadges,
+        &mut Fixed { moment },
         10,
     );
     let account = bank
@@ -274,7 +165,7 @@ fn break_each_call(rt: &impl Abort, alloc: Global, broken: Broken) {
             rt,
             alloc,
             reader(piece, next, 0),
-            writer(alloc, 9216, broken, call),
+            sink(alloc, 9216, broken, call),
         );
         if run.result.is_ok() {
             check(rt, &run, Ok(Served { messages: 2 }), 2, call);

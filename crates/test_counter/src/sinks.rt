@@ -32,6 +32,11 @@ pub fn sink(rt: &impl Runtime, room: usize, broken: Broken) -> Tallied<Sink> {
     })
 }
 
+/// A writer that is not broken.
+pub fn whole_sink(rt: &impl Runtime) -> Tallied<Sink> {
+    sink(rt, usize::MAX, Broken::Fails)
+}
+
 impl Write for Sink {
     fn write(&mut self, buf: &[u8]) -> io::Result<usize> {
         let len = buf.len().min(self.room);

@@ -1,27 +1,17 @@
 //! Reports over a bank whose disk fails at some call. Each is answered whole, or by the fault, or breaks behind its head;
 //! and the bank is the one before.
 
-use crate::bank::work;
-use crate::deeds::{Act, Deed, Outcome, done_with};
-use crate::disks::{
-    Failers, Failing, Frail, Held, failing_files, left_by, let_go, may_have_failed, open_forgetful,
-    reopened, seen,
-};
 use crate::making::sample_held;
-use crate::refusals::worked_files;
-use crate::report_replies::{Asked, Ending, LISTING, PROOF, STATEMENT};
-use crate::runtime::Runtime;
-use crate::streams::run;
-use crate::tellings::{Tale, tale_of, told};
-use sample_bank::sample_world;
-use store_rows::{Bank, ListStore};
+use crate::tales::tale_of;
+use test_counter::{ASKS_LISTING, ASKS_PROOF, ASKS_STATEMENT, Runtime, listed_bank};
+use test_disks::{
+    Act, Asked, Deed, Ending, Failers, Failing, Frail, Held, Outcome, Tale, done_with,
+    failing_files, left_by, let_go, open_forgetful, reopened, run, seen, told, work, worked_files,
+};
 
 /// What the worked bank in lists answers to a message, and what it tells of itself.
 fn listed(rt: &impl Runtime, message: &[u8]) -> (Vec<u8>, Tale) {
-    let world = sample_world(rt.alloc()).expect(rt, "memory");
-    let mut bank = Bank {
-        store: ListStore::new(world),
-    };
+    let mut bank = listed_bank(rt);
     work(rt, &mut bank);
     (run(rt, &mut bank, message).bytes, told(rt, &mut bank.store))
 }
@@ -85,13 +75,12 @@ fn fail_each_call(rt: &impl Runtime, message: &'static [u8], which: Failing) -> 
         let Ok(conn) = open_forgetful(rt, failing_files(rt, &held, which, calls)) else {
             continue;
         };
-        let (ending, mut files) = asked(rt, conn, due);
-        let failed = may_have_failed(&mut files);
+        let (ending, files) = asked(rt, conn, due);
         let left = left_by(rt, files);
         assert!(rt; *tale_of(rt, &mut seen, left.written) == before);
         assert!(rt; *tale_of(rt, &mut seen, left.synced) == before);
         ends.count(ending);
-        if !failed {
+        if !left.failed {
             assert!(rt; ending == Ending::Whole);
             return ends;
         }
@@ -110,16 +99,16 @@ fn fail_both(rt: &impl Runtime, message: &'static [u8]) -> u32 {
 
 #[test]
 fn a_statement_is_told_or_breaks(rt: HostRuntime) {
-    assert!(rt; fail_both(&rt, STATEMENT) > 0);
+    assert!(rt; fail_both(&rt, ASKS_STATEMENT) > 0);
 }
 
 /// The rows behind its head are on one page, which was read last and is still in memory.
 #[test]
 fn a_proof_is_told_or_refused(rt: HostRuntime) {
-    let _ = fail_both(&rt, PROOF);
+    let _ = fail_both(&rt, ASKS_PROOF);
 }
 
 #[test]
 fn a_listing_is_told_or_breaks(rt: HostRuntime) {
-    assert!(rt; fail_both(&rt, LISTING) > 0);
+    assert!(rt; fail_both(&rt, ASKS_LISTING) > 0);
 }

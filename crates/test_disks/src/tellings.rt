@@ -1,12 +1,9 @@
 //! What a bank tells of itself. Two banks are compared by this.
 
-use crate::deeds::{Act, Deed, Outcome, done_with};
-use crate::disks::{Held, let_go, reopened};
-use crate::runtime::Runtime;
-use adopt_sql::AdoptFault;
 use money::Fault;
 use std::fmt::Debug;
 use store_rows::Store;
+use test_counter::Runtime;
 
 /// What a bank tells.
 #[derive(PartialEq, Eq, Drop)]
@@ -87,25 +84,4 @@ pub fn told<S: Store>(rt: &impl Runtime, bank: &mut S) -> Tale {
         balance: balance(rt, bank),
         released: released(rt, bank),
     }
-}
-
-/// What the bank tells that these files hold, opened anew and adopted.
-pub fn told_anew(rt: &impl Runtime, held: &Held) -> Result<Tale, AdoptFault> {
-    let (outcome, conn) = done_with(rt, reopened(rt, held), Deed::Adopt(Act::Tell))?;
-    let _ = let_go(conn);
-    match outcome {
-        Outcome::Told(tale) => Ok(tale),
-        _ => panic!(rt; "a tale"),
-    }
-}
-
-/// What the bank in these files tells. Files that hold the same are looked at once.
-pub fn tale_of<'a>(rt: &impl Runtime, seen: &'a mut Vec<(Held, Tale)>, held: Held) -> &'a Tale {
-    let known = seen.iter().position(|(it, _)| *it == held);
-    let place = known.unwrap_or(seen.len());
-    if known.is_none() {
-        let tale = told_anew(rt, &held).expect(rt, "a bank");
-        assert!(rt; seen.push((held, tale)).is_ok());
-    }
-    &seen.get(place).expect(rt, "files").1
 }

@@ -1,12 +1,10 @@
 //! Banks that are adopted, and what they answer then.
 
-use crate::deeds::{Act, Deed, Outcome};
-use crate::disks::Held;
-use crate::refusals::{changed, done_in, judged, tried_in, untouched, worked_files};
-use crate::runtime::Runtime;
-use crate::tellings::Tale;
+use crate::refusals::{changed, judged, untouched};
 use adopt_sql::AdoptFault;
 use money::Fault;
+use test_counter::Runtime;
+use test_disks::{Act, Deed, Held, Outcome, Tale, done_in, tried_in, worked_files};
 
 /// What the bank of these files tells, and how it leaves them.
 fn tale(rt: &impl Runtime, held: &Held, deed: Deed<'_>) -> (Tale, Held) {

@@ -3,10 +3,8 @@
 //! All of it goes through one call at the type of the database, and one at that of its store: at each function that makes
 //! such a call the prover shows anew that they give what is asked of them, which takes half a minute.
 
-use crate::bank::{last_command, work};
+use crate::bank::{answered, last_command, work};
 use crate::report_replies::{Asked, Ending, reported};
-use crate::runtime::Runtime;
-use crate::serving::answered;
 use crate::streams::Exchange;
 use crate::tellings::{Tale, told};
 use adopt_sql::{AdoptFault, adopt, read_bank};
@@ -19,6 +17,7 @@ use sqlite_disk::Disk;
 use std::process::Abort;
 use store_rows::Bank;
 use store_sql::SqlStore;
+use test_counter::Runtime;
 
 /// What is done with a database.
 #[derive(Clone, Copy, Debug)]

@@ -1,15 +1,14 @@
 //! A bank that is made on a disk that fails at some call, and one that is looked for there.
 
-use crate::deeds::{Deed, Outcome, done_with};
-use crate::disks::{
-    Failers, Failing, Frail, Held, closed_by, failing_files, left_by, let_go, may_have_failed,
-    nothing, open_frail, reopened, seen,
-};
-use crate::runtime::Runtime;
-use crate::tellings::{Tale, tale_of, told_anew};
+use crate::tales::{tale_of, told_anew};
 use adopt_sql::AdoptFault;
 use money::Fault;
 use std::process::Abort;
+use test_counter::Runtime;
+use test_disks::{
+    Deed, Failers, Failing, Frail, Held, Outcome, Tale, closed_by, done_with, failing_files,
+    left_by, let_go, nothing, open_frail, reopened, seen,
+};
 
 /// Makes the sample bank in a database, or looks for it there. Answers whether that was done, and the files.
 fn tried(rt: &impl Runtime, conn: Frail, deed: Deed<'_>) -> (bool, Failers) {
@@ -84,8 +83,7 @@ fn make_at_each_call(rt: &impl Runtime, which: Failing, whole: &Tale) -> (u32, u
     let mut untold = 0u32;
     for calls in 0..10_000u64 {
         let files = failing_files(rt, &nothing(rt), which, calls);
-        let (was_made, mut files) = make_in(rt, files);
-        let failed = may_have_failed(&mut files);
+        let (was_made, files) = make_in(rt, files);
         let left = left_by(rt, files);
         for held in [&left.written, &left.synced] {
             let there = is_there(rt, held, whole);
@@ -93,7 +91,7 @@ fn make_at_each_call(rt: &impl Runtime, which: Failing, whole: &Tale) -> (u32, u
             absent = absent.saturating_add(u32::from(!there));
             untold = untold.saturating_add(u32::from(there && !was_made));
         }
-        if !failed {
+        if !left.failed {
             assert!(rt; was_made);
             return (absent, untold);
         }
@@ -117,13 +115,12 @@ fn find_at_each_call(rt: &impl Runtime, held: &Held, which: Failing, whole: &Tal
     let mut refused = 0u32;
     for calls in 0..10_000u64 {
         let files = failing_files(rt, held, which, calls);
-        let (was_found, mut files) = find_in(rt, files);
-        let failed = may_have_failed(&mut files);
+        let (was_found, files) = find_in(rt, files);
         let left = left_by(rt, files);
         assert!(rt; tale_of(rt, &mut seen, left.written) == whole);
         assert!(rt; tale_of(rt, &mut seen, left.synced) == whole);
         refused = refused.saturating_add(u32::from(was_found == Some(false)));
-        if !failed {
+        if !left.failed {
             assert!(rt; was_found == Some(true));
             return refused;
         }

@@ -1,13 +1,7 @@
 //! Requests, and the replies that are due to them.
 
-use crate::runtime::Runtime;
-use counter_api::{ServeFault, Served, serve};
-use counter_clocks::{Fixed, Moment};
-use money::Tallied;
-use sample_service::SampleBadges;
-use std::io;
-use std::io::Write;
 use store_rows::{Bank, Store};
+use test_counter::{Answer, Runtime, answer, reply_bytes, whole_sink};
 
 /// A reply: its status, and its body.
 pub type Told = (&'static str, &'static str);
@@ -196,58 +190,12 @@ fn request_of(rt: &impl Runtime, exchange: &Exchange) -> String {
 /// Whether these bytes are that reply.
 pub fn is_reply(rt: &impl Runtime, bytes: &[u8], told: Told) -> bool {
     let (status, body) = told;
-    let length = body.len();
-    let due = format!(in rt.alloc();
-        "HTTP/1.1 {status}\r\nContent-Type: application/json\r\nContent-Length: {length}\r\n\r\n{body}"
-    );
-    bytes == due.expect(rt, "memory").as_bytes()
-}
-
-/// Keeps what is written.
-#[derive(Drop)]
-struct Kept {
-    bytes: Vec<u8>,
-}
-
-impl Write for Kept {
-    fn write(&mut self, buf: &[u8]) -> io::Result<usize> {
-        self.bytes.extend_from_slice(buf)?;
-        Ok(buf.len())
-    }
-
-    fn flush(&mut self) -> io::Result<()> {
-        Ok(())
-    }
-}
-
-/// What came of a message.
-#[derive(Drop)]
-pub struct Run {
-    /// How it ended.
-    pub end: Result<Served, ServeFault>,
-    /// What was written.
-    pub bytes: Vec<u8>,
+    bytes == reply_bytes(rt, status, "application/json", body).as_slice()
 }
 
 /// Has a bank answer a message, on a connection of its own.
-pub fn run<S: Store>(rt: &impl Runtime, bank: &mut Bank<S>, message: &[u8]) -> Run {
-    let mut written = Tallied::new(Kept {
-        bytes: Vec::new(rt.alloc()),
-    });
-    let moment = Moment::new(700).expect(rt, "a moment");
-    let end = serve(
-        rt.alloc(),
-        &mut Tallied::new(message),
-        &mut written,
-        bank,
-        &SampleBadges,
-        &mut Fixed { moment },
-        10,
-    );
-    Run {
-        end,
-        bytes: written.into_inner().bytes,
-    }
+pub fn run<S: Store>(rt: &impl Runtime, bank: &mut Bank<S>, message: &[u8]) -> Answer {
+    answer(rt, bank, message, whole_sink(rt))
 }
 
 /// The reply of a bank to a request, on a connection of its own.

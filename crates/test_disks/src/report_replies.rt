@@ -1,24 +1,10 @@
 //! Reports that are asked for over a bank whose disk may fail, and how their replies end.
 
-use crate::runtime::Runtime;
 use crate::streams::{FAILED, STOPPED, is_reply, run};
 use counter_api::{ServeFault, Served};
 use std::process::Abort;
 use store_rows::{Bank, Store};
-
-/// Tess asks for the statement of account 101.
-pub const STATEMENT: &[u8] =
-    b"POST /do/statement HTTP/1.1\r\nHost: bank\r\nBank-Badge: tess\r\nBank-Session: 1\r\n\
-    Content-Length: 36\r\n\r\n{\"account\":101,\"count\":10,\"start\":1}";
-
-/// Sue asks for the proof of branch 1.
-pub const PROOF: &[u8] =
-    b"POST /do/proof HTTP/1.1\r\nHost: bank\r\nBank-Badge: sue\r\nBank-Session: 1\r\n\
-    Content-Length: 12\r\n\r\n{\"branch\":1}";
-
-/// Olga asks for the listing of the policy.
-pub const LISTING: &[u8] =
-    b"GET /policy HTTP/1.1\r\nHost: bank\r\nBank-Badge: olga\r\nBank-Session: 1\r\n\r\n";
+use test_counter::Runtime;
 
 /// A report that is asked for.
 #[derive(Clone, Copy, Debug)]

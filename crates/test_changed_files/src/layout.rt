@@ -1,10 +1,10 @@
 //! Files that hold no bank, or a bank in other tables, and which fault is told first.
 
-use crate::disks::nothing;
 use crate::refusals::{judged, refused, refused_for};
 use adopt_sql::AdoptFault;
 use book_check::BooksFault;
 use policy_check::PolicyFault;
+use test_disks::nothing;
 
 #[test]
 fn an_empty_file_is_no_bank(rt: HostRuntime) {

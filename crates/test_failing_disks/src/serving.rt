@@ -2,20 +2,16 @@
 //! once; from then on the bank is stopped. Opened again, the bank is the one before the request at which the disk
 //! failed, or the one behind it.
 
-use crate::deeds::{Act, Deed, Outcome, done_with};
-use crate::disks::{
-    Failers, Failing, Frail, Held, failing_files, left_by, let_go, may_have_failed, open_frail,
-};
 use crate::making::sample_held;
-use crate::runtime::Runtime;
-use crate::streams::{
-    CLOSING, COMMANDS, ENDING, Exchange, FAILED, OPENING, POST, RELEASED, STOPPED, TRANSFER,
-    is_reply, reply,
-};
-use crate::tellings::{Tale, tale_of, told};
-use sample_bank::sample_world;
+use crate::tales::tale_of;
 use std::process::Abort;
-use store_rows::{Bank, ListStore, Store};
+use store_rows::{Bank, Store};
+use test_counter::{Runtime, listed_bank};
+use test_disks::{
+    Act, CLOSING, COMMANDS, Deed, ENDING, Exchange, Failers, Failing, Frail, Held, OPENING,
+    Outcome, POST, RELEASED, TRANSFER, Tale, done_with, failing_files, is_reply, left_by, let_go,
+    open_frail, reply, told,
+};
 
 /// How often the bank was found that was there before the request at which the disk failed, and how often the one
 /// behind it; and what was looked at for that, by the files.
@@ -40,39 +36,11 @@ fn states_of<S: Store>(rt: &impl Runtime, bank: &mut Bank<S>, stream: &[Exchange
 
 /// What the sample bank tells so, in lists.
 fn listed_states(rt: &impl Runtime, stream: &[Exchange]) -> Vec<Tale> {
-    let world = sample_world(rt.alloc()).expect(rt, "memory");
-    let mut bank = Bank {
-        store: ListStore::new(world),
-    };
-    states_of(rt, &mut bank, stream)
+    states_of(rt, &mut listed_bank(rt), stream)
 }
 
 fn push(rt: &impl Abort, states: &mut Vec<Tale>, state: Tale) {
     assert!(rt; states.push(state).is_ok());
-}
-
-/// Asks that a bank which is stopped answers each request by that.
-fn stopped<S: Store>(rt: &impl Runtime, bank: &mut Bank<S>, stream: &[Exchange]) {
-    for exchange in stream {
-        let answer = reply(rt, bank, exchange);
-        assert!(rt; is_reply(rt, answer.as_slice(), STOPPED));
-    }
-}
-
-/// How many of these requests were answered by their reply. The one behind them is answered by the fault of the disk,
-/// and from then on the bank is stopped.
-pub fn answered<S: Store>(rt: &impl Runtime, bank: &mut Bank<S>, stream: &[Exchange]) -> usize {
-    let mut count = 0usize;
-    for exchange in stream {
-        let answer = reply(rt, bank, exchange);
-        if !is_reply(rt, answer.as_slice(), exchange.told) {
-            assert!(rt; is_reply(rt, answer.as_slice(), FAILED));
-            stopped(rt, bank, stream);
-            return count;
-        }
-        count = count.saturating_add(1);
-    }
-    count
 }
 
 /// Asks that the files hold the bank of that state or of the next, and counts which it is where they differ.
@@ -119,12 +87,11 @@ fn fail_each_call(
         let Ok(conn) = open_frail(rt, failing_files(rt, &held, which, calls)) else {
             continue;
         };
-        let (count, mut files) = served(rt, conn, stream);
-        let failed = may_have_failed(&mut files);
+        let (count, files) = served(rt, conn, stream);
         let left = left_by(rt, files);
         check(rt, left.written, &states, count, found);
         check(rt, left.synced, &states, count, found);
-        if !failed {
+        if !left.failed {
             assert!(rt; count == stream.len());
             return failures;
         }

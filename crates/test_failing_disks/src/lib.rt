@@ -1,0 +1,13 @@
+//! Tests alone: banks in files whose disk fails at each call in turn, or whose program dies there. They
+//! show what is answered while a bank is made, looked for, served and asked for reports, and what is found
+//! afterwards. Nothing here is proved or used by a program.
+#![tactic(auto)]
+
+#[cfg(test)]
+mod making;
+#[cfg(test)]
+mod reporting;
+#[cfg(test)]
+mod serving;
+#[cfg(test)]
+mod tales;
