@@ -31,3 +31,7 @@ none_denies (Some rule) is some = absurd (cc)
 pub not_denied : {A : Type 0} (said : Option Rule) (result : Result (Result A Rule) Fault) (fault : Fault) → result ≡ Err fault → IfSome said (λ rule. result ≡ Ok (Err rule)) → said ≡ None
 not_denied None result fault is told = refl
 not_denied (Some rule) result fault is told = cc
+
+-- nor of rows of a World, where none denies these rows
+pub rows_allow : {R A : Type 0} (first_against : R → Option Rule) (rows of_world : R) → rows ≡ of_world → first_against rows ≡ None → IsSome (first_against of_world) → A
+rows_allow first_against rows of_world is none some = none_denies (first_against of_world) (subst (λ r. first_against r ≡ None) is none) some

@@ -1,4 +1,6 @@
-use Rattle.std.proofs.Common.{rules, sym, ◌∙◌}
+use Rattle.std.proofs.Common.{ap, refl, rules, sym, ◌∙◌}
+use Rattle.bank_run.specs.Proof.{first_against_proof}
+use Rattle.op_plans.proofs.CountedDenials.{read_counted, rows_allow}
 use Rattle.op_plans.proofs.CountedReport.{proof_counted}
 use Rattle.op_plans.proofs.proof.prepare_proof.Goals as goal
 
@@ -18,3 +20,11 @@ returns-in_err-contents-clause-counted g c = record {
   kept = search rules;
   refused = search rules;
 }
+
+pub returns-in_err-branch-clause-denied : goal.returns-in_err-branch-clause-denied
+returns-in_err-branch-clause-denied g c = λ honest w holds some. read_counted _ _ _ c.in_err-branch.ensures.counted
+
+pub returns-in_err-contents-clause-denied : goal.returns-in_err-contents-clause-denied
+returns-in_err-contents-clause-denied g c = λ honest w holds some.
+    let before = c.counted.ensures.counted.kept.answers.honest honest in
+    rows_allow first_against_proof _ _ (c.in_ok-branch.ensures.told before w holds) (ap first_against_proof c.in-Some.is) some
