@@ -1,4 +1,4 @@
-use Rattle.std.proofs.Common.{ap, refl, rules, sym, ◌∙◌}
+use Rattle.std.proofs.Common.{ap, rules, sym, ◌∙◌}
 use Rattle.bank_run.specs.Proof.{first_against_proof}
 use Rattle.op_plans.proofs.CountedDenials.{read_counted, rows_allow}
 use Rattle.op_plans.proofs.CountedReport.{proof_counted}
