@@ -1,7 +1,7 @@
--- Where a rule denies a session or a command, a fault is one that the store counted.
+-- Where a rule denies, a fault is one that the store counted.
 use Rattle.std.proofs.Common.{◌≡◌, ℕ, Option, Some, Result, Ok, Err, ap, sym, subst, ◌∙◌}
 use Rattle.std.specs.Global.{Vec}
-use Rattle.std.specs.Prelude.{option_and_then}
+use Rattle.std.specs.Prelude.{OnErr, option_and_then}
 use Rattle.money.specs.declared.fault.Fault.{Fault}
 use Rattle.bank_terms.specs.declared.rule.Rule.{Rule}
 use Rattle.bank_policy.specs.HeldRows.{standing}
@@ -16,6 +16,11 @@ use Rattle.op_plans.specs.Judged.{CountsFault, DeniesOrCounts, IsJudged}
 use Rattle.op_plans.specs.declared.prepared.Prepared.{Prepared}
 use Rattle.op_plans.proofs.CountedDenials.{none_denies}
 use Rattle.decide.specs.Judged.{IsCarriedOut}
+
+-- what holds holds of a fault
+pub on_fault : {A P : Type 0} (result : Result A Fault) → P → OnErr result P
+on_fault (Ok x) holds = tt
+on_fault (Err fault) holds = holds
 
 -- the rules of sessions, by the row of who asks
 pub opening_is : (w : WorldLists) (user : ℕ) (row : Option Standing) → row ≡ standing w.policy user → first w (opens_session (Some user)) ≡ first_against_opening row

@@ -9,6 +9,7 @@ use Rattle.bank_run.proofs.PolicyLemmas.{leave_refused}
 use Rattle.op_plans.specs.declared.prepared.Ready.{Ready}
 use Rattle.op_plans.specs.declared.prepared.Ready.TheVariants as ready
 use Rattle.op_plans.proofs.CountedDenials.{counted_from, none_denies, read_counted}
+use Rattle.decide.proofs.CountedDenials.{on_fault}
 use Rattle.decide.proofs.JoinedVerdict.{books_deny, denied_by_books, prepared, reported}
 use Rattle.decide.proofs.judge.prepare.Goals as goal
 
@@ -73,7 +74,7 @@ returns-in_err-plan-in-Ok-clause-denied g c = λ honest w holds some.
     let before = c.prepare_by_books.ensures.judged.kept.answers.honest honest in
     let leave = sym (c.in_ok-rule.ensures.told before w holds) ∙ c.in-Ok.is in
     let counted = c.in_err-plan-in-Ok.ensures.denied honest w (c.in_ok-rule.ensures.kept.kept w holds) (books_deny w c.args.execution.now c.in-Ok.leave c.signature-by.result c.signature-by.ensures leave some) in
-    counted_from _ _ _ _ c.in_ok-rule.ensures.counted counted
+    counted_from _ _ _ _ c.in_ok-rule.ensures.counted (on_fault _ counted)
 
 pub returns-in_err-plan-in-Ok-Change-clause-denied : goal.returns-in_err-plan-in-Ok-Change-clause-denied
 returns-in_err-plan-in-Ok-Change-clause-denied g c = λ honest w holds some.
