@@ -1,6 +1,6 @@
 -- What the policy and the books say of an operation, joined.
-use Rattle.std.proofs.Common.{◌≡◌, ◌&&◌, ◌||◌, Bool, true, false, List, [], ◌∷◌, Some, None, Ok, ap, sym, ◌∙◌, refl, inl, inr, arith}
-use Rattle.std.specs.Prelude.{if◌then◌else◌}
+use Rattle.std.proofs.Common.{◌≡◌, ◌&&◌, ◌||◌, Bool, true, false, List, [], ◌∷◌, Some, None, Ok, ap, sym, subst, ◌∙◌, refl, inl, inr, arith}
+use Rattle.std.specs.Prelude.{if◌then◌else◌, IsSome}
 use Rattle.std.proofs.lemmas.Bool.{le-leb, not-false}
 use Rattle.std.specs.Global.{Vec}
 use Rattle.bank_terms.specs.declared.rule.Rule.{Rule}
@@ -15,10 +15,11 @@ use Rattle.reports.specs.declared.contents.Contents.{Contents}
 use Rattle.bank_books.specs.Effects.{applied}
 use Rattle.bank_books.specs.WorldLists.{WorldLists}
 use Rattle.bank_books.specs.declared.row_write.RowWrite.{RowWrite}
-use Rattle.bank_run.specs.Executions.{books_meaning}
+use Rattle.bank_books.specs.declared.signature.Signature.{Signature}
+use Rattle.bank_run.specs.Executions.{books_meaning, signature_of}
 use Rattle.op_plans.specs.Judged.{IsPrepared, IsReported}
 use Rattle.bank_run.specs.Meaning.{by_books}
-use Rattle.bank_run.specs.Operations.{is_report}
+use Rattle.bank_run.specs.Operations.{is_report, meaning_of}
 use Rattle.bank_run.specs.PolicyRules.{asker, first_of_policy, grounds, leave_by_policy, leave_of, policy_denies, rules_of_policy, used_by}
 use Rattle.bank_run.specs.Requests.{executes, first, verdict}
 use Rattle.bank_run.specs.declared.execution.Execution.{Execution}
@@ -31,6 +32,13 @@ use Rattle.bank_run.proofs.PolicyLemmas.{books_decide, leave_given}
 -- where the policy gives leave, what the books say is all that is said
 pub denied_by_books : (w : WorldLists) (x : Execution) (l : Leave) (r : Rule) → leave_by_policy (grounds w x) ≡ Ok l → (by_books (books_meaning w x)).first ≡ Some r → first w (executes x) ≡ Some r
 denied_by_books w x l r leave books = books_decide w x (leave_given (grounds w x) l leave).0 ∙ books
+
+-- so a rule that denies is one of the books
+pub books_deny : (w : WorldLists) (x : Execution) (l : Leave) (by : Signature) → by ≡ signature_of x → leave_by_policy (grounds w x) ≡ Ok l → IsSome (first w (executes x))
+    → IsSome (by_books (meaning_of x.op by w)).first
+books_deny w x l by is leave some =
+    let same : first w (executes x) ≡ (by_books (meaning_of x.op by w)).first = books_decide w x (leave_given (grounds w x) l leave).0 ∙ ap (λ s. (by_books (meaning_of x.op s w)).first) (sym is) in
+    subst IsSome same some
 
 -- and the plan of the books, with what the leave takes, makes the effect
 pub prepared : (w : WorldLists) (x : Execution) (l : Leave) (p : Prepared) (plan : Vec RowWrite) → leave_by_policy (grounds w x) ≡ Ok l → IsPrepared w (by_books (books_meaning w x)) p

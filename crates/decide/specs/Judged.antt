@@ -1,12 +1,11 @@
 -- What is made of what was judged.
-use Rattle.std.specs.Prelude.{◌≡◌, ℕ, true, List, [], Option, Result, Ok, Err, IfErr, IfOk, IsSome, OnErr}
+use Rattle.std.specs.Prelude.{◌≡◌, ℕ, true, List, [], Result, Ok, Err, IfErr, IfOk}
 use Rattle.std.specs.Global.{Vec}
 use Rattle.bank_terms.specs.declared.rule.Rule.{Rule}
 use Rattle.bank_books.specs.Version.{changes_policy}
 use Rattle.bank_books.specs.declared.row_write.RowWrite.{RowWrite}
 use Rattle.money.specs.declared.fault.Fault.{Fault}
-use Rattle.bank_books.specs.WorldLists.{WorldLists}
-use Rattle.store_rows.specs.Status.{RoseBy, Status, Tells, mark_of}
+use Rattle.store_rows.specs.Status.{Status, mark_of}
 use Rattle.op_plans.specs.declared.prepared.Prepared.{Prepared}
 use Rattle.decide.specs.Permit.{IsApplied}
 
@@ -30,11 +29,3 @@ pub record IsCarriedOut (old new : Status) (judged : Result Prepared Rule) (resu
   pub told : IfOk result (λ answer. answer ≡ told_of judged)
   -- a denial takes nothing to tell
   pub denied : IfErr judged (λ rule. result ≡ Ok (Err rule))
-
--- a fault that is answered is one that the store counted
-abbrev pub CountsFault : {A : Type 0} → Status → Status → Result A Fault → Type 0
-CountsFault old new result = OnErr result (RoseBy 1 old.fault_count new.fault_count)
-
--- Where one of these rules denies, a fault is one that the store counted: a denial is never told as want of memory.
-abbrev pub DeniesOrCounts : {A : Type 0} → Status → Status → (WorldLists → Option Rule) → Result A Fault → Type 0
-DeniesOrCounts old new first_of result = Tells old new (λ w. IsSome (first_of w) → CountsFault old new result)

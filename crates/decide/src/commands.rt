@@ -7,9 +7,9 @@ ghost use Rattle.bank_books.specs.WorldLists.{WorldLists};
 ghost use Rattle.store_rows.specs.Status.{Answers, Reads, Refuses, StaysWhole, mark_of};
 ghost use Rattle.bank_run.specs.Commands.{done_data, done_text};
 ghost use Rattle.bank_run.specs.Requests.{commands, first, verdict};
-ghost use Rattle.op_plans.specs.Judged.{IsJudged};
+ghost use Rattle.op_plans.specs.Judged.{DeniesOrCounts, IsJudged};
 ghost use Rattle.policy_ops.specs.Ranges.{IsPolicyOp};
-ghost use Rattle.decide.specs.Judged.{ChangesPolicy, DeniesOrCounts};
+ghost use Rattle.decide.specs.Judged.{ChangesPolicy};
 ghost use Rattle.decide.specs.Loaded.{IsLoadedForCommand};
 ghost use Rattle.decide.specs.OneRequest.{FindsVersion, IsToldInJson, LeavesBoth, Moves, Replies, Settles};
 

@@ -4,11 +4,10 @@ ghost use Rattle.bank_books.specs.Version.{changes_policy};
 ghost use Rattle.bank_books.specs.WorldLists.{WorldLists};
 ghost use Rattle.counter_ops.specs.Operations.{IsOp};
 ghost use Rattle.store_rows.specs.Status.{Reads};
-ghost use Rattle.op_plans.specs.Judged.{IsReady, ReportsOnly};
-ghost use Rattle.decide.specs.Judged.{DeniesOrCounts};
+ghost use Rattle.op_plans.specs.Judged.{DeniesOrCounts, IsReady, ReportsOnly};
 ghost use Rattle.bank_run.specs.Operations.{is_report};
-ghost use Rattle.bank_run.specs.PolicyRules.{first_of_policy, grounds, used_by};
-ghost use Rattle.bank_run.specs.Requests.{executes, verdict};
+ghost use Rattle.bank_run.specs.PolicyRules.{used_by};
+ghost use Rattle.bank_run.specs.Requests.{executes, first, verdict};
 
 use crate::policy_rules::policy_leave;
 use bank_books::{Plan, ReleaseKey, RowWrite};
@@ -31,7 +30,7 @@ pub(crate) fn prepare<S: PolicyReads + BookReads + ReportReads>(
     requires proper { IsOp execution.now.op }
     ensures judged { Reads (S.status store.old) (S.status store.new) result (IsReady (verdict (executes execution.now))) }
     ensures reports { ReportsOnly (is_report execution.now.op) result }
-    ensures denied { DeniesOrCounts (S.status store.old) (S.status store.new) (λ w. first_of_policy (grounds w execution.now)) result }
+    ensures denied { DeniesOrCounts (S.status store.old) (S.status store.new) (λ w. first w (executes execution.now)) result }
 {
     match policy_leave(alloc, store, execution)? {
         Err(rule) => Ok(Err(rule)),

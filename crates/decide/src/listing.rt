@@ -6,8 +6,7 @@ ghost use Rattle.store_rows.specs.contracts.bank.Bank.{the_row};
 ghost use Rattle.store_rows.specs.Status.{Keeps, Reads, Refuses, Tells, mark_of};
 ghost use Rattle.bank_run.specs.Listing.{first_against_listing};
 ghost use Rattle.bank_run.specs.Requests.{first, lists, verdict};
-ghost use Rattle.op_plans.specs.Judged.{IsCountedFor};
-ghost use Rattle.decide.specs.Judged.{DeniesOrCounts};
+ghost use Rattle.op_plans.specs.Judged.{DeniesOrCounts, IsCountedFor};
 ghost use Rattle.decide.specs.Listed.{IsListed, IsListedToStranger, listed_bank};
 
 use crate::permit::Denial;
@@ -29,13 +28,15 @@ pub enum Listed<'b, S> {
 }
 
 /// Counts the lines of the policy for who asks, and replies with their report; else the first rule that denies it. Nothing
-/// is changed. Nobody is denied whatever the store holds, and so can't fail.
+/// is changed. Where a rule denies, a fault is one that the store counted. Nobody is denied whatever the store holds, and
+/// so can't fail.
 pub fn list_policy<'b, S: Store>(
     bank: &'b mut Bank<S>,
     alloc: Global,
     who: Who,
 ) -> Result<Listed<'b, S>, Fault>
-    ensures* fault { sem 𝓛 (RestsIfErr (the_row S.row) bank.entry (λ d. (listed_bank d).ghost_name) result (λ n. IfErr result (λ f. Keeps (S.status bank.old.store) (S.status n.store) (Some f)))) }
+    ensures* fault { sem 𝓛 (RestsIfErr (the_row S.row) bank.entry (λ d. (listed_bank d).ghost_name) result (λ n. IfErr result (λ f. Keeps (S.status bank.old.store) (S.status n.store) (Some f))
+        × DeniesOrCounts (S.status bank.old.store) (S.status n.store) (λ w. first w (lists who)) result)) }
     ensures same_reference { IfOk result (λ d. (listed_bank d).ghost_name ≡ bank.entry.ghost_name) }
     ensures kept { IfOk result (λ d. Keeps (S.status bank.old.store) (S.status (listed_bank d).now.store) None) }
     ensures refused { IsSome who.user → Refuses (S.status bank.old.store) (mark_of result) }

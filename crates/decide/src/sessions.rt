@@ -6,8 +6,7 @@ ghost use Rattle.bank_terms.specs.declared.rule.Rule.TheVariants.{Identity};
 ghost use Rattle.store_rows.specs.Status.{Answers, Reads, Refuses, StaysWhole, mark_of};
 ghost use Rattle.bank_run.specs.Requests.{ends_session, first, opens_session, verdict};
 ghost use Rattle.bank_run.specs.Sessions.{ending_data, ending_text, first_against_ending, first_against_opening, latest, opening_data, opening_text};
-ghost use Rattle.op_plans.specs.Judged.{IsJudged};
-ghost use Rattle.decide.specs.Judged.{DeniesOrCounts};
+ghost use Rattle.op_plans.specs.Judged.{DeniesOrCounts, IsJudged};
 ghost use Rattle.decide.specs.OneRequest.{IsToldInJson, LeavesBoth, Moves, Replies, Settles};
 
 use crate::carried_out::carry_out_prepared;

@@ -1,5 +1,6 @@
 pub mod BalanceText
 pub mod CloseDayText
+pub mod CountedDenials
 pub mod CountedReport
 pub mod DrawerOffText
 pub mod DrawerOnText

@@ -1,10 +1,11 @@
 -- What a judge of a request answers.
-use Rattle.std.specs.Prelude.{◌≡◌, Bool, false, true, Some, None, Result, Ok, Err, IfOk, ⊤}
+use Rattle.std.specs.Prelude.{◌≡◌, Bool, false, true, Option, Some, None, Result, Ok, Err, IfOk, IsSome, OnErr, ⊤}
 use Rattle.money.specs.declared.fault.Fault.{Fault}
 use Rattle.bank_terms.specs.declared.rule.Rule.{Rule}
 use Rattle.bank_books.specs.Effects.{applied}
 use Rattle.bank_books.specs.Version.{changes_policy}
 use Rattle.bank_books.specs.WorldLists.{WorldLists}
+use Rattle.store_rows.specs.Status.{RoseBy, Status, Tells}
 use Rattle.bank_run.specs.Meaning.{Verdict, json, plain}
 use Rattle.reports.specs.Report.{IsCounted, text_of}
 use Rattle.reports.specs.declared.contents.Contents.{Contents}
@@ -26,6 +27,14 @@ IsJudged says w (Ok p) = IsPrepared w (says w) p
 -- what carries it out leaves the policy as it is
 abbrev pub LeavesPolicy : Result (Result Prepared Rule) Fault → Type 0
 LeavesPolicy result = IfOk result (λ judged. IfOk judged (λ p. changes_policy p.plan.items ≡ false))
+
+-- a fault that is answered is one that the store counted
+abbrev pub CountsFault : {A : Type 0} → Status → Status → Result A Fault → Type 0
+CountsFault old new result = OnErr result (RoseBy 1 old.fault_count new.fault_count)
+
+-- Where one of these rules denies, a fault is one that the store counted: a denial is never told as want of memory.
+abbrev pub DeniesOrCounts : {A : Type 0} → Status → Status → (WorldLists → Option Rule) → Result A Fault → Type 0
+DeniesOrCounts old new first_of result = Tells old new (λ w. IsSome (first_of w) → CountsFault old new result)
 
 -- ---- reports
 

@@ -2,7 +2,7 @@ ghost use Rattle.std.specs.Prelude.{◌≡◌};
 ghost use Rattle.store_rows.specs.Status.{MayRead};
 ghost use Rattle.bank_run.specs.Accounts.{accounts_meaning, accounts_of};
 ghost use Rattle.bank_run.specs.Meaning.{by_books};
-ghost use Rattle.op_plans.specs.Judged.{IsCountedFor};
+ghost use Rattle.op_plans.specs.Judged.{DeniesOrCounts, IsCountedFor};
 
 use bank_books::Signature;
 use bank_terms::Rule;
@@ -29,7 +29,8 @@ pub(crate) fn prepare_accounts<R: ReportReads>(
     form: &Accounts,
     by: Signature,
 ) -> Result<Result<Contents, Rule>, Fault>
-    ensures { MayRead (R.status store.old) (R.status store.new) result (IsCountedFor (λ w. by_books (accounts_meaning form.now by w))) }
+    ensures counted { MayRead (R.status store.old) (R.status store.new) result (IsCountedFor (λ w. by_books (accounts_meaning form.now by w))) }
+    ensures denied { DeniesOrCounts (R.status store.old) (R.status store.new) (λ w. (by_books (accounts_meaning form.now by w)).first) result }
 {
     let contents = counted(alloc, store, accounts_of(form, by.user), form.count)?;
     Ok(Ok(contents))

@@ -3,7 +3,7 @@ ghost use Rattle.money.specs.Range.{is_cents};
 ghost use Rattle.serde_json.specs.View.{view};
 ghost use Rattle.store_rows.specs.Status.{Reads};
 ghost use Rattle.bank_run.specs.Balance.{balance_data, balance_meaning, balance_text, first_against_balance};
-ghost use Rattle.op_plans.specs.Judged.{IsJudged, LeavesPolicy};
+ghost use Rattle.op_plans.specs.Judged.{DeniesOrCounts, IsJudged, LeavesPolicy};
 ghost use Rattle.bank_run.specs.Meaning.{by_books};
 
 use crate::json_text::compact;
@@ -34,6 +34,7 @@ pub(crate) fn prepare_balance<B: BookReads>(
     balance: &Balance,
 ) -> Result<Result<Prepared, Rule>, Fault>
     ensures judged { Reads (B.status store.old) (B.status store.new) result (IsJudged (λ w. by_books (balance_meaning balance.now w))) }
+    ensures denied { DeniesOrCounts (B.status store.old) (B.status store.new) (λ w. (by_books (balance_meaning balance.now w)).first) result }
     ensures policy { LeavesPolicy result }
 {
     let row = store.account(alloc, balance.account)?;

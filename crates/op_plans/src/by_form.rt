@@ -5,7 +5,7 @@ ghost use Rattle.store_rows.specs.Status.{MayRead, Reads};
 ghost use Rattle.bank_run.specs.Meaning.{by_books};
 ghost use Rattle.bank_run.specs.Operations.{is_report, meaning_of};
 ghost use Rattle.op_plans.specs.BookRows.{book_rows};
-ghost use Rattle.op_plans.specs.Judged.{IsCountedFor, IsJudged, IsReady, LeavesPolicy, LeavesPolicyReady, ReportsOnly};
+ghost use Rattle.op_plans.specs.Judged.{DeniesOrCounts, IsCountedFor, IsJudged, IsReady, LeavesPolicy, LeavesPolicyReady, ReportsOnly};
 
 use crate::accounts::prepare_accounts;
 use crate::balance::{prepare_balance, rule_against_balance};
@@ -44,6 +44,7 @@ pub fn prepare_by_books<S: PolicyReads + BookReads + ReportReads>(
 ) -> Result<Result<Ready, Rule>, Fault>
     requires proper { IsOp op.now }
     ensures judged { MayRead (S.status store.old) (S.status store.new) result (IsReady (λ w. by_books (meaning_of op.now by w))) }
+    ensures denied { DeniesOrCounts (S.status store.old) (S.status store.new) (λ w. (by_books (meaning_of op.now by w)).first) result }
     ensures policy { LeavesPolicyReady result }
     ensures reports { ReportsOnly (is_report op.now) result }
 {
@@ -87,7 +88,8 @@ fn prepare_report<S: BookReads + ReportReads>(
     by: Signature,
 ) -> Result<Result<Contents, Rule>, Fault>
     requires { is_report op.now ≡ true }
-    ensures { MayRead (S.status store.old) (S.status store.new) result (IsCountedFor (λ w. by_books (meaning_of op.now by w))) }
+    ensures counted { MayRead (S.status store.old) (S.status store.new) result (IsCountedFor (λ w. by_books (meaning_of op.now by w))) }
+    ensures denied { DeniesOrCounts (S.status store.old) (S.status store.new) (λ w. (by_books (meaning_of op.now by w)).first) result }
 {
     match op {
         Op::Statement(form) => prepare_statement(alloc, store, form),
@@ -107,6 +109,7 @@ fn prepare_change<S: PolicyReads + BookReads>(
     requires text { is_report op.now ≡ false }
     requires proper { IsOp op.now }
     ensures judged { Reads (S.status store.old) (S.status store.new) result (IsJudged (λ w. by_books (meaning_of op.now by w))) }
+    ensures denied { DeniesOrCounts (S.status store.old) (S.status store.new) (λ w. (by_books (meaning_of op.now by w)).first) result }
     ensures policy { LeavesPolicy result }
 {
     match op {

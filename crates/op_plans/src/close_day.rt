@@ -1,7 +1,7 @@
 ghost use Rattle.std.specs.Prelude.{◌≡◌, IfOk};
 ghost use Rattle.serde_json.specs.View.{view};
-ghost use Rattle.store_rows.specs.Status.{Reads};
-ghost use Rattle.op_plans.specs.Judged.{IsJudged, LeavesPolicy};
+ghost use Rattle.store_rows.specs.Status.{Reads, ReadsRow};
+ghost use Rattle.op_plans.specs.Judged.{DeniesOrCounts, IsJudged, LeavesPolicy};
 ghost use Rattle.bank_run.specs.Meaning.{by_books};
 ghost use Rattle.drawers.specs.CloseDay.{closing_rows};
 ghost use Rattle.bank_run.specs.CloseDay.{close_day_meaning, closed_data, closed_text};
@@ -22,7 +22,7 @@ fn load_closing_rows<B: BookReads>(
     store: &mut B,
     form: &CloseDay,
 ) -> Result<ClosingRows, Fault>
-    ensures { Reads (B.status store.old) (B.status store.new) result (λ w rows. rows ≡ closing_rows w form.now) }
+    ensures { ReadsRow (B.status store.old) (B.status store.new) result (λ w rows. rows ≡ closing_rows w form.now) }
 {
     let branch = store.branch(alloc, form.branch)?;
     let roster = store.roster(alloc, form.branch)?;
@@ -36,6 +36,7 @@ pub(crate) fn prepare_close_day<B: BookReads>(
     form: &CloseDay,
 ) -> Result<Result<Prepared, Rule>, Fault>
     ensures judged { Reads (B.status store.old) (B.status store.new) result (IsJudged (λ w. by_books (close_day_meaning form.now w))) }
+    ensures denied { DeniesOrCounts (B.status store.old) (B.status store.new) (λ w. (by_books (close_day_meaning form.now w)).first) result }
     ensures policy { LeavesPolicy result }
 {
     let rows = load_closing_rows(alloc, store, form)?;

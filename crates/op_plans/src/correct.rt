@@ -1,6 +1,6 @@
 ghost use Rattle.std.specs.Prelude.{◌≡◌, IfOk, option_and_then};
-ghost use Rattle.store_rows.specs.Status.{MayRead, Reads};
-ghost use Rattle.op_plans.specs.Judged.{IsJudged, LeavesPolicy};
+ghost use Rattle.store_rows.specs.Status.{MayRead, Reads, ReadsRow, count_after, mark_of};
+ghost use Rattle.op_plans.specs.Judged.{DeniesOrCounts, IsJudged, LeavesPolicy};
 ghost use Rattle.bank_run.specs.Meaning.{by_books};
 ghost use Rattle.postings.specs.Correct.{correct_rows, other_account, partner_of};
 ghost use Rattle.bank_run.specs.Correct.{correct_meaning, corrected_text};
@@ -22,7 +22,7 @@ fn load_correct_rows<B: BookReads>(
     store: &mut B,
     correct: &Correct,
 ) -> Result<CorrectRows, Fault>
-    ensures { Reads (B.status store.old) (B.status store.new) result (λ w rows. rows ≡ correct_rows w correct.now) }
+    ensures { ReadsRow (B.status store.old) (B.status store.new) result (λ w rows. rows ≡ correct_rows w correct.now) }
 {
     let account = store.account(alloc, correct.account)?;
     let other = load_other(alloc, store, correct)?;
@@ -40,7 +40,8 @@ fn load_partner<B: BookReads>(
     store: &mut B,
     entry: &Option<Entry>,
 ) -> Result<Option<Entry>, Fault>
-    ensures { MayRead (B.status store.old) (B.status store.new) result (λ w partner. partner ≡ option_and_then (partner_of w) entry.now) }
+    ensures read { MayRead (B.status store.old) (B.status store.new) result (λ w partner. partner ≡ option_and_then (partner_of w) entry.now) }
+    ensures counted { (B.status store.new).fault_count ≡ count_after (mark_of result) (B.status store.old).fault_count }
 {
     match entry {
         Some(entry) if entry.partner != 0 => store.entry(alloc, entry.branch, entry.partner),
@@ -54,7 +55,8 @@ fn load_other<B: BookReads>(
     store: &mut B,
     correct: &Correct,
 ) -> Result<Option<AccountRecord>, Fault>
-    ensures { MayRead (B.status store.old) (B.status store.new) result (λ w other. other ≡ other_account w correct.now) }
+    ensures read { MayRead (B.status store.old) (B.status store.new) result (λ w other. other ≡ other_account w correct.now) }
+    ensures counted { (B.status store.new).fault_count ≡ count_after (mark_of result) (B.status store.old).fault_count }
 {
     match correct.other {
         0 => Ok(None),
@@ -70,6 +72,7 @@ pub(crate) fn prepare_correct<B: BookReads>(
     by: Signature,
 ) -> Result<Result<Prepared, Rule>, Fault>
     ensures judged { Reads (B.status store.old) (B.status store.new) result (IsJudged (λ w. by_books (correct_meaning correct.now by w))) }
+    ensures denied { DeniesOrCounts (B.status store.old) (B.status store.new) (λ w. (by_books (correct_meaning correct.now by w)).first) result }
     ensures policy { LeavesPolicy result }
 {
     let rows = load_correct_rows(alloc, store, correct)?;

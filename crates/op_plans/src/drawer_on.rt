@@ -1,7 +1,7 @@
 ghost use Rattle.std.specs.Prelude.{◌≡◌, IfOk};
 ghost use Rattle.serde_json.specs.View.{view};
-ghost use Rattle.store_rows.specs.Status.{Reads};
-ghost use Rattle.op_plans.specs.Judged.{IsJudged, LeavesPolicy};
+ghost use Rattle.store_rows.specs.Status.{Reads, ReadsRow};
+ghost use Rattle.op_plans.specs.Judged.{DeniesOrCounts, IsJudged, LeavesPolicy};
 ghost use Rattle.bank_run.specs.Meaning.{by_books};
 ghost use Rattle.drawers.specs.DrawerRows.{drawer_rows};
 ghost use Rattle.bank_run.specs.DrawerOn.{drawer_on_meaning, put_on_data, put_on_text};
@@ -25,7 +25,7 @@ pub(crate) fn load_drawer_rows<B: BookReads>(
     teller: u32,
     branch: u32,
 ) -> Result<DrawerRows, Fault>
-    ensures { Reads (B.status store.old) (B.status store.new) result (λ w rows. rows ≡ drawer_rows w teller branch) }
+    ensures { ReadsRow (B.status store.old) (B.status store.new) result (λ w rows. rows ≡ drawer_rows w teller branch) }
 {
     let teller = store.teller(alloc, teller)?;
     let branch = store.branch(alloc, branch)?;
@@ -40,6 +40,7 @@ pub(crate) fn prepare_drawer_on<B: BookReads>(
     by: Signature,
 ) -> Result<Result<Prepared, Rule>, Fault>
     ensures judged { Reads (B.status store.old) (B.status store.new) result (IsJudged (λ w. by_books (drawer_on_meaning form.now by w))) }
+    ensures denied { DeniesOrCounts (B.status store.old) (B.status store.new) (λ w. (by_books (drawer_on_meaning form.now by w)).first) result }
     ensures policy { LeavesPolicy result }
 {
     let rows = load_drawer_rows(alloc, store, form.teller, form.branch)?;

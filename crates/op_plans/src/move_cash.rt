@@ -1,7 +1,7 @@
 ghost use Rattle.std.specs.Prelude.{◌≡◌, IfOk};
 ghost use Rattle.serde_json.specs.View.{view};
-ghost use Rattle.store_rows.specs.Status.{MayRead, Reads};
-ghost use Rattle.op_plans.specs.Judged.{IsJudged, LeavesPolicy};
+ghost use Rattle.store_rows.specs.Status.{MayRead, Reads, ReadsRow, count_after, mark_of};
+ghost use Rattle.op_plans.specs.Judged.{DeniesOrCounts, IsJudged, LeavesPolicy};
 ghost use Rattle.bank_run.specs.Meaning.{by_books};
 ghost use Rattle.drawers.specs.MoveCash.{move_rows, teller_at};
 ghost use Rattle.bank_run.specs.MoveCash.{move_meaning, moved_data, moved_text};
@@ -23,7 +23,7 @@ fn load_move_rows<B: BookReads>(
     store: &mut B,
     move_cash: &MoveCash,
 ) -> Result<MoveRows, Fault>
-    ensures { Reads (B.status store.old) (B.status store.new) result (λ w rows. rows ≡ move_rows w move_cash.now) }
+    ensures { ReadsRow (B.status store.old) (B.status store.new) result (λ w rows. rows ≡ move_rows w move_cash.now) }
 {
     let branch = store.branch(alloc, move_cash.branch)?;
     let source = load_teller_at(alloc, store, move_cash.source)?;
@@ -37,7 +37,8 @@ fn load_teller_at<B: BookReads>(
     store: &mut B,
     place: u32,
 ) -> Result<Option<TellerRecord>, Fault>
-    ensures { MayRead (B.status store.old) (B.status store.new) result (λ w row. row ≡ teller_at w place) }
+    ensures read { MayRead (B.status store.old) (B.status store.new) result (λ w row. row ≡ teller_at w place) }
+    ensures counted { (B.status store.new).fault_count ≡ count_after (mark_of result) (B.status store.old).fault_count }
 {
     match place {
         0 => Ok(None),
@@ -53,6 +54,7 @@ pub(crate) fn prepare_move_cash<B: BookReads>(
     by: Signature,
 ) -> Result<Result<Prepared, Rule>, Fault>
     ensures judged { Reads (B.status store.old) (B.status store.new) result (IsJudged (λ w. by_books (move_meaning move_cash.now by w))) }
+    ensures denied { DeniesOrCounts (B.status store.old) (B.status store.new) (λ w. (by_books (move_meaning move_cash.now by w)).first) result }
     ensures policy { LeavesPolicy result }
 {
     let rows = load_move_rows(alloc, store, move_cash)?;

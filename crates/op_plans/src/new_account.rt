@@ -1,7 +1,7 @@
 ghost use Rattle.std.specs.Prelude.{◌≡◌, IfOk};
 ghost use Rattle.serde_json.specs.View.{view};
-ghost use Rattle.store_rows.specs.Status.{Reads};
-ghost use Rattle.op_plans.specs.Judged.{IsJudged, LeavesPolicy};
+ghost use Rattle.store_rows.specs.Status.{Reads, ReadsRow};
+ghost use Rattle.op_plans.specs.Judged.{DeniesOrCounts, IsJudged, LeavesPolicy};
 ghost use Rattle.bank_run.specs.Meaning.{by_books};
 ghost use Rattle.bank_run.specs.NewAccount.{first_against_new_account, new_account_meaning, opened, opened_data, opened_text, opening_rows};
 
@@ -21,7 +21,7 @@ fn load_opening_rows<B: BookReads>(
     store: &mut B,
     form: &NewAccount,
 ) -> Result<OpeningRows, Fault>
-    ensures { Reads (B.status store.old) (B.status store.new) result (λ w rows. rows ≡ opening_rows w form.now) }
+    ensures { ReadsRow (B.status store.old) (B.status store.new) result (λ w rows. rows ≡ opening_rows w form.now) }
 {
     let account = store.account(alloc, form.account)?;
     let branch = store.branch(alloc, form.branch)?;
@@ -51,6 +51,7 @@ pub(crate) fn prepare_new_account<B: BookReads>(
     form: &NewAccount,
 ) -> Result<Result<Prepared, Rule>, Fault>
     ensures judged { Reads (B.status store.old) (B.status store.new) result (IsJudged (λ w. by_books (new_account_meaning form.now w))) }
+    ensures denied { DeniesOrCounts (B.status store.old) (B.status store.new) (λ w. (by_books (new_account_meaning form.now w)).first) result }
     ensures policy { LeavesPolicy result }
 {
     let rows = load_opening_rows(alloc, store, form)?;

@@ -1,7 +1,7 @@
 ghost use Rattle.std.specs.Prelude.{◌≡◌, IfOk};
 ghost use Rattle.serde_json.specs.View.{view};
-ghost use Rattle.store_rows.specs.Status.{Reads};
-ghost use Rattle.op_plans.specs.Judged.{IsJudged, LeavesPolicy};
+ghost use Rattle.store_rows.specs.Status.{Reads, ReadsRow};
+ghost use Rattle.op_plans.specs.Judged.{DeniesOrCounts, IsJudged, LeavesPolicy};
 ghost use Rattle.bank_run.specs.Meaning.{by_books};
 ghost use Rattle.postings.specs.Post.{post_rows};
 ghost use Rattle.bank_run.specs.Post.{post_meaning, posted_data, posted_text};
@@ -23,7 +23,7 @@ fn load_post_rows<B: BookReads>(
     store: &mut B,
     post: &Post,
 ) -> Result<PostRows, Fault>
-    ensures { Reads (B.status store.old) (B.status store.new) result (λ w rows. rows ≡ post_rows w post.now) }
+    ensures { ReadsRow (B.status store.old) (B.status store.new) result (λ w rows. rows ≡ post_rows w post.now) }
 {
     let account = store.account(alloc, post.account)?;
     let teller = store.teller(alloc, post.teller)?;
@@ -39,6 +39,7 @@ pub(crate) fn prepare_post<B: BookReads>(
     by: Signature,
 ) -> Result<Result<Prepared, Rule>, Fault>
     ensures judged { Reads (B.status store.old) (B.status store.new) result (IsJudged (λ w. by_books (post_meaning post.now by w))) }
+    ensures denied { DeniesOrCounts (B.status store.old) (B.status store.new) (λ w. (by_books (post_meaning post.now by w)).first) result }
     ensures policy { LeavesPolicy result }
 {
     let rows = load_post_rows(alloc, store, post)?;

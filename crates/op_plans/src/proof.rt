@@ -3,7 +3,7 @@ ghost use Rattle.reports.specs.Listing.{proof_of};
 ghost use Rattle.store_rows.specs.Status.{Reads};
 ghost use Rattle.bank_run.specs.Meaning.{by_books};
 ghost use Rattle.bank_run.specs.Proof.{first_against_proof, proof_meaning};
-ghost use Rattle.op_plans.specs.Judged.{IsCountedFor};
+ghost use Rattle.op_plans.specs.Judged.{DeniesOrCounts, IsCountedFor};
 
 use bank_books::BranchRecord;
 use bank_terms::Rule;
@@ -42,7 +42,8 @@ pub(crate) fn prepare_proof<S: BookReads + ReportReads>(
     store: &mut S,
     form: &Proof,
 ) -> Result<Result<Contents, Rule>, Fault>
-    ensures { Reads (S.status store.old) (S.status store.new) result (IsCountedFor (λ w. by_books (proof_meaning form.now w))) }
+    ensures counted { Reads (S.status store.old) (S.status store.new) result (IsCountedFor (λ w. by_books (proof_meaning form.now w))) }
+    ensures denied { DeniesOrCounts (S.status store.old) (S.status store.new) (λ w. (by_books (proof_meaning form.now w)).first) result }
 {
     let Some(branch) = store.branch(alloc, form.branch)? else {
         return Ok(Err(Rule::Unknown));

@@ -1,8 +1,8 @@
 ghost use Rattle.std.specs.Prelude.{◌≡◌, ◌+◌, ◌<◌, false, is_none, IfOk, IfSome, IsNone};
 ghost use Rattle.bank_terms.specs.Limits.{max_releases};
 ghost use Rattle.serde_json.specs.View.{view};
-ghost use Rattle.store_rows.specs.Status.{Reads};
-ghost use Rattle.op_plans.specs.Judged.{IsJudged, LeavesPolicy};
+ghost use Rattle.store_rows.specs.Status.{Reads, ReadsRow};
+ghost use Rattle.op_plans.specs.Judged.{DeniesOrCounts, IsJudged, LeavesPolicy};
 ghost use Rattle.bank_run.specs.Meaning.{by_books};
 ghost use Rattle.bank_run.specs.Release.{first_against_release, given_release, release_data, release_meaning, release_rows, release_text};
 
@@ -23,7 +23,7 @@ fn load_release_rows<S: PolicyReads + BookReads>(
     store: &mut S,
     form: &Release,
 ) -> Result<ReleaseRows, Fault>
-    ensures { Reads (S.status store.old) (S.status store.new) result (λ w rows. rows ≡ release_rows w form.now) }
+    ensures { ReadsRow (S.status store.old) (S.status store.new) result (λ w rows. rows ≡ release_rows w form.now) }
 {
     let beneficiary = store.user(alloc, form.beneficiary)?;
     let branch = store.branch(alloc, form.operation.branch())?;
@@ -61,6 +61,7 @@ pub(crate) fn prepare_release<S: PolicyReads + BookReads>(
     by: Signature,
 ) -> Result<Result<Prepared, Rule>, Fault>
     ensures judged { Reads (S.status store.old) (S.status store.new) result (IsJudged (λ w. by_books (release_meaning form.now by w))) }
+    ensures denied { DeniesOrCounts (S.status store.old) (S.status store.new) (λ w. (by_books (release_meaning form.now by w)).first) result }
     ensures policy { LeavesPolicy result }
 {
     let rows = load_release_rows(alloc, store, form)?;

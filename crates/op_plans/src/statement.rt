@@ -2,7 +2,7 @@ ghost use Rattle.std.specs.Prelude.{◌≡◌};
 ghost use Rattle.store_rows.specs.Status.{Reads};
 ghost use Rattle.bank_run.specs.Meaning.{by_books};
 ghost use Rattle.bank_run.specs.Statement.{first_against_statement, statement_meaning, statement_of};
-ghost use Rattle.op_plans.specs.Judged.{IsCountedFor};
+ghost use Rattle.op_plans.specs.Judged.{DeniesOrCounts, IsCountedFor};
 
 use bank_books::AccountRecord;
 use bank_terms::Rule;
@@ -39,7 +39,8 @@ pub(crate) fn prepare_statement<S: BookReads + ReportReads>(
     store: &mut S,
     form: &Statement,
 ) -> Result<Result<Contents, Rule>, Fault>
-    ensures { Reads (S.status store.old) (S.status store.new) result (IsCountedFor (λ w. by_books (statement_meaning form.now w))) }
+    ensures counted { Reads (S.status store.old) (S.status store.new) result (IsCountedFor (λ w. by_books (statement_meaning form.now w))) }
+    ensures denied { DeniesOrCounts (S.status store.old) (S.status store.new) (λ w. (by_books (statement_meaning form.now w)).first) result }
 {
     let row = store.account(alloc, form.account)?;
     if let Some(rule) = rule_against_statement(row) {

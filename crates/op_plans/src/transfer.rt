@@ -1,7 +1,7 @@
 ghost use Rattle.std.specs.Prelude.{◌≡◌, IfOk};
 ghost use Rattle.serde_json.specs.View.{view};
-ghost use Rattle.store_rows.specs.Status.{Reads};
-ghost use Rattle.op_plans.specs.Judged.{IsJudged, LeavesPolicy};
+ghost use Rattle.store_rows.specs.Status.{Reads, ReadsRow};
+ghost use Rattle.op_plans.specs.Judged.{DeniesOrCounts, IsJudged, LeavesPolicy};
 ghost use Rattle.bank_run.specs.Meaning.{by_books};
 ghost use Rattle.postings.specs.Transfer.{transfer_rows};
 ghost use Rattle.bank_run.specs.Transfer.{transfer_meaning, transferred_data, transferred_text};
@@ -24,7 +24,7 @@ fn load_transfer_rows<B: BookReads>(
     store: &mut B,
     transfer: &Transfer,
 ) -> Result<TransferRows, Fault>
-    ensures { Reads (B.status store.old) (B.status store.new) result (λ w rows. rows ≡ transfer_rows w transfer.now) }
+    ensures { ReadsRow (B.status store.old) (B.status store.new) result (λ w rows. rows ≡ transfer_rows w transfer.now) }
 {
     let source = store.account(alloc, transfer.source)?;
     let target = store.account(alloc, transfer.target)?;
@@ -42,6 +42,7 @@ pub(crate) fn prepare_transfer<B: BookReads>(
 ) -> Result<Result<Prepared, Rule>, Fault>
     requires { IsTransfer transfer.now }
     ensures judged { Reads (B.status store.old) (B.status store.new) result (IsJudged (λ w. by_books (transfer_meaning transfer.now by w))) }
+    ensures denied { DeniesOrCounts (B.status store.old) (B.status store.new) (λ w. (by_books (transfer_meaning transfer.now by w)).first) result }
     ensures policy { LeavesPolicy result }
 {
     let rows = load_transfer_rows(alloc, store, transfer)?;

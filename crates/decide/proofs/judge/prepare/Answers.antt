@@ -4,12 +4,13 @@ use Rattle.op_plans.specs.Judged.{IsReady, LeavesPolicyReady, ReportsOnly}
 use Rattle.bank_run.specs.Meaning.{by_books}
 use Rattle.bank_terms.specs.declared.rule.Rule.{Rule}
 use Rattle.bank_run.specs.Operations.{is_report, meaning_of}
-use Rattle.bank_run.specs.PolicyRules.{grounds, used_by}
-use Rattle.bank_run.proofs.PolicyLemmas.{leave_given, leave_refused}
+use Rattle.bank_run.specs.PolicyRules.{used_by}
+use Rattle.bank_run.proofs.PolicyLemmas.{leave_refused}
 use Rattle.op_plans.specs.declared.prepared.Ready.{Ready}
 use Rattle.op_plans.specs.declared.prepared.Ready.TheVariants as ready
-use Rattle.decide.proofs.CountedDenials.{none_denies, read_counted}
-use Rattle.decide.proofs.JoinedVerdict.{denied_by_books, prepared, reported}
+use Rattle.op_plans.proofs.CountedDenials.{counted_from, none_denies, read_counted}
+use Rattle.decide.proofs.CountedDenials.{on_fault}
+use Rattle.decide.proofs.JoinedVerdict.{books_deny, denied_by_books, prepared, reported}
 use Rattle.decide.proofs.judge.prepare.Goals as goal
 
 pub returns-in-Err-clause-judged : goal.returns-in-Err-clause-judged
@@ -67,12 +68,19 @@ returns-in-Ok-Report-clause-judged g c =
 pub returns-in_err-rule-clause-denied : goal.returns-in_err-rule-clause-denied
 returns-in_err-rule-clause-denied g c = λ honest w holds some. read_counted _ _ _ c.in_err-rule.ensures.counted
 
+-- the rules of the books, of what the policy gave leave for
 pub returns-in_err-plan-in-Ok-clause-denied : goal.returns-in_err-plan-in-Ok-clause-denied
 returns-in_err-plan-in-Ok-clause-denied g c = λ honest w holds some.
     let before = c.prepare_by_books.ensures.judged.kept.answers.honest honest in
-    none_denies _ (leave_given (grounds w c.args.execution.now) c.in-Ok.leave (sym (c.in_ok-rule.ensures.told before w holds) ∙ c.in-Ok.is)).0 some
+    let leave = sym (c.in_ok-rule.ensures.told before w holds) ∙ c.in-Ok.is in
+    let counted = c.in_err-plan-in-Ok.ensures.denied honest w (c.in_ok-rule.ensures.kept.kept w holds) (books_deny w c.args.execution.now c.in-Ok.leave c.signature-by.result c.signature-by.ensures leave some) in
+    counted_from _ _ _ _ c.in_ok-rule.ensures.counted (on_fault _ counted)
 
 pub returns-in_err-plan-in-Ok-Change-clause-denied : goal.returns-in_err-plan-in-Ok-Change-clause-denied
 returns-in_err-plan-in-Ok-Change-clause-denied g c = λ honest w holds some.
-    let before = c.prepare_by_books.ensures.judged.kept.answers.honest honest in
-    none_denies _ (leave_given (grounds w c.args.execution.now) c.in-Ok.leave (sym (c.in_ok-rule.ensures.told before w holds) ∙ c.in-Ok.is)).0 some
+    let change = c.in-Ok-Change.is ∙ ap (λ (a : Ready). Ok a) c.in-Ok-Change.field-0-is in
+    let before = c.in_ok-plan-in-Ok.ensures.judged.kept.answers.honest honest in
+    let leave = sym (c.in_ok-rule.ensures.told before w holds) ∙ c.in-Ok.is in
+    let books = subst (IsReady (λ v. by_books (meaning_of c.args.execution.now.op c.signature-by.result v)) w) change
+    (c.in_ok-plan-in-Ok.ensures.judged.told honest w (c.in_ok-rule.ensures.kept.kept w holds)) in
+    none_denies _ books.allowed (books_deny w c.args.execution.now c.in-Ok.leave c.signature-by.result c.signature-by.ensures leave some)

@@ -1,7 +1,8 @@
 use Rattle.std.proofs.Common.{rules, ◌≡◌, None, ◌∙◌}
 use Rattle.bank_policy.specs.HeldRows.{standing}
 use Rattle.bank_run.specs.Sessions.{first_against_ending}
-use Rattle.decide.proofs.CountedDenials.{ending_is, none_denies, read_counted}
+use Rattle.op_plans.proofs.CountedDenials.{none_denies, read_counted}
+use Rattle.decide.proofs.CountedDenials.{ending_is}
 use Rattle.decide.proofs.sessions.prepare_ending.Goals as goal
 
 -- what search finds for itself, asked for here so that a mistake is refused soon
