@@ -98,16 +98,13 @@ given_written w r user = go (user_row w.policy user) refl
         let of = (found_row user_key user w.policy.users row is).1 in
         ap Some (count-add_row release_key (λ x. x.user == row.user) r w.releases ∙ ap (λ k. (user_record_of w row).releases + cond (r.user == k) 1 0) of)
 
-given_used : (w : WorldLists) (by number user : ℕ) → releases_given (written (write.Used (record { user = by; number = number })) w) user ≡ releases_given w user
-given_used w by number user = go (user_row w.policy user)
-  where
-    go : (o : Option User) → option_map (λ u. u.releases) (option_map (user_record_of (written (write.Used (record { user = by; number = number })) w)) o) ≡ option_map (λ u. u.releases) (option_map (user_record_of w) o)
-    go None = refl
-    go (Some row) = ap Some (count-changed release_key (release_number by number) used_up (λ x. x.user == row.user) (λ x. refl) w.releases)
-
 given_is : (items : List Cdi) (c : RowWrite) (w : WorldLists) (user : ℕ) → IsWithin items w.tellers c → releases_given (written c w) user ≡ given_after c user (releases_given w user)
 given_is items (write.Release r) w user within = given_written w r user
-given_is items (write.Used k) w user within = given_used w k.user k.number user
+given_is items (write.Used k) w user within = go (user_row w.policy user)
+  where
+    go : (o : Option User) → option_map (λ u. u.releases) (option_map (user_record_of (written (write.Used k) w)) o) ≡ option_map (λ u. u.releases) (option_map (user_record_of w) o)
+    go None = refl
+    go (Some row) = ap Some (count-changed release_key (release_number k.user k.number) used_up (λ x. x.user == row.user) (λ x. refl) w.releases)
 given_is items (write.Session s) w user within = absurd within
 given_is items (write.Policy p) w user within = absurd within
 given_is items _ w user within = refl
