@@ -1,6 +1,6 @@
 -- The law of two Worlds along the requests of one user.
-use Rattle.std.proofs.Common.{◌≡◌, ℕ, ◌+◌, List, [], ◌∷◌, Bool, true, false, not, refl, ap, ap₂, sym, subst, ◌∙◌, ◌==◌, ◌&&◌, ◌||◌, Option, Some, None, Err, Contains, ◌⊎◌, inl, inr}
-use Rattle.std.specs.Prelude.{if◌then◌else◌, option_map, All}
+use Rattle.std.proofs.Common.{◌≡◌, ℕ, ◌+◌, [], ◌∷◌, Bool, true, false, not, refl, ap, ap₂, sym, subst, ◌∙◌, ◌==◌, ◌&&◌, ◌||◌, Option, Some, None, Err, inl, inr}
+use Rattle.std.specs.Prelude.{if◌then◌else◌, option_map}
 use Rattle.std.specs.List.{find}
 use Rattle.std.proofs.lemmas.Bool.{false≢true}
 use Rattle.std.proofs.lemmas.List.Elements.{All-contains, All-cons, All-head, All-nil, All-tail}
@@ -39,7 +39,7 @@ use Rattle.bank_run.specs.declared.request.Request.{Request}
 use Rattle.bank_run.specs.declared.who.Who.{Who}
 use Rattle.bank_run.proofs.RunSums.{sums_always_agree}
 use Rattle.two_worlds.specs.Agree.{Agree, AgreeByForm, AgreeOnPolicy, releases_given}
-use Rattle.two_worlds.specs.Along.{AgreeOn, IsAgreed, IsOutside, TwoWorldsAlong, is_of_triples, replies}
+use Rattle.two_worlds.specs.Along.{AgreeOn, IsAgreed, IsOutside, TwoWorldsAlong, is_of_triples}
 use Rattle.two_worlds.specs.Laws.{is_blind}
 use Rattle.two_worlds.specs.View.{view_at, view_of}
 use Rattle.two_worlds.proofs.Grown.{find_made}

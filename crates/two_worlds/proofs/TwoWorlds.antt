@@ -1,5 +1,5 @@
 -- The law of two Worlds.
-use Rattle.std.proofs.Common.{◌≡◌, ◌≢◌, ℕ, ◌+◌, ◌<◌, ◌≤◌, ◌^◌, List, [], ◌∷◌, Bool, true, false, not, cond, refl, ap, ap₂, arith, sym, subst, ◌∙◌, ◌==◌, ◌&&◌, ◌||◌, Option, Some, None, Err, Contains}
+use Rattle.std.proofs.Common.{◌≡◌, ◌≢◌, ℕ, ◌<◌, ◌≤◌, ◌^◌, List, [], ◌∷◌, Bool, true, false, not, cond, refl, ap, ap₂, arith, sym, subst, ◌∙◌, ◌==◌, ◌&&◌, ◌||◌, Option, Some, None, Err, Contains}
 use Rattle.std.specs.Prelude.{if◌then◌else◌, nat_lt, option_map, All}
 use Rattle.std.specs.List.{find, list_any}
 use Rattle.std.specs.Option.{option_map_or}
@@ -38,7 +38,6 @@ use Rattle.bank_run.specs.Meaning.{Meaning, ReplyText, rules_behind_policy, by_b
 use Rattle.bank_run.specs.NamedRelease.{counts, release_grounds_of}
 use Rattle.bank_run.specs.Operations.{meaning_of}
 use Rattle.bank_run.specs.PolicyRules.{asker, grounds, is_in_limit, is_released, leave_of, used_by}
-use Rattle.bank_run.specs.Release.{given_release, release_changes, release_rows}
 use Rattle.bank_run.specs.Order.{IsInOrder}
 use Rattle.bank_run.specs.Requests.{denies, effect, executes, first, reply_text, rules}
 use Rattle.bank_run.specs.Run.{if_allowed, step, told}
