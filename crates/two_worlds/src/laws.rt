@@ -14,7 +14,8 @@ pub fn two_worlds()
     ensures { TwoWorlds }
 {}
 
-/// Two banks that agree so for each of the operations and sessions of one user reply to all of them alike, one after another.
+/// Two banks that agree so for each of the operations and sessions of one user, or by whose policy his triples deny it whatever
+/// the items are, reply to all of them alike, one after another.
 pub fn two_worlds_along()
     ensures { TwoWorldsAlong }
 {}
