@@ -1,5 +1,39 @@
 """Requests to the bank of bank_model as a tool draws them: for each kind that has a body, one by what is there."""
-from bank_model import KINDS, PROCEDURES, RELEASABLE
+import json
+
+from bank_model import BADGES, COMMANDS, KINDS, OPERATIONS, PROCEDURES, RELEASABLE
+
+
+class Request:
+    """A request of a kind by a user, in his session, which may name a release."""
+
+    def __init__(self, bank, kind, user, body, release=0):
+        self.kind = kind
+        self.user = user
+        self.session = bank.sessions[user]
+        self.body = body
+        self.release = release
+
+    def target(self):
+        """The method and the path that ask for it."""
+        if self.kind == "listing":
+            return "GET /policy"
+        if self.kind in OPERATIONS:
+            return "POST /do/" + self.kind
+        return "POST /policy/" + self.kind if self.kind in COMMANDS else "POST /" + self.kind
+
+    def message(self):
+        """Its bytes."""
+        body = json.dumps(self.body) if self.body else ""
+        fields = [
+            f"{self.target()} HTTP/1.1",
+            "Host: bank",
+            f"Bank-Badge: {BADGES[self.user]}",
+            f"Bank-Session: {self.session}",
+            *([f"Bank-Release: {self.release}"] if self.release else []),
+            f"Content-Length: {len(body)}",
+        ]
+        return ("\r\n".join(fields) + "\r\n\r\n" + body).encode()
 
 
 def any_teller(bank, user, rng):

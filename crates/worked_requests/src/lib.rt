@@ -26,3 +26,5 @@ mod requests;
 mod transfers;
 #[cfg(test)]
 mod turnovers;
+#[cfg(test)]
+mod two_banks;

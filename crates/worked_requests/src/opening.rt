@@ -82,14 +82,18 @@ fn add_tellers(rt: &impl Abort, world: &mut World, opening: Opening) {
 fn add_accounts(rt: &impl Abort, world: &mut World, opening: Opening) {
     let [first, second, other] = opening.accounts;
     for (account, home, opening) in [(101, 1, first), (102, 1, second), (201, 2, other)] {
-        let row = Account {
-            account,
-            home,
-            opening: cents(rt, opening),
-            floor: cents(rt, opening.min(0)),
-        };
-        world.add_account(row).expect(rt, "memory");
+        add_account(rt, world, account, home, opening);
     }
+}
+
+fn add_account(rt: &impl Abort, world: &mut World, account: u32, home: u32, opening: i64) {
+    let row = Account {
+        account,
+        home,
+        opening: cents(rt, opening),
+        floor: cents(rt, opening.min(0)),
+    };
+    world.add_account(row).expect(rt, "memory");
 }
 
 /// Writes lines into the cash book of branch 1, which bear these places, amounts in cents, forms and users, and the
@@ -118,16 +122,33 @@ pub(crate) fn write_lines(
     }
 }
 
-/// A bank that opens so, and then Tess and Tom have put drawers 11 and 12 on as in the sample.
-pub(crate) fn with_drawers_on(rt: &impl Abort, alloc: Global, opening: Opening) -> World {
-    let mut world = opened(rt, alloc, opening);
+/// Has Tess and Tom put drawers 11 and 12 on as in the sample.
+fn put_drawers_on(rt: &impl Abort, alloc: Global, world: &mut World) {
     let lines = [
         (0, -40_000, LineForm::On, 7),
         (11, 40_000, LineForm::On, 7),
         (0, -5_000, LineForm::On, 8),
         (12, 5_000, LineForm::On, 8),
     ];
-    write_lines(rt, alloc, &mut world, &lines);
+    write_lines(rt, alloc, world, &lines);
+}
+
+/// A bank that opens so, and then Tess and Tom have put drawers 11 and 12 on as in the sample.
+pub(crate) fn with_drawers_on(rt: &impl Abort, alloc: Global, opening: Opening) -> World {
+    let mut world = opened(rt, alloc, opening);
+    put_drawers_on(rt, alloc, &mut world);
+    world
+}
+
+/// The sample bank without account 102, which opens with nothing.
+pub(crate) fn without_account_102(rt: &impl Abort, alloc: Global) -> World {
+    let policy = sample_policy(alloc).expect(rt, "memory");
+    let mut world = World::new(alloc, policy);
+    add_branches(rt, &mut world, SAMPLE);
+    add_tellers(rt, &mut world, SAMPLE);
+    add_account(rt, &mut world, 101, 1, 50_000);
+    add_account(rt, &mut world, 201, 2, 30_000);
+    put_drawers_on(rt, alloc, &mut world);
     world
 }
 
@@ -208,4 +229,5 @@ fn books_made_up_at_the_ends_of_the_range_hold(rt: HostRuntime) {
     holds(&rt, alloc, opening_at(&rt, alloc, MOST));
     holds(&rt, alloc, with_a_full_drawer(&rt, alloc));
     holds(&rt, alloc, with_all_cash_of_entries(&rt, alloc));
+    holds(&rt, alloc, without_account_102(&rt, alloc));
 }

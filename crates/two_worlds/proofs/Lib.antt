@@ -1,0 +1,16 @@
+pub mod Along
+pub mod DrawerSum
+pub mod Forms
+pub mod Grown
+pub mod Judged
+pub mod Missing
+pub mod Places
+pub mod Plans
+pub mod Policy
+pub mod Releases
+pub mod Reports
+pub mod Seen
+pub mod Turns
+pub mod TwoWorlds
+pub mod Within
+pub mod Written

@@ -1,0 +1,5 @@
+pub mod Agree
+pub mod Along
+pub mod Laws
+pub mod View
+pub mod Views

@@ -1,0 +1,36 @@
+//! What holds of every operation in two Worlds that agree, of the items that it does not touch, of their views, and along
+//! the requests of one user. The functions do nothing; their contracts are the laws.
+
+ghost use Rattle.two_worlds.specs.Along.{TwoWorldsAlong};
+ghost use Rattle.two_worlds.specs.Laws.{TwoWorlds, Undisturbed};
+ghost use Rattle.two_worlds.specs.Views.{MissingIsNothing, ViewsGoByTurn};
+
+/// Two banks that agree on the row of a user, on his triples and the relations of a procedure with their sets, on the release
+/// that he names and on who gave it, and on the views of the items that an operation touches, reply to it alike, reports with
+/// their texts, and agree on all of this again afterwards. In each of them the views of all other items stay, and so do the
+/// policy and every release but the one that is used or given. A denial by a rule in front of that on releases is the same
+/// whatever the items are. What is no operation leaves every item.
+pub fn two_worlds()
+    ensures { TwoWorlds }
+{}
+
+/// Two banks that agree so for each of the operations and sessions of one user, or by whose policy his triples deny it whatever
+/// the items are, reply to all of them alike, one after another.
+pub fn two_worlds_along()
+    ensures { TwoWorldsAlong }
+{}
+
+/// An operation leaves the reply to another that touches none of its items, and names no release that it uses or gives.
+pub fn undisturbed()
+    ensures { Undisturbed }
+{}
+
+/// Nothing is said of an item that is not there.
+pub fn missing_is_nothing()
+    ensures { MissingIsNothing }
+{}
+
+/// The view of an account is told by its entries in the order of their turns, too.
+pub fn views_go_by_turn()
+    ensures { ViewsGoByTurn }
+{}
