@@ -9,14 +9,13 @@ ghost use Rattle.adopt_sql.specs.Adopted.{Adopts, IsBankFile, IsLeft, IsOfAnothe
 ghost use Rattle.adopt_sql.specs.Refused.{HoldsSoundBank, IsNamedBy, IsOfOther, IsOfStore, IsRefused};
 
 use crate::adopt_fault::AdoptFault;
-use crate::adopting::read_bank;
-use bank_schema::Edition;
+use crate::adopting::adopt_bank;
 use sqlite::{Alter, Connection};
 use std::alloc::Global;
 use store_sql::SqlStore;
 
-/// The store of the bank that stands in the database, in the newest tables. It is refused as `read_bank` says,
-/// and the connection is then handed back beside the fault, with nothing changed.
+/// The store of the bank that stands in the database. It is refused as `adopt_bank` says, and the connection
+/// is then handed back beside the fault, with nothing changed.
 pub fn adopt<S: Alter>(
     alloc: Global,
     mut conn: Connection<S>,
@@ -33,8 +32,8 @@ pub fn adopt<S: Alter>(
     ensures mode { IfErr result (λ e. e.1.in_transaction ≡ false) }
     ensures survives { MatchResult result (λ store. Survives (state S.Store conn) (state S.Store store.conn) (λ _. ⊥)) (λ e. Survives (state S.Store conn) (state S.Store e.1) (λ _. ⊥)) }
 {
-    match read_bank(alloc, &mut conn, Edition::First) {
-        Ok(_) => Ok(SqlStore::over(conn)),
+    match adopt_bank(alloc, &mut conn) {
+        Ok(()) => Ok(SqlStore::over(conn)),
         Err(fault) => Err((fault, conn)),
     }
 }

@@ -7,8 +7,7 @@ use crate::bank::{answered, last_command, work};
 use crate::report_replies::{Asked, Ending, reported};
 use crate::streams::Exchange;
 use crate::tellings::{Tale, told};
-use adopt_sql::{AdoptFault, adopt, read_bank};
-use bank_schema::Edition;
+use adopt_sql::{AdoptFault, adopt, adopt_bank};
 use money::Fault;
 use open_sql::{OpenFault, make_bank};
 use sample_bank::sample_world;
@@ -113,13 +112,7 @@ fn done<S: Alter + Drop>(
     match deed {
         Deed::Make => Ok((made(rt, &mut conn), conn)),
         Deed::Change(change) => Ok((changed(rt, &mut conn, change), conn)),
-        Deed::Find => {
-            let found = match read_bank(rt.alloc(), &mut conn, Edition::First) {
-                Ok(_) => Ok(()),
-                Err(fault) => Err(fault),
-            };
-            Ok((Outcome::Found(found), conn))
-        }
+        Deed::Find => Ok((Outcome::Found(adopt_bank(rt.alloc(), &mut conn)), conn)),
         Deed::Open(act) => Ok(done_over(rt, SqlStore::over(conn), act)),
         Deed::Adopt(act) => match adopt(rt.alloc(), conn) {
             Ok(store) => Ok(done_over(rt, store, act)),
