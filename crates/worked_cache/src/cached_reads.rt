@@ -12,7 +12,7 @@ use store_rows::{Bank, ListStore, PolicyReads, Store};
 use test_counter::Watched;
 
 /// The sample in lists whose reads are counted.
-fn counted_sample(rt: &impl Abort, alloc: Global) -> Watched<Counting> {
+pub(crate) fn counted_sample(rt: &impl Abort, alloc: Global) -> Watched<Counting> {
     let world = sample_world(alloc).expect(rt, "memory");
     Watched::new(ListStore::new(world), Counting::NEW)
 }
