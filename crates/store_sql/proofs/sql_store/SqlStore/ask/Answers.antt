@@ -4,16 +4,16 @@ use Rattle.bank_schema.proofs.StepLemmas.{early, survived}
 use Rattle.store_sql.proofs.CountedLemmas.{answered, known_of, not_both}
 use Rattle.store_sql.proofs.sql_store.SqlStore.ask.Goals as goal
 
-pub returns-else-is_stopped : goal.returns-else-is_stopped
-returns-else-is_stopped g c =
+pub returns-else-self : goal.returns-else-self
+returns-else-self g c =
     let old = state g.S.Store c.args.self.now.conn in
-    let new = state g.S.Store c.ask.new.conn in
-    let reads = c.ask.ensures.reads in
+    let new = state g.S.Store c.ask-answer.new.conn in
+    let reads = c.ask-answer.ensures.reads in
     let before = early old new _ reads.survives in
     rw c.counted.ensures.conn (record {
       told = λ honest w holds.
-          answered c.ask.result c.counted.result _ (record { ok = c.counted.ensures.ok; err = c.counted.ensures.err })
-          (known_of c.ask.result _ (IsTrue old.is_open) (reads.stays_open honest).0 (λ is_open. reads.told honest w (holds c.if-self.false (before honest) is_open)));
+          answered c.ask-answer.result c.counted.result _ (record { ok = c.counted.ensures.ok; err = c.counted.ensures.err })
+          (known_of c.ask-answer.result _ (IsTrue old.is_open) (reads.stays_open honest).0 (λ is_open. reads.told honest w (holds c.if-self.false (before honest) is_open)));
       kept = record {
         answers = record { honest = before; state = c.counted.ensures.state; was_stopped = λ e. absurd (c.counted.ensures.named e); counted = c.counted.ensures.rose; no_more = c.counted.ensures.no_more; failed = c.counted.ensures.failed };
         kept = λ w holds _ honest is_open. reads.kept honest w (holds c.if-self.false (before honest) ((reads.stays_open honest).1 is_open)) is_open;
