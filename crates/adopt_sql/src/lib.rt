@@ -1,8 +1,8 @@
-//! Finds a bank in a SQL database. `read_bank` goes through only where the tables of the edition that it is
-//! asked for hold a World with its kept numbers, whose books hold and whose policy is sound and separated;
-//! and it refuses such a bank for a fault of the database alone. Nothing is changed, whatever it answers.
-//! `adopt` answers the store of a bank of the newest edition, or hands the connection back with the fault;
-//! `adopt_bank` only looks for one. `open_sql` makes banks.
+//! Finds a bank in a SQL database. `read_bank` goes through only where the tables of an edition hold a World
+//! with its kept numbers, whose books hold and whose policy is sound and separated; and it refuses such a
+//! bank for a fault of the database alone. Nothing is changed, whatever it answers. `adopt` answers the
+//! store of a bank of the newest edition, or hands the connection back with the fault; `adopt_bank` only
+//! looks for one. `open_sql` makes banks.
 #![tactic(auto)]
 
 mod adopt_fault;
