@@ -1,0 +1,21 @@
+use Rattle.cli_file.proofs.file.find.Goals as goal
+
+pub returns-in-Ok : goal.returns-in-Ok
+returns-in-Ok g c = record {
+  adopts = c.in-Ok.ensures.adopts;
+  unchanged = c.in-Ok.ensures.left;
+  survives = c.in-Ok.ensures.survives;
+  begins = record { works = c.in-Ok.ensures.works.0; no_fault = c.in-Ok.ensures.works.1; no_failure = c.in-Ok.ensures.works.2 };
+}
+
+pub returns-in-Err : goal.returns-in-Err
+returns-in-Err g c = record {
+  why = c.in-Err.fault;
+  told_so = c.of_adopting.ensures;
+  refused = c.in-Err.ensures.refused;
+  sound = c.in-Err.ensures.sound;
+  named = c.in-Err.ensures.named;
+  unchanged = c.in-Err.ensures.unchanged;
+  idle = c.in-Err.ensures.mode;
+  survives = c.in-Err.ensures.survives;
+}
