@@ -1,7 +1,7 @@
 //! Posts over streams that give them in pieces, end within them or fail: what is written, and that a message that did
 //! not come whole made no entry.
 
-use crate::broken_streams::{Broken, Pieces, Sink, pieces, sink};
+use crate::broken_streams::{Broken, Sink, sink};
 use counter_api::{ServeFault, Served, serve};
 use counter_clocks::{Fixed, Moment};
 use money::Tallied;
@@ -10,6 +10,7 @@ use sample_service::SampleBadges;
 use std::alloc::Global;
 use std::process::Abort;
 use store_rows::{Bank, BookReads, ListStore};
+use test_counter::{Pieces, pieces};
 
 /// What came of a run: how it ended, what was written, and how often account 101 was posted to, its balance and the
 /// cash of drawer 11 then.
