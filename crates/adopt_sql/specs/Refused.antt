@@ -23,6 +23,8 @@ use Rattle.policy_check.specs.declared.policy_fault.PolicyFault.TheVariants.{Dan
 use Rattle.whole_tables.specs.BankRow.{bank_row_cells}
 use Rattle.whole_tables.specs.Whole.{HasBankTables}
 use Rattle.whole_tables.specs.declared.bank.BankRow.{BankRow}
+use Rattle.whole_tables.specs.declared.fault.ReadFault.{ReadFault}
+use Rattle.whole_tables.specs.declared.fault.ReadFault.TheVariants.{Missing}
 use Rattle.adopt_sql.specs.Adopted.{IsBankNumber, IsBankRow}
 use Rattle.adopt_sql.specs.declared.adopt_fault.AdoptFault.{AdoptFault}
 use Rattle.adopt_sql.specs.Told.{AreBooksJudged, IsPolicyIn}
@@ -82,6 +84,11 @@ IsOfBooksRead fault = IsOfUnread fault
 abbrev pub IsOfStore : AdoptFault → Type 0
 IsOfStore (Fault _) = ⊤
 IsOfStore _ = ⊥
+
+-- the table is not there
+abbrev pub IsMissing : ReadFault → Type 0
+IsMissing (Missing table) = ⊤
+IsMissing _ = ⊥
 
 -- the tables are those of another version, or the database failed
 abbrev pub IsOfOther : AdoptFault → Type 0

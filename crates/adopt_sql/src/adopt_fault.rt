@@ -1,5 +1,5 @@
-ghost use Rattle.std.specs.Prelude.{◌≡◌};
-ghost use Rattle.adopt_sql.specs.Refused.{IsOfStore, IsOfUnread};
+ghost use Rattle.std.specs.Prelude.{◌≡◌, ◌⊎◌};
+ghost use Rattle.adopt_sql.specs.Refused.{IsMissing, IsOfStore, IsOfUnread};
 ghost use Rattle.whole_tables.specs.Faults.{IsOfDatabase};
 
 use book_check::BooksFault;
@@ -33,7 +33,8 @@ pub enum AdoptFault {
 
 /// Why a bank is not adopted of which its own row was not read, or another table was not there.
 pub(crate) fn table_unread(fault: ReadFault) -> AdoptFault
-    ensures { IsOfDatabase fault → IsOfStore result }
+    ensures store { IsOfDatabase fault → IsOfStore result }
+    ensures named { IsOfStore result → IsOfDatabase fault }
 {
     match fault {
         ReadFault::Fault(fault) => AdoptFault::Fault(fault),
@@ -45,6 +46,7 @@ pub(crate) fn table_unread(fault: ReadFault) -> AdoptFault
 pub(crate) fn books_unread(fault: ReadFault) -> AdoptFault
     ensures beyond { IsOfUnread result }
     ensures store { IsOfDatabase fault → IsOfStore result }
+    ensures named { IsOfStore result → IsOfDatabase fault ⊎ IsMissing fault }
 {
     match fault {
         ReadFault::Fault(fault) => AdoptFault::Fault(fault),

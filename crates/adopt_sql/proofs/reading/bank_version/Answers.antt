@@ -35,7 +35,7 @@ returns-in-Err-clause-refused g c clean has =
     let s1 = state g.S.Store c.told_row.new.tx.conn.now in
     let s2 = state g.S.Store c.ask_tables.new.tx.conn.now in
     store_refused c.args.edition s0.now.trees c.table_unread.result
-    (c.table_unread.ensures (asked_there c.args.edition s0 s1 s2 (λ db. IsBankNumber c.args.edition db c.in_ok-row.row.policy) c.ask_tables.ensures.survives c.in_ok-row.ensures.whole (IsOfDatabase c.in-Err.fault) c.in-Err.ensures.there clean has))
+    (c.table_unread.ensures.store (asked_there c.args.edition s0 s1 s2 (λ db. IsBankNumber c.args.edition db c.in_ok-row.row.policy) c.ask_tables.ensures.survives c.in_ok-row.ensures.whole (IsOfDatabase c.in-Err.fault) c.in-Err.ensures.there clean has))
 
 pub returns-in-Ok-clause-takes : goal.returns-in-Ok-clause-takes
 returns-in-Ok-clause-takes g c clean has s holds readable =
@@ -49,7 +49,7 @@ returns-in-Err-clause-takes g c clean has s holds readable =
     let s0 = state g.S.Store c.args.tx.now.conn.now in
     let s1 = state g.S.Store c.told_row.new.tx.conn.now in
     let s2 = state g.S.Store c.ask_tables.new.tx.conn.now in
-    c.table_unread.ensures (asked_there c.args.edition s0 s1 s2 (λ db. IsBankNumber c.args.edition db c.in_ok-row.row.policy) c.ask_tables.ensures.survives c.in_ok-row.ensures.whole (IsOfDatabase c.in-Err.fault) c.in-Err.ensures.there clean has)
+    c.table_unread.ensures.store (asked_there c.args.edition s0 s1 s2 (λ db. IsBankNumber c.args.edition db c.in_ok-row.row.policy) c.ask_tables.ensures.survives c.in_ok-row.ensures.whole (IsOfDatabase c.in-Err.fault) c.in-Err.ensures.there clean has)
 
 pub returns-in_err-row-clause-other : goal.returns-in_err-row-clause-other
 returns-in_err-row-clause-other g c clean e has version row differs =
