@@ -1,5 +1,5 @@
 use bank_policy::{Certifier, ItemSet, Member, Name, RelationKey, Triple, TripleKey};
-use bank_terms::{Kind, Procedure};
+use bank_terms::{Kind, MAX_MOMENT, Procedure};
 use command_bodies::read_command;
 use policy_ops::{Command, Enrolment, PolicyOp, UserKey};
 use std::process::Abort;
@@ -14,6 +14,8 @@ const TRIPLE: Triple = Triple {
     procedure: Procedure::Post,
     set: 1,
     limit: 999_999_999,
+    first: 0,
+    last: MAX_MOMENT,
 };
 
 const TRIPLE_KEY: TripleKey = TripleKey {
@@ -88,6 +90,66 @@ fn bodies_that_state_a_triple_or_a_certifier(rt: HostRuntime) {
         r#"{"procedure":"post","procedure":"close-day","user":1}"#,
         PolicyOp::Dismiss(CERTIFIER),
     );
+}
+
+/// The triple, from the first of these moments to the last.
+fn granted(first: u64, last: u64) -> PolicyOp {
+    PolicyOp::Grant(Triple {
+        first,
+        last,
+        ..TRIPLE
+    })
+}
+
+#[test]
+fn bodies_that_state_a_triple_with_moments(rt: HostRuntime) {
+    for (body, asked) in [
+        (
+            r#"{"first":800,"last":900,"limit":999999999,"procedure":"post","set":1,"user":9999}"#,
+            granted(800, 900),
+        ),
+        (
+            r#"{"limit":999999999,"procedure":"post","set":1,"user":9999,"last":99999999999,"first":0}"#,
+            granted(0, MAX_MOMENT),
+        ),
+        (
+            r#"{"first":99999999999,"last":99999999999,"limit":999999999,"procedure":"post","set":1,"user":9999}"#,
+            granted(MAX_MOMENT, MAX_MOMENT),
+        ),
+        (
+            r#"{"first":0,"last":0,"limit":999999999,"procedure":"post","set":1,"user":9999}"#,
+            granted(0, 0),
+        ),
+    ] {
+        states(&rt, Command::Grant, body, asked);
+    }
+}
+
+#[test]
+fn bodies_that_state_other_moments_state_no_triple(rt: HostRuntime) {
+    for moments in [
+        r#""first":800"#,
+        r#""last":900"#,
+        r#""first":901,"last":900"#,
+        r#""first":1,"last":0"#,
+        r#""first":0,"last":100000000000"#,
+        r#""first":100000000000,"last":100000000000"#,
+        r#""first":-1,"last":900"#,
+        r#""first":"0","last":900"#,
+        r#""first":0,"last":900.0"#,
+        r#""first":null,"last":900"#,
+        r#""first":0,"Last":900"#,
+        r#""first":0,"last":900,"at":0"#,
+    ] {
+        let body = format!(in rt.alloc();
+            "{{\"limit\":0,\"procedure\":\"post\",\"set\":1,\"user\":7,{moments}}}"
+        );
+        let body = body.expect(&rt, "memory");
+        assert!(rt;
+            is_none_stated(&rt, Command::Grant, body.as_bytes()),
+            "at {moments}"
+        );
+    }
 }
 
 /// The body that defines set 1 as an account, this many times.
