@@ -11,7 +11,7 @@ use Rattle.bank_schema.specs.Cells.{TripleFitsIn, bank_cells_in, triple_cells_in
 use Rattle.bank_policy.specs.PolicyKeys.{triple_key}
 use Rattle.bank_policy.specs.declared.rows.Triple.{Triple}
 use Rattle.bank_schema.specs.declared.edition.Edition.{Edition}
-use Rattle.bank_schema.specs.declared.edition.Edition.TheVariants.{First}
+use Rattle.bank_schema.specs.declared.edition.Edition.TheVariants.{First, Second}
 use Rattle.bank_schema.specs.Held.{HoldsBank, HoldsSheetsIn, Sheet, tree_of}
 use Rattle.bank_schema.specs.Held.Sheet.{accounts as in_accounts, bank as in_bank, branches as in_branches, certifiers as in_certifiers, entries as in_entries, lines as in_lines, members as in_members, proofs as in_proofs, relations as in_relations, releases as in_releases, sets as in_sets, tellers as in_tellers, triples as in_triples, users as in_users}
 use Rattle.bank_schema.specs.HeldRows.{HoldsRows, all_but_rowid, all_of_it}
@@ -55,6 +55,7 @@ kept_bank e version = record { shaped = ((tt, tt), (refl, tt)); beside = wide_ba
 
 kept_triples : (e : Edition) (rows : List Triple) (tree : List Row) → HoldsRows all_but_rowid (triple_cells_in e) triple_key (TripleFitsIn e) rows tree → IsKeptTable tree
 kept_triples First rows tree held = kept_beside_rowid _ _ _ _ _ (λ x. omega arith) held
+kept_triples Second rows tree held = kept_beside_rowid _ _ _ _ _ (λ x. omega arith) held
 
 kept_sheets : (e : Edition) (db : Trees) (s : Sheets) → HoldsSheetsIn e db s → (t : Sheet) → IsKeptTable (db (tree_of t))
 kept_sheets e db s holds in_bank = subst IsKeptTable (sym (holds in_bank)) (kept_bank e s.version)

@@ -65,6 +65,6 @@ pub fn adopt_bank<S: Alter>(alloc: Global, conn: &mut Connection<S>) -> Result<(
     ensures left { HasCleanDisk (state S.Store conn.new) → IsBankFile (state S.Store conn.old) → IsLeft (state S.Store conn.old) (state S.Store conn.new) }
     ensures survives { Survives (state S.Store conn.old) (state S.Store conn.new) (λ _. ⊥) }
 {
-    read_bank(alloc, conn, Edition::First)?;
+    read_bank(alloc, conn, Edition::Second)?;
     Ok(())
 }

@@ -8,7 +8,7 @@ use Rattle.bank_words.specs.Commands.{IsNamedBy, IsRefusal, bank_app}
 use Rattle.bank_words.specs.Explained.{IsExplained}
 use Rattle.bank_words.specs.declared.words.Action.{Action}
 use Rattle.bank_words.specs.declared.words.Action.TheVariants as action
-use Rattle.cli_file.specs.Actions.{IsChecked, IsInited, IsListened, IsRun}
+use Rattle.cli_file.specs.Actions.{IsChecked, IsInited, IsListened, IsRun, IsUpgraded}
 use Rattle.cli_file.specs.Telling.{IsEnded, IsSaid}
 use Rattle.cli_file.specs.declared.fault.ActionFault.{ActionFault}
 use Rattle.ends.specs.Lines.{line}
@@ -47,6 +47,8 @@ IsActed g image may_give from to (action.Init file dir) old new errors_old error
     IsToldOf (IsInited g image) (codes "made") old new errors_old errors_new status
 IsActed g image may_give from to (action.Check file) old new errors_old errors_new status =
     IsToldOf (IsChecked g image) (codes "books hold") old new errors_old errors_new status
+IsActed g image may_give from to (action.Upgrade file) old new errors_old errors_new status =
+    IsToldOf (IsUpgraded g image) (codes "carried over") old new errors_old errors_new status
 IsActed g image may_give from to (action.Run file badges moment) old new errors_old errors_new status =
     IsRunToEnd (IsRun g image badges.now moment old) new errors_old errors_new status
 IsActed g image may_give from to (action.Serve file badges port requests) old new errors_old errors_new status =

@@ -3,7 +3,9 @@ ghost use Rattle.bank_cli.specs.Acted.{IsActed, IsAnswered};
 ghost use Rattle.ends.specs.Streams.{stream_at, streams_at};
 
 use bank_words::{Action, explain, read_words};
-use cli_file::{Opener, Progress, check_file, end, init_file, run_file, say_done, serve_file};
+use cli_file::{
+    Opener, Progress, check_file, end, init_file, run_file, say_done, serve_file, upgrade_file,
+};
 use counter_api::Clock;
 use money::Tallied;
 use sample_service::answer_behind_cache;
@@ -63,6 +65,10 @@ fn act<D: Disk + Drop, O: Opener<D>, C: Clock, R: Read, W: Write, E: Write, P: W
         Action::Check { file } => {
             let done = check_file(rt, file, opener, progress);
             say_done(done, "books hold\n", output, errors)
+        }
+        Action::Upgrade { file } => {
+            let done = upgrade_file(rt, file, opener, progress);
+            say_done(done, "carried over\n", output, errors)
         }
         Action::Run {
             file,

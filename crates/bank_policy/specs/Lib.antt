@@ -2,6 +2,7 @@ pub mod Execution
 pub mod HeldRows
 pub mod Items
 pub mod Laws
+pub mod Moments
 pub mod Policy
 pub mod PolicyKeys
 pub mod PolicyRoom

@@ -17,7 +17,7 @@ mod reading;
 mod rows;
 
 pub use bank_terms::{Cdi, Kind, OperationRow, Procedure, Rule};
-pub use coverage::{best_limit, covers, is_certified};
+pub use coverage::{best_limit, covers, is_certified, keep_current};
 pub use held_rows::{CertifiedRow, HeldRow};
 pub use policy::Policy;
 pub use policy_keys::{certifier_number, relation_number, triple_number};

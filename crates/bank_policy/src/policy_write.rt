@@ -31,7 +31,7 @@ pub struct RelationKey {
     pub set: u32,
 }
 
-/// A triple by its key, without its limit.
+/// A triple by its key, without its limit and its moments.
 #[derive(Clone, Copy, Debug, PartialEq, Eq)]
 pub struct TripleKey {
     /// Whose triple it is, 1 to 9,999.

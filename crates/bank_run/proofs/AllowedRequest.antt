@@ -9,6 +9,7 @@ use Rattle.policy_check.specs.Separation.{MayExecute}
 use Rattle.bank_policy.specs.declared.rows.User.{User}
 use Rattle.bank_terms.specs.declared.rule.Rule.{Rule}
 use Rattle.bank_terms.specs.declared.rule.Rule.TheVariants as rule
+use Rattle.bank_policy.specs.Tests.{current}
 use Rattle.bank_policy.proofs.RowsTell.{held_by_rows}
 use Rattle.bank_policy.proofs.Tested.{held_by_some}
 use Rattle.bank_books.specs.Range.{IsUser}
@@ -50,8 +51,8 @@ allowed_user w q is = user_there w q.who.user q.who.session (not-false _ (passes
 
 may_execute : (w : WorldLists) (q : Execution) → first w (executes q) ≡ None → MayExecute w.policy (asker q.who) (procedure_of q.op)
 may_execute w q is =
-    let some = held_by_some (triples_of w.policy (asker q.who) (procedure_of q.op)) (touched q.op) (not-false _ (passes w q rule.NoTriple refl is)) in
-    let held = (held_by_rows w.policy (asker q.who) (procedure_of q.op) (touched q.op) some.0).1 some.1 in
+    let some = held_by_some (current q.moment (triples_of w.policy (asker q.who) (procedure_of q.op))) (touched q.op) (not-false _ (passes w q rule.NoTriple refl is)) in
+    let held = (held_by_rows w.policy (asker q.who) (procedure_of q.op) (touched q.op) some.0 q.moment).1 some.1 in
     (held.0, held.1, held.2, held.3, (held.4.0, held.4.1))
 
 pub no_one_executes_what_he_certifies : NoOneExecutesWhatHeCertifies

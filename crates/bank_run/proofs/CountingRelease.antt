@@ -7,7 +7,7 @@ use Rattle.std.specs.Cmp.Rules.{signed_items}
 use Rattle.std.specs.Ordering.{int_eq}
 use Rattle.std.proofs.lemmas.Bool.{and_parts, eq-eqb, eqb-false, eqb-true, ne_eqb, not-true}
 use Rattle.bank_policy.specs.HeldRows.{standing, triples_of}
-use Rattle.bank_policy.specs.Tests.{is_held_for}
+use Rattle.bank_policy.specs.Tests.{current, is_held_for}
 use Rattle.bank_policy.specs.declared.rows.Standing.{Standing}
 use Rattle.bank_policy.proofs.RowsTell.{held_by_rows}
 use Rattle.bank_policy.proofs.Tested.{held_up_to, up_to_holds}
@@ -71,10 +71,10 @@ active_tested o giver there active = ap is_active there ∙ not_so giver.suspend
 
 -- ---- the release
 
-module _ (w : WorldLists) (user number : ℕ) (op : Op) where
-  told_row : (row : Release) → release w user number ≡ Some row → counts (release_grounds_of w row) user (row_of op) (touched op) (amount op) ≡ true → Released w user number op
+module _ (w : WorldLists) (user number : ℕ) (op : Op) (moment : ℕ) where
+  told_row : (row : Release) → release w user number ≡ Some row → counts (release_grounds_of w moment row) user (row_of op) (touched op) (amount op) ≡ true → Released w user number op moment
   told_row row there is =
-      let g = release_grounds_of w row in
+      let g = release_grounds_of w moment row in
       let first = and_parts (not row.used) (is_same_operation row.operation (row_of op) && (is_of_today g && is_giver_for g user (touched op) (amount op))) is in
       let second = and_parts (is_same_operation row.operation (row_of op)) (is_of_today g && is_giver_for g user (touched op) (amount op)) first.1 in
       let third = and_parts (is_of_today g) (is_giver_for g user (touched op) (amount op)) second.1 in
@@ -82,7 +82,7 @@ module _ (w : WorldLists) (user number : ℕ) (op : Op) where
       let fifth = and_parts (is_active g.giver) (is_held_for g.held (touched op) (amount op)) fourth.1 in
       let day = today_told w row.day (branch_row row.branch w.branches) third.0 in
       let giver = active_told (standing w.policy row.giver) fifth.0 in
-      let some = held_up_to (triples_of w.policy row.giver procedure.Release) (touched op) (amount op) fifth.1 in
+      let some = held_up_to (current moment (triples_of w.policy row.giver procedure.Release)) (touched op) (amount op) fifth.1 in
       record {
         row = row;
         there = there;
@@ -96,27 +96,27 @@ module _ (w : WorldLists) (user number : ℕ) (op : Op) where
         giver_there = giver.1.0;
         active = giver.1.1;
         limit = some.0;
-        held = (held_by_rows w.policy row.giver procedure.Release (touched op) some.0).1 some.1.0;
+        held = (held_by_rows w.policy row.giver procedure.Release (touched op) some.0 moment).1 some.1.0;
         enough = some.1.1;
       }
 
-  tested_row : (r : Released w user number op) → counts (release_grounds_of w r.row) user (row_of op) (touched op) (amount op) ≡ true
+  tested_row : (r : Released w user number op moment) → counts (release_grounds_of w moment r.row) user (row_of op) (touched op) (amount op) ≡ true
   tested_row r =
-      let g = release_grounds_of w r.row in
+      let g = release_grounds_of w moment r.row in
       both (not r.row.used) (is_same_operation r.row.operation (row_of op) && (is_of_today g && is_giver_for g user (touched op) (amount op))) (not_so r.row.used r.unused)
       (both (is_same_operation r.row.operation (row_of op)) (is_of_today g && is_giver_for g user (touched op) (amount op)) (same_tested r.row.operation (row_of op) r.operation)
       (both (is_of_today g) (is_giver_for g user (touched op) (amount op)) (today_tested w r.row.day (branch_row r.row.branch w.branches) r.branch r.branch_there r.today)
       (both (not (r.row.giver == user)) (is_active g.giver && is_held_for g.held (touched op) (amount op)) (not_so (r.row.giver == user) (ne_eqb r.row.giver user r.other))
       (both (is_active g.giver) (is_held_for g.held (touched op) (amount op)) (active_tested (standing w.policy r.row.giver) r.giver r.giver_there r.active)
-      (up_to_holds (triples_of w.policy r.row.giver procedure.Release) (touched op) r.limit (amount op)
-      ((held_by_rows w.policy r.row.giver procedure.Release (touched op) r.limit).0 r.held) r.enough)))))
+      (up_to_holds (current moment (triples_of w.policy r.row.giver procedure.Release)) (touched op) r.limit (amount op)
+      ((held_by_rows w.policy r.row.giver procedure.Release (touched op) r.limit moment).0 r.held) r.enough)))))
 
   abbrev test : Option Release → Bool
-  test o = option_map_or (λ g. counts g user (row_of op) (touched op) (amount op)) (option_map (release_grounds_of w) o) false
+  test o = option_map_or (λ g. counts g user (row_of op) (touched op) (amount op)) (option_map (release_grounds_of w moment) o) false
 
-  told : (o : Option Release) → release w user number ≡ o → test o ≡ true → Released w user number op
+  told : (o : Option Release) → release w user number ≡ o → test o ≡ true → Released w user number op moment
   told None at is = absurd cc
   told (Some row) at is = told_row row at is
 
-  pub released_by_grounds : (test (release w user number) ≡ true → Released w user number op) × (Released w user number op → test (release w user number) ≡ true)
+  pub released_by_grounds : (test (release w user number) ≡ true → Released w user number op moment) × (Released w user number op moment → test (release w user number) ≡ true)
   released_by_grounds = (λ is. told (release w user number) refl is, λ r. ap test r.there ∙ tested_row r)

@@ -5,7 +5,7 @@ use Rattle.std.specs.List.{find}
 use Rattle.std.proofs.lemmas.Bool.{and_parts, eq-eqb, eqb-false, eqb-true, ne_eqb, not-true}
 use Rattle.bank_policy.specs.Execution.{Certified, Held}
 use Rattle.bank_policy.specs.HeldRows.{relations_of, standing, triples_of}
-use Rattle.bank_policy.specs.Tests.{is_certified, is_held}
+use Rattle.bank_policy.specs.Tests.{current, is_certified, is_held}
 use Rattle.bank_policy.specs.declared.rows.Standing.{Standing}
 use Rattle.bank_terms.specs.declared.rule.Rule.{Rule}
 use Rattle.bank_terms.specs.declared.rule.Rule.TheVariants as rule
@@ -104,20 +104,20 @@ certified_passed w q =
     passed (is_certified rows (touched q.op)) (λ is. law.1 (certified_told rows (touched q.op) is)) (λ holds. certified_tested rows (touched q.op) (law.0 holds))
 
 held_passed : (w : WorldLists) (q : Execution) →
-    (denies rule.NoTriple w (executes q) ≡ false → (limit : ℕ) × Held w.policy (asker q.who) (procedure_of q.op) (touched q.op) limit)
-    × ((limit : ℕ) × Held w.policy (asker q.who) (procedure_of q.op) (touched q.op) limit → denies rule.NoTriple w (executes q) ≡ false)
+    (denies rule.NoTriple w (executes q) ≡ false → (limit : ℕ) × Held w.policy (asker q.who) (procedure_of q.op) (touched q.op) limit q.moment)
+    × ((limit : ℕ) × Held w.policy (asker q.who) (procedure_of q.op) (touched q.op) limit q.moment → denies rule.NoTriple w (executes q) ≡ false)
 held_passed w q =
-    let rows = triples_of w.policy (asker q.who) (procedure_of q.op) in
+    let rows = current q.moment (triples_of w.policy (asker q.who) (procedure_of q.op)) in
     passed (is_held rows (touched q.op))
-    (λ is. let some = held_by_some rows (touched q.op) is in (some.0, (held_by_rows w.policy (asker q.who) (procedure_of q.op) (touched q.op) some.0).1 some.1))
-    (λ some. some_holds rows (touched q.op) some.0 ((held_by_rows w.policy (asker q.who) (procedure_of q.op) (touched q.op) some.0).0 some.1))
+    (λ is. let some = held_by_some rows (touched q.op) is in (some.0, (held_by_rows w.policy (asker q.who) (procedure_of q.op) (touched q.op) some.0 q.moment).1 some.1))
+    (λ some. some_holds rows (touched q.op) some.0 ((held_by_rows w.policy (asker q.who) (procedure_of q.op) (touched q.op) some.0 q.moment).0 some.1))
 
 -- some one triple reaches the amount
-in_limit_passed : (w : WorldLists) (q : Execution) → (is_in_limit (grounds w q) ≡ true → InLimit w (asker q.who) q.op) × (InLimit w (asker q.who) q.op → is_in_limit (grounds w q) ≡ true)
+in_limit_passed : (w : WorldLists) (q : Execution) → (is_in_limit (grounds w q) ≡ true → InLimit w (asker q.who) q.op q.moment) × (InLimit w (asker q.who) q.op q.moment → is_in_limit (grounds w q) ≡ true)
 in_limit_passed w q =
-    let rows = triples_of w.policy (asker q.who) (procedure_of q.op) in (
-      λ is. let some = held_up_to rows (touched q.op) (amount q.op) is in (some.0, ((held_by_rows w.policy (asker q.who) (procedure_of q.op) (touched q.op) some.0).1 some.1.0, some.1.1)),
-      λ some. up_to_holds rows (touched q.op) some.0 (amount q.op) ((held_by_rows w.policy (asker q.who) (procedure_of q.op) (touched q.op) some.0).0 some.1.0) some.1.1,
+    let rows = current q.moment (triples_of w.policy (asker q.who) (procedure_of q.op)) in (
+      λ is. let some = held_up_to rows (touched q.op) (amount q.op) is in (some.0, ((held_by_rows w.policy (asker q.who) (procedure_of q.op) (touched q.op) some.0 q.moment).1 some.1.0, some.1.1)),
+      λ some. up_to_holds rows (touched q.op) some.0 (amount q.op) ((held_by_rows w.policy (asker q.who) (procedure_of q.op) (touched q.op) some.0 q.moment).0 some.1.0) some.1.1,
     )
 
 -- of two tests that let pass, one of them does
@@ -135,8 +135,8 @@ rest_passes true rest is = refl
 rest_passes false rest is = is
 
 limit_passed : (w : WorldLists) (q : Execution) →
-    (denies rule.Limit w (executes q) ≡ false → InLimit w (asker q.who) q.op ⊎ (q.who.release ≢ 0))
-    × (InLimit w (asker q.who) q.op ⊎ (q.who.release ≢ 0) → denies rule.Limit w (executes q) ≡ false)
+    (denies rule.Limit w (executes q) ≡ false → InLimit w (asker q.who) q.op q.moment ⊎ (q.who.release ≢ 0))
+    × (InLimit w (asker q.who) q.op q.moment ⊎ (q.who.release ≢ 0) → denies rule.Limit w (executes q) ≡ false)
 limit_passed w q =
     let enough : Bool = is_in_limit (grounds w q) in (
       λ is. one_passes enough (q.who.release == 0) (in_limit_passed w q).0 (λ none. eqb-false q.who.release 0 none) is,
@@ -162,13 +162,13 @@ counting_passes false true is = refl
 counting_passes false false is = absurd cc
 
 release_passed : (w : WorldLists) (q : Execution) →
-    (denies rule.Release w (executes q) ≡ false → InLimit w (asker q.who) q.op ⊎ ((q.who.release ≡ 0) ⊎ Released w (asker q.who) q.who.release q.op))
-    × (InLimit w (asker q.who) q.op ⊎ ((q.who.release ≡ 0) ⊎ Released w (asker q.who) q.who.release q.op) → denies rule.Release w (executes q) ≡ false)
+    (denies rule.Release w (executes q) ≡ false → InLimit w (asker q.who) q.op q.moment ⊎ ((q.who.release ≡ 0) ⊎ Released w (asker q.who) q.who.release q.op q.moment))
+    × (InLimit w (asker q.who) q.op q.moment ⊎ ((q.who.release ≡ 0) ⊎ Released w (asker q.who) q.who.release q.op q.moment) → denies rule.Release w (executes q) ≡ false)
 release_passed w q =
     let enough : Bool = is_in_limit (grounds w q) in
     let counts : Bool = is_released (grounds w q) in
     let none : Bool = q.who.release == 0 in
-    let law = released_by_grounds w (asker q.who) q.who.release q.op in (
+    let law = released_by_grounds w (asker q.who) q.who.release q.op q.moment in (
       λ is. one_passes enough (not none && not counts) (in_limit_passed w q).0 (λ rest. one_counts none counts (λ zero. eqb-true q.who.release 0 zero) law.0 rest) is,
       λ any. elim any [
         | inl holds ↦ enough_passes enough (not none && not counts) ((in_limit_passed w q).1 holds)
@@ -190,7 +190,7 @@ none_found p (x ∷ xs) fails = ap (λ b. if b then Some x else find p xs) (fail
 
 -- each rule of the policy passes, where these do of the limit and of the release
 policy_passes : (w : WorldLists) (q : Execution) → IsIdentified w q.who → Certified w.policy (procedure_of q.op) (touched q.op)
-    → (limit : ℕ) × Held w.policy (asker q.who) (procedure_of q.op) (touched q.op) limit → denies rule.Limit w (executes q) ≡ false → denies rule.Release w (executes q) ≡ false
+    → (limit : ℕ) × Held w.policy (asker q.who) (procedure_of q.op) (touched q.op) limit q.moment → denies rule.Limit w (executes q) ≡ false → denies rule.Release w (executes q) ≡ false
     → (r : Rule) → policy_denies r (grounds w q) ≡ false
 policy_passes w q known certified held limit release rule.Identity = (identified_passed w q).1 known
 policy_passes w q known certified held limit release rule.NotCertified = (certified_passed w q).1 certified
@@ -200,14 +200,14 @@ policy_passes w q known certified held limit release rule.Release = release
 policy_passes w q known certified held limit release _ = refl
 
 -- the limit and the release together
-told_either : (w : WorldLists) (q : Execution) → (limit : ℕ) × Held w.policy (asker q.who) (procedure_of q.op) (touched q.op) limit
-    → InLimit w (asker q.who) q.op ⊎ (q.who.release ≢ 0) → InLimit w (asker q.who) q.op ⊎ ((q.who.release ≡ 0) ⊎ Released w (asker q.who) q.who.release q.op) → InLimitOrReleased w q
+told_either : (w : WorldLists) (q : Execution) → (limit : ℕ) × Held w.policy (asker q.who) (procedure_of q.op) (touched q.op) limit q.moment
+    → InLimit w (asker q.who) q.op q.moment ⊎ (q.who.release ≢ 0) → InLimit w (asker q.who) q.op q.moment ⊎ ((q.who.release ≡ 0) ⊎ Released w (asker q.who) q.who.release q.op q.moment) → InLimitOrReleased w q
 told_either w q held (inl in_limit) released = inl in_limit
 told_either w q held (inr named) (inl in_limit) = inl in_limit
 told_either w q held (inr named) (inr (inl none)) = absurd (named none)
 told_either w q held (inr named) (inr (inr released)) = inr (held, record { named = named; counts = released })
 
-held_either : (w : WorldLists) (q : Execution) → InLimitOrReleased w q → (limit : ℕ) × Held w.policy (asker q.who) (procedure_of q.op) (touched q.op) limit
+held_either : (w : WorldLists) (q : Execution) → InLimitOrReleased w q → (limit : ℕ) × Held w.policy (asker q.who) (procedure_of q.op) (touched q.op) limit q.moment
 held_either w q (inl in_limit) = (in_limit.0, in_limit.1.0)
 held_either w q (inr released) = released.0
 
@@ -235,13 +235,13 @@ allowed_exactly_when_held w q = (
 )
 
 -- what lets an operation be: a triple where one reaches the amount
-pub leave_in_limit : (w : WorldLists) (q : Execution) → InLimit w (asker q.who) q.op → leave_of (grounds w q) ≡ leave.Triple
+pub leave_in_limit : (w : WorldLists) (q : Execution) → InLimit w (asker q.who) q.op q.moment → leave_of (grounds w q) ≡ leave.Triple
 leave_in_limit w q holds = ap (λ (b : Bool). if b then leave.Triple else leave.Release q.who.release) ((in_limit_passed w q).1 holds)
 
 -- and else the release
-pub leave_past_limit : (w : WorldLists) (q : Execution) → ¬ InLimit w (asker q.who) q.op → leave_of (grounds w q) ≡ leave.Release q.who.release
+pub leave_past_limit : (w : WorldLists) (q : Execution) → ¬ InLimit w (asker q.who) q.op q.moment → leave_of (grounds w q) ≡ leave.Release q.who.release
 leave_past_limit w q past = go (is_in_limit (grounds w q)) (in_limit_passed w q).0
   where
-    go : (b : Bool) → (b ≡ true → InLimit w (asker q.who) q.op) → (if b then leave.Triple else leave.Release q.who.release) ≡ leave.Release q.who.release
+    go : (b : Bool) → (b ≡ true → InLimit w (asker q.who) q.op q.moment) → (if b then leave.Triple else leave.Release q.who.release) ≡ leave.Release q.who.release
     go true tells = absurd (past (tells refl))
     go false tells = refl

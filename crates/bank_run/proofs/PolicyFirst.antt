@@ -4,6 +4,7 @@ use Rattle.std.specs.Prelude.{option_and_then}
 use Rattle.std.specs.List.{find, list_all}
 use Rattle.std.proofs.lemmas.Bool.{and_parts, false≢true}
 use Rattle.bank_policy.specs.HeldRows.{relations_of, standing, triples_of}
+use Rattle.bank_policy.specs.Tests.{current}
 use Rattle.bank_policy.specs.Policy.{PolicyLists}
 use Rattle.bank_terms.specs.declared.rule.Rule.{Rule}
 use Rattle.bank_terms.specs.declared.rule.Rule.TheVariants as rule
@@ -55,7 +56,7 @@ judged_by p released x = record {
   standing = option_and_then (λ user. standing p user) x.who.user;
   session = x.who.session;
   relations = relations_of p (procedure_of x.op);
-  held = triples_of p (asker x.who) (procedure_of x.op);
+  held = current x.moment (triples_of p (asker x.who) (procedure_of x.op));
   operation = row_of x.op;
   items = touched x.op;
   amount = amount x.op;
@@ -71,8 +72,8 @@ pub denied_before_the_books : DeniedBeforeTheBooks
 denied_before_the_books w v x r of alike is =
     let books : WorldLists → Option Rule = λ u. (by_books (books_meaning u x)).first in
     let on_release : PolicyLists → Option ReleaseGrounds → Bool = λ p released. policy_denies rule.Release (judged_by p released x) in
-    let here = release_grounds w (asker x.who) x.who.release in
-    let there = release_grounds v (asker x.who) x.who.release in
+    let here = release_grounds w (asker x.who) x.who.release x.moment in
+    let there = release_grounds v (asker x.who) x.who.release x.moment in
     subst (λ p. tested (judged_by p there x) (on_release p there) (books v) ≡ Some r) (sym alike.policy)
     (in_front (policy_denies rule.Identity (grounds w x)) (policy_denies rule.NotCertified (grounds w x)) (policy_denies rule.NoTriple (grounds w x)) (policy_denies rule.Limit (grounds w x))
     (on_release w.policy here) (on_release w.policy there) (books w) (books v) r (λ named. ap (on_release w.policy) (alike.release named)) (behind (λ other. (books_meaning w x).denies other) r of) is)

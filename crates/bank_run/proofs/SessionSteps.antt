@@ -85,6 +85,7 @@ keeps_sound s p was = record {
     users = All-weaker (λ row. IsUser p row.user) (λ row. IsUser (with_users s p) row.user) (λ row there. user_there s p row.user there) p.triples was.triples.users;
     relations = was.triples.relations;
     limits = was.triples.limits;
+    moments = was.triples.moments;
   };
   certifiers = record {
     distinct = was.certifiers.distinct;

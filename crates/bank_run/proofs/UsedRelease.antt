@@ -71,17 +71,17 @@ found_used user number (r ∷ rows) row is = go (is_release user number (seen us
     go true rest at is = let same : seen user number r ≡ row = cc in subst (λ (x : Release). x.used ≡ true) same (seen_used user number r at)
     go false rest at is = rest is
 
-pub counts_no_more : (w : WorldLists) (user number : ℕ) (op : Op) → ¬ Released (used_by (leave.Release number) user w) user number op
-counts_no_more w user number op counts = false≢true (sym counts.unused ∙ found_used user number w.releases counts.row counts.there)
+pub counts_no_more : (w : WorldLists) (user number : ℕ) (op : Op) (moment : ℕ) → ¬ Released (used_by (leave.Release number) user w) user number op moment
+counts_no_more w user number op moment counts = false≢true (sym counts.unused ∙ found_used user number w.releases counts.row counts.there)
 
 -- ---- the law
 
 is_used_once : (w : WorldLists) (x : Execution) → IsUsedOnce w x
 is_used_once w x = record {
   kept = λ holds. ap (λ l. used_by l (asker x.who) (books_meaning w x).effect) (leave_in_limit w x holds);
-  used = λ past op counts.
-      counts_no_more (books_meaning w x).effect (asker x.who) x.who.release op
-      (subst (λ l. Released (used_by l (asker x.who) (books_meaning w x).effect) (asker x.who) x.who.release op) (leave_past_limit w x past) counts);
+  used = λ past op moment counts.
+      counts_no_more (books_meaning w x).effect (asker x.who) x.who.release op moment
+      (subst (λ l. Released (used_by l (asker x.who) (books_meaning w x).effect) (asker x.who) x.who.release op moment) (leave_past_limit w x past) counts);
 }
 
 pub releases_are_used_once : ReleasesAreUsedOnce

@@ -56,9 +56,9 @@ numbers = 1 ∷ 2 ∷ 3 ∷ 4 ∷ 5 ∷ 6 ∷ 7 ∷ 8 ∷ 9 ∷ 10 ∷ 11 ∷ 12
 abbrev pub FirstByPlace : Type 0
 FirstByPlace = ((r : Rule) → HasOnePlace r) × (map number_of rules ≡ numbers) × ((w : WorldLists) (q : Request) → IsFirstRule w q)
 
--- some one triple of the user holds all that is touched, up to the amount at least
-abbrev pub InLimit : WorldLists → ℕ → Op → Type 0
-InLimit w user op = (limit : ℕ) × (Held w.policy user (procedure_of op) (touched op) limit × amount op ≤ limit)
+-- some one triple of the user that counts at the moment holds all that is touched, up to the amount at least
+abbrev pub InLimit : WorldLists → ℕ → Op → ℕ → Type 0
+InLimit w user op moment = (limit : ℕ) × (Held w.policy user (procedure_of op) (touched op) limit moment × amount op ≤ limit)
 
 -- who asks is known: the gate names him, he is there and not suspended, and the session that he names is open and his present one
 pub record IsIdentified (w : WorldLists) (who : Who) : Type 0 where
@@ -89,8 +89,8 @@ abbrev pub IdentityIsJudged : Type 0
 IdentityIsJudged = (w : WorldLists) → IsIdentityJudged w
 
 -- The release of this number of a user counts for an operation: it is there and unused, names exactly that operation, and bears the present day of its branch; who
--- gave it is another, is there and not suspended, and some one triple of his for releases holds all that is touched, up to the amount at least.
-pub record Released (w : WorldLists) (user number : ℕ) (op : Op) : Type 0 where
+-- gave it is another, is there and not suspended, and some one triple of his for releases that counts at the moment holds all that is touched, up to the amount at least.
+pub record Released (w : WorldLists) (user number : ℕ) (op : Op) (moment : ℕ) : Type 0 where
   pub row : Release
   pub there : release w user number ≡ Some row
   pub unused : row.used ≡ false
@@ -103,22 +103,22 @@ pub record Released (w : WorldLists) (user number : ℕ) (op : Op) : Type 0 wher
   pub giver_there : standing w.policy row.giver ≡ Some giver
   pub active : giver.suspended ≡ false
   pub limit : ℕ
-  pub held : Held w.policy row.giver procedure.Release (touched op) limit
+  pub held : Held w.policy row.giver procedure.Release (touched op) limit moment
   pub enough : amount op ≤ limit
 
 -- a release is named, and counts for what is asked for
 pub record IsReleased (w : WorldLists) (x : Execution) : Type 0 where
   pub named : x.who.release ≢ 0
-  pub counts : Released w (asker x.who) x.who.release x.op
+  pub counts : Released w (asker x.who) x.who.release x.op x.moment
 
 -- What it is that a rule of the policy does not deny, in the words of the model. Where no triple of the user's own reaches the amount, it is the limit that is told
 -- where no release is named, and the release where one is.
 pub record IsPolicyJudged (w : WorldLists) (x : Execution) : Type 0 where
   pub identified : denies rule.Identity w (executes x) ≡ false ↔ IsIdentified w x.who
   pub certified : denies rule.NotCertified w (executes x) ≡ false ↔ Certified w.policy (procedure_of x.op) (touched x.op)
-  pub held : denies rule.NoTriple w (executes x) ≡ false ↔ ((limit : ℕ) × Held w.policy (asker x.who) (procedure_of x.op) (touched x.op) limit)
-  pub in_limit : denies rule.Limit w (executes x) ≡ false ↔ (InLimit w (asker x.who) x.op ⊎ (x.who.release ≢ 0))
-  pub released : denies rule.Release w (executes x) ≡ false ↔ (InLimit w (asker x.who) x.op ⊎ ((x.who.release ≡ 0) ⊎ Released w (asker x.who) x.who.release x.op))
+  pub held : denies rule.NoTriple w (executes x) ≡ false ↔ ((limit : ℕ) × Held w.policy (asker x.who) (procedure_of x.op) (touched x.op) limit x.moment)
+  pub in_limit : denies rule.Limit w (executes x) ≡ false ↔ (InLimit w (asker x.who) x.op x.moment ⊎ (x.who.release ≢ 0))
+  pub released : denies rule.Release w (executes x) ≡ false ↔ (InLimit w (asker x.who) x.op x.moment ⊎ ((x.who.release ≡ 0) ⊎ Released w (asker x.who) x.who.release x.op x.moment))
 
 abbrev pub PolicyIsJudged : Type 0
 PolicyIsJudged = (w : WorldLists) (x : Execution) → IsPolicyJudged w x
@@ -127,7 +127,7 @@ PolicyIsJudged = (w : WorldLists) (x : Execution) → IsPolicyJudged w x
 -- present day of its branch.
 pub record IsJudgedAlike (r : Rule) (w v : WorldLists) (x : Execution) : Type 0 where
   pub policy : v.policy ≡ w.policy
-  pub release : r ≡ rule.Release → release_grounds v (asker x.who) x.who.release ≡ release_grounds w (asker x.who) x.who.release
+  pub release : r ≡ rule.Release → release_grounds v (asker x.who) x.who.release x.moment ≡ release_grounds w (asker x.who) x.who.release x.moment
 
 -- Where a rule of the policy is the first in one World, it is the first in each one in which it judges by the same, be the books what they are. So who may not touch an
 -- item does not learn whether it is there.
@@ -137,7 +137,7 @@ DeniedBeforeTheBooks = (w v : WorldLists) (x : Execution) (r : Rule) → is_of_p
 -- some one triple of his holds all that is touched: up to the amount at least, or a release that is named counts
 abbrev pub InLimitOrReleased : WorldLists → Execution → Type 0
 InLimitOrReleased w x =
-    InLimit w (asker x.who) x.op ⊎ (((limit : ℕ) × Held w.policy (asker x.who) (procedure_of x.op) (touched x.op) limit) × IsReleased w x)
+    InLimit w (asker x.who) x.op x.moment ⊎ (((limit : ℕ) × Held w.policy (asker x.who) (procedure_of x.op) (touched x.op) limit x.moment) × IsReleased w x)
 
 -- An operation is allowed exactly when its user is known, its procedure is certified for what it touches, some one triple of his holds all of that, within its limit
 -- or by a release that counts, and no rule of the books denies it.
@@ -148,8 +148,8 @@ AllowedExactlyWhenHeld = (w : WorldLists) (x : Execution) → first w (executes 
 -- A release is used up exactly where it is what lets an operation be: what a triple of the user's own reaches leaves the release that it names as it was, and one that
 -- let an operation be counts for none afterwards.
 pub record IsUsedOnce (w : WorldLists) (x : Execution) : Type 0 where
-  pub kept : InLimit w (asker x.who) x.op → effect w (executes x) ≡ (books_meaning w x).effect
-  pub used : ¬ InLimit w (asker x.who) x.op → (op : Op) → ¬ Released (effect w (executes x)) (asker x.who) x.who.release op
+  pub kept : InLimit w (asker x.who) x.op x.moment → effect w (executes x) ≡ (books_meaning w x).effect
+  pub used : ¬ InLimit w (asker x.who) x.op x.moment → (op : Op) (moment : ℕ) → ¬ Released (effect w (executes x)) (asker x.who) x.who.release op moment
 
 abbrev pub ReleasesAreUsedOnce : Type 0
 ReleasesAreUsedOnce = (w : WorldLists) (x : Execution) → IsUsedOnce w x

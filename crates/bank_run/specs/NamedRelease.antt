@@ -4,7 +4,7 @@ use Rattle.std.specs.Cmp.Lexicographic.{pointwise}
 use Rattle.std.specs.Option.{option_map_or}
 use Rattle.std.specs.Ordering.{int_eq}
 use Rattle.bank_policy.specs.HeldRows.{HeldTriple, standing, triples_of}
-use Rattle.bank_policy.specs.Tests.{is_held_for}
+use Rattle.bank_policy.specs.Tests.{current, is_held_for}
 use Rattle.bank_policy.specs.declared.rows.Standing.{Standing}
 use Rattle.bank_terms.specs.Procedure.{number_of}
 use Rattle.bank_terms.specs.declared.item.Cdi.{Cdi}
@@ -20,21 +20,21 @@ pub record ReleaseGrounds : Type 0 where
   pub row : Release
   -- the present day of its branch
   pub today : Option ℕ
-  -- what the row of who gave it says of whether he may, and his triples for releases
+  -- what the row of who gave it says of whether he may, and those of his triples for releases that count at the moment
   pub giver : Option Standing
   pub held : List HeldTriple
 
-abbrev pub release_grounds_of : WorldLists → Release → ReleaseGrounds
-release_grounds_of w row = record {
+abbrev pub release_grounds_of : WorldLists → ℕ → Release → ReleaseGrounds
+release_grounds_of w moment row = record {
   row = row;
   today = option_map (λ b. b.row.day) (branch_record w row.branch);
   giver = standing w.policy row.giver;
-  held = triples_of w.policy row.giver procedure.Release;
+  held = current moment (triples_of w.policy row.giver procedure.Release);
 }
 
--- by its user and its number
-abbrev pub release_grounds : WorldLists → ℕ → ℕ → Option ReleaseGrounds
-release_grounds w user number = option_map (release_grounds_of w) (release w user number)
+-- by its user and its number, at a moment
+abbrev pub release_grounds : WorldLists → ℕ → ℕ → ℕ → Option ReleaseGrounds
+release_grounds w user number moment = option_map (release_grounds_of w moment) (release w user number)
 
 -- the same operation: of one form, and with the same members
 abbrev pub is_same_operation : OperationRow → OperationRow → Bool

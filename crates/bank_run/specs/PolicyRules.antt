@@ -3,7 +3,7 @@ use Rattle.std.specs.Prelude.{ℕ, ◌==◌, ◌&&◌, Bool, false, not, List, [
 use Rattle.std.specs.Option.{option_map_or}
 use Rattle.std.specs.List.{find}
 use Rattle.bank_policy.specs.HeldRows.{CertifiedSet, HeldTriple, relations_of, standing, triples_of}
-use Rattle.bank_policy.specs.Tests.{is_certified, is_held, is_held_for}
+use Rattle.bank_policy.specs.Tests.{current, is_certified, is_held, is_held_for}
 use Rattle.bank_terms.specs.declared.item.Cdi.{Cdi}
 use Rattle.bank_policy.specs.declared.rows.Standing.{Standing}
 use Rattle.bank_terms.specs.declared.operation_row.OperationRow.{OperationRow}
@@ -25,7 +25,7 @@ use Rattle.bank_run.specs.declared.who.Who.{Who}
 abbrev pub asker : Who → ℕ
 asker who = option_map_or (λ user. user) who.user 0
 
--- all that the rules of the policy judge one operation by
+-- all that the rules of the policy judge one operation by; of the triples, those that count at its moment
 pub record Grounds : Type 0 where
   -- who asks, 0 where the gate names none
   pub user : ℕ
@@ -47,12 +47,12 @@ grounds w x = record {
   standing = option_and_then (λ user. standing w.policy user) x.who.user;
   session = x.who.session;
   relations = relations_of w.policy (procedure_of x.op);
-  held = triples_of w.policy (asker x.who) (procedure_of x.op);
+  held = current x.moment (triples_of w.policy (asker x.who) (procedure_of x.op));
   operation = row_of x.op;
   items = touched x.op;
   amount = amount x.op;
   release = x.who.release;
-  released = release_grounds w (asker x.who) x.who.release;
+  released = release_grounds w (asker x.who) x.who.release x.moment;
 }
 
 -- he is there, is not suspended, and his session is open and the one that he names; 0 names none

@@ -4,6 +4,7 @@ use Rattle.std.specs.Prelude.{ℕ, ◌≡◌, ◌<◌, ◌^◌, ⊤, pos, [], �
 use Rattle.sqlite.specs.declared.types.Value.{Value}
 use Rattle.sqlite.specs.declared.types.Value.TheVariants.{Null, Int, Text}
 use Rattle.sqlite.specs.Order.{Row}
+use Rattle.bank_terms.specs.Limits.{max_moment}
 use Rattle.bank_policy.specs.declared.rows.Certifier.{Certifier}
 use Rattle.bank_policy.specs.declared.rows.Relation.{Relation}
 use Rattle.bank_policy.specs.declared.rows.Triple.{Triple}
@@ -17,13 +18,14 @@ use Rattle.kept_rows.specs.declared.records.KeptTeller.{KeptTeller}
 use Rattle.kept_rows.specs.declared.records.KeptUser.{KeptUser}
 use Rattle.kept_rows.specs.declared.records.MemberRow.{MemberRow}
 use Rattle.bank_schema.specs.declared.edition.Edition.{Edition}
-use Rattle.bank_schema.specs.declared.edition.Edition.TheVariants.{First}
+use Rattle.bank_schema.specs.declared.edition.Edition.TheVariants.{First, Second}
 use Rattle.bank_schema.specs.Numbers.{entry_form_number, kind_cell, line_form_number, procedure_cell, truth_cell}
 use Rattle.bank_schema.specs.Schema.{newest}
 
 -- the number of the edition, as the row of the bank bears it
 abbrev pub edition_number : Edition → ℕ
 edition_number First = 1
+edition_number Second = 2
 
 -- the edition, and the version of the policy
 abbrev pub bank_cells_in : Edition → ℕ → Row
@@ -49,10 +51,11 @@ abbrev pub relation_cells : Relation → Row
 relation_cells r = procedure_cell r.procedure ∷ Int (pos r.set) ∷ Int (pos r.by) ∷ []
 
 abbrev pub triple_cells : Triple → Row
-triple_cells t = Int (pos t.user) ∷ procedure_cell t.procedure ∷ Int (pos t.set) ∷ Int (pos t.limit) ∷ []
+triple_cells t = Int (pos t.user) ∷ procedure_cell t.procedure ∷ Int (pos t.set) ∷ Int (pos t.limit) ∷ Int (pos t.first) ∷ Int (pos t.last) ∷ []
 
 abbrev pub triple_cells_in : Edition → Triple → Row
-triple_cells_in First t = triple_cells t
+triple_cells_in First t = Int (pos t.user) ∷ procedure_cell t.procedure ∷ Int (pos t.set) ∷ Int (pos t.limit) ∷ []
+triple_cells_in Second t = triple_cells t
 
 abbrev pub certifier_cells : Certifier → Row
 certifier_cells c = Int (pos c.user) ∷ procedure_cell c.procedure ∷ []
@@ -105,9 +108,10 @@ RelationFits r = r.set < 2 ^ 32
 abbrev pub TripleFits : Triple → Type 0
 TripleFits t = t.set < 2 ^ 32
 
--- a triple as an edition can keep it
+-- A triple as an edition can keep it: in the first it has the widest moments.
 abbrev pub TripleFitsIn : Edition → Triple → Type 0
-TripleFitsIn First t = TripleFits t
+TripleFitsIn First t = TripleFits t × (t.first ≡ 0) × (t.last ≡ max_moment)
+TripleFitsIn Second t = TripleFits t
 
 abbrev pub EntryFits : EntryRecord → Type 0
 EntryFits e = e.row.number < 2 ^ 32

@@ -1,4 +1,4 @@
--- The texts that define the tables, in the order in which they are made.
+-- The texts that define the tables and the indexes, in the order in which they are made.
 use Rattle.std.specs.Prelude.{ℕ, List, codes}
 
 abbrev pub create_bank : List ℕ
@@ -16,8 +16,8 @@ create_members = codes "CREATE TABLE members (set_no INTEGER NOT NULL, place INT
 abbrev pub create_relations : List ℕ
 create_relations = codes "CREATE TABLE relations (procedure INTEGER NOT NULL, set_no INTEGER NOT NULL, by_user INTEGER NOT NULL, PRIMARY KEY (procedure, set_no)) STRICT"
 
-abbrev pub create_triples : List ℕ
-create_triples = codes "CREATE TABLE triples (user_no INTEGER NOT NULL, procedure INTEGER NOT NULL, set_no INTEGER NOT NULL, ceiling INTEGER NOT NULL, PRIMARY KEY (user_no, procedure, set_no), FOREIGN KEY (procedure, set_no) REFERENCES relations (procedure, set_no) ON DELETE CASCADE) STRICT"
+abbrev pub create_grants : List ℕ
+create_grants = codes "CREATE TABLE grants (user_no INTEGER NOT NULL, procedure INTEGER NOT NULL, set_no INTEGER NOT NULL, ceiling INTEGER NOT NULL, first_at INTEGER NOT NULL, last_at INTEGER NOT NULL, PRIMARY KEY (user_no, procedure, set_no), FOREIGN KEY (procedure, set_no) REFERENCES relations (procedure, set_no) ON DELETE CASCADE) STRICT"
 
 abbrev pub create_certifiers : List ℕ
 create_certifiers = codes "CREATE TABLE certifiers (user_no INTEGER NOT NULL, procedure INTEGER NOT NULL, PRIMARY KEY (user_no, procedure)) STRICT"
@@ -42,3 +42,9 @@ create_proofs = codes "CREATE TABLE proofs (branch INTEGER NOT NULL, day INTEGER
 
 abbrev pub create_releases : List ℕ
 create_releases = codes "CREATE TABLE releases (user_no INTEGER NOT NULL, number INTEGER NOT NULL, giver INTEGER NOT NULL, branch INTEGER NOT NULL, day INTEGER NOT NULL, form INTEGER NOT NULL, member1 INTEGER NOT NULL, member2 INTEGER NOT NULL, member3 INTEGER NOT NULL, member4 INTEGER NOT NULL, member5 INTEGER NOT NULL, member6 INTEGER NOT NULL, member7 INTEGER NOT NULL, member8 INTEGER NOT NULL, used INTEGER NOT NULL, PRIMARY KEY (user_no, number)) STRICT"
+
+abbrev pub create_entries_index : List ℕ
+create_entries_index = codes "CREATE INDEX entries_by_undoes ON entries (branch, undoes)"
+
+abbrev pub create_tellers_index : List ℕ
+create_tellers_index = codes "CREATE INDEX tellers_by_branch ON tellers (branch, teller)"

@@ -4,8 +4,10 @@ ghost use Rattle.bank_schema.specs.Cells.{edition_number};
 /// How the tables of a bank's file are laid out.
 #[derive(Clone, Copy, Debug, PartialEq, Eq)]
 pub enum Edition {
-    /// The triples stand in the table `triples`.
+    /// Triples without moments, in the table `triples`: each counts from the first moment to the last that there is.
     First,
+    /// Triples with their first and last moments, in the table `grants`.
+    Second,
 }
 
 impl Edition {
@@ -15,6 +17,7 @@ impl Edition {
     {
         match self {
             Edition::First => 1,
+            Edition::Second => 2,
         }
     }
 }

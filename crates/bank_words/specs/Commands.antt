@@ -42,6 +42,10 @@ init_app = with_rule (with_rule (new_app (codes "init")) (word_rule (codes "file
 abbrev pub check_app : App
 check_app = with_rule (new_app (codes "check")) (word_rule (codes "file"))
 
+-- `upgrade FILE`
+abbrev pub upgrade_app : App
+upgrade_app = with_rule (new_app (codes "upgrade")) (word_rule (codes "file"))
+
 -- `run FILE --badges LIST --moment N`
 abbrev pub run_app : App
 run_app =
@@ -74,8 +78,8 @@ top_app = record {
 -- the program with its commands
 abbrev pub bank_app : App
 bank_app =
-    with_subcommand (with_subcommand (with_subcommand (with_subcommand (with_subcommand top_app sample_app.top) init_app.top)
-    check_app.top) run_app.top) serve_app.top
+    with_subcommand (with_subcommand (with_subcommand (with_subcommand (with_subcommand (with_subcommand top_app sample_app.top) init_app.top)
+    check_app.top) upgrade_app.top) run_app.top) serve_app.top
 
 -- the text writes this number in decimal digits; a plus sign may stand before them
 abbrev pub Writes : Text → ℕ → Type 0
@@ -111,6 +115,7 @@ abbrev pub IsNamedIn : Text → List Row → Action → Type 0
 IsNamedIn name rows (action.Sample moment) = (name ≡ codes "sample") × HasMoment rows moment
 IsNamedIn name rows (action.Init file dir) = (name ≡ codes "init") × AsksInit rows file.now dir.now
 IsNamedIn name rows (action.Check file) = (name ≡ codes "check") × HasText rows (codes "file") file.now
+IsNamedIn name rows (action.Upgrade file) = (name ≡ codes "upgrade") × HasText rows (codes "file") file.now
 IsNamedIn name rows (action.Run file badges moment) =
     (name ≡ codes "run") × AsksServed rows file.now badges.now × HasMoment rows moment
 IsNamedIn name rows (action.Serve file badges port requests) =

@@ -2,7 +2,7 @@ ghost use Rattle.std.specs.Prelude.{◌≡◌, IfOk, codes, false};
 ghost use Rattle.bank_terms.specs.Limits.{max_moment};
 ghost use Rattle.clap.specs.Words.{app_of, rule_of};
 ghost use Rattle.clap.specs.declared.builder.Command.TheViews.{out-Command as fields_of};
-ghost use Rattle.bank_words.specs.Commands.{bank_app, check_app, init_app, max_port, max_requests, number_rule, option_rule, run_app, sample_app, serve_app, top_app, word_rule};
+ghost use Rattle.bank_words.specs.Commands.{bank_app, check_app, init_app, max_port, max_requests, number_rule, option_rule, run_app, sample_app, serve_app, top_app, upgrade_app, word_rule};
 
 use crate::words::{MAX_PORT, MAX_REQUESTS};
 use bank_terms::MAX_MOMENT;
@@ -123,6 +123,20 @@ fn check_command<'a>(alloc: Global) -> Result<Command<'a>, AllocError>
         .arg(bank_file(alloc))
 }
 
+fn upgrade_command<'a>(alloc: Global) -> Result<Command<'a>, AllocError>
+    ensures app { IfOk result (λ c. app_of c ≡ upgrade_app) }
+    ensures local { IfOk result (λ c. (fields_of c).has_globals ≡ false) }
+{
+    let file = word(alloc, "file", "FILE").help(
+        "The file of a bank, as an earlier version of this program made it",
+    );
+    Command::new(alloc, "upgrade")
+        .about(
+            "Carries the bank of FILE over to this version, where its books hold and its policy is sound",
+        )
+        .arg(file)
+}
+
 fn run_command<'a>(alloc: Global) -> Result<Command<'a>, AllocError>
     ensures app { IfOk result (λ c. app_of c ≡ run_app) }
     ensures local { IfOk result (λ c. (fields_of c).has_globals ≡ false) }
@@ -165,6 +179,7 @@ pub(crate) fn bank_command<'a>(alloc: Global) -> Result<Command<'a>, AllocError>
         .subcommand(sample_command(alloc)?)?
         .subcommand(init_command(alloc)?)?
         .subcommand(check_command(alloc)?)?
+        .subcommand(upgrade_command(alloc)?)?
         .subcommand(run_command(alloc)?)?
         .subcommand(serve_command(alloc)?)
 }

@@ -34,6 +34,11 @@ pub enum Action<'a> {
         /// The file.
         file: &'a str,
     },
+    /// To carry the bank in a file over to this version.
+    Upgrade {
+        /// The file.
+        file: &'a str,
+    },
     /// To serve standard input to standard output over the bank in a file.
     Run {
         /// The file.
@@ -139,6 +144,9 @@ fn action_in<'a>(name: &str, found: &ArgMatches<'a>) -> Option<Action<'a>>
             Some(Action::Init { file, dir })
         }
         "check" => Some(Action::Check {
+            file: text_of(found, "file")?,
+        }),
+        "upgrade" => Some(Action::Upgrade {
             file: text_of(found, "file")?,
         }),
         "run" => {

@@ -20,5 +20,5 @@ mod release;
 mod statement;
 mod transfer;
 
-pub use members::{is_object_of, key, natural};
+pub use members::{is_object_of, key, moment, natural};
 pub use read::read_op;

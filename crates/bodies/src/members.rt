@@ -3,8 +3,9 @@ ghost use Rattle.serde_json.specs.View.{view};
 ghost use Rattle.money.specs.Range.{IsDelta};
 ghost use Rattle.bodies.specs.Body.{has_members, number_member, natural_member, key_member, delta_member};
 ghost use Rattle.counter_ops.specs.Ranges.{IsKey};
+ghost use Rattle.bank_terms.specs.Limits.{max_moment};
 
-use bank_terms::MAX_KEY;
+use bank_terms::{MAX_KEY, MAX_MOMENT};
 use money::{Delta, MAX_DELTA};
 use serde_json::Value;
 
@@ -39,6 +40,15 @@ pub fn natural(body: &Value, name: &str, low: u32, high: u32) -> Option<u32>
 {
     let number = member(body, name, i64::from(low), i64::from(high))?;
     Some(number as u32)
+}
+
+/// The moment that the member of this name is, 0 to 99,999,999,999.
+pub fn moment(body: &Value, name: &str) -> Option<u64>
+    ensures value { result ≡ natural_member name.now 0 max_moment (view body.now) }
+    ensures range { IfSome result (λ n. n ≤ max_moment) }
+{
+    let number = member(body, name, 0, MAX_MOMENT as i64)?;
+    Some(number as u64)
 }
 
 /// The key that the member of this name is, 1 to 999,999,999.

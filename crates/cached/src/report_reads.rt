@@ -30,8 +30,9 @@ impl<S: Store> ReportReads for Cached<S> {
         user: u32,
         after: u32,
         count: u32,
+        moment: u64,
     ) -> Result<Vec<AccountRecord>, Fault> {
-        self.store.shown(alloc, user, after, count)
+        self.store.shown(alloc, user, after, count, moment)
     }
 
     fn next_shown(
@@ -39,8 +40,9 @@ impl<S: Store> ReportReads for Cached<S> {
         alloc: Global,
         user: u32,
         after: u32,
+        moment: u64,
     ) -> Result<Option<AccountRecord>, Fault> {
-        self.store.next_shown(alloc, user, after)
+        self.store.next_shown(alloc, user, after, moment)
     }
 
     fn next_teller(

@@ -25,7 +25,7 @@ use Rattle.book_growth.proofs.ChangedRows.{HasRow-changed, each_changed, map-cha
 use Rattle.book_growth.proofs.Rows.{AreDistinct-add_row, Contains-add_row, HasRow-add_row}
 use Rattle.book_growth.proofs.RuleTests.{one_fits}
 use Rattle.policy_check.proofs.GroupOrder.{number_of-small}
-use Rattle.policy_check.specs.Soundness.{AreUsersSound, HasFewOfEachProcedure, HasFewOfEachUser, IsNumber, IsPolicySound, IsRelated, IsSet, IsSetSound, IsUser, IsUserSound}
+use Rattle.policy_check.specs.Soundness.{AreUsersSound, HasFewOfEachProcedure, HasFewOfEachUser, IsNumber, IsPolicySound, IsRelated, IsSet, IsSetSound, IsSpan, IsUser, IsUserSound}
 use Rattle.policy_ops.specs.Ranges.{IsEnrolment, IsTriple}
 use Rattle.policy_ops.specs.declared.policy_op.Enrolment.{Enrolment}
 use Rattle.policy_ops.specs.declared.policy_op.PolicyOp.TheVariants as asked
@@ -112,6 +112,7 @@ granted p by t sound within passes =
             (any_of (λ r. (r.procedure ≡ t.procedure) × (r.set ≡ t.set)) p.relations related.0 related.1.0 (one_procedure related.0.procedure t.procedure (eqb-true _ _ tests.0), eqb-true _ _ tests.1))
             was.relations;
         limits = all_added triple_key t p.triples (λ r. r.limit ≤ max_limit) within.limit was.limits;
+        moments = all_added triple_key t p.triples IsSpan within.moments was.moments;
       };
       certifiers = certifiers_still p p.users p.sets p.relations (add_row triple_key t p.triples) (λ n there. there) sound.certifiers;
     }

@@ -17,7 +17,7 @@ use Rattle.bank_policy.specs.declared.rows.Triple.{Triple}
 use Rattle.bank_policy.specs.declared.rows.User.{User}
 use Rattle.book_growth.proofs.Rows.{count_named, count_other}
 use Rattle.book_growth.proofs.RuleTests.{one_fits}
-use Rattle.policy_check.specs.Soundness.{AreCertifiersSound, AreRelationsSound, AreTriplesSound, HasFewOfEachProcedure, HasFewOfEachUser, IsNumber, IsRelated, IsSet, IsUser}
+use Rattle.policy_check.specs.Soundness.{AreCertifiersSound, AreRelationsSound, AreTriplesSound, HasFewOfEachProcedure, HasFewOfEachUser, IsNumber, IsRelated, IsSet, IsSpan, IsUser}
 use Rattle.certify.proofs.RemovedRows.{AreDistinct-filter, count-filter}
 use Rattle.certify.proofs.SomeRows.{all_of, any_still, each_of}
 
@@ -79,6 +79,7 @@ triples_still p users sets relations certifiers users_stay relations_stay was = 
   relations = λ k d below.
       any_still (λ r. (r.procedure ≡ (get_or p.triples k d).procedure) × (r.set ≡ (get_or p.triples k d).set)) p.relations relations (λ r there is. relations_stay r there) (was.relations k d below);
   limits = was.limits;
+  moments = was.moments;
 }
 
 pub certifiers_still : (p : PolicyLists) (users : List User) (sets : List SetRow) (relations : List Relation) (triples : List Triple)
@@ -118,6 +119,7 @@ triples_fewer p relations test stay was = record {
       any_still (λ r. (r.procedure ≡ t.procedure) × (r.set ≡ t.set)) p.relations relations (stay t old.1)
       (each_of (λ x. Any (λ r. (r.procedure ≡ x.procedure) × (r.set ≡ x.set)) p.relations) p.triples was.relations t old.0));
   limits = All-filter test (λ t. t.limit ≤ max_limit) p.triples was.limits;
+  moments = All-filter test IsSpan p.triples was.moments;
 }
 
 pub certifiers_fewer : (p : PolicyLists) (test : Certifier → Bool) → AreCertifiersSound p → AreCertifiersSound (record p { certifiers = filter test p.certifiers })

@@ -14,6 +14,7 @@ use Rattle.cli_file.specs.Lists.{AreBadgesRead, IsOpeningRead}
 use Rattle.cli_file.specs.Making.{IsMadeIn}
 use Rattle.cli_file.specs.Opened.{IsOpenedFrom}
 use Rattle.cli_file.specs.Serving.{IsServedIn}
+use Rattle.cli_file.specs.Upgrading.{IsUpgradedIn}
 use Rattle.cli_file.specs.declared.fault.ActionFault.{ActionFault}
 use Rattle.cli_file.specs.declared.left.FileLeft.{FileLeft}
 
@@ -42,6 +43,17 @@ module _ {D : Type 0} (g : Ghosts D) (image : Image) where
   -- it was done so; or the file was not opened
   abbrev pub IsChecked : Result Unit ActionFault → Type 0
   IsChecked result = IsErrAnd result IsUnopened ⊎ IsCheckedFrom result
+
+  -- the file was opened, and the bank that stood there was carried over, or there was none
+  pub record IsUpgradedFrom (result : Result Unit ActionFault) : Type 0 where
+    pub opened : Held (FileStore D g)
+    pub from : IsOpenedFrom image opened
+    pub left : FileLeft D g
+    pub upgraded : IsUpgradedIn g opened left result
+
+  -- it was done so; or the file was not opened
+  abbrev pub IsUpgraded : Result Unit ActionFault → Type 0
+  IsUpgraded result = IsErrAnd result IsUnopened ⊎ IsUpgradedFrom result
 
   -- A list stated badges, the file was opened, and the stream was served to their users over the bank that was found there, if one was.
   pub record IsRunFrom (list : List ℕ) (moment : ℕ) (old new : Streams) (result : Result Unit ActionFault) : Type 0 where

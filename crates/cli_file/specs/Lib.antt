@@ -8,3 +8,4 @@ pub mod Making
 pub mod Opened
 pub mod Serving
 pub mod Telling
+pub mod Upgrading

@@ -1,5 +1,5 @@
 ghost use Rattle.ends.specs.Streams.{stream_at, streams_at};
-ghost use Rattle.cli_file.specs.Actions.{IsChecked, IsInited, IsListened, IsRun};
+ghost use Rattle.cli_file.specs.Actions.{IsChecked, IsInited, IsListened, IsRun, IsUpgraded};
 
 use crate::checking::check_in;
 use crate::fault::ActionFault;
@@ -10,6 +10,7 @@ use crate::making::make_in;
 use crate::opening::{Opener, open_existing};
 use crate::progress::Progress;
 use crate::serving::serve_in;
+use crate::upgrading::upgrade_in;
 use counter_api::Clock;
 use counter_clocks::Moment;
 use money::Tallied;
@@ -47,6 +48,22 @@ pub fn check_file<D: Disk + Drop, O: Opener<D>, P: Write + Drop>(
     progress.begin("opening the file");
     let conn = open_existing(rt, file, opener)?;
     check_in(rt.alloc(), conn, progress).1
+}
+
+/// Carries the bank that stands in a file of the first edition, which is there, over to the newest tables.
+pub fn upgrade_file<D: Disk + Drop, O: Opener<D>, P: Write + Drop>(
+    rt: &HostRuntime,
+    file: &str,
+    opener: O,
+    progress: &mut Progress<P>,
+) -> Result<(), ActionFault<'static>>
+    ensures { IsUpgraded D.Disk O.image result }
+{
+    progress.begin("opening the file");
+    let conn = open_existing(rt, file, opener)?;
+    let (left, done) = upgrade_in(rt.alloc(), conn, progress);
+    drop(left);
+    done
 }
 
 /// Serves a stream over the bank that stands in a file that is there, to the users of a list of badges, with one moment for

@@ -1,10 +1,11 @@
 ghost use Rattle.std.specs.Prelude.{◌≡◌, false, MatchResult};
-ghost use Rattle.cli_file.specs.Files.{IsClosed, IsFound, IsMade, IsNotClosed, IsNotFound, IsNotMade};
+ghost use Rattle.cli_file.specs.Files.{IsCarried, IsClosed, IsFound, IsMade, IsNotCarried, IsNotClosed, IsNotFound, IsNotMade};
 
 use crate::fault::ActionFault;
 use adopt_sql::adopt;
 use bank_books::World;
 use open_sql::create;
+use sql_upgrade::upgrade;
 use sqlite::{Connection, FileStore, Files};
 use sqlite_disk::Disk;
 use std::alloc::Global;
@@ -26,6 +27,21 @@ pub(crate) fn find<D: Disk + Drop>(
     ensures { MatchResult result (IsFound conn) (λ e. IsNotFound conn e.0 e.1) }
 {
     match adopt(alloc, conn) {
+        Ok(store) => Ok(store),
+        Err((fault, conn)) => Err((ActionFault::of_adopting(fault), conn)),
+    }
+}
+
+/// The bank that stands in an open file in the tables of the first edition, carried over to the newest; or the connection
+/// handed back beside why there is none.
+pub(crate) fn carry_over<D: Disk + Drop>(
+    alloc: Global,
+    conn: FileConnection<D>,
+) -> Result<BankFile<D>, (ActionFault<'static>, FileConnection<D>)>
+    requires { conn.in_transaction ≡ false }
+    ensures { MatchResult result (IsCarried conn) (λ e. IsNotCarried conn e.0 e.1) }
+{
+    match upgrade(alloc, conn) {
         Ok(store) => Ok(store),
         Err((fault, conn)) => Err((ActionFault::of_adopting(fault), conn)),
     }

@@ -17,22 +17,22 @@ use Rattle.bank_run.proofs.PolicyLemmas.{if_counts, leave_joined, sought_is_name
 
 -- what is looked up by the user and the number is the release that is named
 told : (w : WorldLists) (x : Execution) (user number : ℕ) (named : Option NamedRelease) → x.who.user ≡ Some user → leave_sought (grounds w x) ≡ Ok (leave.Release number)
-    → option_map grounds_of named ≡ release_grounds w user number → is_released_by named x ≡ is_released (grounds w x)
+    → option_map (grounds_of x.moment) named ≡ release_grounds w user number x.moment → is_released_by named x ≡ is_released (grounds w x)
 told w x user number named asks sought is =
     let test : Option ReleaseGrounds → Bool = λ o. option_map_or (λ g. counts g (asker x.who) (row_of x.op) (touched x.op) (amount x.op)) o false in
     ap test is
-    ∙ ap (λ n. test (release_grounds w user n)) (sought_is_named (grounds w x) number sought)
-    ∙ ap (λ o. test (release_grounds w (option_map_or (λ u. u) o 0) x.who.release)) (sym asks)
+    ∙ ap (λ n. test (release_grounds w user n x.moment)) (sought_is_named (grounds w x) number sought)
+    ∙ ap (λ o. test (release_grounds w (option_map_or (λ u. u) o 0) x.who.release x.moment)) (sym asks)
 
 pub by_release : (w : WorldLists) (x : Execution) (user number : ℕ) (named : Option NamedRelease) → x.who.user ≡ Some user → Ok (leave.Release number) ≡ leave_sought (grounds w x)
-    → option_map grounds_of named ≡ release_grounds w user number → true ≡ is_released_by named x → Ok (leave.Release number) ≡ leave_by_policy (grounds w x)
+    → option_map (grounds_of x.moment) named ≡ release_grounds w user number x.moment → true ≡ is_released_by named x → Ok (leave.Release number) ≡ leave_by_policy (grounds w x)
 by_release w x user number named asks sought is counts =
     sym (leave_joined (grounds w x)
     ∙ ap (λ b. if_counts b (leave_sought (grounds w x))) (sym (counts ∙ told w x user number named asks (sym sought) is))
     ∙ ap (if_counts true) (sym sought))
 
 pub refused_by_release : (w : WorldLists) (x : Execution) (user number : ℕ) (named : Option NamedRelease) → x.who.user ≡ Some user → Ok (leave.Release number) ≡ leave_sought (grounds w x)
-    → option_map grounds_of named ≡ release_grounds w user number → false ≡ is_released_by named x → Err rule.Release ≡ leave_by_policy (grounds w x)
+    → option_map (grounds_of x.moment) named ≡ release_grounds w user number x.moment → false ≡ is_released_by named x → Err rule.Release ≡ leave_by_policy (grounds w x)
 refused_by_release w x user number named asks sought is counts =
     sym (leave_joined (grounds w x)
     ∙ ap (λ b. if_counts b (leave_sought (grounds w x))) (sym (counts ∙ told w x user number named asks (sym sought) is))

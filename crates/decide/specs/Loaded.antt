@@ -1,6 +1,7 @@
 -- Rows that were loaded for a request.
 use Rattle.std.specs.Prelude.{ℕ, ◌≡◌, option_and_then, option_map}
 use Rattle.bank_policy.specs.HeldRows.{relations_of, standing, triples_of}
+use Rattle.bank_policy.specs.Tests.{current}
 use Rattle.bank_books.specs.WorldLists.{WorldLists}
 use Rattle.counter_ops.specs.Op.{procedure_of}
 use Rattle.counter_ops.specs.Rows.{row_of}
@@ -28,7 +29,7 @@ pub record IsLoadedFor (w : WorldLists) (x : Execution) (l : OperationRows) : Ty
   pub standing : l.policy.standing ≡ option_and_then (λ user. standing w.policy user) x.who.user
   pub relations : l.policy.relations.items ≡ relations_of w.policy (procedure_of x.op)
   pub held : l.policy.held.items ≡ triples_of w.policy (asker x.who) (procedure_of x.op)
-  pub released : option_map grounds_of l.policy.released ≡ release_grounds w (asker x.who) x.who.release
+  pub released : option_map (grounds_of x.moment) l.policy.released ≡ release_grounds w (asker x.who) x.who.release x.moment
   pub books : l.books ≡ book_rows w x.op
 
 -- by which a command of who asks is judged
@@ -72,10 +73,10 @@ loaded_grounds rows x = record {
   standing = rows.standing;
   session = x.who.session;
   relations = rows.relations.items;
-  held = rows.held.items;
+  held = current x.moment rows.held.items;
   operation = row_of x.op;
   items = touched x.op;
   amount = amount x.op;
   release = x.who.release;
-  released = option_map grounds_of rows.released;
+  released = option_map (grounds_of x.moment) rows.released;
 }

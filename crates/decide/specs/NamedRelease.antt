@@ -1,17 +1,18 @@
 -- What the rows of a release that is named tell of it.
-use Rattle.std.specs.Prelude.{Bool, Option, false, option_map}
+use Rattle.std.specs.Prelude.{ℕ, Bool, Option, false, option_map}
 use Rattle.std.specs.Option.{option_map_or}
 use Rattle.counter_ops.specs.Rows.{row_of}
 use Rattle.touched.specs.Touched.{amount, touched}
+use Rattle.bank_policy.specs.Tests.{current}
 use Rattle.bank_run.specs.NamedRelease.{ReleaseGrounds, counts}
 use Rattle.bank_run.specs.PolicyRules.{asker}
 use Rattle.bank_run.specs.declared.execution.Execution.{Execution}
 use Rattle.decide.specs.declared.named_release.NamedRelease.{NamedRelease}
 
--- what it is judged by
-abbrev pub grounds_of : NamedRelease → ReleaseGrounds
-grounds_of r = record { row = r.row; today = r.today; giver = r.giver; held = r.held.items }
+-- what it is judged by at a moment
+abbrev pub grounds_of : ℕ → NamedRelease → ReleaseGrounds
+grounds_of moment r = record { row = r.row; today = r.today; giver = r.giver; held = current moment r.held.items }
 
 -- it is there and counts for the operation that is asked for
 abbrev pub is_released_by : Option NamedRelease → Execution → Bool
-is_released_by named x = option_map_or (λ g. counts g (asker x.who) (row_of x.op) (touched x.op) (amount x.op)) (option_map grounds_of named) false
+is_released_by named x = option_map_or (λ g. counts g (asker x.who) (row_of x.op) (touched x.op) (amount x.op)) (option_map (grounds_of x.moment) named) false

@@ -113,6 +113,7 @@ fn first_of_policy(rows: &PolicyRows, execution: &Execution) -> Option<Rule>
         items.as_slice(),
         amount(&execution.op),
         execution.who.release,
+        execution.moment,
     ) {
         Err(rule) => Some(rule),
         Ok(Leave::Triple) => None,

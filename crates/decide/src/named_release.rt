@@ -1,7 +1,7 @@
 //! A release that a request names: what it is judged by, and whether it counts.
 
-ghost use Rattle.std.specs.Prelude.{◌≡◌, option_map};
-ghost use Rattle.bank_policy.specs.Tests.{is_held_for};
+ghost use Rattle.std.specs.Prelude.{◌≡◌, ℕ, option_map};
+ghost use Rattle.bank_policy.specs.Tests.{current, is_held_for};
 ghost use Rattle.store_rows.specs.Status.{ReadsRow};
 ghost use Rattle.bank_run.specs.NamedRelease.{counts, is_active, is_giver_for, is_of_today, is_same_operation, release_grounds, release_grounds_of};
 ghost use Rattle.decide.specs.NamedRelease.{grounds_of, is_released_by};
@@ -36,7 +36,7 @@ pub(crate) fn load_named_release<S: PolicyReads + BookReads>(
     user: u32,
     number: u32,
 ) -> Result<Option<NamedRelease>, Fault>
-    ensures { ReadsRow (S.status store.old) (S.status store.new) result (λ w named. option_map grounds_of named ≡ release_grounds w user number) }
+    ensures { ReadsRow (S.status store.old) (S.status store.new) result (λ w named. (moment : ℕ) → option_map (grounds_of moment) named ≡ release_grounds w user number moment) }
 {
     match store.release(alloc, user, number)? {
         Some(row) => Ok(Some(load_grounds_of(alloc, store, row)?)),
@@ -50,7 +50,7 @@ fn load_grounds_of<S: PolicyReads + BookReads>(
     store: &mut S,
     row: Release,
 ) -> Result<NamedRelease, Fault>
-    ensures { ReadsRow (S.status store.old) (S.status store.new) result (λ w named. grounds_of named ≡ release_grounds_of w row) }
+    ensures { ReadsRow (S.status store.old) (S.status store.new) result (λ w named. (moment : ℕ) → grounds_of moment named ≡ release_grounds_of w moment row) }
 {
     let branch = store.branch(alloc, row.branch)?;
     let giver = standing_of(alloc, store, row.giver)?;
@@ -79,6 +79,7 @@ pub(crate) fn is_released(named: &Option<NamedRelease>, execution: &Execution) -
         &operation,
         items.as_slice(),
         amount(&execution.op),
+        execution.moment,
     )
 }
 
@@ -90,13 +91,14 @@ fn counts(
     operation: &OperationRow,
     items: &[Cdi],
     amount: u32,
+    moment: u64,
 ) -> bool
-    ensures { result ≡ counts (grounds_of named.now) user operation.now items.now amount }
+    ensures { result ≡ counts (grounds_of moment named.now) user operation.now items.now amount }
 {
     !named.row.used
         && is_same_operation(&named.row.operation, operation)
         && is_of_today(named)
-        && is_giver_for(named, user, items, amount)
+        && is_giver_for(named, user, items, amount, moment)
 }
 
 /// Whether two rows are of one operation: of one form, and with the same members.
@@ -108,7 +110,7 @@ fn is_same_operation(row: &OperationRow, other: &OperationRow) -> bool
 
 /// Whether a release bears the present day of its branch.
 fn is_of_today(named: &NamedRelease) -> bool
-    ensures { result ≡ is_of_today (grounds_of named.now) }
+    ensures { result ≡ is_of_today (grounds_of 0 named.now) }
 {
     match named.today {
         Some(today) => named.row.day == today,
@@ -118,10 +120,12 @@ fn is_of_today(named: &NamedRelease) -> bool
 
 /// Whether who gave a release could give it now: he is another than this user, may ask, and holds
 /// one triple for releases that has these items, up to the amount.
-fn is_giver_for(named: &NamedRelease, user: u32, items: &[Cdi], amount: u32) -> bool
-    ensures { result ≡ is_giver_for (grounds_of named.now) user items.now amount }
+fn is_giver_for(named: &NamedRelease, user: u32, items: &[Cdi], amount: u32, moment: u64) -> bool
+    ensures { result ≡ is_giver_for (grounds_of moment named.now) user items.now amount }
 {
-    named.row.giver != user && is_active(named.giver) && is_held_for(&named.held, items, amount)
+    named.row.giver != user
+        && is_active(named.giver)
+        && is_held_for(&named.held, items, amount, moment)
 }
 
 /// Whether a user is there and is not suspended.
@@ -134,11 +138,11 @@ fn is_active(standing: Option<Standing>) -> bool
     }
 }
 
-/// Whether some one of these triples has the items, up to the amount.
-fn is_held_for(held: &[HeldRow], items: &[Cdi], amount: u32) -> bool
-    ensures { result ≡ is_held_for held.now items.now amount }
+/// Whether some one of these triples that counts at the moment has the items, up to the amount.
+fn is_held_for(held: &[HeldRow], items: &[Cdi], amount: u32, moment: u64) -> bool
+    ensures { result ≡ is_held_for (current moment held.now) items.now amount }
 {
-    match best_limit(held, items) {
+    match best_limit(held, items, moment) {
         Some(limit) => amount <= limit,
         None => false,
     }

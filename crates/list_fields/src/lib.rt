@@ -8,4 +8,4 @@ mod names;
 mod numbers;
 
 pub use names::{flag_of, is_badge, is_name, kind_named, name_of, procedure_named};
-pub use numbers::{amount_of, number_in};
+pub use numbers::{amount_of, number_in, number_up_to};

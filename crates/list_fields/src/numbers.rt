@@ -46,7 +46,7 @@ fn has_minus(field: &[u8]) -> bool
 }
 
 /// The number up to `most` that a field states in decimal, with no leading zero.
-fn number_up_to(most: u64, field: &[u8]) -> Option<u64>
+pub fn number_up_to(most: u64, field: &[u8]) -> Option<u64>
     ensures { result ≡ number_up_to most field.now }
 {
     if !starts_number(field) {

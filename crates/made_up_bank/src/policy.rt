@@ -1,5 +1,5 @@
 use bank_policy::{ItemSet, Member, Name, Policy, Relation, Triple, User};
-use bank_terms::{Kind, Procedure};
+use bank_terms::{Kind, MAX_MOMENT, Procedure};
 use money::Fault;
 use std::alloc::Global;
 
@@ -86,6 +86,8 @@ fn add_right(policy: &mut Policy, set: u32) -> Result<(), Fault> {
         procedure: Procedure::Post,
         set,
         limit: LIMIT,
+        first: 0,
+        last: MAX_MOMENT,
     })?;
     Ok(())
 }

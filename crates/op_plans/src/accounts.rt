@@ -12,13 +12,14 @@ use reports::{AfterAccount, Contents, Listing, counted};
 use std::alloc::Global;
 use store_rows::ReportReads;
 
-/// The accounts that are listed to a user.
-fn accounts_of(form: &Accounts, user: u32) -> Listing
-    ensures { result ≡ accounts_of form.now user }
+/// The accounts that are listed to who asks, by his triples that count at the moment.
+fn accounts_of(form: &Accounts, by: Signature) -> Listing
+    ensures { result ≡ accounts_of form.now by }
 {
     Listing::Accounts(AfterAccount {
-        user,
+        user: by.user,
         after: form.after,
+        moment: by.moment,
     })
 }
 
@@ -32,6 +33,6 @@ pub(crate) fn prepare_accounts<R: ReportReads>(
     ensures counted { MayRead (R.status store.old) (R.status store.new) result (IsCountedFor (λ w. by_books (accounts_meaning form.now by w))) }
     ensures denied { DeniesOrCounts (R.status store.old) (R.status store.new) (λ w. (by_books (accounts_meaning form.now by w)).first) result }
 {
-    let contents = counted(alloc, store, accounts_of(form, by.user), form.count)?;
+    let contents = counted(alloc, store, accounts_of(form, by), form.count)?;
     Ok(Ok(contents))
 }

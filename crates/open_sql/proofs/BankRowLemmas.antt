@@ -75,14 +75,14 @@ bare_sheet version proofs other = no_rows _ _ _ _
 bare_sheet version releases other = no_rows _ _ _ _
 
 abbrev add_bank_terms : List Term
-add_bank_terms = lit (Int (pos 1)) ∷ lit Null ∷ lit (Int (pos 1)) ∷ col 0 0 ∷ []
+add_bank_terms = lit (Int (pos 1)) ∷ lit Null ∷ lit (Int (pos 2)) ∷ col 0 0 ∷ []
 
 pub add_bank_is : (command_of (understood bank_schema add_bank_text) ≡ Insert 0 (Values add_bank_terms 4)) × IsPlain (understood bank_schema add_bank_text)
 unfolding understood everything
 add_bank_is = (refl, (refl, refl))
 
 news_are : (db : Trees) (version : ℕ) → (edit_of db bank_table [] Chosen 0 (value_rows (Int (pos version) ∷ []) 4 (4 / 4) add_bank_terms)).news ≡ bank_cells version ∷ []
-news_are db version = rw (cast_int (pos 1), cast_null, cast_int (pos version)) refl
+news_are db version = rw (cast_int (pos 1), cast_null, cast_int (pos 2), cast_int (pos version)) refl
 
 pub adds_bank : (old new : State) (version count : ℕ) → IsBlank bank_schema old.now → Executes add_bank_text (Int (pos version) ∷ []) old new (Ok count) → HoldsTables new.now (bare version)
 adds_bank old new version count blank h =

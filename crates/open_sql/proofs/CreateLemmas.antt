@@ -1,9 +1,10 @@
 -- What the text of a definition makes of a schema.
-use Rattle.std.proofs.Common.{◌≡◌, ◌⊎◌, inl, inr, None, ℕ, List, [], ◌∷◌, ◌++◌, Bool, true, false, Ok, Err, Result, refl, sym, ap, subst, ◌∙◌}
+use Rattle.std.proofs.Common.{◌≡◌, ◌⊎◌, inl, inr, None, ℕ, List, [], ◌∷◌, ◌++◌, codes, Bool, true, false, Ok, Err, Result, Some, refl, sym, ap, subst, ◌∙◌}
 use Rattle.std.specs.List.{AllByRecursion}
-use Rattle.sqlite.specs.Command.TheVariants.{CreateTable}
-use Rattle.sqlite.specs.Compile.{table_defined_by}
-use Rattle.sqlite.specs.Change.{created, next_tree}
+use Rattle.std.specs.Prelude.{slice_get}
+use Rattle.sqlite.specs.Command.TheVariants.{CreateIndex, CreateTable}
+use Rattle.sqlite.specs.Compile.{index_defined_by, table_defined_by}
+use Rattle.sqlite.specs.Change.{created, indexed, next_tree}
 use Rattle.sqlite.specs.Does.{Tally, lacks_sequence}
 use Rattle.sqlite.specs.Effect.{Database}
 use Rattle.sqlite.specs.Listing.{understood}
@@ -12,10 +13,11 @@ use Rattle.sqlite.specs.State.{Executes, State, Writes}
 use Rattle.sqlite.specs.Table.{Table}
 use Rattle.sqlite.specs.Tree.{Trees}
 use Rattle.sqlite.proofs.Callers.{IsPlain, command_of, runs_as, statement_of}
+use Rattle.sqlite_schema.specs.declared.schema.Index.{Index}
 use Rattle.sqlite_tied.specs.Compute.{everything}
 use Rattle.open_sql.specs.Blank.{IsBlank, begun}
-use Rattle.bank_schema.specs.CreateTexts.{create_accounts, create_bank, create_branches, create_certifiers, create_entries, create_lines, create_members, create_proofs, create_relations, create_releases, create_sets, create_tellers, create_triples, create_users}
-use Rattle.bank_schema.specs.Schema.{accounts_table, bank_table, branches_table, certifiers_table, entries_table, lines_table, members_table, proofs_table, relations_table, releases_table, sets_table, tellers_table, triples_table, users_table}
+use Rattle.bank_schema.specs.CreateTexts.{create_accounts, create_bank, create_branches, create_certifiers, create_entries, create_entries_index, create_lines, create_members, create_proofs, create_relations, create_releases, create_sets, create_tellers, create_tellers_index, create_grants, create_users}
+use Rattle.bank_schema.specs.Schema.{accounts_table, bank_table, branches_table, certifiers_table, entries_table, lines_table, look_up_index, members_table, proofs_table, relations_table, releases_table, sets_table, tellers_table, grants_table, users_table}
 
 -- where the schema is this, the text is one command that makes a table, by all of it, and then the schema is that
 pub record IsDefinition (text : List ℕ) (table : Table) (before after : Schema) : Type 0 where
@@ -49,9 +51,9 @@ pub relations_defined : IsDefinition create_relations (unplaced relations_table)
 unfolding understood everything Rattle.std.specs.Fmt.digits
 relations_defined = record { command = refl; whole = refl; plain = (refl, refl); defined = refl; uncounted = refl; after_is = refl }
 
-pub triples_defined : IsDefinition create_triples (unplaced triples_table) (begun 5 2) (begun 6 3)
+pub grants_defined : IsDefinition create_grants (unplaced grants_table) (begun 5 2) (begun 6 3)
 unfolding understood everything Rattle.std.specs.Fmt.digits
-triples_defined = record { command = refl; whole = refl; plain = (refl, refl); defined = refl; uncounted = refl; after_is = refl }
+grants_defined = record { command = refl; whole = refl; plain = (refl, refl); defined = refl; uncounted = refl; after_is = refl }
 
 pub certifiers_defined : IsDefinition create_certifiers (unplaced certifiers_table) (begun 6 3) (begun 7 4)
 unfolding understood everything Rattle.std.specs.Fmt.digits
@@ -84,6 +86,23 @@ proofs_defined = record { command = refl; whole = refl; plain = (refl, refl); de
 pub releases_defined : IsDefinition create_releases (unplaced releases_table) (begun 13 8) (begun 14 9)
 unfolding understood everything Rattle.std.specs.Fmt.digits
 releases_defined = record { command = refl; whole = refl; plain = (refl, refl); defined = refl; uncounted = refl; after_is = refl }
+
+-- where the schema is this, the text is one command that makes an index on the table at this place, by all of it, and then the schema is that
+pub record IsIndexDefinition (text : List ℕ) (at : ℕ) (table : Table) (index : Index) (before after : Schema) : Type 0 where
+  pub command : command_of (understood before text) ≡ CreateIndex at
+  pub whole : statement_of text (understood before text) ≡ text
+  pub plain : IsPlain (understood before text)
+  pub placed : slice_get before.tables at ≡ Some table
+  pub defined : index_defined_by table text ≡ Ok index
+  pub after_is : indexed before table index ≡ after
+
+pub entries_index_defined : IsIndexDefinition create_entries_index 10 entries_table (look_up_index (codes "entries_by_undoes") 0 14 (1 ∷ 12 ∷ [])) (begun 14 9) (begun 14 10)
+unfolding understood everything Rattle.std.specs.Fmt.digits
+entries_index_defined = record { command = refl; whole = refl; plain = (refl, refl); placed = refl; defined = refl; after_is = refl }
+
+pub tellers_index_defined : IsIndexDefinition create_tellers_index 8 tellers_table (look_up_index (codes "tellers_by_branch") 0 12 (2 ∷ 0 ∷ [])) (begun 14 10) (begun 14 11)
+unfolding understood everything Rattle.std.specs.Fmt.digits
+tellers_index_defined = record { command = refl; whole = refl; plain = (refl, refl); placed = refl; defined = refl; after_is = refl }
 
 went : {B E R : Type 0} {b : B} {Stops : E → Type 0} → ((stop : E) × Stops stop × (Ok b ≡ Err stop)) ⊎ R → R
 went (inl stopped) = absurd (let e = stopped.2 in cc)
@@ -121,4 +140,20 @@ creates text table schema next is old new count blank h =
       schema_is = ap (λ (d : Database). d.schema) now ∙ after ∙ is.after_is;
       empty = subst (λ (d : Database). AllByRecursion (λ (t : Table). d.trees t.tree ≡ []) next.tables) (sym now)
           (subst (λ (s : Schema). AllByRecursion (λ (t : Table). first.0.trees t.tree ≡ []) s.tables) is.after_is empty);
+    }
+
+pub creates_index : (text : List ℕ) (at : ℕ) (table : Table) (index : Index) (schema after : Schema) → IsIndexDefinition text at table index schema after → (old new : State) (count : ℕ) → IsBlank schema old.now → Executes text [] old new (Ok count) → IsBlank after new.now
+creates_index text at table index schema next is old new count blank h =
+    let w = subst (λ t. Writes old new None (CreateIndex at) t [] count) is.whole (runs_as text [] old new schema blank.schema_is (CreateIndex at) is.command is.plain count h) in
+    let all = went (rw (ap (λ (s : Schema). slice_get s.tables at) blank.schema_is ∙ is.placed) at w.changed) in
+    let made = all.1 in
+    let both : Ok made.index ≡ Ok index = sym made.defined ∙ is.defined in
+    let same : made.index ≡ index = cc in
+    let after : all.0.schema ≡ next = made.is ∙ ap (λ s. indexed s table made.index) blank.schema_is ∙ ap (indexed schema table) same ∙ is.after_is in
+    let now : new.now ≡ all.0 = ap (λ (p : Tally × Database). p.1) (same_value all.2) in
+    let kept = still_empty schema.tables old.now.trees all.0.trees (subst (λ (s : Schema). AllByRecursion (λ (t : Table). all.0.trees t.tree ≡ old.now.trees t.tree) s.tables) blank.schema_is made.rows) blank.empty in
+    record {
+      schema_is = ap (λ (d : Database). d.schema) now ∙ after;
+      empty = subst (λ (d : Database). AllByRecursion (λ (t : Table). d.trees t.tree ≡ []) next.tables) (sym now)
+          (subst (λ (s : Schema). AllByRecursion (λ (t : Table). all.0.trees t.tree ≡ []) s.tables) is.after_is kept);
     }

@@ -4,6 +4,7 @@ use Rattle.sqlite.specs.Effect.{Database}
 use Rattle.sqlite.specs.Schema.{Schema}
 use Rattle.sqlite.specs.Table.{Table}
 use Rattle.sqlite.specs.State.{Executes, HasCleanDisk, KeepsCommit, State, Survives}
+use Rattle.sqlite_schema.specs.declared.schema.Index.{Index}
 use Rattle.kept_rows.specs.Sheets.{Sheets}
 use Rattle.bank_schema.specs.Held.{HoldsTables}
 use Rattle.bank_schema.specs.Steps.{Steps}
@@ -11,7 +12,7 @@ use Rattle.bank_schema.proofs.StepLemmas.{early, kept_then, none_ok, ok_weaker}
 use Rattle.open_sql.specs.Blank.{IsBlank}
 use Rattle.open_sql.specs.Filled.{with_all}
 use Rattle.open_sql.specs.Goes.{Goes}
-use Rattle.open_sql.proofs.CreateLemmas.{IsDefinition, creates}
+use Rattle.open_sql.proofs.CreateLemmas.{IsDefinition, IsIndexDefinition, creates, creates_index}
 
 -- a step that went through
 abbrev pub WentBy : State → State → (Database → Type 0) → (Database → Type 0) → Type 0
@@ -46,6 +47,17 @@ module _ (text : List ℕ) (table : Table) (before after : Schema) (is : IsDefin
   went_on old new ran clean inside blank =
       let it = ran clean inside in
       ((it.0.0, creates text table before after is old new it.0.1 blank it.0.2), it.1)
+
+module _ (text : List ℕ) (at : ℕ) (table : Table) (index : Index) (before after : Schema) (is : IsIndexDefinition text at table index before after) where
+  pub goes_on_index : {X E : Type 0} (old new : State) (result : Result X E) → Ran old new text result → Goes old new (IsBlank before) (IsBlank after) result
+  goes_on_index old new result ran clean inside blank =
+      let it = ran clean inside in
+      (ok_weaker result _ _ (λ h. (h.0, creates_index text at table index before after is old new h.1 blank h.2)) it.0, it.1)
+
+  pub went_on_index : (old new : State) → (HasCleanDisk new → IsTrue old.in_transaction → (IsTrue new.in_transaction × (count : ℕ) × Executes text [] old new (Ok count)) × KeepsCommit old new) → WentBy old new (IsBlank before) (IsBlank after)
+  went_on_index old new ran clean inside blank =
+      let it = ran clean inside in
+      ((it.0.0, creates_index text at table index before after is old new it.0.1 blank it.0.2), it.1)
 
 -- ---- rows that are written
 

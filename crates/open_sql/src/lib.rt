@@ -15,5 +15,6 @@ mod sheet_row;
 mod tables;
 
 pub use creating::create;
-pub use making::make_bank;
+pub use making::{make_bank, write_bank};
 pub use open_fault::OpenFault;
+pub use tables::define;

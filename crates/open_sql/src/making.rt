@@ -28,8 +28,8 @@ fn is_empty(schema: &Schema) -> bool
     schema.tables.is_empty() && schema.indexes.is_empty() && schema.views.is_empty()
 }
 
-/// Makes the tables of the bank and writes all its rows.
-fn write_bank<S: Alter>(
+/// Makes the tables of the bank in the newest edition and writes all its rows.
+pub fn write_bank<S: Alter>(
     alloc: Global,
     tx: &mut Transaction<'_, S>,
     world: &World,

@@ -1,4 +1,4 @@
-//! The tables of a bank's file, made in a database that has none.
+//! The tables and indexes of a bank's file, made in a database that has none.
 
 ghost use Rattle.std.specs.Prelude.{◌≡◌, [], ℕ, IsTrue, Ok, OnOk};
 ghost use Rattle.sqlite.specs.Held.{state};
@@ -10,10 +10,11 @@ use bank_schema::run;
 use money::Fault;
 use sqlite::{Alter, Transaction, params};
 
-/// Runs the text of a definition.
-fn define<S: Alter>(tx: &mut Transaction<'_, S>, sql: &str) -> Result<(), Fault>
+/// Runs the text of a definition, such as one that makes a table or takes one away.
+pub fn define<S: Alter>(tx: &mut Transaction<'_, S>, sql: &str) -> Result<(), Fault>
     ensures same_reference { tx.new.conn.ghost_name ≡ tx.old.conn.ghost_name }
     ensures ran { HasCleanDisk (state S.Store tx.new.conn.now) → IsTrue (state S.Store tx.old.conn.now).in_transaction → OnOk result (IsTrue (state S.Store tx.new.conn.now).in_transaction × (count : ℕ) × Executes sql.now [] (state S.Store tx.old.conn.now) (state S.Store tx.new.conn.now) (Ok count)) × KeepsCommit (state S.Store tx.old.conn.now) (state S.Store tx.new.conn.now) }
+    ensures open { HasCleanDisk (state S.Store tx.new.conn.now) → IsTrue (state S.Store tx.old.conn.now).in_transaction → OnOk result (IsTrue (state S.Store tx.old.conn.now).is_open) }
     ensures survives { Survives (state S.Store tx.old.conn.now) (state S.Store tx.new.conn.now) (λ _. ⊥) }
 {
     run(tx, sql, params![])?;
@@ -53,7 +54,7 @@ fn make_rights<S: Alter>(tx: &mut Transaction<'_, S>) -> Result<(), Fault>
     )?;
     define(
         tx,
-        "CREATE TABLE triples (user_no INTEGER NOT NULL, procedure INTEGER NOT NULL, set_no INTEGER NOT NULL, ceiling INTEGER NOT NULL, PRIMARY KEY (user_no, procedure, set_no), FOREIGN KEY (procedure, set_no) REFERENCES relations (procedure, set_no) ON DELETE CASCADE) STRICT",
+        "CREATE TABLE grants (user_no INTEGER NOT NULL, procedure INTEGER NOT NULL, set_no INTEGER NOT NULL, ceiling INTEGER NOT NULL, first_at INTEGER NOT NULL, last_at INTEGER NOT NULL, PRIMARY KEY (user_no, procedure, set_no), FOREIGN KEY (procedure, set_no) REFERENCES relations (procedure, set_no) ON DELETE CASCADE) STRICT",
     )?;
     define(
         tx,
@@ -105,14 +106,31 @@ fn make_history<S: Alter>(tx: &mut Transaction<'_, S>) -> Result<(), Fault>
     )
 }
 
-/// All tables of a bank's file, with no rows.
+/// The indexes by which rows are looked up that no key finds, behind all tables.
+fn make_indexes<S: Alter>(tx: &mut Transaction<'_, S>) -> Result<(), Fault>
+    ensures same_reference { tx.new.conn.ghost_name ≡ tx.old.conn.ghost_name }
+    ensures goes { Goes (state S.Store tx.old.conn.now) (state S.Store tx.new.conn.now) (IsBlank (begun 14 9)) (IsBlank (begun 14 11)) result }
+    ensures survives { Survives (state S.Store tx.old.conn.now) (state S.Store tx.new.conn.now) (λ _. ⊥) }
+{
+    define(
+        tx,
+        "CREATE INDEX entries_by_undoes ON entries (branch, undoes)",
+    )?;
+    define(
+        tx,
+        "CREATE INDEX tellers_by_branch ON tellers (branch, teller)",
+    )
+}
+
+/// All tables of a bank's file with its indexes, with no rows.
 pub(crate) fn make_tables<S: Alter>(tx: &mut Transaction<'_, S>) -> Result<(), Fault>
     ensures same_reference { tx.new.conn.ghost_name ≡ tx.old.conn.ghost_name }
-    ensures goes { Goes (state S.Store tx.old.conn.now) (state S.Store tx.new.conn.now) (IsBlank (begun 0 0)) (IsBlank (begun 14 9)) result }
+    ensures goes { Goes (state S.Store tx.old.conn.now) (state S.Store tx.new.conn.now) (IsBlank (begun 0 0)) (IsBlank (begun 14 11)) result }
     ensures survives { Survives (state S.Store tx.old.conn.now) (state S.Store tx.new.conn.now) (λ _. ⊥) }
 {
     make_bank_and_sets(tx)?;
     make_rights(tx)?;
     make_books(tx)?;
-    make_history(tx)
+    make_history(tx)?;
+    make_indexes(tx)
 }

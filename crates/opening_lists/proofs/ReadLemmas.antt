@@ -1,26 +1,30 @@
 -- What a list says, by what its records are gathered into.
-use Rattle.std.proofs.Common.{◌≡◌, ◌⊎◌, ℕ, List, [], Option, Result, Ok, Err, sym, ap, ◌∙◌, inl, inr}
-use Rattle.list_records.specs.Records.{Record, begun_behind, gathered, records_of}
+use Rattle.std.proofs.Common.{◌≡◌, ◌⊎◌, ℕ, List, Option, Result, Ok, Err, sym, ap, ◌∙◌, inl, inr}
+use Rattle.list_records.specs.Records.{Record, gathered, records_of}
 use Rattle.list_records.specs.declared.fault.RecordFault.{RecordFault}
 use Rattle.list_records.specs.declared.fault.RecordFault.TheVariants as record_fault
 use Rattle.std.specs.Result.{result_map_both}
 use Rattle.sorted_rows.specs.Sorted.{in_order}
-use Rattle.opening_lists.specs.Opening.{in_file, listed}
-use Rattle.opening_lists.specs.Rows.{with_row}
+use Rattle.opening_lists.specs.Opening.{in_file}
+use Rattle.opening_lists.specs.declared.list_fault.ListFault.{ListFault}
 use Rattle.opening_lists.specs.declared.list_fault.ListFault.TheVariants.{BadRow}
 use Rattle.opening_lists.specs.declared.list_fault.ListName.{ListName}
 
-module _ {T : Type 0} (file : ListName) (key : T → ℕ) (row_of : Record → Option T) (heading : Record) (text : List ℕ) where
-  abbrev says : List T → Result (List T) RecordFault
-  says start = gathered (begun_behind heading) (with_row row_of) start (records_of text)
+-- `rows_in` are the rows of what the records are gathered into, which is `none` before the first.
+module _ {S T : Type 0} (file : ListName) (key : T → ℕ) (begun_by with_record : S → Record → Option S) (rows_in : S → List T) (none : S) (text : List ℕ) where
+  abbrev says : S → Result S RecordFault
+  says start = gathered begun_by with_record start (records_of text)
 
-  is_said : (start : List T) (result : Result (List T) RecordFault) → start ≡ [] → result ≡ says start → result_map_both (in_order key) (in_file file) result ≡ listed file key row_of heading text
-  is_said start result none is = ap (result_map_both (in_order key) (in_file file)) (is ∙ ap says none)
+  abbrev placed : Result S RecordFault → Result (List T) ListFault
+  placed read = result_map_both (λ s. in_order key (rows_in s)) (in_file file) read
 
-  pub rows_said : (start rows : List T) → start ≡ [] → (Ok rows ≡ says start) ⊎ (Ok rows ≡ Err record_fault.Memory) → listed file key row_of heading text ≡ Ok (in_order key rows)
-  rows_said start rows none (inl is) = sym (is_said start (Ok rows) none is)
-  rows_said start rows none (inr is) = cc
+  is_said : (start : S) (result : Result S RecordFault) → start ≡ none → result ≡ says start → placed result ≡ placed (says none)
+  is_said start result first is = ap placed (is ∙ ap says first)
 
-  pub bad_said : (start : List T) (result : Result (List T) RecordFault) (row : ℕ) → start ≡ [] → (result ≡ says start) ⊎ (result ≡ Err record_fault.Memory) → result ≡ Err (record_fault.Bad row) → listed file key row_of heading text ≡ Err (BadRow file row)
-  bad_said start result row none (inl is) bad = sym (is_said start result none is) ∙ ap (result_map_both (in_order key) (in_file file)) bad
-  bad_said start result row none (inr is) bad = cc
+  pub rows_said : (start read : S) → start ≡ none → (Ok read ≡ says start) ⊎ (Ok read ≡ Err record_fault.Memory) → placed (says none) ≡ Ok (in_order key (rows_in read))
+  rows_said start read first (inl is) = sym (is_said start (Ok read) first is)
+  rows_said start read first (inr is) = cc
+
+  pub bad_said : (start : S) (result : Result S RecordFault) (row : ℕ) → start ≡ none → (result ≡ says start) ⊎ (result ≡ Err record_fault.Memory) → result ≡ Err (record_fault.Bad row) → placed (says none) ≡ Err (BadRow file row)
+  bad_said start result row first (inl is) bad = sym (is_said start result first is) ∙ ap placed bad
+  bad_said start result row first (inr is) bad = cc

@@ -9,12 +9,14 @@ use Rattle.bank_books.specs.declared.rows.Teller.{Teller}
 use Rattle.bank_policy.specs.Policy.{PolicyLists}
 use Rattle.bank_policy.specs.SetRow.{SetRow}
 use Rattle.bank_policy.specs.PolicyKeys.{certifier_key, relation_key, triple_key, user_key}
+use Rattle.bank_policy.specs.declared.rows.Triple.{Triple}
 use Rattle.list_records.specs.Records.{Record, begun_behind, gathered, records_of}
 use Rattle.list_records.specs.declared.fault.RecordFault.{RecordFault}
 use Rattle.list_records.specs.declared.fault.RecordFault.TheVariants as record_fault
 use Rattle.sorted_rows.specs.Sorted.{in_order}
-use Rattle.opening_lists.specs.Rows.{account_row, branch_row, certifier_row, member_row, relation_row, teller_row, triple_row, user_row, with_row}
+use Rattle.opening_lists.specs.Rows.{account_row, branch_row, certifier_row, member_row, relation_row, teller_row, user_row, with_row}
 use Rattle.opening_lists.specs.Sets.{grouped}
+use Rattle.opening_lists.specs.Triples.{begun_triples, none_read, with_triple}
 use Rattle.opening_lists.specs.declared.list_fault.ListFault.{ListFault}
 use Rattle.opening_lists.specs.declared.list_fault.ListFault.TheVariants.{BadRow, Memory}
 use Rattle.opening_lists.specs.declared.list_fault.ListName.{ListName}
@@ -35,7 +37,7 @@ in_file file record_fault.Memory = Memory
 abbrev pub listed : {T : Type 0} → ListName → (T → ℕ) → (Record → Option T) → Record → List ℕ → Result (List T) ListFault
 listed file key row_of heading text = result_map_both (in_order key) (in_file file) (gathered (begun_behind heading) (with_row row_of) [] (records_of text))
 
--- the names in the heading of each list
+-- the names in the heading of each list but the triples
 abbrev pub branch_names : Record
 branch_names = codes "branch" ∷ codes "balance" ∷ codes "cash" ∷ []
 
@@ -53,9 +55,6 @@ member_names = codes "set" ∷ codes "kind" ∷ codes "low" ∷ codes "high" ∷
 
 abbrev pub relation_names : Record
 relation_names = codes "procedure" ∷ codes "set" ∷ codes "by" ∷ []
-
-abbrev pub triple_names : Record
-triple_names = codes "user" ∷ codes "procedure" ∷ codes "set" ∷ codes "limit" ∷ []
 
 abbrev pub certifier_names : Record
 certifier_names = codes "user" ∷ codes "procedure" ∷ []
@@ -80,13 +79,17 @@ sets_of sets = do
   members ← listed Sets (λ row. row.set) member_row member_names sets
   Ok (grouped members)
 
+-- the triples of their list in order of their keys, as `listed` has them
+abbrev pub triples_of : List ℕ → Result (List Triple) ListFault
+triples_of triples = result_map_both (λ read. in_order triple_key read.1) (in_file Triples) (gathered begun_triples with_triple none_read (records_of triples))
+
 -- the policy of five lists
 abbrev pub policy_of : List ℕ → List ℕ → List ℕ → List ℕ → List ℕ → Result PolicyLists ListFault
 policy_of users sets relations triples certifiers = do
   u ← listed Users user_key user_row user_names users
   s ← sets_of sets
   r ← listed Relations relation_key relation_row relation_names relations
-  t ← listed Triples triple_key triple_row triple_names triples
+  t ← triples_of triples
   c ← listed Certifiers certifier_key certifier_row certifier_names certifiers
   Ok (record { users = u; sets = s; relations = r; triples = t; certifiers = c })
 

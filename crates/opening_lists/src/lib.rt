@@ -12,6 +12,7 @@ mod opening;
 mod reading;
 mod rows;
 mod set_member;
+mod triple_rows;
 
 pub use badges::{Badges, read_badges};
 pub use list_fault::{ListFault, ListName};

@@ -7,7 +7,7 @@ ghost use Rattle.opening_lists.specs.Opening.{IsTold, ledger_of, opened, opening
 
 use crate::item_sets::item_sets;
 use crate::list_fault::{ListFault, ListName};
-use crate::reading::read_list;
+use crate::reading::{read_list, read_triples};
 use crate::set_member::SetMember;
 use bank_books::{Lists, World};
 use bank_policy::{ItemSet, Policy, PolicyRows};
@@ -57,7 +57,7 @@ fn read_policy(
     let users = read_list(alloc, ListName::Users, users)?;
     let sets = read_sets(alloc, sets)?;
     let relations = read_list(alloc, ListName::Relations, relations)?;
-    let triples = read_list(alloc, ListName::Triples, triples)?;
+    let triples = read_triples(alloc, triples)?;
     let certifiers = read_list(alloc, ListName::Certifiers, certifiers)?;
     Ok(Policy::from_rows(PolicyRows {
         users,

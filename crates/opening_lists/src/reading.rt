@@ -1,10 +1,13 @@
 ghost use Rattle.std.specs.Prelude.{◌≡◌, ◌⊎◌, IfErr, IfOk, Ok, Err, map};
 ghost use Rattle.std.specs.List.Sorted.{IsNonDecreasingBy};
+ghost use Rattle.bank_policy.specs.PolicyKeys.{triple_key};
 ghost use Rattle.sorted_rows.specs.Sorted.{in_order};
-ghost use Rattle.opening_lists.specs.Opening.{listed};
+ghost use Rattle.opening_lists.specs.Opening.{listed, triples_of};
 
 use crate::list_fault::{ListFault, ListName};
 use crate::list_row::{ListRow, Rows};
+use crate::triple_rows::TripleRows;
+use bank_policy::Triple;
 use keyed_rows::Keyed;
 use list_records::{RecordFault, gather};
 use sorted_rows::sort_rows;
@@ -23,6 +26,22 @@ pub(crate) fn read_list<T: ListRow + Keyed + Drop>(
     match gather(alloc, text, Rows::new(alloc)) {
         Ok(gathered) => sorted(gathered.into_rows()),
         Err(RecordFault::Bad(row)) => Err(ListFault::BadRow { file, row }),
+        Err(RecordFault::Memory) => Err(ListFault::Memory),
+    }
+}
+
+/// The triples of their list in order of their keys, or its first bad record.
+pub(crate) fn read_triples(alloc: Global, text: &[u8]) -> Result<Vec<Triple>, ListFault>
+    ensures told { IfOk result (λ rows. triples_of text.now ≡ Ok rows.items) }
+    ensures in_order { IfOk result (λ rows. IsNonDecreasingBy triple_key rows.items) }
+    ensures bad { IfErr result (λ fault. (fault ≡ ListFault.Memory) ⊎ (triples_of text.now ≡ Err fault)) }
+{
+    match gather(alloc, text, TripleRows::new(alloc)) {
+        Ok(gathered) => sorted(gathered.into_rows()),
+        Err(RecordFault::Bad(row)) => Err(ListFault::BadRow {
+            file: ListName::Triples,
+            row,
+        }),
         Err(RecordFault::Memory) => Err(ListFault::Memory),
     }
 }

@@ -1,13 +1,15 @@
 ghost use Rattle.std.specs.Prelude.{◌≡◌, ◌∷◌, [], IfOk, map};
-ghost use Rattle.opening_lists.specs.Rows.{account_row, branch_row, certifier_row, floor_of, key_of, limit_of, member_row, relation_row, teller_row, triple_row, user_number, user_row};
-ghost use Rattle.opening_lists.specs.Opening.{account_names, branch_names, certifier_names, member_names, relation_names, teller_names, triple_names, user_names};
+ghost use Rattle.opening_lists.specs.Rows.{account_row, branch_row, certifier_row, floor_of, key_of, limit_of, member_row, moment_of, moments_of, relation_row, teller_row, timed_row, triple_during, triple_row, user_number, user_row};
+ghost use Rattle.opening_lists.specs.Opening.{account_names, branch_names, certifier_names, member_names, relation_names, teller_names, user_names};
 
 use crate::list_row::ListRow;
 use crate::set_member::SetMember;
 use bank_books::{Account, Branch, Teller};
 use bank_policy::{Certifier, Member, Name, Relation, Triple, User};
-use bank_terms::{MAX_KEY, MAX_LIMIT, MAX_USER, MIN_FLOOR};
-use list_fields::{amount_of, flag_of, kind_named, name_of, number_in, procedure_named};
+use bank_terms::{MAX_KEY, MAX_LIMIT, MAX_MOMENT, MAX_USER, MIN_FLOOR};
+use list_fields::{
+    amount_of, flag_of, kind_named, name_of, number_in, number_up_to, procedure_named,
+};
 use list_records::is_record;
 use money::Cents;
 use std::alloc::{AllocError, Global};
@@ -31,6 +33,26 @@ fn limit_of(field: &[u8]) -> Option<u32>
     ensures { result ≡ limit_of field.now }
 {
     number_in(0, MAX_LIMIT, field)
+}
+
+/// The first or the last moment of a triple.
+fn moment_of(field: &[u8]) -> Option<u64>
+    ensures { result ≡ moment_of field.now }
+{
+    number_up_to(MAX_MOMENT, field)
+}
+
+/// The moments of a triple, of which the first is not above the last.
+fn moments_of(first: &[u8], last: &[u8]) -> Option<(u64, u64)>
+    ensures { result ≡ moments_of first.now last.now }
+{
+    let first = moment_of(first)?;
+    let last = moment_of(last)?;
+    if first <= last {
+        Some((first, last))
+    } else {
+        None
+    }
 }
 
 /// The floor of an account.
@@ -164,17 +186,46 @@ fn relation_row(fields: &[&[u8]]) -> Option<Relation>
     }
 }
 
-/// The triple that a record states.
-fn triple_row(fields: &[&[u8]]) -> Option<Triple>
+/// The triple of these fields that counts from one moment to another.
+fn triple_during(
+    user: &[u8],
+    procedure: &[u8],
+    set: &[u8],
+    limit: &[u8],
+    first: u64,
+    last: u64,
+) -> Option<Triple>
+    ensures { result ≡ triple_during user.now procedure.now set.now limit.now first last }
+{
+    Some(Triple {
+        user: user_number(user)?,
+        procedure: procedure_named(procedure)?,
+        set: key_of(set)?,
+        limit: limit_of(limit)?,
+        first,
+        last,
+    })
+}
+
+/// The triple of a record that states no moments: it counts at each of them.
+pub(crate) fn triple_row(fields: &[&[u8]]) -> Option<Triple>
     ensures { result ≡ triple_row (map (λ f. f.now) fields.now) }
 {
     match fields {
-        [user, procedure, set, limit] => Some(Triple {
-            user: user_number(user)?,
-            procedure: procedure_named(procedure)?,
-            set: key_of(set)?,
-            limit: limit_of(limit)?,
-        }),
+        [user, procedure, set, limit] => triple_during(user, procedure, set, limit, 0, MAX_MOMENT),
+        _ => None,
+    }
+}
+
+/// The triple of a record that states its first and its last moment.
+pub(crate) fn timed_row(fields: &[&[u8]]) -> Option<Triple>
+    ensures { result ≡ timed_row (map (λ f. f.now) fields.now) }
+{
+    match fields {
+        [user, procedure, set, limit, first, last] => {
+            let (first, last) = moments_of(first, last)?;
+            triple_during(user, procedure, set, limit, first, last)
+        }
         _ => None,
     }
 }
@@ -259,20 +310,6 @@ impl ListRow for Relation {
 
     fn read(_alloc: Global, fields: &[&[u8]]) -> Result<Option<Relation>, AllocError> {
         Ok(relation_row(fields))
-    }
-}
-
-impl ListRow for Triple {
-    ghost row_of = { triple_row };
-
-    ghost heading = { triple_names };
-
-    fn is_heading(fields: &[&[u8]]) -> bool {
-        is_record(&[b"user", b"procedure", b"set", b"limit"], fields)
-    }
-
-    fn read(_alloc: Global, fields: &[&[u8]]) -> Result<Option<Triple>, AllocError> {
-        Ok(triple_row(fields))
     }
 }
 

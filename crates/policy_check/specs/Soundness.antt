@@ -1,7 +1,7 @@
 -- A policy with no dangling rows: each key stands once, each number and count is within its limits, and each row that
 -- another names is there (the primary and foreign keys of Codd's relational model).
 use Rattle.std.specs.Prelude.{ℕ, ◌≡◌, ◌==◌, ◌≤◌, List, length, map, All, Any, count_by}
-use Rattle.bank_terms.specs.Limits.{max_key, max_user, max_sets, max_relations, max_triples, max_limit}
+use Rattle.bank_terms.specs.Limits.{max_key, max_user, max_sets, max_relations, max_triples, max_limit, max_moment}
 use Rattle.keyed_rows.specs.Ordered.{AreDistinct, HasRow}
 use Rattle.bank_policy.specs.Policy.{PolicyLists}
 use Rattle.bank_policy.specs.PolicyKeys.{user_key, set_key, relation_key, triple_key, certifier_key}
@@ -48,6 +48,11 @@ pub record AreSetsSound (sets : List SetRow) : Type 0 where
   pub few : length sets ≤ max_sets
   pub each : All IsSetSound sets
 
+-- the first moment of a triple is none behind its last, which is none behind the last of all
+pub record IsSpan (row : Triple) : Type 0 where
+  pub ordered : row.first ≤ row.last
+  pub within : row.last ≤ max_moment
+
 -- the user is there
 unfoldable pub IsUser : PolicyLists → ℕ → Type 0
 IsUser policy user = HasRow user_key policy.users user
@@ -82,6 +87,7 @@ pub record AreTriplesSound (policy : PolicyLists) : Type 0 where
   pub users : All (λ row. IsUser policy row.user) policy.triples
   pub relations : All (λ row. IsRelated policy row.procedure row.set) policy.triples
   pub limits : All (λ row. row.limit ≤ max_limit) policy.triples
+  pub moments : All IsSpan policy.triples
 
 pub record AreCertifiersSound (policy : PolicyLists) : Type 0 where
   pub distinct : AreDistinct (map certifier_key policy.certifiers)

@@ -2,11 +2,11 @@ ghost use Rattle.std.specs.Prelude.{◌↔◌, ◌≤◌, All, IsTrue, map};
 ghost use Rattle.bank_terms.specs.Limits.{max_limit};
 ghost use Rattle.keyed_rows.specs.Ordered.{AreDistinct};
 ghost use Rattle.bank_policy.specs.PolicyKeys.{certifier_key, relation_key, triple_key};
-ghost use Rattle.policy_check.specs.Soundness.{AreCertifiersSound, AreRelationsSound, AreTriplesSound, HasFewOfEachProcedure, HasFewOfEachUser, IsNumber, IsRelated, IsSet, IsUser};
+ghost use Rattle.policy_check.specs.Soundness.{AreCertifiersSound, AreRelationsSound, AreTriplesSound, HasFewOfEachProcedure, HasFewOfEachUser, IsNumber, IsRelated, IsSet, IsSpan, IsUser};
 
 use crate::soundness::is_number;
-use bank_policy::Policy;
-use bank_terms::{MAX_LIMIT, MAX_RELATIONS, MAX_TRIPLES, Procedure};
+use bank_policy::{Policy, Triple};
+use bank_terms::{MAX_LIMIT, MAX_MOMENT, MAX_RELATIONS, MAX_TRIPLES, Procedure};
 use keyed_rows::{has_distinct_keys, has_small_groups, is_there};
 
 pub(crate) fn are_relations_sound(policy: &Policy) -> bool
@@ -60,6 +60,7 @@ pub(crate) fn are_triples_sound(policy: &Policy) -> bool
         && has_users_of_triples(policy)
         && has_relations_of_triples(policy)
         && has_limits_of_triples(policy)
+        && has_moments_of_triples(policy)
 }
 
 fn has_distinct_triples(policy: &Policy) -> bool
@@ -101,6 +102,18 @@ fn has_limits_of_triples(policy: &Policy) -> bool
     ensures { IsTrue result ↔ All (λ row. row.limit ≤ max_limit) policy.now.triples }
 {
     policy.triples().iter().all(|row| row.limit <= MAX_LIMIT)
+}
+
+fn has_moments_of_triples(policy: &Policy) -> bool
+    ensures { IsTrue result ↔ All IsSpan policy.now.triples }
+{
+    policy.triples().iter().all(|row| has_span(row))
+}
+
+fn has_span(row: &Triple) -> bool
+    ensures { IsTrue result ↔ IsSpan row.now }
+{
+    row.first <= row.last && row.last <= MAX_MOMENT
 }
 
 pub(crate) fn are_certifiers_sound(policy: &Policy) -> bool

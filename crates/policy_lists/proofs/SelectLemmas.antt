@@ -154,9 +154,9 @@ selects_relations old new s after count rows holds h =
 -- ---- triples
 
 abbrev triple_columns : List Term
-triple_columns = col 1 1 ∷ col 1 2 ∷ col 1 3 ∷ col 1 4 ∷ []
+triple_columns = col 1 1 ∷ col 1 2 ∷ col 1 3 ∷ col 1 4 ∷ col 1 5 ∷ col 1 6 ∷ []
 
-pub triples_are : (command_of (understood bank_schema triples_text) ≡ Select (record { lets = []; body = scan 7 behind_three triple_columns order_three (col 0 3) no_offset }) (codes "user_no" ∷ codes "procedure" ∷ codes "set_no" ∷ codes "ceiling" ∷ [])) × (reads_listing bank_schema triples_text ≡ false) × IsPlain (understood bank_schema triples_text)
+pub triples_are : (command_of (understood bank_schema triples_text) ≡ Select (record { lets = []; body = scan 7 behind_three triple_columns order_three (col 0 3) no_offset }) (codes "user_no" ∷ codes "procedure" ∷ codes "set_no" ∷ codes "ceiling" ∷ codes "first_at" ∷ codes "last_at" ∷ [])) × (reads_listing bank_schema triples_text ≡ false) × IsPlain (understood bank_schema triples_text)
 unfolding understood everything
 triples_are = (refl, refl, (refl, refl))
 

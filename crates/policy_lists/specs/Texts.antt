@@ -17,7 +17,7 @@ abbrev pub relations_text : List ℕ
 relations_text = codes "SELECT procedure, set_no, by_user FROM relations WHERE procedure >= ?1 AND (procedure > ?1 OR (procedure = ?1 AND set_no > ?2)) ORDER BY procedure, set_no LIMIT ?3"
 
 abbrev pub triples_text : List ℕ
-triples_text = codes "SELECT user_no, procedure, set_no, ceiling FROM triples WHERE user_no >= ?1 AND (user_no > ?1 OR (user_no = ?1 AND (procedure > ?2 OR (procedure = ?2 AND set_no > ?3)))) ORDER BY user_no, procedure, set_no LIMIT ?4"
+triples_text = codes "SELECT user_no, procedure, set_no, ceiling, first_at, last_at FROM grants WHERE user_no >= ?1 AND (user_no > ?1 OR (user_no = ?1 AND (procedure > ?2 OR (procedure = ?2 AND set_no > ?3)))) ORDER BY user_no, procedure, set_no LIMIT ?4"
 
 -- ---- by how many columns a table's key has
 

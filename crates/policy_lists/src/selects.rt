@@ -88,7 +88,7 @@ fn select_triples<S: Alter>(tx: &mut Transaction<'_, S>, part: &Part) -> Result<
 {
     shown_rows(
         tx,
-        "SELECT user_no, procedure, set_no, ceiling FROM triples WHERE user_no >= ?1 AND (user_no > ?1 OR (user_no = ?1 AND (procedure > ?2 OR (procedure = ?2 AND set_no > ?3)))) ORDER BY user_no, procedure, set_no LIMIT ?4",
+        "SELECT user_no, procedure, set_no, ceiling, first_at, last_at FROM grants WHERE user_no >= ?1 AND (user_no > ?1 OR (user_no = ?1 AND (procedure > ?2 OR (procedure = ?2 AND set_no > ?3)))) ORDER BY user_no, procedure, set_no LIMIT ?4",
         params![&part.first, part.second, part.third, &part.count],
     )
 }

@@ -4,7 +4,7 @@
 -- may not execute it.
 use Rattle.std.specs.Prelude.{ℕ, ◌≤◌}
 use Rattle.bank_terms.specs.Limits.{max_user, max_limit}
-use Rattle.policy_check.specs.Soundness.{IsName, IsNumber, IsSetSound}
+use Rattle.policy_check.specs.Soundness.{IsName, IsNumber, IsSetSound, IsSpan}
 use Rattle.bank_policy.specs.declared.rows.Certifier.{Certifier}
 use Rattle.bank_policy.specs.declared.rows.Triple.{Triple}
 use Rattle.policy_ops.specs.declared.policy_op.Enrolment.{Enrolment}
@@ -22,13 +22,14 @@ IsUserNumber user = (1 ≤ user) × (user ≤ max_user)
 abbrev pub IsRelationKey : RelationKey → Type 0
 IsRelationKey relation = IsNumber relation.set
 
--- one of the triples of rule E2, and up to which amount it stands, in cents
+-- one of the triples of rule E2, up to which amount it stands, in cents, and when
 pub record IsTriple (triple : Triple) : Type 0 where
   pub user : IsUserNumber triple.user
   pub set : IsNumber triple.set
   pub limit : triple.limit ≤ max_limit
+  pub moments : IsSpan triple
 
--- one of the triples of rule E2, with whatever limit
+-- one of the triples of rule E2, with whatever limit and moments
 pub record IsTripleKey (triple : TripleKey) : Type 0 where
   pub user : IsUserNumber triple.user
   pub set : IsNumber triple.set

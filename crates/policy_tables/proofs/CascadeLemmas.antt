@@ -26,7 +26,7 @@ use Rattle.bank_terms.specs.Procedure.{number_of}
 use Rattle.bank_policy.specs.declared.rows.Relation.{Relation}
 use Rattle.bank_policy.specs.declared.rows.Triple.{Triple}
 use Rattle.bank_schema.specs.Cells.{relation_cells, triple_cells}
-use Rattle.bank_schema.specs.Schema.{bank_schema, relations_table, triples_table}
+use Rattle.bank_schema.specs.Schema.{bank_schema, relations_table, grants_table}
 use Rattle.bank_schema.proofs.ActionLemmas.{nothing_set_off, relations_set_off, triples_work}
 use Rattle.bank_schema.proofs.FrameLemmas.{KeepsOthers}
 use Rattle.bank_schema.proofs.HeldLemmas.{Names, same_pos}
@@ -168,7 +168,7 @@ lost r x q =
     && not (no_null (first_key plain).collation (number_of x.procedure) i && (equal (first_key (later plain)).collation (Int (pos x.set)) Null && true)))
 
 -- each triple has its relation
-pub bears : (db : Trees) (t : Row) → passes_rules ForeignKey bank_schema db triples_table t ≡ true → has_null (2 ∷ 3 ∷ []) t ≡ false → list_any (λ r. agree plain (1 ∷ 2 ∷ []) r (2 ∷ 3 ∷ []) t) (db 5) ≡ true
+pub bears : (db : Trees) (t : Row) → passes_rules ForeignKey bank_schema db grants_table t ≡ true → has_null (2 ∷ 3 ∷ []) t ≡ false → list_any (λ r. agree plain (1 ∷ 2 ∷ []) r (2 ∷ 3 ∷ []) t) (db 5) ≡ true
 unfolding everything
 bears db t holds whole = held (has_null (2 ∷ 3 ∷ []) t) (list_any (λ r. agree plain (1 ∷ 2 ∷ []) r (2 ∷ 3 ∷ []) t) (db 5)) whole holds
   where

@@ -41,7 +41,7 @@ use Rattle.bank_schema.specs.Cells.{RelationFits, TripleFits, relation_cells, tr
 use Rattle.bank_schema.specs.Held.{HoldsTables}
 use Rattle.bank_schema.specs.Held.Sheet.{relations as in_relations, triples as in_triples}
 use Rattle.bank_schema.specs.HeldRows.{HoldsRows, all_but_rowid}
-use Rattle.bank_schema.specs.Schema.{bank_schema, relations_table, triples_table}
+use Rattle.bank_schema.specs.Schema.{bank_schema, relations_table, grants_table}
 use Rattle.bank_schema.proofs.ActionLemmas.{triples_work}
 use Rattle.bank_schema.proofs.FrameLemmas.{others, without_relation}
 use Rattle.bank_schema.proofs.HeldLemmas.{Names, equal_from, has_permuted, held_without, picked_alike, rowid_is, same_row, taken_out}
@@ -156,7 +156,7 @@ module _ (db : Trees) (procedure set : ℕ) (xs : List Relation) (ys : List Trip
 
       comes : passes under params t ≡ true → list_any (is_child_of (triples_work olds) t) (pairs olds []) ≡ true
       comes mine =
-          let kept = keeps_at ForeignKey bank_schema db triples_table t (obeys.rules ForeignKey) (inr (inr (inr (inr (inr (inl refl)))))) h in
+          let kept = keeps_at ForeignKey bank_schema db grants_table t (obeys.rules ForeignKey) (inr (inr (inr (inr (inr (inl refl)))))) h in
           let parent = some_has (λ r. agree plain (1 ∷ 2 ∷ []) r (2 ∷ 3 ∷ []) t) (db 5) (bears db t kept (whole_triple t y.0 y.2)) in
           let x = record_of relation_cells relation_key RelationFits xs (db 5) relations parent.0 parent.1 in
           let like : (number_of x.0.procedure == number_of y.0.procedure && x.0.set == y.0.set) ≡ true = sym (parent_of parent.0 t x.0 y.0 x.2 y.2) ∙ parent.2 in

@@ -32,7 +32,7 @@ use Rattle.bank_schema.specs.Cells.{TripleFits, triple_cells}
 use Rattle.bank_schema.specs.Held.{HoldsTables}
 use Rattle.bank_schema.specs.Held.Sheet.{triples as in_triples}
 use Rattle.bank_schema.specs.HeldRows.{HoldsRows, all_but_rowid}
-use Rattle.bank_schema.specs.Schema.{bank_schema, key_index, triples_table}
+use Rattle.bank_schema.specs.Schema.{bank_schema, key_index, grants_table}
 use Rattle.bank_schema.proofs.ActionLemmas.{nothing_set_off}
 use Rattle.bank_schema.proofs.FrameLemmas.{with_triples}
 use Rattle.bank_schema.proofs.HeldLemmas.{picked_alike}
@@ -50,19 +50,19 @@ use Rattle.policy_tables.specs.Texts.{add_triple_text, remove_triple_text, tripl
 -- ---- SELECT
 
 abbrev triple_columns : List Term
-triple_columns = col 1 1 ∷ col 1 2 ∷ col 1 3 ∷ col 1 4 ∷ []
+triple_columns = col 1 1 ∷ col 1 2 ∷ col 1 3 ∷ col 1 4 ∷ col 1 5 ∷ col 1 6 ∷ []
 
-pub triple_is : (command_of (understood bank_schema triple_text) ≡ Select (record { lets = []; body = scan 7 by_three triple_columns [] no_limit no_offset }) (codes "user_no" ∷ codes "procedure" ∷ codes "set_no" ∷ codes "ceiling" ∷ []))
+pub triple_is : (command_of (understood bank_schema triple_text) ≡ Select (record { lets = []; body = scan 7 by_three triple_columns [] no_limit no_offset }) (codes "user_no" ∷ codes "procedure" ∷ codes "set_no" ∷ codes "ceiling" ∷ codes "first_at" ∷ codes "last_at" ∷ []))
     × (reads_listing bank_schema triple_text ≡ false) × IsPlain (understood bank_schema triple_text)
 unfolding understood everything
 triple_is = (refl, refl, (refl, refl))
 
-pub triples_is : (command_of (understood bank_schema triples_text) ≡ Select (record { lets = []; body = scan 7 by_two triple_columns ((col 1 3, rising_key) ∷ []) no_limit no_offset }) (codes "user_no" ∷ codes "procedure" ∷ codes "set_no" ∷ codes "ceiling" ∷ []))
+pub triples_is : (command_of (understood bank_schema triples_text) ≡ Select (record { lets = []; body = scan 7 by_two triple_columns ((col 1 3, rising_key) ∷ []) no_limit no_offset }) (codes "user_no" ∷ codes "procedure" ∷ codes "set_no" ∷ codes "ceiling" ∷ codes "first_at" ∷ codes "last_at" ∷ []))
     × (reads_listing bank_schema triples_text ≡ false) × IsPlain (understood bank_schema triples_text)
 unfolding understood everything
 triples_is = (refl, refl, (refl, refl))
 
-pub user_triples_is : (command_of (understood bank_schema user_triples_text) ≡ Select (record { lets = []; body = scan 7 by_one triple_columns ((col 1 2, rising_key) ∷ (col 1 3, rising_key) ∷ []) no_limit no_offset }) (codes "user_no" ∷ codes "procedure" ∷ codes "set_no" ∷ codes "ceiling" ∷ []))
+pub user_triples_is : (command_of (understood bank_schema user_triples_text) ≡ Select (record { lets = []; body = scan 7 by_one triple_columns ((col 1 2, rising_key) ∷ (col 1 3, rising_key) ∷ []) no_limit no_offset }) (codes "user_no" ∷ codes "procedure" ∷ codes "set_no" ∷ codes "ceiling" ∷ codes "first_at" ∷ codes "last_at" ∷ []))
     × (reads_listing bank_schema user_triples_text ≡ false) × IsPlain (understood bank_schema user_triples_text)
 unfolding understood everything
 user_triples_is = (refl, refl, (refl, refl))
@@ -135,14 +135,14 @@ alike x y p q same =
 -- ---- INSERT
 
 abbrev add_triple_terms : List Term
-add_triple_terms = lit Null ∷ col 0 0 ∷ col 0 1 ∷ col 0 2 ∷ col 0 3 ∷ []
+add_triple_terms = lit Null ∷ col 0 0 ∷ col 0 1 ∷ col 0 2 ∷ col 0 3 ∷ col 0 4 ∷ col 0 5 ∷ []
 
-pub add_triple_is : (command_of (understood bank_schema add_triple_text) ≡ Insert 5 (Values add_triple_terms 5)) × IsPlain (understood bank_schema add_triple_text)
+pub add_triple_is : (command_of (understood bank_schema add_triple_text) ≡ Insert 5 (Values add_triple_terms 7)) × IsPlain (understood bank_schema add_triple_text)
 unfolding understood everything
 add_triple_is = (refl, (refl, refl))
 
 abbrev triple_index : Index
-triple_index = key_index (codes "sqlite_autoindex_triples_1") 8 7 (1 ∷ 2 ∷ 3 ∷ [])
+triple_index = key_index (codes "sqlite_autoindex_grants_1") 8 7 (1 ∷ 2 ∷ 3 ∷ [])
 
 blind : (r s : Row) → agree plain (1 ∷ 2 ∷ 3 ∷ []) r (1 ∷ 2 ∷ 3 ∷ []) s ≡ agree plain (1 ∷ 2 ∷ 3 ∷ []) (Null ∷ drop 1 r) (1 ∷ 2 ∷ 3 ∷ []) (Null ∷ drop 1 s)
 blind [] [] = refl
@@ -154,22 +154,22 @@ blind (x ∷ r) (y ∷ s) = refl
 abbrev new_triple : List Row → Triple → Row
 new_triple rows t = Int (next_rowid rows) ∷ triple_cells t
 
-news_are : (db : Trees) (t : Triple) → (edit_of db triples_table [] Chosen 0 (value_rows (triple_cells t) 5 (5 / 5) add_triple_terms)).news ≡ new_triple (db 7) t ∷ []
-news_are db t = rw (cast_null, cast_int (pos t.user), cast_int (pos (number_of t.procedure)), cast_int (pos t.set), cast_int (pos t.limit)) refl
+news_are : (db : Trees) (t : Triple) → (edit_of db grants_table [] Chosen 0 (value_rows (triple_cells t) 7 (7 / 7) add_triple_terms)).news ≡ new_triple (db 7) t ∷ []
+news_are db t = rw (cast_null, cast_int (pos t.user), cast_int (pos (number_of t.procedure)), cast_int (pos t.set), cast_int (pos t.limit), cast_int (pos t.first), cast_int (pos t.last)) refl
 
 pub adds_triple : (old new : State) (s : Sheets) (t : Triple) (count : ℕ) → TripleFits t → HoldsTables old.now s → Executes add_triple_text (triple_cells t) old new (Ok count)
     → HoldsTables new.now (record s { triples = add_row triple_key t s.triples }) × IsFree triple_key s.triples (triple_key t)
 adds_triple old new s t count fit holds h =
-    let it = inserts bank_schema add_triple_text (triple_cells t) 5 triples_table add_triple_terms 5 add_triple_is.0 add_triple_is.1 refl refl refl old new count holds.schema h in
+    let it = inserts bank_schema add_triple_text (triple_cells t) 5 grants_table add_triple_terms 7 add_triple_is.0 add_triple_is.1 refl refl refl old new count holds.schema h in
     let row = new_triple (old.now.trees 7) t in
-    let put = puts triples_table row (value_rows (triple_cells t) 5 (5 / 5) add_triple_terms) old.now.trees new.now.trees it.applies (news_are old.now.trees t) in
-    let free = apart_by_index triple_cells triple_key TripleFits triples_table triple_index (inr (inr (inr (inr (inr (inl refl)))))) (inr (inr (inl refl))) refl blind alike
+    let put = puts grants_table row (value_rows (triple_cells t) 7 (7 / 7) add_triple_terms) old.now.trees new.now.trees it.applies (news_are old.now.trees t) in
+    let free = apart_by_index triple_cells triple_key TripleFits grants_table triple_index (inr (inr (inr (inr (inr (inl refl)))))) (inr (inr (inl refl))) refl blind alike
     old.now.trees new.now.trees row t s.triples put refl fit (holds.rows in_triples) in (
       record {
         schema = it.schema_is;
         sound = it.sound;
         rows = with_triples old.now.trees new.now.trees s (add_row triple_key t s.triples) holds.rows it.applies.tables
-            (adds_by_columns triple_cells triple_key TripleFits triples_table old.now.trees new.now.trees row t s.triples put refl fit free (holds.rows in_triples));
+            (adds_by_columns triple_cells triple_key TripleFits grants_table old.now.trees new.now.trees row t s.triples put refl fit free (holds.rows in_triples));
       },
       free,
     )
@@ -186,7 +186,7 @@ pub removes_triple : (old new : State) (s : Sheets) (user procedure set count : 
 removes_triple old new s user procedure set count small small' holds h =
     let params = Int (pos user) ∷ Int (pos procedure) ∷ Int (pos set) ∷ [] in
     let k = 2 ^ 64 * user + 2 ^ 32 * procedure + set in
-    let it = deletes_rows all_but_rowid (λ r. Null ∷ r) triple_cells triple_key TripleFits 5 triples_table (λ db. refl) by_three remove_triple_text params (is_triple_at user procedure set)
+    let it = deletes_rows all_but_rowid (λ r. Null ∷ r) triple_cells triple_key TripleFits 5 grants_table (λ db. refl) by_three remove_triple_text params (is_triple_at user procedure set)
     remove_triple_is.0 remove_triple_is.1 refl (λ r. (triple_reads params r).0) (λ x. three_equal x.user (number_of x.procedure) x.set user procedure set)
     (λ olds. nothing_set_off 0 7 refl olds []) old new s.triples count holds.schema (holds.rows in_triples) h in
     let left : filter (λ x. not (is_triple_at user procedure set x)) s.triples ≡ delete_rows triple_key k s.triples =

@@ -1,3 +1,4 @@
+pub mod Given
 pub mod HeldRows
 pub mod Shown
 pub mod Tests

@@ -46,19 +46,19 @@ remove_relation_text = codes "DELETE FROM relations WHERE procedure = ?1 AND set
 -- ---- triples
 
 abbrev pub triple_text : List ℕ
-triple_text = codes "SELECT user_no, procedure, set_no, ceiling FROM triples WHERE user_no = ?1 AND procedure = ?2 AND set_no = ?3"
+triple_text = codes "SELECT user_no, procedure, set_no, ceiling, first_at, last_at FROM grants WHERE user_no = ?1 AND procedure = ?2 AND set_no = ?3"
 
 abbrev pub triples_text : List ℕ
-triples_text = codes "SELECT user_no, procedure, set_no, ceiling FROM triples WHERE user_no = ?1 AND procedure = ?2 ORDER BY set_no"
+triples_text = codes "SELECT user_no, procedure, set_no, ceiling, first_at, last_at FROM grants WHERE user_no = ?1 AND procedure = ?2 ORDER BY set_no"
 
 abbrev pub user_triples_text : List ℕ
-user_triples_text = codes "SELECT user_no, procedure, set_no, ceiling FROM triples WHERE user_no = ?1 ORDER BY procedure, set_no"
+user_triples_text = codes "SELECT user_no, procedure, set_no, ceiling, first_at, last_at FROM grants WHERE user_no = ?1 ORDER BY procedure, set_no"
 
 abbrev pub add_triple_text : List ℕ
-add_triple_text = codes "INSERT INTO triples (user_no, procedure, set_no, ceiling) VALUES (?1, ?2, ?3, ?4)"
+add_triple_text = codes "INSERT INTO grants (user_no, procedure, set_no, ceiling, first_at, last_at) VALUES (?1, ?2, ?3, ?4, ?5, ?6)"
 
 abbrev pub remove_triple_text : List ℕ
-remove_triple_text = codes "DELETE FROM triples WHERE user_no = ?1 AND procedure = ?2 AND set_no = ?3"
+remove_triple_text = codes "DELETE FROM grants WHERE user_no = ?1 AND procedure = ?2 AND set_no = ?3"
 
 -- ---- certifiers
 

@@ -1,5 +1,6 @@
-ghost use Rattle.std.specs.Prelude.{◌≡◌, ◌==◌, ◌+◌, ◌*◌, ◌^◌, ◌<◌, ◌∷◌, [], ℕ, List, length, pos, map, IfOk, IsTrue};
+ghost use Rattle.std.specs.Prelude.{◌≡◌, ◌==◌, ◌+◌, ◌*◌, ◌^◌, ◌<◌, ◌≤◌, ◌⊎◌, ◌∷◌, [], ℕ, List, length, pos, map, IfErr, IfOk, IsTrue};
 ghost use Rattle.std.specs.List.{cons_option, filter, find, list_any};
+ghost use Rattle.money.specs.declared.fault.Fault.TheVariants.{Size};
 ghost use Rattle.sqlite.specs.Held.{state};
 ghost use Rattle.sqlite.specs.State.{HasCleanDisk, Survives};
 ghost use Rattle.sqlite.specs.declared.types.Value.TheVariants.{Int};
@@ -14,12 +15,13 @@ ghost use Rattle.bank_schema.specs.Told.{Runs};
 ghost use Rattle.bank_policy.specs.HeldRows.{is_triple_of};
 ghost use Rattle.bank_policy.specs.PolicyKeys.{triple_key, triple_number};
 ghost use Rattle.bank_policy.specs.declared.rows.Triple.{Triple as TheTriple};
-ghost use Rattle.bank_schema.specs.Cells.{triple_cells};
+ghost use Rattle.bank_schema.specs.Cells.{TripleFits, triple_cells};
+ghost use Rattle.policy_tables.specs.Given.{given_triple};
 ghost use Rattle.policy_tables.specs.Tests.{is_triple_by, is_triple_numbered};
 ghost use Rattle.policy_tables.specs.Texts.{add_triple_text, remove_triple_text};
 
 use bank_policy::{Triple, TripleKey};
-use bank_schema::{number_at, procedure_at, run, shown_rows};
+use bank_schema::{count_at, count_cell, number_at, procedure_at, run, shown_rows};
 use bank_terms::Procedure;
 use money::Fault;
 use sqlite::{Alter, Row, Transaction, params};
@@ -40,7 +42,7 @@ fn select_triple<S: Alter>(
 {
     shown_rows(
         tx,
-        "SELECT user_no, procedure, set_no, ceiling FROM triples WHERE user_no = ?1 AND procedure = ?2 AND set_no = ?3",
+        "SELECT user_no, procedure, set_no, ceiling, first_at, last_at FROM grants WHERE user_no = ?1 AND procedure = ?2 AND set_no = ?3",
         params![user, procedure, set],
     )
 }
@@ -59,7 +61,7 @@ fn select_triples<S: Alter>(
 {
     shown_rows(
         tx,
-        "SELECT user_no, procedure, set_no, ceiling FROM triples WHERE user_no = ?1 AND procedure = ?2 ORDER BY set_no",
+        "SELECT user_no, procedure, set_no, ceiling, first_at, last_at FROM grants WHERE user_no = ?1 AND procedure = ?2 ORDER BY set_no",
         params![user, procedure],
     )
 }
@@ -74,7 +76,7 @@ fn select_user_triples<S: Alter>(tx: &mut Transaction<'_, S>, user: u32) -> Resu
 {
     shown_rows(
         tx,
-        "SELECT user_no, procedure, set_no, ceiling FROM triples WHERE user_no = ?1 ORDER BY procedure, set_no",
+        "SELECT user_no, procedure, set_no, ceiling, first_at, last_at FROM grants WHERE user_no = ?1 ORDER BY procedure, set_no",
         params![user],
     )
 }
@@ -88,6 +90,8 @@ pub fn read_triple(row: &Row) -> Result<Triple, Fault>
         procedure: procedure_at(row, 1)?,
         set: number_at(row, 2)?,
         limit: number_at(row, 3)?,
+        first: count_at(row, 4)?,
+        last: count_at(row, 5)?,
     })
 }
 
@@ -151,32 +155,61 @@ pub fn triple_count<S: Alter>(tx: &mut Transaction<'_, S>, user: u32) -> Result<
     Ok(rows.len() as u64)
 }
 
-fn insert_triple<S: Alter>(
-    tx: &mut Transaction<'_, S>,
-    triple: &Triple,
+/// What is given with the statement that adds a triple.
+#[derive(Drop)]
+struct TripleCells {
+    user: u32,
     procedure: u32,
-) -> Result<usize, Fault>
+    set: u32,
+    limit: u32,
+    first: i64,
+    last: i64,
+}
+
+fn cells_of(triple: &Triple) -> Result<TripleCells, Fault>
+    ensures cells { IfOk result (λ c. given_triple c ≡ triple_cells triple.now) }
+    ensures err { IfErr result (λ fault. (fault ≡ Size) × ((2 ^ 63 ≤ triple.now.first) ⊎ (2 ^ 63 ≤ triple.now.last))) }
+    ensures fits { IfOk result (λ _. TripleFits triple.now) }
+{
+    let set = triple.set;
+    Ok(TripleCells {
+        user: triple.user,
+        procedure: triple.procedure.number() as u32,
+        set,
+        limit: triple.limit,
+        first: count_cell(triple.first)?,
+        last: count_cell(triple.last)?,
+    })
+}
+
+fn insert_triple<S: Alter>(tx: &mut Transaction<'_, S>, cells: &TripleCells) -> Result<usize, Fault>
     ensures same_reference { tx.new.conn.ghost_name ≡ tx.old.conn.ghost_name }
-    ensures runs { HasCleanDisk (state S.Store tx.new.conn.now) → IsTrue (state S.Store tx.old.conn.now).in_transaction → Runs add_triple_text (Int (pos triple.now.user) ∷ Int (pos procedure) ∷ Int (pos triple.now.set) ∷ Int (pos triple.now.limit) ∷ []) (state S.Store tx.old.conn.now) (state S.Store tx.new.conn.now) result }
-    ensures small { triple.now.set < 2 ^ 32 }
+    ensures runs { HasCleanDisk (state S.Store tx.new.conn.now) → IsTrue (state S.Store tx.old.conn.now).in_transaction → Runs add_triple_text (given_triple cells.now) (state S.Store tx.old.conn.now) (state S.Store tx.new.conn.now) result }
     ensures survives { Survives (state S.Store tx.old.conn.now) (state S.Store tx.new.conn.now) (λ _. ⊥) }
 {
     run(
         tx,
-        "INSERT INTO triples (user_no, procedure, set_no, ceiling) VALUES (?1, ?2, ?3, ?4)",
-        params![triple.user, procedure, triple.set, triple.limit],
+        "INSERT INTO grants (user_no, procedure, set_no, ceiling, first_at, last_at) VALUES (?1, ?2, ?3, ?4, ?5, ?6)",
+        params![
+            cells.user,
+            cells.procedure,
+            cells.set,
+            cells.limit,
+            &cells.first,
+            &cells.last
+        ],
     )
 }
 
-/// Adds a triple. One of its key that is there already is a fault of the disk, and so is one of no relation.
+/// Adds a triple. One of its key that is there already is a fault of the disk, and so is one of no relation. A moment of more than 63 bits is a fault of size.
 pub fn add_triple<S: Alter>(tx: &mut Transaction<'_, S>, triple: &Triple) -> Result<(), Fault>
     ensures same_reference { tx.new.conn.ghost_name ≡ tx.old.conn.ghost_name }
     ensures steps { Steps (state S.Store tx.old.conn.now) (state S.Store tx.new.conn.now) (λ s. record s { triples = add_row triple_key triple.now s.triples }) result }
     ensures free { Tells (state S.Store tx.old.conn.now) (state S.Store tx.new.conn.now) (λ s. IsFree triple_key s.triples (triple_key triple.now)) result }
     ensures survives { Survives (state S.Store tx.old.conn.now) (state S.Store tx.new.conn.now) (λ _. ⊥) }
 {
-    let procedure = triple.procedure.number() as u32;
-    insert_triple(tx, triple, procedure)?;
+    let cells = cells_of(triple)?;
+    insert_triple(tx, &cells)?;
     Ok(())
 }
 
@@ -192,7 +225,7 @@ fn delete_triple<S: Alter>(
 {
     run(
         tx,
-        "DELETE FROM triples WHERE user_no = ?1 AND procedure = ?2 AND set_no = ?3",
+        "DELETE FROM grants WHERE user_no = ?1 AND procedure = ?2 AND set_no = ?3",
         params![key.user, procedure, key.set],
     )
 }

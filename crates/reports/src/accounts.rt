@@ -11,13 +11,15 @@ use report_lines::account_line;
 use std::alloc::Global;
 use store_rows::ReportReads;
 
-/// The accounts above a number that a user is shown.
+/// The accounts above a number that a user is shown at a moment.
 #[derive(Clone, Copy, Debug, PartialEq, Eq)]
 pub struct AfterAccount {
     /// The user.
     pub user: u32,
     /// The number above which they lie.
     pub after: u32,
+    /// The moment at which his triples have to count, in seconds.
+    pub moment: u64,
 }
 
 /// The line of the next account that a user is shown.
@@ -30,7 +32,7 @@ pub(crate) fn next_account<S: ReportReads>(
     ensures cause { CountsWhere (S.status store.old) (S.status store.new) (mark_of result) (λ w. HasRoom w (Listing.Accounts from)) }
     ensures short { IfOk result (λ next. IfSome next (λ listed. array_vec_len listed.line ≤ 256)) }
 {
-    let Some(account) = store.next_shown(alloc, from.user, from.after)? else {
+    let Some(account) = store.next_shown(alloc, from.user, from.after, from.moment)? else {
         return Ok(None);
     };
     Ok(Some(Listed {
@@ -38,6 +40,7 @@ pub(crate) fn next_account<S: ReportReads>(
         rest: Listing::Accounts(AfterAccount {
             user: from.user,
             after: account.row.account,
+            moment: from.moment,
         }),
     }))
 }

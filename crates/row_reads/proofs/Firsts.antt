@@ -17,7 +17,7 @@ first-row [] = refl
 first-row (x ∷ xs) = refl
 
 pub first_shown : FirstShownIsNext
-first_shown w user after count = rw add-one (first-kept _ _ count w.accounts)
+first_shown w user after count moment = rw add-one (first-kept _ _ count w.accounts)
 
 pub first_line : FirstLineIsNext
 first_line w = first-row _

@@ -63,5 +63,5 @@ made-on f back again key q a n xs (Some x) y order found is =
     ∙ ap (λ z. z ∷ map f (take n (filter (passes key q (key (back z))) xs))) same)
 
 pub shown_goes_on : ShownGoesOn
-shown_goes_on w user after count row in_order distinct next =
+shown_goes_on w user after count moment row in_order distinct next =
     made-on (account_record_of w) (λ r. r.row) (λ a. refl) _ _ after count w.accounts _ row (rises _ w.accounts in_order distinct) refl next

@@ -3,7 +3,7 @@ use Rattle.std.specs.Prelude.{ℕ, ℤ, ◌==◌, ◌&&◌, Bool, not, nat_lt, L
 use Rattle.std.specs.List.{filter, find, list_any, range_with_len}
 use Rattle.std.specs.Option.{option_map_or}
 use Rattle.bank_policy.specs.HeldRows.{HeldTriple, triples_of}
-use Rattle.bank_policy.specs.Tests.{is_within}
+use Rattle.bank_policy.specs.Tests.{current, is_within}
 use Rattle.bank_terms.specs.declared.item.Kind.TheVariants as kind
 use Rattle.bank_terms.specs.declared.procedure.Procedure.TheVariants as procedure
 use Rattle.bank_books.specs.Records.{account_record_of, branch_record, entry_record_of, teller_record, teller_record_of}
@@ -86,11 +86,15 @@ is_account_of held account = list_any (λ row. list_any (is_within (record { kin
 abbrev pub is_account_after : List HeldTriple → ℕ → Account → Bool
 is_account_after held after a = nat_lt after a.account && is_account_of held a.account
 
--- the accounts above a number that the user is shown, in the order of the World, each row once, at most so many
-abbrev pub shown : WorldLists → ℕ → ℕ → ℕ → List AccountRecord
-shown w user after count =
-    map (account_record_of w) (take count (filter (is_account_after (triples_of w.policy user procedure.Accounts) after) w.accounts))
+-- the user's triples for the list of accounts that count at the moment
+abbrev pub accounts_triples : WorldLists → ℕ → ℕ → List HeldTriple
+accounts_triples w user moment = current moment (triples_of w.policy user procedure.Accounts)
 
--- the next account above a number that the user is shown: the first in their order
-abbrev pub next_shown : WorldLists → ℕ → ℕ → Option AccountRecord
-next_shown w user after = option_map (account_record_of w) (find (is_account_after (triples_of w.policy user procedure.Accounts) after) w.accounts)
+-- the accounts above a number that the user is shown at a moment, in the order of the World, each row once, at most so many
+abbrev pub shown : WorldLists → ℕ → ℕ → ℕ → ℕ → List AccountRecord
+shown w user after count moment =
+    map (account_record_of w) (take count (filter (is_account_after (accounts_triples w user moment) after) w.accounts))
+
+-- the next account above a number that the user is shown then: the first in their order
+abbrev pub next_shown : WorldLists → ℕ → ℕ → ℕ → Option AccountRecord
+next_shown w user after moment = option_map (account_record_of w) (find (is_account_after (accounts_triples w user moment) after) w.accounts)

@@ -24,7 +24,7 @@ EntriesEndWithTurns = (w : WorldLists) (account start count : ℕ) → length (e
 
 -- the first of the accounts that are shown is the next one
 abbrev pub FirstShownIsNext : Type 0
-FirstShownIsNext = (w : WorldLists) (user after count : ℕ) → slice_get (shown w user after (count + 1)) 0 ≡ next_shown w user after
+FirstShownIsNext = (w : WorldLists) (user after count moment : ℕ) → slice_get (shown w user after (count + 1) moment) 0 ≡ next_shown w user after moment
 
 -- the first line of the policy is the one behind none
 abbrev pub FirstLineIsNext : Type 0
@@ -32,9 +32,9 @@ FirstLineIsNext = (w : WorldLists) → slice_get (policy_rows w) 0 ≡ next_poli
 
 -- where accounts stand in order of their numbers and no two bear one number, behind the first stand those above it
 abbrev pub ShownGoesOn : Type 0
-ShownGoesOn = (w : WorldLists) (user after count : ℕ) (row : AccountRecord) →
-    IsNonDecreasingBy account_key w.accounts → AreDistinct (map account_key w.accounts) → next_shown w user after ≡ Some row →
-    shown w user after (count + 1) ≡ row ∷ shown w user row.row.account count
+ShownGoesOn = (w : WorldLists) (user after count moment : ℕ) (row : AccountRecord) →
+    IsNonDecreasingBy account_key w.accounts → AreDistinct (map account_key w.accounts) → next_shown w user after moment ≡ Some row →
+    shown w user after (count + 1) moment ≡ row ∷ shown w user row.row.account count moment
 
 -- in a sound policy the line behind one is the next of the list
 abbrev pub NextLineFollows : Type 0

@@ -3,15 +3,15 @@ ghost use Rattle.std.specs.List.{find, list_any};
 ghost use Rattle.std.specs.Option.{option_copied};
 ghost use Rattle.bank_policy.specs.Tests.{is_within};
 ghost use Rattle.bank_terms.specs.declared.item.Kind.TheVariants as kind;
-ghost use Rattle.row_reads.specs.BookReads.{is_account_after, is_account_of, next_shown, shown};
+ghost use Rattle.row_reads.specs.BookReads.{accounts_triples, is_account_after, is_account_of, next_shown, shown};
 
 use bank_books::{Account, AccountRecord, World, account_record_of};
-use bank_policy::{HeldRow, Member, triples_of};
+use bank_policy::{HeldRow, Member, keep_current, triples_of};
 use bank_terms::{Kind, Procedure};
 use std::alloc::{AllocError, Global};
 
 /// The accounts above a number that lie in the set of some one of the user's triples for the list
-/// of accounts, by number, each once, at most `count`, with their balances. Only memory keeps them
+/// of accounts that counts at the moment, by number, each once, at most `count`, with their balances. Only memory keeps them
 /// from an answer.
 pub fn shown(
     alloc: Global,
@@ -19,10 +19,11 @@ pub fn shown(
     user: u32,
     after: u32,
     count: u32,
+    moment: u64,
 ) -> Result<Vec<AccountRecord>, AllocError>
-    ensures { IfOk result (λ rows. rows.items ≡ shown world.now user after count) }
+    ensures { IfOk result (λ rows. rows.items ≡ shown world.now user after count moment) }
 {
-    let held = triples_of(alloc, world.policy(), user, Procedure::Accounts)?;
+    let held = accounts_triples(alloc, world, user, moment)?;
     let mut rows = Vec::new(alloc);
     for account in world.accounts() {
         if rows.len() as u64 == u64::from(count) {
@@ -42,14 +43,29 @@ pub fn next_shown(
     world: &World,
     user: u32,
     after: u32,
+    moment: u64,
 ) -> Result<Option<AccountRecord>, AllocError>
-    ensures { IfOk result (λ row. row ≡ next_shown world.now user after) }
+    ensures { IfOk result (λ row. row ≡ next_shown world.now user after moment) }
 {
-    let held = triples_of(alloc, world.policy(), user, Procedure::Accounts)?;
+    let held = accounts_triples(alloc, world, user, moment)?;
     match account_after(world.accounts(), &held, after) {
         Some(row) => Ok(Some(account_record_of(world, row))),
         None => Ok(None),
     }
+}
+
+/// The user's triples for the list of accounts that count at the moment.
+fn accounts_triples(
+    alloc: Global,
+    world: &World,
+    user: u32,
+    moment: u64,
+) -> Result<Vec<HeldRow>, AllocError>
+    ensures { IfOk result (λ rows. rows.items ≡ accounts_triples world.now user moment) }
+{
+    let mut held = triples_of(alloc, world.policy(), user, Procedure::Accounts)?;
+    keep_current(&mut held, moment);
+    Ok(held)
 }
 
 /// The first account above a number that lies in the set of one of these triples.

@@ -1,6 +1,7 @@
 -- The policy of the sample bank, each list in order of its key.
 use Rattle.std.specs.Prelude.{ℕ, Bool, false, true, List, [], ◌∷◌, ◌++◌, codes, map}
 use Rattle.bank_policy.specs.Policy.{PolicyLists}
+use Rattle.bank_terms.specs.Limits.{max_moment}
 use Rattle.bank_terms.specs.Procedure.{procedures}
 use Rattle.bank_policy.specs.SetRow.{SetRow}
 use Rattle.bank_terms.specs.declared.item.Kind.{Kind}
@@ -104,9 +105,9 @@ relations =
     ∷ relation CloseDay 2
     ∷ []
 
--- the user may carry out the procedure on the items of the set, up to a limit in cents
+-- the user may carry out the procedure on the items of the set, up to a limit in cents, at every moment
 abbrev pub triple : ℕ → Procedure → ℕ → ℕ → Triple
-triple user procedure set limit = record { user = user; procedure = procedure; set = set; limit = limit }
+triple user procedure set limit = record { user = user; procedure = procedure; set = set; limit = limit; first = 0; last = max_moment }
 
 -- Tess and Tom are tellers; Sue opens accounts, gives releases and closes days
 abbrev pub triples : List Triple

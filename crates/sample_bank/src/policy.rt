@@ -4,7 +4,7 @@ ghost use Rattle.bank_policy.specs.PolicyKeys.{certifier_key, relation_key, trip
 ghost use Rattle.sample_bank.specs.SamplePolicy.{at_the_counter, certifier, certifiers, everything, first_branch, listed, member, relation, relations, sample_policy, sets, triple, triples, user, users};
 
 use bank_policy::{Certifier, ItemSet, Member, Name, Policy, Relation, Triple, User};
-use bank_terms::{Kind, Procedure};
+use bank_terms::{Kind, MAX_MOMENT, Procedure};
 use std::alloc::{AllocError, Global};
 
 /// The policy of the sample bank. The only error is that memory is refused.
@@ -192,7 +192,7 @@ fn add_triples(policy: &mut Policy) -> Result<(), AllocError>
     write_triples(policy, 9, &of_sue)
 }
 
-/// Writes what a user may carry out, on the items of which set and up to which limit in cents.
+/// Writes what a user may carry out, on the items of which set and up to which limit in cents. He may at every moment.
 #[tactic(auto, using(std::proofs::lemmas::List::Sums::fold_more))]
 fn write_triples(
     policy: &mut Policy,
@@ -207,6 +207,8 @@ fn write_triples(
             procedure,
             set,
             limit,
+            first: 0,
+            last: MAX_MOMENT,
         })?;
     }
     Ok(())

@@ -229,10 +229,11 @@ impl ReportReads for ListStore {
         user: u32,
         after: u32,
         count: u32,
+        moment: u64,
     ) -> Result<Vec<AccountRecord>, Fault>
-        ensures { ReadsList self.old self.new result (λ w rows. rows.items ≡ shown w user after count) }
+        ensures { ReadsList self.old self.new result (λ w rows. rows.items ≡ shown w user after count moment) }
     {
-        let rows = shown(alloc, &self.world, user, after, count);
+        let rows = shown(alloc, &self.world, user, after, count, moment);
         self.counted(rows)
     }
 
@@ -241,10 +242,11 @@ impl ReportReads for ListStore {
         alloc: Global,
         user: u32,
         after: u32,
+        moment: u64,
     ) -> Result<Option<AccountRecord>, Fault>
-        ensures { ReadsList self.old self.new result (λ w row. row ≡ next_shown w user after) }
+        ensures { ReadsList self.old self.new result (λ w row. row ≡ next_shown w user after moment) }
     {
-        let row = next_shown(alloc, &self.world, user, after);
+        let row = next_shown(alloc, &self.world, user, after, moment);
         self.counted(row)
     }
 

@@ -132,24 +132,26 @@ pub trait ReportReads: Stands {
     ) -> Result<Option<EntryRecord>, Fault>
         ensures { ReadsRow (Self.status self.old) (Self.status self.new) result (λ w row. row ≡ entry_at w account turn) };
 
-    /// The accounts above a number that this user is shown, by number, at most so many.
+    /// The accounts above a number that this user is shown at a moment, by number, at most so many.
     fn shown(
         &mut self,
         alloc: Global,
         user: u32,
         after: u32,
         count: u32,
+        moment: u64,
     ) -> Result<Vec<AccountRecord>, Fault>
-        ensures { ReadsRow (Self.status self.old) (Self.status self.new) result (λ w rows. rows.items ≡ shown w user after count) };
+        ensures { ReadsRow (Self.status self.old) (Self.status self.new) result (λ w rows. rows.items ≡ shown w user after count moment) };
 
-    /// The next account above a number that this user is shown, or none where there is no other.
+    /// The next account above a number that this user is shown at a moment, or none where there is no other.
     fn next_shown(
         &mut self,
         alloc: Global,
         user: u32,
         after: u32,
+        moment: u64,
     ) -> Result<Option<AccountRecord>, Fault>
-        ensures { ReadsRow (Self.status self.old) (Self.status self.new) result (λ w row. row ≡ next_shown w user after) };
+        ensures { ReadsRow (Self.status self.old) (Self.status self.new) result (λ w row. row ≡ next_shown w user after moment) };
 
     /// The next teller of a branch above a number, or none where there is no other.
     fn next_teller(

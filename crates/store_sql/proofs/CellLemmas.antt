@@ -1,10 +1,11 @@
 -- Rows told by their cells.
-use Rattle.std.proofs.Common.{◌≡◌, ℕ, ℤ, pos, List, [], ◌∷◌, length, Bool, true, false, cond, ◌==◌, refl, arith}
+use Rattle.std.proofs.Common.{◌≡◌, ℕ, ℤ, pos, List, [], ◌∷◌, length, Bool, true, false, cond, ◌==◌, refl, sym, arith}
 use Rattle.std.specs.Prelude.{slice_index_or}
 use Rattle.sqlite.specs.declared.types.Value.{Value}
 use Rattle.sqlite.specs.declared.types.Value.TheVariants.{Int, Text}
 use Rattle.sqlite.specs.Order.{Row}
 use Rattle.sqlite_value.specs.Order.{column}
+use Rattle.bank_terms.specs.Limits.{max_moment}
 use Rattle.bank_terms.specs.Procedure.{number_of}
 use Rattle.bank_terms.specs.declared.item.Kind.{Kind}
 use Rattle.bank_terms.specs.declared.item.Kind.TheVariants as kind
@@ -28,7 +29,7 @@ use Rattle.kept_rows.specs.declared.records.KeptUser.{KeptUser}
 use Rattle.kept_rows.specs.declared.records.MemberRow.{MemberRow}
 use Rattle.bank_schema.specs.Cells.{ReleaseFits, TripleFitsIn, account_cells, branch_cells, certifier_cells, entry_cells, line_cells, member_cells, proof_cells, relation_cells, release_cells, set_cells, teller_cells, triple_cells, triple_cells_in, user_cells}
 use Rattle.bank_schema.specs.declared.edition.Edition.{Edition}
-use Rattle.bank_schema.specs.declared.edition.Edition.TheVariants.{First}
+use Rattle.bank_schema.specs.declared.edition.Edition.TheVariants.{First, Second}
 use Rattle.bank_schema.specs.Numbers.{entry_form_number, kind_number, line_form_number, truth_cell}
 
 -- ---- single cells
@@ -134,16 +135,18 @@ pub relation_tells : (r : Relation) → relation_back (relation_cells r) ≡ r
 relation_tells r = λ i. record r { procedure = procedure_back r.procedure i }
 
 abbrev pub triple_back : Row → Triple
-triple_back r = record { user = nat_of (column r 0); procedure = procedure_of (nat_of (column r 1)); set = nat_of (column r 2); limit = nat_of (column r 3) }
+triple_back r = record { user = nat_of (column r 0); procedure = procedure_of (nat_of (column r 1)); set = nat_of (column r 2); limit = nat_of (column r 3); first = nat_of (column r 4); last = nat_of (column r 5) }
 
 pub triple_tells : (t : Triple) → triple_back (triple_cells t) ≡ t
 triple_tells t = λ i. record t { procedure = procedure_back t.procedure i }
 
 abbrev pub triple_back_in : Edition → Row → Triple
-triple_back_in First r = triple_back r
+triple_back_in First r = record { user = nat_of (column r 0); procedure = procedure_of (nat_of (column r 1)); set = nat_of (column r 2); limit = nat_of (column r 3); first = 0; last = max_moment }
+triple_back_in Second r = triple_back r
 
 pub triple_tells_in : (e : Edition) (t : Triple) → TripleFitsIn e t → triple_back_in e (triple_cells_in e t) ≡ t
-triple_tells_in First t fits = triple_tells t
+triple_tells_in First t fits = λ i. record t { procedure = procedure_back t.procedure i; first = sym fits.1 i; last = sym fits.2 i }
+triple_tells_in Second t fits = triple_tells t
 
 abbrev pub certifier_back : Row → Certifier
 certifier_back r = record { user = nat_of (column r 0); procedure = procedure_of (nat_of (column r 1)) }

@@ -40,8 +40,17 @@ impl<S: Alter> ReportReads for SqlStore<S> {
         user: u32,
         after: u32,
         count: u32,
+        moment: u64,
     ) -> Result<Vec<AccountRecord>, Fault> {
-        self.ask(alloc, &Shown { user, after, count })
+        self.ask(
+            alloc,
+            &Shown {
+                user,
+                after,
+                count,
+                moment,
+            },
+        )
     }
 
     fn next_shown(
@@ -49,8 +58,16 @@ impl<S: Alter> ReportReads for SqlStore<S> {
         alloc: Global,
         user: u32,
         after: u32,
+        moment: u64,
     ) -> Result<Option<AccountRecord>, Fault> {
-        self.ask(alloc, &NextShown { user, after })
+        self.ask(
+            alloc,
+            &NextShown {
+                user,
+                after,
+                moment,
+            },
+        )
     }
 
     fn next_teller(

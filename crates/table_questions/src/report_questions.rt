@@ -6,9 +6,8 @@ ghost use Rattle.row_reads.specs.BookReads.{entries_of, entry_at, next_shown, ne
 use crate::least_reads::least_of;
 use crate::question::Question;
 use crate::report_rows::teller_told;
-use crate::shown_reads::held_above;
+use crate::shown_reads::{accounts_triples, held_above};
 use bank_books::{AccountRecord, EntryRecord, TellerRecord};
-use bank_terms::Procedure;
 use money::Fault;
 use sqlite::{Alter, Transaction};
 use std::alloc::Global;
@@ -96,19 +95,21 @@ pub struct NextShown {
     pub user: u32,
     /// The number that the account's is above.
     pub after: u32,
+    /// The moment of the question.
+    pub moment: u64,
 }
 
 impl Question for NextShown {
     type Answer = Option<AccountRecord>;
 
-    ghost says = { λ asked w row. row ≡ next_shown w asked.user asked.after };
+    ghost says = { λ asked w row. row ≡ next_shown w asked.user asked.after asked.moment };
 
     fn ask<S: Alter>(
         &self,
         alloc: Global,
         tx: &mut Transaction<'_, S>,
     ) -> Result<Option<AccountRecord>, Fault> {
-        let held = policy_tables::triples_of(alloc, tx, self.user, Procedure::Accounts)?;
+        let held = accounts_triples(alloc, tx, self.user, self.moment)?;
         least_of(tx, &held, self.after)
     }
 }
@@ -122,19 +123,21 @@ pub struct Shown {
     pub after: u32,
     /// At most so many.
     pub count: u32,
+    /// The moment of the question.
+    pub moment: u64,
 }
 
 impl Question for Shown {
     type Answer = Vec<AccountRecord>;
 
-    ghost says = { λ asked w rows. rows.items ≡ shown w asked.user asked.after asked.count };
+    ghost says = { λ asked w rows. rows.items ≡ shown w asked.user asked.after asked.count asked.moment };
 
     fn ask<S: Alter>(
         &self,
         alloc: Global,
         tx: &mut Transaction<'_, S>,
     ) -> Result<Vec<AccountRecord>, Fault> {
-        let triples = policy_tables::triples_of(alloc, tx, self.user, Procedure::Accounts)?;
+        let triples = accounts_triples(alloc, tx, self.user, self.moment)?;
         held_above(alloc, tx, &triples, self.after, self.count)
     }
 }

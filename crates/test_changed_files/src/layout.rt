@@ -24,6 +24,7 @@ fn a_bank_has_one_row_of_its_own(rt: HostRuntime) {
             ),
             ("UPDATE bank SET id = 2", AdoptFault::NotABank),
             ("UPDATE bank SET version = 7", AdoptFault::Version),
+            ("UPDATE bank SET version = 1", AdoptFault::Version),
             ("UPDATE bank SET version = 0", AdoptFault::Version),
         ],
     );
@@ -57,8 +58,8 @@ fn a_bank_has_its_tables_of_the_policy(rt: HostRuntime) {
             "DROP TABLE users; CREATE TABLE users (user_no INTEGER PRIMARY KEY, name TEXT NOT NULL) STRICT",
             "DROP TABLE sets",
             "DROP TABLE members",
-            "DROP TABLE triples; DROP TABLE relations",
-            "DROP TABLE triples",
+            "DROP TABLE grants; DROP TABLE relations",
+            "DROP TABLE grants",
             "DROP TABLE certifiers",
         ],
     );
@@ -82,7 +83,7 @@ fn the_version_is_told_before_the_tables_the_books_and_the_policy(rt: HostRuntim
                 AdoptFault::Books(BooksFault::Cash { branch: 1 }),
             ),
             (
-                "INSERT INTO triples VALUES (2, 1, 2, 500); UPDATE members SET kind = 9 WHERE set_no = 5",
+                "INSERT INTO grants VALUES (2, 1, 2, 500, 0, 99999999999); UPDATE members SET kind = 9 WHERE set_no = 5",
                 AdoptFault::Policy(PolicyFault::Dangling),
             ),
         ],
@@ -103,7 +104,7 @@ fn a_table_that_is_not_there_is_told_before_any_value(rt: HostRuntime) {
                 AdoptFault::NotABank,
             ),
             (
-                "UPDATE members SET kind = 9; DROP TABLE triples",
+                "UPDATE members SET kind = 9; DROP TABLE grants",
                 AdoptFault::NotABank,
             ),
             (

@@ -25,9 +25,12 @@ fn nobody_executes_what_he_certifies(rt: HostRuntime) {
     refused(
         &rt,
         &[
-            ("INSERT INTO triples VALUES (3, 1, 2, 500)", posts(3)),
             (
-                "INSERT INTO triples VALUES (3, 1, 2, 500); INSERT INTO triples VALUES (2, 2, 1, 0); INSERT INTO triples VALUES (2, 1, 1, 0)",
+                "INSERT INTO grants VALUES (3, 1, 2, 500, 0, 99999999999)",
+                posts(3),
+            ),
+            (
+                "INSERT INTO grants VALUES (3, 1, 2, 500, 0, 99999999999); INSERT INTO grants VALUES (2, 2, 1, 0, 0, 99999999999); INSERT INTO grants VALUES (2, 1, 1, 0, 0, 99999999999)",
                 posts(2),
             ),
             (
@@ -44,7 +47,7 @@ fn an_officer_holds_nothing(rt: HostRuntime) {
         &rt,
         OFFICER,
         &[
-            "INSERT INTO triples VALUES (1, 9, 2, 0)",
+            "INSERT INTO grants VALUES (1, 9, 2, 0, 0, 99999999999)",
             "INSERT INTO certifiers VALUES (1, 9)",
             "UPDATE relations SET by_user = 1 WHERE procedure = 9 AND set_no = 2",
         ],
@@ -77,8 +80,11 @@ fn rows_of_relations_triples_and_certifiers_do_not_dangle(rt: HostRuntime) {
             "UPDATE relations SET by_user = 99 WHERE procedure = 11",
             "INSERT INTO relations VALUES (13, 6, 2)",
             "INSERT INTO relations VALUES (14, 1, 2)",
-            "INSERT INTO triples VALUES (99, 1, 1, 0)",
-            "UPDATE triples SET ceiling = 1000000000 WHERE user_no = 8 AND procedure = 2",
+            "INSERT INTO grants VALUES (99, 1, 1, 0, 0, 99999999999)",
+            "UPDATE grants SET ceiling = 1000000000 WHERE user_no = 8 AND procedure = 2",
+            "UPDATE grants SET first_at = 801, last_at = 800 WHERE user_no = 8 AND procedure = 2",
+            "UPDATE grants SET last_at = 100000000000 WHERE user_no = 8 AND procedure = 2",
+            "UPDATE grants SET first_at = -1 WHERE user_no = 8 AND procedure = 2",
             "INSERT INTO certifiers VALUES (99, 1)",
             "INSERT INTO certifiers VALUES (2, 0)",
         ],

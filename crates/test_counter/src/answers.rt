@@ -33,9 +33,20 @@ pub fn answer<S: Store>(
     rt: &impl Runtime,
     bank: &mut Bank<S>,
     input: &[u8],
+    writer: Tallied<Sink>,
+) -> Answer {
+    answer_at(rt, bank, 700, input, writer)
+}
+
+/// Serves these messages over a bank, at that moment.
+fn answer_at<S: Store>(
+    rt: &impl Runtime,
+    bank: &mut Bank<S>,
+    moment: u64,
+    input: &[u8],
     mut writer: Tallied<Sink>,
 ) -> Answer {
-    let moment = Moment::new(700).expect(rt, "a moment");
+    let moment = Moment::new(moment).expect(rt, "a moment");
     let end = serve(
         rt.alloc(),
         &mut Tallied::new(input),
@@ -52,9 +63,19 @@ pub fn answer<S: Store>(
     }
 }
 
-/// The reply to a message, to a writer that is not broken.
+/// The reply to a message at moment 700, to a writer that is not broken.
 pub fn reply<S: Store>(rt: &impl Runtime, bank: &mut Bank<S>, message: &[u8]) -> Vec<u8> {
-    let answer = answer(rt, bank, message, whole_sink(rt));
+    reply_at(rt, bank, 700, message)
+}
+
+/// The reply to a message at that moment, to a writer that is not broken.
+pub fn reply_at<S: Store>(
+    rt: &impl Runtime,
+    bank: &mut Bank<S>,
+    moment: u64,
+    message: &[u8],
+) -> Vec<u8> {
+    let answer = answer_at(rt, bank, moment, message, whole_sink(rt));
     assert!(rt; answer.end == Ok(Served { messages: 1 }) && answer.failures == 0);
     answer.bytes
 }

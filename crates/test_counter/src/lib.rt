@@ -11,7 +11,7 @@ mod runtime;
 mod sinks;
 mod watched;
 
-pub use answers::{Answer, answer, listed_bank, reply};
+pub use answers::{Answer, answer, listed_bank, reply, reply_at};
 pub use pieces::{Pieces, pieces};
 pub use requests::{ASKS_LISTING, ASKS_PROOF, ASKS_STATEMENT, reply_bytes};
 pub use runtime::Runtime;

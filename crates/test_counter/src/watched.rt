@@ -204,9 +204,10 @@ impl<W: Watch> ReportReads for Watched<W> {
         user: u32,
         after: u32,
         count: u32,
+        moment: u64,
     ) -> Result<Vec<AccountRecord>, Fault> {
         self.watch.on_read(Read::Other)?;
-        self.store.shown(alloc, user, after, count)
+        self.store.shown(alloc, user, after, count, moment)
     }
 
     fn next_shown(
@@ -214,9 +215,10 @@ impl<W: Watch> ReportReads for Watched<W> {
         alloc: Global,
         user: u32,
         after: u32,
+        moment: u64,
     ) -> Result<Option<AccountRecord>, Fault> {
         self.watch.on_read(Read::Other)?;
-        self.store.next_shown(alloc, user, after)
+        self.store.next_shown(alloc, user, after, moment)
     }
 
     fn next_teller(

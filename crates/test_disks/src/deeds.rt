@@ -11,6 +11,7 @@ use adopt_sql::{AdoptFault, adopt, adopt_bank};
 use money::Fault;
 use open_sql::{OpenFault, make_bank};
 use sample_bank::sample_world;
+use sql_upgrade::upgrade;
 use sqlite::{Alter, Connection, FileStore};
 use sqlite_disk::Disk;
 use std::process::Abort;
@@ -27,6 +28,8 @@ pub enum Deed<'a> {
     Change(&'a str),
     /// A bank is looked for.
     Find,
+    /// The bank, which is of the first edition, is carried over.
+    Upgrade,
     /// A store takes the bank unseen.
     Open(Act<'a>),
     /// The bank is adopted.
@@ -57,6 +60,8 @@ pub enum Outcome {
     Made(bool),
     /// Whether a bank was found.
     Found(Result<(), AdoptFault>),
+    /// Whether the bank was carried over.
+    Upgraded(Result<(), AdoptFault>),
     /// How many requests got their reply.
     Served(usize),
     /// How the reply to a report ended.
@@ -102,6 +107,13 @@ fn done_over<S: Alter>(
     (outcome, bank.store.into_connection())
 }
 
+fn upgraded<S: Alter>(rt: &impl Runtime, conn: Connection<S>) -> (Outcome, Connection<S>) {
+    match upgrade(rt.alloc(), conn) {
+        Ok(store) => (Outcome::Upgraded(Ok(())), store.into_connection()),
+        Err((fault, conn)) => (Outcome::Upgraded(Err(fault)), conn),
+    }
+}
+
 /// Does this with a database. Where its bank is not adopted, the connection is dropped.
 fn done<S: Alter + Drop>(
     rt: &impl Runtime,
@@ -113,6 +125,7 @@ fn done<S: Alter + Drop>(
         Deed::Make => Ok((made(rt, &mut conn), conn)),
         Deed::Change(change) => Ok((changed(rt, &mut conn, change), conn)),
         Deed::Find => Ok((Outcome::Found(adopt_bank(rt.alloc(), &mut conn)), conn)),
+        Deed::Upgrade => Ok(upgraded(rt, conn)),
         Deed::Open(act) => Ok(done_over(rt, SqlStore::over(conn), act)),
         Deed::Adopt(act) => match adopt(rt.alloc(), conn) {
             Ok(store) => Ok(done_over(rt, store, act)),

@@ -7,6 +7,7 @@
 mod bank;
 mod deeds;
 mod disks;
+mod first_edition;
 mod report_replies;
 mod streams;
 mod tellings;
@@ -18,6 +19,7 @@ pub use disks::{
     Failers, Failing, Frail, Held, Left, closed_by, failing_files, left_by, let_go, nothing,
     open_forgetful, open_frail, reopened, seen,
 };
+pub use first_edition::first_files;
 pub use report_replies::{Asked, Ending};
 pub use streams::{
     CLOSING, COMMANDS, ENDING, Exchange, OPENING, POST, RELEASED, TRANSFER, is_reply, reply, run,

@@ -58,7 +58,7 @@ fn tell_policy<S: Store>(rt: &impl Runtime, bank: &mut S, text: &mut String) {
         tell(rt, text, bank.release(rt.alloc(), user, 1));
     }
     tell(rt, text, bank.policy_rows(rt.alloc()));
-    tell(rt, text, bank.shown(rt.alloc(), 7, 0, 9));
+    tell(rt, text, bank.shown(rt.alloc(), 7, 0, 9, 700));
 }
 
 /// What account 101 holds.

@@ -1,5 +1,5 @@
 //! Tests alone: banks in files whose disk fails at each call in turn, or whose program dies there. They
-//! show what is answered while a bank is made, looked for, served and asked for reports, and what is found
+//! show what is answered while a bank is made, looked for, carried over, served and asked for reports, and what is found
 //! afterwards. Nothing here is proved or used by a program.
 #![tactic(auto)]
 
@@ -11,3 +11,5 @@ mod reporting;
 mod serving;
 #[cfg(test)]
 mod tales;
+#[cfg(test)]
+mod upgrading;

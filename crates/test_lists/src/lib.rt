@@ -1,5 +1,5 @@
 //! Opening lists and lists of badges. It holds tests alone: the lists of the folder sample/ and the World that they state,
-//! which record is named where one is bad, how comma-separated values may be written, and what is printed of a fault.
+//! which record is named where one is bad, moments of triples, how comma-separated values may be written, and what is printed of a fault.
 #![tactic(auto)]
 
 #[cfg(test)]
@@ -8,6 +8,8 @@ mod bad_records;
 mod badges;
 #[cfg(test)]
 mod forms;
+#[cfg(test)]
+mod moments;
 #[cfg(test)]
 mod sample;
 #[cfg(test)]

@@ -31,7 +31,13 @@ fn lines_and_bytes_are_counted(rt: HostRuntime) {
 /// An account without entries, as many as are asked for, none at all, and those above a number.
 #[test]
 fn lines_are_counted_up_to_the_most(rt: HostRuntime) {
-    let accounts = |after| Listing::Accounts(AfterAccount { user: 7, after });
+    let accounts = |after| {
+        Listing::Accounts(AfterAccount {
+            user: 7,
+            after,
+            moment: 700,
+        })
+    };
     let statement = Listing::Statement(FromTurn {
         account: 102,
         turn: 1,

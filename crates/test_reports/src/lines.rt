@@ -24,7 +24,7 @@ fn the_texts_are_as_long_as_their_lines(rt: HostRuntime) {
     assert!(rt; EMPTY_STATEMENT.len() == 55);
     assert!(rt; STATEMENT.len() == 131);
     assert!(rt; PROOF.len() == 435);
-    assert!(rt; LISTING.len() == 3_605);
+    assert!(rt; LISTING.len() == 4_109);
 }
 
 #[test]

@@ -62,7 +62,11 @@ pub const OF_ACCOUNTS: Question = Question {
         Content-Length: 22\r\n\r\n{\"after\":0,\"count\":10}",
     text: ACCOUNTS,
     contents: Contents {
-        first: Listing::Accounts(AfterAccount { user: 7, after: 0 }),
+        first: Listing::Accounts(AfterAccount {
+            user: 7,
+            after: 0,
+            moment: 700,
+        }),
         most: 10,
         lines: 2,
         length: 107,
@@ -97,7 +101,7 @@ pub const OF_LISTING: Question = Question {
         first: Listing::Policy(None),
         most: u32::MAX,
         lines: 96,
-        length: 3_605,
+        length: 4_109,
     },
     rows: 96,
 };

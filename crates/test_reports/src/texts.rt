@@ -103,24 +103,24 @@ pub const LISTING: &str = "POLICY LINES        96\n\
     RELATION accounts            5 BY    2\n\
     RELATION proof               2 BY    2\n\
     RELATION close-day           2 BY    2\n\
-    TRIPLE    7 post                2    999999\n\
-    TRIPLE    7 transfer            3     50000\n\
-    TRIPLE    7 transfer            4     50000\n\
-    TRIPLE    7 correct             2    999999\n\
-    TRIPLE    7 drawer-on           2    100000\n\
-    TRIPLE    7 drawer-off          2         0\n\
-    TRIPLE    7 move-cash           2    100000\n\
-    TRIPLE    7 balance             2         0\n\
-    TRIPLE    7 statement           2         0\n\
-    TRIPLE    7 accounts            5         0\n\
-    TRIPLE    8 post                1      1000\n\
-    TRIPLE    8 post                2     50000\n\
-    TRIPLE    8 transfer            1      1000\n\
-    TRIPLE    8 transfer            2     50000\n\
-    TRIPLE    8 correct             2    999999\n\
-    TRIPLE    8 drawer-on           2    100000\n\
-    TRIPLE    8 drawer-off          2         0\n\
-    TRIPLE    9 new-account         1         0\n\
-    TRIPLE    9 release             1    999999\n\
-    TRIPLE    9 proof               2         0\n\
-    TRIPLE    9 close-day           2         0\n";
+    TRIPLE    7 post                2    999999           0 99999999999\n\
+    TRIPLE    7 transfer            3     50000           0 99999999999\n\
+    TRIPLE    7 transfer            4     50000           0 99999999999\n\
+    TRIPLE    7 correct             2    999999           0 99999999999\n\
+    TRIPLE    7 drawer-on           2    100000           0 99999999999\n\
+    TRIPLE    7 drawer-off          2         0           0 99999999999\n\
+    TRIPLE    7 move-cash           2    100000           0 99999999999\n\
+    TRIPLE    7 balance             2         0           0 99999999999\n\
+    TRIPLE    7 statement           2         0           0 99999999999\n\
+    TRIPLE    7 accounts            5         0           0 99999999999\n\
+    TRIPLE    8 post                1      1000           0 99999999999\n\
+    TRIPLE    8 post                2     50000           0 99999999999\n\
+    TRIPLE    8 transfer            1      1000           0 99999999999\n\
+    TRIPLE    8 transfer            2     50000           0 99999999999\n\
+    TRIPLE    8 correct             2    999999           0 99999999999\n\
+    TRIPLE    8 drawer-on           2    100000           0 99999999999\n\
+    TRIPLE    8 drawer-off          2         0           0 99999999999\n\
+    TRIPLE    9 new-account         1         0           0 99999999999\n\
+    TRIPLE    9 release             1    999999           0 99999999999\n\
+    TRIPLE    9 proof               2         0           0 99999999999\n\
+    TRIPLE    9 close-day           2         0           0 99999999999\n";

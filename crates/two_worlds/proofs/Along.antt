@@ -7,7 +7,7 @@ use Rattle.std.proofs.lemmas.List.Elements.{All-contains, All-cons, All-head, Al
 use Rattle.bank_policy.specs.HeldRows.{relations_of, triples_of, user_row}
 use Rattle.bank_policy.specs.PolicyKeys.{user_key}
 use Rattle.bank_policy.specs.PolicyWrites.{in_session}
-use Rattle.bank_policy.specs.Tests.{is_certified, is_held, is_held_for}
+use Rattle.bank_policy.specs.Tests.{current, is_certified, is_held, is_held_for}
 use Rattle.bank_policy.specs.declared.policy_write.Session.{Session}
 use Rattle.bank_policy.specs.declared.rows.Standing.{Standing}
 use Rattle.bank_policy.specs.declared.rows.User.{User}
@@ -79,10 +79,10 @@ module _ (s : Session) (w v : WorldLists) where
   user_after None user same = user_moved s w user ∙ ap (option_map (moved s)) same ∙ sym (user_moved s v user)
   user_after (Some r) user same = same
 
-  form_after : (o : Op) (user : ℕ) → AgreeByForm w v user o → AgreeByForm (written (write.Session s) w) (written (write.Session s) v) user o
-  form_after (op.Accounts a) user same = λ key of. view_stays kind.Account key s w ∙ same key of ∙ sym (view_stays kind.Account key s v)
-  form_after (op.Release g) user same = given_stays s w g.beneficiary ∙ same ∙ sym (given_stays s v g.beneficiary)
-  form_after _ user same = tt
+  form_after : (o : Op) (user moment : ℕ) → AgreeByForm w v user moment o → AgreeByForm (written (write.Session s) w) (written (write.Session s) v) user moment o
+  form_after (op.Accounts a) user moment same = λ key of. view_stays kind.Account key s w ∙ same key of ∙ sym (view_stays kind.Account key s v)
+  form_after (op.Release g) user moment same = given_stays s w g.beneficiary ∙ same ∙ sym (given_stays s v g.beneficiary)
+  form_after _ user moment same = tt
 
   agree_moved : (f : Option Rule) (y : Execution) → Agree w v y → Agree (moves w f) (moves v f) y
   agree_moved None y agree = record {
@@ -95,7 +95,7 @@ module _ (s : Session) (w v : WorldLists) where
     };
     views = all_from (λ item. view_of (written (write.Session s) w) item ≡ view_of (written (write.Session s) v) item) (touched y.op) (λ item there.
         view_stays item.kind item.key s w ∙ All-contains (λ item. view_of w item ≡ view_of v item) (touched y.op) item agree.views there ∙ sym (view_stays item.kind item.key s v));
-    form = form_after y.op (asker y.who) agree.form;
+    form = form_after y.op (asker y.who) y.moment agree.form;
   }
   agree_moved (Some r) y agree = agree
 
@@ -149,8 +149,8 @@ outside_still w z x kept outside = record { rule = outside.rule; of_triples = ou
   where
     go : (r : Rule) → is_of_triples r ≡ true → denies r w (executes x) ≡ true → denies r z (executes x) ≡ true
     go rule.NotCertified is at = ap (λ rows. not (is_certified rows (touched x.op))) (kept.relations (procedure_of x.op)) ∙ at
-    go rule.NoTriple is at = ap (λ rows. not (is_held rows (touched x.op))) (kept.held (asker x.who) (procedure_of x.op)) ∙ at
-    go rule.Limit is at = ap (λ rows. not (is_held_for rows (touched x.op) (amount x.op)) && x.who.release == 0) (kept.held (asker x.who) (procedure_of x.op)) ∙ at
+    go rule.NoTriple is at = ap (λ rows. not (is_held (current x.moment rows) (touched x.op))) (kept.held (asker x.who) (procedure_of x.op)) ∙ at
+    go rule.Limit is at = ap (λ rows. not (is_held_for (current x.moment rows) (touched x.op) (amount x.op)) && x.who.release == 0) (kept.held (asker x.who) (procedure_of x.op)) ∙ at
     go _ is at = absurd (false≢true is)
 
 -- ---- one request before another of the same user

@@ -2,6 +2,7 @@
 use Rattle.std.proofs.Common.{◌≡◌, ◌+◌, List, [], ◌∷◌, ◌++◌, length, Bool, false, refl, ap, ap₂, arith}
 use Rattle.std.specs.List.{concat}
 use Rattle.std.specs.Option.{option_map_or}
+use Rattle.bank_policy.specs.Tests.{current}
 use Rattle.bank_policy.specs.HeldRows.{triples_of}
 use Rattle.bank_terms.specs.declared.rule.Rule.{Rule}
 use Rattle.bank_books.specs.WorldLists.{WorldLists}
@@ -51,7 +52,7 @@ abbrev pub judgement_of : Op → Signature → WorldLists → Judgement
 judgement_of o by w = record { denies = λ r. (meaning_of o by w).denies r; reply = (meaning_of o by w).reply; changes = changes_of o by w }
 
 pub judged_alike : (o : Op) (by : Signature) (w v : WorldLists) → PassesChecks w → PassesChecks v → AreAlike (touched o) w v
-    → triples_of w.policy by.user (procedure_of o) ≡ triples_of v.policy by.user (procedure_of o) → AgreeByForm w v by.user o → judgement_of o by w ≡ judgement_of o by v
+    → triples_of w.policy by.user (procedure_of o) ≡ triples_of v.policy by.user (procedure_of o) → AgreeByForm w v by.user by.moment o → judgement_of o by w ≡ judgement_of o by v
 judged_alike (op.Post post) by w v bank bank' same held form =
     ap (λ rows. record { denies = λ r. post_denies r rows post by; reply = json (option_map_or posted_text (posted_of rows post) []); changes = post_changes rows post by })
     (post_same w v bank.books bank'.books post same)
@@ -90,8 +91,8 @@ judged_alike (op.Statement s) by w v bank bank' same held form =
     ap₂ (λ row lines. record { denies = λ r. statement_denies r row; reply = plain (heading (statement_of s) (length lines) ++ concat lines); changes = [] })
     (same_account w v bank.books bank'.books s.account view) (statement_alike w v s.account s.start s.count view)
 judged_alike (op.Accounts a) by w v bank bank' same held form =
-    ap (λ lines. record { denies = λ r. false; reply = plain (heading (accounts_of a by.user) (length lines) ++ concat lines); changes = [] })
-    (accounts_alike w v by.user a.after a.count bank bank' held form)
+    ap (λ lines. record { denies = λ r. false; reply = plain (heading (accounts_of a by) (length lines) ++ concat lines); changes = [] })
+    (accounts_alike w v by.user by.moment a.after a.count bank bank' (ap (current by.moment) held) form)
 judged_alike (op.Proof p) by w v bank bank' same held form =
     ap₂ (λ row text. record { denies = λ r. proof_denies r row; reply = plain text; changes = [] }) (same_books w v p.branch bank bank' same) (proof_alike w v p.branch bank bank' same)
 judged_alike (op.CloseDay d) by w v bank bank' same held form =

@@ -8,7 +8,7 @@ use Rattle.std.specs.Ordering.{int_eq}
 use Rattle.std.proofs.lemmas.Bool.{and_parts, eqb-true, false≢true}
 use Rattle.std.proofs.lemmas.Int.{ints}
 use Rattle.bank_policy.specs.HeldRows.{standing, standing_of, user_row}
-use Rattle.bank_policy.specs.Tests.{is_certified, is_held, is_held_for}
+use Rattle.bank_policy.specs.Tests.{current, is_certified, is_held, is_held_for}
 use Rattle.bank_terms.specs.Procedure.{number_of}
 use Rattle.bank_terms.specs.declared.operation_row.OperationRow.{OperationRow}
 use Rattle.bank_terms.specs.declared.procedure.Procedure.{Procedure}
@@ -48,8 +48,8 @@ standing_same w v (Some user) same = ap (option_map standing_of) same
 pub blind_same : (w v : WorldLists) (x : Execution) → AgreeOnPolicy w v x → (r : Rule) → is_blind r ≡ true → policy_denies r (grounds w x) ≡ policy_denies r (grounds v x)
 blind_same w v x agree rule.Identity is = ap (λ o. not (is_identified o x.who.session)) (standing_same w v x.who.user agree.user)
 blind_same w v x agree rule.NotCertified is = ap (λ rows. not (is_certified rows (touched x.op))) agree.relations
-blind_same w v x agree rule.NoTriple is = ap (λ rows. not (is_held rows (touched x.op))) agree.held
-blind_same w v x agree rule.Limit is = ap (λ rows. not (is_held_for rows (touched x.op) (amount x.op)) && x.who.release == 0) agree.held
+blind_same w v x agree rule.NoTriple is = ap (λ rows. not (is_held (current x.moment rows) (touched x.op))) agree.held
+blind_same w v x agree rule.Limit is = ap (λ rows. not (is_held_for (current x.moment rows) (touched x.op) (amount x.op)) && x.who.release == 0) agree.held
 blind_same w v x agree rule.Release is = absurd (false≢true is)
 blind_same w v x agree _ is = refl
 
@@ -95,7 +95,7 @@ same_told row other is =
 
 module _ (w v : WorldLists) (x : Execution) (books : Books w) (books' : Books v) (same : AreAlike (touched x.op) w v) where
   -- of the release that names exactly this operation, the branch is touched
-  today_same : (r : Release) → Contains w.releases r → is_same_operation r.operation (row_of x.op) ≡ true → is_of_today (release_grounds_of w r) ≡ is_of_today (release_grounds_of v r)
+  today_same : (r : Release) → Contains w.releases r → is_same_operation r.operation (row_of x.op) ≡ true → is_of_today (release_grounds_of w x.moment r) ≡ is_of_today (release_grounds_of v x.moment r)
   today_same r there is =
       let holds = (books.in_range.releases r there).operation in
       let row = holds.1.1 ∙ same_told r.operation (row_of x.op) is in
@@ -104,15 +104,15 @@ module _ (w v : WorldLists) (x : Execution) (books : Books w) (books' : Books v)
       ap (λ o. option_map_or (λ day. r.day == day) o false) (same_day w v books books' r.branch (same (branch_item r.branch) among))
 
   counts_same : (r : Release) → Contains w.releases r → AgreeOnGiver w v r.giver
-      → counts (release_grounds_of w r) (asker x.who) (row_of x.op) (touched x.op) (amount x.op) ≡ counts (release_grounds_of v r) (asker x.who) (row_of x.op) (touched x.op) (amount x.op)
+      → counts (release_grounds_of w x.moment r) (asker x.who) (row_of x.op) (touched x.op) (amount x.op) ≡ counts (release_grounds_of v x.moment r) (asker x.who) (row_of x.op) (touched x.op) (amount x.op)
   counts_same r there giver = go (is_same_operation r.operation (row_of x.op)) refl
     where
-      given : is_giver_for (release_grounds_of w r) (asker x.who) (touched x.op) (amount x.op) ≡ is_giver_for (release_grounds_of v r) (asker x.who) (touched x.op) (amount x.op)
-      given = ap₂ (λ o hs. not (r.giver == asker x.who) && (is_active (option_map standing_of o) && is_held_for hs (touched x.op) (amount x.op))) giver.user giver.held
+      given : is_giver_for (release_grounds_of w x.moment r) (asker x.who) (touched x.op) (amount x.op) ≡ is_giver_for (release_grounds_of v x.moment r) (asker x.who) (touched x.op) (amount x.op)
+      given = ap₂ (λ o hs. not (r.giver == asker x.who) && (is_active (option_map standing_of o) && is_held_for (current x.moment hs) (touched x.op) (amount x.op))) giver.user giver.held
 
       go : (b : Bool) → is_same_operation r.operation (row_of x.op) ≡ b
-          → (not r.used && (b && (is_of_today (release_grounds_of w r) && is_giver_for (release_grounds_of w r) (asker x.who) (touched x.op) (amount x.op))))
-          ≡ (not r.used && (b && (is_of_today (release_grounds_of v r) && is_giver_for (release_grounds_of v r) (asker x.who) (touched x.op) (amount x.op))))
+          → (not r.used && (b && (is_of_today (release_grounds_of w x.moment r) && is_giver_for (release_grounds_of w x.moment r) (asker x.who) (touched x.op) (amount x.op))))
+          ≡ (not r.used && (b && (is_of_today (release_grounds_of v x.moment r) && is_giver_for (release_grounds_of v x.moment r) (asker x.who) (touched x.op) (amount x.op))))
       go true is = ap₂ (λ a b. not r.used && (a && b)) (today_same r there is) given
       go false is = refl
 
@@ -120,10 +120,10 @@ module _ (w v : WorldLists) (x : Execution) (books : Books w) (books' : Books v)
   released_same agree = go (release w (asker x.who) x.who.release) refl ∙ ap test agree.row
     where
       test : Option Release → Bool
-      test o = option_map_or (λ r. counts r (asker x.who) (row_of x.op) (touched x.op) (amount x.op)) (option_map (release_grounds_of v) o) false
+      test o = option_map_or (λ r. counts r (asker x.who) (row_of x.op) (touched x.op) (amount x.op)) (option_map (release_grounds_of v x.moment) o) false
 
       go : (o : Option Release) → release w (asker x.who) x.who.release ≡ o
-          → option_map_or (λ r. counts r (asker x.who) (row_of x.op) (touched x.op) (amount x.op)) (option_map (release_grounds_of w) o) false ≡ test o
+          → option_map_or (λ r. counts r (asker x.who) (row_of x.op) (touched x.op) (amount x.op)) (option_map (release_grounds_of w x.moment) o) false ≡ test o
       go None is = refl
       go (Some r) is = counts_same r (find-found (is_release (asker x.who) x.who.release) w.releases r is).0 (agree.giver r is)
 
@@ -133,9 +133,9 @@ module _ (w v : WorldLists) (x : Execution) (books : Books w) (books' : Books v)
   policy_same agree release rule.NoTriple = blind_same w v x agree rule.NoTriple refl
   policy_same agree release rule.Limit = blind_same w v x agree rule.Limit refl
   policy_same agree release rule.Release =
-      ap₂ (λ rows b. not (is_held_for rows (touched x.op) (amount x.op)) && (not (x.who.release == 0) && not b)) agree.held (released_same release)
+      ap₂ (λ rows b. not (is_held_for (current x.moment rows) (touched x.op) (amount x.op)) && (not (x.who.release == 0) && not b)) agree.held (released_same release)
   policy_same agree release _ = refl
 
 -- what lets it be
 pub leave_same : (w v : WorldLists) (x : Execution) → AgreeOnPolicy w v x → leave_of (grounds w x) ≡ leave_of (grounds v x)
-leave_same w v x agree = ap (λ rows. if is_held_for rows (touched x.op) (amount x.op) then leave.Triple else leave.Release x.who.release) agree.held
+leave_same w v x agree = ap (λ rows. if is_held_for (current x.moment rows) (touched x.op) (amount x.op) then leave.Triple else leave.Release x.who.release) agree.held

@@ -11,7 +11,7 @@ use Rattle.std.proofs.lemmas.List.Kept.{IsNonDecreasingBy-filter}
 use Rattle.std.proofs.lemmas.List.Sums.{length-filter}
 use Rattle.keyed_rows.specs.Totals.{total}
 use Rattle.bank_policy.proofs.RowsTell.{from_filter, in_filter}
-use Rattle.bank_policy.specs.HeldRows.{HeldTriple, triples_of}
+use Rattle.bank_policy.specs.HeldRows.{HeldTriple}
 use Rattle.bank_terms.specs.Limits.{max_key}
 use Rattle.bank_terms.specs.declared.procedure.Procedure.TheVariants as procedure
 use Rattle.bank_books.specs.Balances.{account_count, account_opening, account_row, branch_deltas, branch_row, deltas_up_to, entry_count}
@@ -37,7 +37,7 @@ use Rattle.reports.proofs.Roster.{proof_lists_roster}
 use Rattle.reports.specs.Laws.{totals}
 use Rattle.reports.specs.Listing.{all_lines, heading, listed_lines, numbers_of, proof_of, total_of}
 use Rattle.reports.specs.declared.listing.Listing.TheVariants as listing
-use Rattle.row_reads.specs.BookReads.{entry_at, is_account_after, is_account_of, is_entry_at, roster, shown, there}
+use Rattle.row_reads.specs.BookReads.{accounts_triples, entry_at, is_account_after, is_account_of, is_entry_at, roster, shown, there}
 use Rattle.touched.specs.Touched.{account_item, branch_item, history_item, touched_by_books, vault_item}
 use Rattle.two_worlds.specs.View.{RosterLine, View, roster_line_of, roster_of, view_of}
 use Rattle.two_worlds.proofs.DrawerSum.{drawers_of}
@@ -116,31 +116,31 @@ same_record w v bank bank' a there same =
     one_row (account_record_of w a) (account_record_of v a)
     (sym (ap (option_map (account_record_of w)) here) ∙ same_account w v bank.books bank'.books a.account same ∙ ap (option_map (account_record_of v)) seen)
 
-shown_alike : (w v : WorldLists) (user : ℕ) → PassesChecks w → PassesChecks v → triples_of w.policy user procedure.Accounts ≡ triples_of v.policy user procedure.Accounts
-    → ((key : ℕ) → is_account_of (triples_of w.policy user procedure.Accounts) key ≡ true → view_of w (account_item key) ≡ view_of v (account_item key))
-    → (after count : ℕ) → shown w user after count ≡ shown v user after count
-shown_alike w v user bank bank' held same after count =
-    let p = is_account_after (triples_of w.policy user procedure.Accounts) after in
+shown_alike : (w v : WorldLists) (user moment : ℕ) → PassesChecks w → PassesChecks v → accounts_triples w user moment ≡ accounts_triples v user moment
+    → ((key : ℕ) → is_account_of (accounts_triples w user moment) key ≡ true → view_of w (account_item key) ≡ view_of v (account_item key))
+    → (after count : ℕ) → shown w user after count moment ≡ shown v user after count moment
+shown_alike w v user moment bank bank' held same after count =
+    let p = is_account_after (accounts_triples w user moment) after in
     let rows = same_rows account_key (filter p w.accounts) (filter p v.accounts) (IsNonDecreasingBy-filter account_key p w.accounts bank.in_order.books.accounts)
     (IsNonDecreasingBy-filter account_key p v.accounts bank'.in_order.books.accounts) (AreDistinct-filter account_key p w.accounts bank.books.in_range.keys.accounts)
-    (AreDistinct-filter account_key p v.accounts bank'.books.in_range.keys.accounts) (still_shown w v (triples_of w.policy user procedure.Accounts) after bank same)
-    (still_shown v w (triples_of w.policy user procedure.Accounts) after bank' (λ key of. sym (same key of))) in
+    (AreDistinct-filter account_key p v.accounts bank'.books.in_range.keys.accounts) (still_shown w v (accounts_triples w user moment) after bank same)
+    (still_shown v w (accounts_triples w user moment) after bank' (λ key of. sym (same key of))) in
     let each = λ (a : Account) (there : Contains (filter p w.accounts) a).
     let found = from_filter p w.accounts a there in
-    same_record w v bank bank' a found.0 (same a.account (and_parts (nat_lt after a.account) (is_account_of (triples_of w.policy user procedure.Accounts) a.account) found.1).1) in
+    same_record w v bank bank' a found.0 (same a.account (and_parts (nat_lt after a.account) (is_account_of (accounts_triples w user moment) a.account) found.1).1) in
     sym (take-map (account_record_of w) count (filter p w.accounts))
     ∙ ap (take count) (map_alike (account_record_of w) (account_record_of v) (filter p w.accounts) each ∙ ap (map (account_record_of v)) rows)
     ∙ take-map (account_record_of v) count (filter p v.accounts)
     ∙ ap (λ hs. map (account_record_of v) (take count (filter (is_account_after hs after) v.accounts))) held
 
 -- the lines of their list
-pub accounts_alike : (w v : WorldLists) (user after count : ℕ) → PassesChecks w → PassesChecks v → triples_of w.policy user procedure.Accounts ≡ triples_of v.policy user procedure.Accounts
-    → ((key : ℕ) → is_account_of (triples_of w.policy user procedure.Accounts) key ≡ true → view_of w (account_item key) ≡ view_of v (account_item key))
-    → listed_lines w (listing.Accounts (record { user = user; after = after })) count ≡ listed_lines v (listing.Accounts (record { user = user; after = after })) count
-accounts_alike w v user after count bank bank' held same =
-    accounts_list_shown w user after count bank.in_order.books.accounts bank.books.in_range.keys.accounts
-    ∙ ap (map account_line) (shown_alike w v user bank bank' held same after count)
-    ∙ sym (accounts_list_shown v user after count bank'.in_order.books.accounts bank'.books.in_range.keys.accounts)
+pub accounts_alike : (w v : WorldLists) (user moment after count : ℕ) → PassesChecks w → PassesChecks v → accounts_triples w user moment ≡ accounts_triples v user moment
+    → ((key : ℕ) → is_account_of (accounts_triples w user moment) key ≡ true → view_of w (account_item key) ≡ view_of v (account_item key))
+    → listed_lines w (listing.Accounts (record { user = user; after = after; moment = moment })) count ≡ listed_lines v (listing.Accounts (record { user = user; after = after; moment = moment })) count
+accounts_alike w v user moment after count bank bank' held same =
+    accounts_list_shown w user after moment count bank.in_order.books.accounts bank.books.in_range.keys.accounts
+    ∙ ap (map account_line) (shown_alike w v user moment bank bank' held same after count)
+    ∙ sym (accounts_list_shown v user after moment count bank'.in_order.books.accounts bank'.books.in_range.keys.accounts)
 
 -- ---- the books of a branch
 

@@ -11,6 +11,7 @@ use Rattle.bank_terms.specs.declared.item.Kind.{Kind}
 use Rattle.bank_terms.specs.declared.item.Kind.TheVariants as kind
 use Rattle.bank_terms.specs.declared.rule.Rule.{Rule}
 use Rattle.bank_terms.specs.declared.rule.Rule.TheVariants as rule
+use Rattle.bank_policy.specs.Tests.{current}
 use Rattle.bank_policy.specs.HeldRows.{relations_of, triples_of, user_row}
 use Rattle.bank_policy.specs.Policy.{PolicyLists}
 use Rattle.bank_terms.specs.declared.procedure.Procedure.TheVariants as procedure
@@ -266,7 +267,7 @@ used_fits w x used books none is =
     go (is_in_limit (grounds w x)) (x.who.release == 0) is (none_denies w (executes x) rule.Limit none) (none_denies w (executes x) rule.Release none)
   where
     there : (o : Option Release) → release w (asker x.who) x.who.release ≡ o
-        → option_map_or (λ r. counts r (asker x.who) (grounds w x).operation (touched x.op) (grounds w x).amount) (option_map (release_grounds_of w) o) false ≡ true → x.who.release < 2 ^ 32
+        → option_map_or (λ r. counts r (asker x.who) (grounds w x).operation (touched x.op) (grounds w x).amount) (option_map (release_grounds_of w x.moment) o) false ≡ true → x.who.release < 2 ^ 32
     there None at passes = absurd (false≢true passes)
     there (Some r) at passes = (release_there w (asker x.who) x.who.release books r at).2
 
@@ -355,12 +356,12 @@ module _ (w v : WorldLists) (x : Execution) (bank : PassesChecks w) (bank' : Pas
           let used = keeps_giver (uses_of w x) user number planned.0 in
           (before, at, ap (λ (z : Release). z.giver) (one_release r used.0 (sym after ∙ ap (releases_after (uses_of w x) user number) planned.1 ∙ used.1)) ∙ used.2 ∙ planned.2)
 
-  form_after : (o : Op) (user : ℕ) → AgreeByForm w v user o → AgreeByForm (step w (executes x)) (step v (executes x)) user o
-  form_after (op.Accounts a) user same = λ key of.
+  form_after : (o : Op) (user moment : ℕ) → AgreeByForm w v user moment o → AgreeByForm (step w (executes x)) (step v (executes x)) user moment o
+  form_after (op.Accounts a) user moment same = λ key of.
       view_after w v x bank bank' proper agree (account_item key)
-      (same key (ap (λ p. is_account_of (triples_of p user procedure.Accounts) key) (sym (policy_left w x bank proper).policy) ∙ of))
-  form_after (op.Release g) user same = given_after w v x bank bank' proper agree g.beneficiary same
-  form_after _ user same = tt
+      (same key (ap (λ p. is_account_of (current moment (triples_of p user procedure.Accounts)) key) (sym (policy_left w x bank proper).policy) ∙ of))
+  form_after (op.Release g) user moment same = given_after w v x bank bank' proper agree g.beneficiary same
+  form_after _ user moment same = tt
 
   pub agree_after : (y : Execution) → asker y.who ≡ asker x.who → Agree w v y → Agree (step w (executes x)) (step v (executes x)) y
   agree_after y by other =
@@ -386,7 +387,7 @@ module _ (w v : WorldLists) (x : Execution) (bank : PassesChecks w) (bank' : Pas
         };
         views = all_from _ (touched y.op) (λ item there.
             view_after w v x bank bank' proper agree item (All-contains (λ item. view_of w item ≡ view_of v item) (touched y.op) item other.views there));
-        form = form_after y.op (asker y.who) other.form;
+        form = form_after y.op (asker y.who) y.moment other.form;
       }
 
 pub agreeing_answer_alike : AgreeingAnswerAlike

@@ -83,4 +83,4 @@ TwoWorlds = AgreeingAnswerAlike × BlindlyDenied × OthersAreLeftAlone × OnlyOp
 abbrev pub Undisturbed : Type 0
 Undisturbed = (w : WorldLists) (x y : Execution) → PassesChecks w → PassesChecks (step w (executes y)) → IsOp x.op → IsOp y.op
     → All (λ item. IsKey item.key × ¬ Contains (touched y.op) item) (touched x.op) → IsOtherRelease w y (asker x.who) x.who.release
-    → AgreeByForm w (step w (executes y)) (asker x.who) x.op → reply (step w (executes y)) (executes x) ≡ reply w (executes x)
+    → AgreeByForm w (step w (executes y)) (asker x.who) x.moment x.op → reply (step w (executes y)) (executes x) ≡ reply w (executes x)

@@ -7,7 +7,7 @@ use Rattle.sqlite_value.specs.declared.keys.Key.{Key}
 use Rattle.bank_schema.specs.Cells.{AnyRow, bank_cells}
 use Rattle.bank_schema.specs.Held.Sheet.{bank as in_bank}
 use Rattle.bank_schema.specs.declared.edition.Edition.{Edition}
-use Rattle.bank_schema.specs.declared.edition.Edition.TheVariants.{First}
+use Rattle.bank_schema.specs.declared.edition.Edition.TheVariants.{First, Second}
 use Rattle.bank_schema.specs.HeldRows.{all_of_it}
 use Rattle.bank_schema.specs.Schema.{bank_table}
 use Rattle.bank_schema.proofs.ReadLemmas.{rises_by_one, rising_key}
@@ -27,6 +27,7 @@ bank_order = (col 1 0, rising_key) ∷ []
 bank_is : (e : Edition) → IsScanOf e all_bank_text 0 bank_columns bank_order (codes "id" ∷ codes "version" ∷ codes "policy" ∷ [])
 unfolding understood everything
 bank_is First = (refl, refl, (refl, refl), (refl, refl), refl)
+bank_is Second = (refl, refl, (refl, refl), (refl, refl), refl)
 
 -- the key of its only row
 abbrev pub bank_no : ℕ → ℕ

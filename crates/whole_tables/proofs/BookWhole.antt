@@ -8,7 +8,7 @@ use Rattle.kept_rows.specs.Sheets.{account_no, branch_no, entry_no, teller_no}
 use Rattle.bank_schema.specs.Cells.{AnyRow, EntryFits, account_cells, branch_cells, entry_cells, teller_cells}
 use Rattle.bank_schema.specs.Held.Sheet.{branches as in_branches, tellers as in_tellers, accounts as in_accounts, entries as in_entries}
 use Rattle.bank_schema.specs.declared.edition.Edition.{Edition}
-use Rattle.bank_schema.specs.declared.edition.Edition.TheVariants.{First}
+use Rattle.bank_schema.specs.declared.edition.Edition.TheVariants.{First, Second}
 use Rattle.bank_schema.specs.HeldRows.{all_but_rowid, all_of_it}
 use Rattle.bank_schema.specs.Schema.{accounts_table, branches_table, entries_table, tellers_table}
 use Rattle.bank_schema.specs.Told.{told_by_columns, told_by_key}
@@ -28,6 +28,7 @@ branches_order = (col 1 0, rising_key) ∷ []
 branches_is : (e : Edition) → IsScanOf e all_branches_text 11 branches_columns branches_order (codes "branch" ∷ codes "opening" ∷ codes "cash" ∷ codes "day" ∷ codes "balance" ∷ codes "vault" ∷ codes "entries" ∷ codes "lines" ∷ codes "accounts" ∷ codes "history" ∷ codes "drawers" ∷ codes "cash_entries" ∷ codes "differences" ∷ [])
 unfolding understood everything
 branches_is First = (refl, refl, (refl, refl), (refl, refl), refl)
+branches_is Second = (refl, refl, (refl, refl), (refl, refl), refl)
 
 pub tells_branches : (e : Edition) → TellsWhole e all_of_it (told_by_key 12) branch_cells branch_no AnyRow in_branches all_branches_text
 tells_branches e =
@@ -46,6 +47,7 @@ tellers_order = (col 1 0, rising_key) ∷ []
 tellers_is : (e : Edition) → IsScanOf e all_tellers_text 12 tellers_columns tellers_order (codes "teller" ∷ codes "branch" ∷ codes "opening" ∷ codes "balance" ∷ codes "cash" ∷ codes "holder" ∷ [])
 unfolding understood everything
 tellers_is First = (refl, refl, (refl, refl), (refl, refl), refl)
+tellers_is Second = (refl, refl, (refl, refl), (refl, refl), refl)
 
 pub tells_tellers : (e : Edition) → TellsWhole e all_of_it (told_by_key 5) teller_cells teller_no AnyRow in_tellers all_tellers_text
 tells_tellers e =
@@ -64,6 +66,7 @@ accounts_order = (col 1 0, rising_key) ∷ []
 accounts_is : (e : Edition) → IsScanOf e all_accounts_text 13 accounts_columns accounts_order (codes "account" ∷ codes "home" ∷ codes "opening" ∷ codes "floor" ∷ codes "balance" ∷ codes "turns" ∷ [])
 unfolding understood everything
 accounts_is First = (refl, refl, (refl, refl), (refl, refl), refl)
+accounts_is Second = (refl, refl, (refl, refl), (refl, refl), refl)
 
 pub tells_accounts : (e : Edition) → TellsWhole e all_of_it (told_by_key 5) account_cells account_no AnyRow in_accounts all_accounts_text
 tells_accounts e =
@@ -82,6 +85,7 @@ entries_order = (col 1 1, rising_key) ∷ (col 1 2, rising_key) ∷ []
 entries_is : (e : Edition) → IsScanOf e all_entries_text 14 entries_columns entries_order (codes "branch" ∷ codes "number" ∷ codes "account" ∷ codes "turn" ∷ codes "teller" ∷ codes "delta" ∷ codes "moment" ∷ codes "day" ∷ codes "user_no" ∷ codes "form" ∷ codes "partner" ∷ codes "undoes" ∷ codes "balance_after" ∷ [])
 unfolding understood everything
 entries_is First = (refl, refl, (refl, refl), (refl, refl), refl)
+entries_is Second = (refl, refl, (refl, refl), (refl, refl), refl)
 
 entries_alike : ReadsNoRowid (whole_scan 14 entries_columns entries_order)
 entries_alike [] = refl

@@ -8,7 +8,7 @@ use Rattle.bank_books.specs.Keys.{line_key, proof_key, release_key}
 use Rattle.bank_schema.specs.Cells.{LineFits, ProofFits, ReleaseFits, line_cells, proof_cells, release_cells}
 use Rattle.bank_schema.specs.Held.Sheet.{lines as in_lines, proofs as in_proofs, releases as in_releases}
 use Rattle.bank_schema.specs.declared.edition.Edition.{Edition}
-use Rattle.bank_schema.specs.declared.edition.Edition.TheVariants.{First}
+use Rattle.bank_schema.specs.declared.edition.Edition.TheVariants.{First, Second}
 use Rattle.bank_schema.specs.HeldRows.{all_but_rowid}
 use Rattle.bank_schema.specs.Schema.{lines_table, proofs_table, releases_table}
 use Rattle.bank_schema.specs.Told.{told_by_columns}
@@ -28,6 +28,7 @@ lines_order = (col 1 1, rising_key) ∷ (col 1 2, rising_key) ∷ []
 lines_is : (e : Edition) → IsScanOf e all_lines_text 17 lines_columns lines_order (codes "branch" ∷ codes "number" ∷ codes "place" ∷ codes "amount" ∷ codes "form" ∷ codes "moment" ∷ codes "day" ∷ codes "user_no" ∷ [])
 unfolding understood everything
 lines_is First = (refl, refl, (refl, refl), (refl, refl), refl)
+lines_is Second = (refl, refl, (refl, refl), (refl, refl), refl)
 
 lines_alike : ReadsNoRowid (whole_scan 17 lines_columns lines_order)
 lines_alike [] = refl
@@ -50,6 +51,7 @@ proofs_order = (col 1 1, rising_key) ∷ (col 1 2, rising_key) ∷ []
 proofs_is : (e : Edition) → IsScanOf e all_proofs_text 19 proofs_columns proofs_order (codes "branch" ∷ codes "day" ∷ codes "entries" ∷ codes "balance" ∷ codes "cash" ∷ [])
 unfolding understood everything
 proofs_is First = (refl, refl, (refl, refl), (refl, refl), refl)
+proofs_is Second = (refl, refl, (refl, refl), (refl, refl), refl)
 
 proofs_alike : ReadsNoRowid (whole_scan 19 proofs_columns proofs_order)
 proofs_alike [] = refl
@@ -72,6 +74,7 @@ releases_order = (col 1 1, rising_key) ∷ (col 1 2, rising_key) ∷ []
 releases_is : (e : Edition) → IsScanOf e all_releases_text 21 releases_columns releases_order (codes "user_no" ∷ codes "number" ∷ codes "giver" ∷ codes "branch" ∷ codes "day" ∷ codes "form" ∷ codes "member1" ∷ codes "member2" ∷ codes "member3" ∷ codes "member4" ∷ codes "member5" ∷ codes "member6" ∷ codes "member7" ∷ codes "member8" ∷ codes "used" ∷ [])
 unfolding understood everything
 releases_is First = (refl, refl, (refl, refl), (refl, refl), refl)
+releases_is Second = (refl, refl, (refl, refl), (refl, refl), refl)
 
 releases_alike : ReadsNoRowid (whole_scan 21 releases_columns releases_order)
 releases_alike [] = refl

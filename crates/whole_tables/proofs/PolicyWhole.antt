@@ -7,17 +7,17 @@ use Rattle.sqlite_value.specs.declared.keys.Key.{Key}
 use Rattle.bank_terms.specs.Procedure.{number_of}
 use Rattle.bank_policy.specs.PolicyKeys.{certifier_key, relation_key, triple_key}
 use Rattle.kept_rows.specs.Sheets.{member_no, user_no}
-use Rattle.bank_schema.specs.Cells.{AnyRow, MemberFits, RelationFits, TripleFits, certifier_cells, member_cells, relation_cells, set_cells, triple_cells, user_cells}
+use Rattle.bank_schema.specs.Cells.{AnyRow, MemberFits, RelationFits, TripleFits, TripleFitsIn, certifier_cells, member_cells, relation_cells, set_cells, triple_cells, triple_cells_in, user_cells}
 use Rattle.bank_schema.specs.Held.{set_no}
 use Rattle.bank_schema.specs.Held.Sheet.{users as in_users, sets as in_sets, members as in_members, relations as in_relations, triples as in_triples, certifiers as in_certifiers}
 use Rattle.bank_schema.specs.declared.edition.Edition.{Edition}
-use Rattle.bank_schema.specs.declared.edition.Edition.TheVariants.{First}
+use Rattle.bank_schema.specs.declared.edition.Edition.TheVariants.{First, Second}
 use Rattle.bank_schema.specs.HeldRows.{all_but_rowid, all_of_it}
-use Rattle.bank_schema.specs.Schema.{certifiers_table, members_table, relations_table, sets_table, triples_table, users_table}
+use Rattle.bank_schema.specs.Schema.{certifiers_table, grants_table, members_table, relations_table, sets_table, triples_table, users_table}
 use Rattle.bank_schema.specs.Told.{told_by_columns, told_by_key}
 use Rattle.bank_schema.proofs.ProcedureNumbers.{small_number}
 use Rattle.bank_schema.proofs.ReadLemmas.{rises_by_one, rises_by_three, rises_by_two, rising_key}
-use Rattle.whole_tables.specs.Texts.{all_users_text, all_sets_text, all_members_text, all_relations_text, all_triples_text, all_certifiers_text}
+use Rattle.whole_tables.specs.Texts.{all_users_text, all_sets_text, all_members_text, all_relations_text, all_certifiers_text, first_triples_text, second_triples_text}
 use Rattle.whole_tables.specs.Whole.{TellsWhole}
 use Rattle.whole_tables.proofs.WholeLemmas.{IsScanOf, ReadsNoRowid, by_columns_whole, by_rowid_whole, whole_scan}
 
@@ -32,6 +32,7 @@ users_order = (col 1 0, rising_key) ∷ []
 users_is : (e : Edition) → IsScanOf e all_users_text 1 users_columns users_order (codes "user_no" ∷ codes "name" ∷ codes "officer" ∷ codes "suspended" ∷ codes "session" ∷ codes "is_on" ∷ codes "releases" ∷ [])
 unfolding understood everything
 users_is First = (refl, refl, (refl, refl), (refl, refl), refl)
+users_is Second = (refl, refl, (refl, refl), (refl, refl), refl)
 
 pub tells_users : (e : Edition) → TellsWhole e all_of_it (told_by_key 6) user_cells user_no AnyRow in_users all_users_text
 tells_users e =
@@ -50,6 +51,7 @@ sets_order = (col 1 0, rising_key) ∷ []
 sets_is : (e : Edition) → IsScanOf e all_sets_text 2 sets_columns sets_order (codes "set_no" ∷ [])
 unfolding understood everything
 sets_is First = (refl, refl, (refl, refl), (refl, refl), refl)
+sets_is Second = (refl, refl, (refl, refl), (refl, refl), refl)
 
 pub tells_sets : (e : Edition) → TellsWhole e all_of_it (told_by_key 0) set_cells set_no AnyRow in_sets all_sets_text
 tells_sets e =
@@ -68,6 +70,7 @@ members_order = (col 1 1, rising_key) ∷ (col 1 2, rising_key) ∷ []
 members_is : (e : Edition) → IsScanOf e all_members_text 3 members_columns members_order (codes "set_no" ∷ codes "place" ∷ codes "kind" ∷ codes "low" ∷ codes "high" ∷ [])
 unfolding understood everything
 members_is First = (refl, refl, (refl, refl), (refl, refl), refl)
+members_is Second = (refl, refl, (refl, refl), (refl, refl), refl)
 
 members_alike : ReadsNoRowid (whole_scan 3 members_columns members_order)
 members_alike [] = refl
@@ -90,6 +93,7 @@ relations_order = (col 1 1, rising_key) ∷ (col 1 2, rising_key) ∷ []
 relations_is : (e : Edition) → IsScanOf e all_relations_text 5 relations_columns relations_order (codes "procedure" ∷ codes "set_no" ∷ codes "by_user" ∷ [])
 unfolding understood everything
 relations_is First = (refl, refl, (refl, refl), (refl, refl), refl)
+relations_is Second = (refl, refl, (refl, refl), (refl, refl), refl)
 
 relations_alike : ReadsNoRowid (whole_scan 5 relations_columns relations_order)
 relations_alike [] = refl
@@ -103,24 +107,45 @@ tells_relations e =
 
 -- ---- triples
 
-abbrev triples_columns : List Term
-triples_columns = col 1 1 ∷ col 1 2 ∷ col 1 3 ∷ col 1 4 ∷ []
-
 abbrev triples_order : List (Term × Key)
 triples_order = (col 1 1, rising_key) ∷ (col 1 2, rising_key) ∷ (col 1 3, rising_key) ∷ []
 
-triples_is : IsScanOf First all_triples_text 7 triples_columns triples_order (codes "user_no" ∷ codes "procedure" ∷ codes "set_no" ∷ codes "ceiling" ∷ [])
+-- as the first edition has them
+
+abbrev first_triples_columns : List Term
+first_triples_columns = col 1 1 ∷ col 1 2 ∷ col 1 3 ∷ col 1 4 ∷ []
+
+first_triples_is : IsScanOf First first_triples_text 7 first_triples_columns triples_order (codes "user_no" ∷ codes "procedure" ∷ codes "set_no" ∷ codes "ceiling" ∷ [])
 unfolding understood everything
-triples_is = (refl, refl, (refl, refl), (refl, refl), refl)
+first_triples_is = (refl, refl, (refl, refl), (refl, refl), refl)
 
-triples_alike : ReadsNoRowid (whole_scan 7 triples_columns triples_order)
-triples_alike [] = refl
-triples_alike (id ∷ r) = refl
+first_triples_alike : ReadsNoRowid (whole_scan 7 first_triples_columns triples_order)
+first_triples_alike [] = refl
+first_triples_alike (id ∷ r) = refl
 
-pub tells_triples : TellsWhole First all_but_rowid (told_by_columns 4) triple_cells triple_key TripleFits in_triples all_triples_text
-tells_triples =
-    by_columns_whole First triple_cells triple_key TripleFits in_triples triples_table all_triples_text triples_columns triples_order _ 4 triples_is
-    (inr (inr (inr (inr (inr (inl refl)))))) refl (λ db. refl) refl refl (λ r. refl) triples_alike (λ x. refl)
+pub tells_first_triples : TellsWhole First all_but_rowid (told_by_columns 4) (triple_cells_in First) triple_key (TripleFitsIn First) in_triples first_triples_text
+tells_first_triples =
+    by_columns_whole First (triple_cells_in First) triple_key (TripleFitsIn First) in_triples triples_table first_triples_text first_triples_columns triples_order _ 4 first_triples_is
+    (inr (inr (inr (inr (inr (inl refl)))))) refl (λ db. refl) refl refl (λ r. refl) first_triples_alike (λ x. refl)
+    (λ x y p q less. rises_by_three x.user (number_of x.procedure) x.set y.user (number_of y.procedure) y.set (small_number x.procedure) (small_number y.procedure) p.0 q.0 less)
+
+-- as the second has them
+
+abbrev second_triples_columns : List Term
+second_triples_columns = col 1 1 ∷ col 1 2 ∷ col 1 3 ∷ col 1 4 ∷ col 1 5 ∷ col 1 6 ∷ []
+
+second_triples_is : IsScanOf Second second_triples_text 7 second_triples_columns triples_order (codes "user_no" ∷ codes "procedure" ∷ codes "set_no" ∷ codes "ceiling" ∷ codes "first_at" ∷ codes "last_at" ∷ [])
+unfolding understood everything
+second_triples_is = (refl, refl, (refl, refl), (refl, refl), refl)
+
+second_triples_alike : ReadsNoRowid (whole_scan 7 second_triples_columns triples_order)
+second_triples_alike [] = refl
+second_triples_alike (id ∷ r) = refl
+
+pub tells_second_triples : TellsWhole Second all_but_rowid (told_by_columns 6) triple_cells triple_key TripleFits in_triples second_triples_text
+tells_second_triples =
+    by_columns_whole Second triple_cells triple_key TripleFits in_triples grants_table second_triples_text second_triples_columns triples_order _ 6 second_triples_is
+    (inr (inr (inr (inr (inr (inl refl)))))) refl (λ db. refl) refl refl (λ r. refl) second_triples_alike (λ x. refl)
     (λ x y p q less. rises_by_three x.user (number_of x.procedure) x.set y.user (number_of y.procedure) y.set (small_number x.procedure) (small_number y.procedure) p q less)
 
 -- ---- certifiers
@@ -134,6 +159,7 @@ certifiers_order = (col 1 1, rising_key) ∷ (col 1 2, rising_key) ∷ []
 certifiers_is : (e : Edition) → IsScanOf e all_certifiers_text 9 certifiers_columns certifiers_order (codes "user_no" ∷ codes "procedure" ∷ [])
 unfolding understood everything
 certifiers_is First = (refl, refl, (refl, refl), (refl, refl), refl)
+certifiers_is Second = (refl, refl, (refl, refl), (refl, refl), refl)
 
 certifiers_alike : ReadsNoRowid (whole_scan 9 certifiers_columns certifiers_order)
 certifiers_alike [] = refl

@@ -18,8 +18,13 @@ all_members_text = codes "SELECT set_no, place, kind, low, high FROM members ORD
 abbrev pub all_relations_text : List ℕ
 all_relations_text = codes "SELECT procedure, set_no, by_user FROM relations ORDER BY procedure, set_no"
 
-abbrev pub all_triples_text : List ℕ
-all_triples_text = codes "SELECT user_no, procedure, set_no, ceiling FROM triples ORDER BY user_no, procedure, set_no"
+-- the triples of the first edition, and of the second
+
+abbrev pub first_triples_text : List ℕ
+first_triples_text = codes "SELECT user_no, procedure, set_no, ceiling FROM triples ORDER BY user_no, procedure, set_no"
+
+abbrev pub second_triples_text : List ℕ
+second_triples_text = codes "SELECT user_no, procedure, set_no, ceiling, first_at, last_at FROM grants ORDER BY user_no, procedure, set_no"
 
 abbrev pub all_certifiers_text : List ℕ
 all_certifiers_text = codes "SELECT user_no, procedure FROM certifiers ORDER BY user_no, procedure"

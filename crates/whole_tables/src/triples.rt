@@ -3,7 +3,7 @@ ghost use Rattle.sqlite.specs.Held.{state};
 ghost use Rattle.sqlite.specs.State.{Survives};
 ghost use Rattle.bank_schema.specs.Readable.{IsReadableTriple};
 ghost use Rattle.bank_schema.specs.Steps.{StaysOpen};
-ghost use Rattle.bank_schema.specs.declared.edition.Edition.TheVariants.{First};
+ghost use Rattle.bank_schema.specs.declared.edition.Edition.TheVariants.{First, Second};
 ghost use Rattle.whole_tables.specs.Tables.{AreTriples};
 ghost use Rattle.whole_tables.specs.Faults.{IsOfDatabase};
 ghost use Rattle.whole_tables.specs.Typed.{Each};
@@ -12,10 +12,12 @@ ghost use Rattle.whole_tables.specs.Whole.{IsAnswered, OnReadable, Reads};
 use crate::fault::{ReadFault, Table};
 use crate::table_row::{TableRow, whole_table};
 use bank_policy::Triple;
-use bank_schema::{Edition, number_at, procedure_at};
+use bank_schema::{Edition, count_at, number_at, procedure_at};
+use bank_terms::MAX_MOMENT;
 use money::Fault;
 use sqlite::{Alter, Row, Transaction};
-use std::alloc::Global;
+use std::alloc::{AllocError, Global};
+use std::marker::Model;
 
 /// The query for the table that holds the triples.
 pub(crate) fn query(edition: Edition) -> &'static str
@@ -23,11 +25,15 @@ pub(crate) fn query(edition: Edition) -> &'static str
 {
     match edition {
         Edition::First => FIRST_QUERY,
+        Edition::Second => SECOND_QUERY,
     }
 }
 
 const FIRST_QUERY: &str =
     "SELECT user_no, procedure, set_no, ceiling FROM triples ORDER BY user_no, procedure, set_no";
+
+const SECOND_QUERY: &str =
+    "SELECT user_no, procedure, set_no, ceiling, first_at, last_at FROM grants ORDER BY user_no, procedure, set_no";
 
 /// All triples, by user, then procedure, then set.
 pub fn all_triples<S: Alter>(
@@ -44,10 +50,11 @@ pub fn all_triples<S: Alter>(
 {
     match edition {
         Edition::First => first_triples(alloc, tx),
+        Edition::Second => second_triples(alloc, tx),
     }
 }
 
-/// Those of the table `triples`.
+/// Those of the table `triples`, each from the first moment to the last that there is.
 fn first_triples<S: Alter>(
     alloc: Global,
     tx: &mut Transaction<'_, S>,
@@ -59,7 +66,88 @@ fn first_triples<S: Alter>(
     ensures open { StaysOpen (state S.Store tx.old.conn.now) (state S.Store tx.new.conn.now) result }
     ensures survives { Survives (state S.Store tx.old.conn.now) (state S.Store tx.new.conn.now) (λ _. ⊥) }
 {
-    whole_table(alloc, tx, Edition::First, FIRST_QUERY, Table::Triples)
+    let rows = whole_table(alloc, tx, Edition::First, FIRST_QUERY, Table::Triples)?;
+    match triples_of(alloc, &rows) {
+        Ok(triples) => Ok(triples),
+        Err(_) => Err(ReadFault::Fault(Fault::Memory)),
+    }
+}
+
+/// A triple as the table `triples` has it, without moments.
+#[derive(Drop)]
+struct FirstTriple {
+    triple: Triple,
+}
+
+impl Model for FirstTriple {
+    ghost use Rattle.bank_policy.specs.declared.rows.Triple.{Triple};
+
+    ghost Value = { Triple };
+
+    ghost view = { λ t. t.triple };
+}
+
+/// The triples that these rows are.
+fn triples_of(alloc: Global, rows: &[FirstTriple]) -> Result<Vec<Triple>, AllocError>
+    ensures { IfOk result (λ triples. triples.items ≡ rows.now) }
+{
+    let mut triples = Vec::with_capacity(alloc, rows.len())?;
+    for row in rows {
+        triples.push(row.triple)?;
+    }
+    Ok(triples)
+}
+
+impl TableRow for FirstTriple {
+    ghost use Rattle.bank_schema.specs.Cells.{TripleFitsIn, triple_cells_in};
+    ghost use Rattle.bank_schema.specs.Held.Sheet.{triples as in_triples};
+    ghost use Rattle.bank_schema.specs.HeldRows.{all_but_rowid};
+    ghost use Rattle.bank_schema.specs.Readable.{IsReadableTriple};
+    ghost use Rattle.bank_schema.specs.declared.edition.Edition.TheVariants.{First};
+    ghost use Rattle.bank_policy.specs.PolicyKeys.{triple_key};
+    ghost use Rattle.bank_schema.specs.Told.{told_by_columns};
+
+    ghost sheet = { in_triples };
+
+    ghost cells = { triple_cells_in First };
+
+    ghost key = { triple_key };
+
+    ghost shows = { all_but_rowid };
+
+    ghost told = { told_by_columns 4 };
+
+    ghost fits = { TripleFitsIn First };
+
+    ghost readable = { IsReadableTriple };
+
+    fn read(_alloc: Global, row: &Row) -> Result<FirstTriple, Fault> {
+        Ok(FirstTriple {
+            triple: Triple {
+                user: number_at(row, 0)?,
+                procedure: procedure_at(row, 1)?,
+                set: number_at(row, 2)?,
+                limit: number_at(row, 3)?,
+                first: 0,
+                last: MAX_MOMENT,
+            },
+        })
+    }
+}
+
+/// Those of the table `grants`.
+fn second_triples<S: Alter>(
+    alloc: Global,
+    tx: &mut Transaction<'_, S>,
+) -> Result<Vec<Triple>, ReadFault>
+    ensures same_reference { tx.new.conn.ghost_name ≡ tx.old.conn.ghost_name }
+    ensures whole { Reads Second (state S.Store tx.old.conn.now) (state S.Store tx.new.conn.now) (λ trees rows. AreTriples Second trees rows.items) result }
+    ensures typed { IfOk result (λ rows. Each IsReadableTriple rows.items) }
+    ensures takes { OnReadable Second (state S.Store tx.old.conn.now) (state S.Store tx.new.conn.now) (IfErr result IsOfDatabase) }
+    ensures open { StaysOpen (state S.Store tx.old.conn.now) (state S.Store tx.new.conn.now) result }
+    ensures survives { Survives (state S.Store tx.old.conn.now) (state S.Store tx.new.conn.now) (λ _. ⊥) }
+{
+    whole_table(alloc, tx, Edition::Second, SECOND_QUERY, Table::Triples)
 }
 
 impl TableRow for Triple {
@@ -78,7 +166,7 @@ impl TableRow for Triple {
 
     ghost shows = { all_but_rowid };
 
-    ghost told = { told_by_columns 4 };
+    ghost told = { told_by_columns 6 };
 
     ghost fits = { TripleFits };
 
@@ -90,6 +178,8 @@ impl TableRow for Triple {
             procedure: procedure_at(row, 1)?,
             set: number_at(row, 2)?,
             limit: number_at(row, 3)?,
+            first: count_at(row, 4)?,
+            last: count_at(row, 5)?,
         })
     }
 }

@@ -31,7 +31,7 @@ fn of_transfer(first: u32, second: u32, teller: u32, branch: u32) -> [Cdi; 6] {
     ]
 }
 
-/// Up to which amount the user may carry out the procedure on these items, and whether it is certified on them.
+/// Up to which amount the user may carry out the procedure on these items at moment 700, and whether it is certified on them.
 fn leave_of(
     rt: &impl Abort,
     alloc: Global,
@@ -42,7 +42,10 @@ fn leave_of(
 ) -> (Option<u32>, bool) {
     let held = triples_of(alloc, policy, user, procedure).expect(rt, "memory");
     let certified = relations_of(alloc, policy, procedure).expect(rt, "memory");
-    (best_limit(&held, items), is_certified(&certified, items))
+    (
+        best_limit(&held, items, 700),
+        is_certified(&certified, items),
+    )
 }
 
 #[test]

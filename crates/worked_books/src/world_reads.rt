@@ -39,7 +39,7 @@ fn add_set(rt: &impl Abort, alloc: Global, policy: &mut Policy) {
         .expect(rt, "memory");
 }
 
-/// A user who may list the accounts 101 to 102 and 105 to 106, and one who certified that.
+/// A user who may list the accounts 101 to 102 and 105 to 106 from moment 800 to 900, and one who certified that.
 fn small_policy(rt: &impl Abort, alloc: Global) -> Policy {
     let mut policy = Policy::new(alloc);
     let procedure = Procedure::Accounts;
@@ -61,6 +61,8 @@ fn small_policy(rt: &impl Abort, alloc: Global) -> Policy {
             procedure,
             set: 4,
             limit: 0,
+            first: 800,
+            last: 900,
         })
         .expect(rt, "memory");
     policy
@@ -131,18 +133,29 @@ fn entries_of_an_account_are_told(rt: HostRuntime) {
 #[test]
 fn accounts_between_intervals_are_left_out(rt: HostRuntime) {
     let world = small_world(&rt, rt.alloc());
-    let rows = shown(rt.alloc(), &world, 7, 0, 9).expect(&rt, "memory");
+    let rows = shown(rt.alloc(), &world, 7, 0, 9, 800).expect(&rt, "memory");
     assert!(rt; rows.iter().map(|row| row.row.account).eq([101, 105]));
-    let next = next_shown(rt.alloc(), &world, 7, 101);
+    let next = next_shown(rt.alloc(), &world, 7, 101, 800);
     assert!(rt; next == Ok(rows.get(1).copied()));
 }
 
 #[test]
 fn accounts_are_shown_up_to_their_count(rt: HostRuntime) {
     let world = small_world(&rt, rt.alloc());
-    let first = shown(rt.alloc(), &world, 7, 0, 1).expect(&rt, "memory");
+    let first = shown(rt.alloc(), &world, 7, 0, 1, 800).expect(&rt, "memory");
     assert!(rt; first.len() == 1);
-    assert!(rt; next_shown(rt.alloc(), &world, 2, 0) == Ok(None));
+    assert!(rt; next_shown(rt.alloc(), &world, 2, 0, 800) == Ok(None));
+}
+
+#[test]
+fn accounts_are_shown_while_the_triple_counts(rt: HostRuntime) {
+    let world = small_world(&rt, rt.alloc());
+    for (moment, count) in [(799, 0), (800, 2), (900, 2), (901, 0)] {
+        let rows = shown(rt.alloc(), &world, 7, 0, 9, moment).expect(&rt, "memory");
+        assert!(rt; rows.len() == count, "{moment}");
+        let next = next_shown(rt.alloc(), &world, 7, 0, moment).expect(&rt, "memory");
+        assert!(rt; next.is_some() == (count > 0), "{moment}");
+    }
 }
 
 #[test]

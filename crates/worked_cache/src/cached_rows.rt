@@ -3,15 +3,15 @@
 use bank_books::{Plan, RowWrite, World};
 use bank_policy::{
     CertifiedRow, HeldRow, ItemSet, Member, Policy, PolicyWrite, Relation, RelationKey, Triple,
-    TripleKey,
+    TripleKey, best_limit,
 };
-use bank_terms::{Kind, Procedure};
+use bank_terms::{Cdi, Kind, Procedure};
 use cached::Cached;
 use std::alloc::Global;
 use std::process::Abort;
 use store_rows::{ListStore, PolicyReads, Store};
 
-/// A set of all accounts, a relation of the procedure to post on it, and a triple of user 7.
+/// A set of all accounts, a relation of the procedure to post on it, and a triple of user 7 from moment 800 to 900.
 fn first_policy(rt: &impl Abort, alloc: Global) -> Plan {
     let members = vec![in alloc;
         Member {
@@ -31,6 +31,8 @@ fn first_policy(rt: &impl Abort, alloc: Global) -> Plan {
         procedure: Procedure::Post,
         set: 1,
         limit: 50_000,
+        first: 800,
+        last: 900,
     };
     vec![in alloc;
         RowWrite::Policy(PolicyWrite::Set(set)),
@@ -137,6 +139,28 @@ fn follow_the_policy(rt: &impl Abort, cache: &mut Cache) {
 #[test]
 fn rows_follow_the_policy(rt: HostRuntime) {
     follow_the_policy(&rt, &mut Cache::new(&rt, rt.alloc()));
+}
+
+/// A row that is kept bears the moments of its triple, by which each question is judged.
+#[test]
+fn a_kept_row_counts_from_its_first_moment_to_its_last(rt: HostRuntime) {
+    let mut cache = Cache::new(&rt, rt.alloc());
+    cache.apply(&rt, first_policy(&rt, rt.alloc()));
+    let items = [Cdi {
+        kind: Kind::Account,
+        key: 101,
+    }];
+    for (moment, limit) in [
+        (799, None),
+        (800, Some(50_000)),
+        (900, Some(50_000)),
+        (901, None),
+        (850, Some(50_000)),
+    ] {
+        let rows = cache.triples_of(&rt, 7);
+        assert!(rt; best_limit(&rows, &items, moment) == limit, "{moment}");
+        assert!(rt; cache.store.entry_count() == 1);
+    }
 }
 
 /// Has the triples of one user more asked for than there may be entries.

@@ -5,7 +5,7 @@ ghost use Rattle.policy_ops.specs.Ranges.{IsPolicyOp};
 use crate::who::{standing, user};
 use bank_books::{Lists, World};
 use bank_policy::{ItemSet, RelationKey, Triple};
-use bank_terms::{MAX_RELATIONS, MAX_SETS, MAX_TRIPLES, MAX_VERSION, Procedure};
+use bank_terms::{MAX_MOMENT, MAX_RELATIONS, MAX_SETS, MAX_TRIPLES, MAX_VERSION, Procedure};
 use decide::{
     Asked, CommandGrounds, CommandRows, Loaded, PolicyOp, Request, Rule, Who, decide_policy,
     first_rule,
@@ -33,6 +33,8 @@ fn grant_sue() -> PolicyOp
         procedure: Procedure::Balance,
         set: 2,
         limit: 0,
+        first: 0,
+        last: MAX_MOMENT,
     })
 }
 

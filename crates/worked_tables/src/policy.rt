@@ -1,7 +1,7 @@
 use crate::compare::same;
 use crate::tables::{Tables, empty_tables};
 use bank_policy::{Member, Relation, RelationKey, Triple};
-use bank_terms::{Kind, Procedure};
+use bank_terms::{Kind, MAX_MOMENT, Procedure};
 use kept_rows::MemberRow;
 use money::Fault;
 use policy_tables::{
@@ -9,7 +9,7 @@ use policy_tables::{
 };
 use std::process::Abort;
 
-/// Set 2 with two intervals, posts and balances certified on it, and leave for user 7 to post up to 500.
+/// Set 2 with two intervals, posts and balances certified on it, and leave for user 7 to post up to 500 from moment 800 on.
 fn write_policy(rt: &impl Abort, tx: &mut Tables<'_>) {
     same(rt, add_set(tx, 2), Ok(()));
     for (place, kind) in [(2, Kind::Drawer), (1, Kind::Account)] {
@@ -51,6 +51,8 @@ fn triple(procedure: Procedure) -> Triple {
         procedure,
         set: 2,
         limit: 500,
+        first: 800,
+        last: MAX_MOMENT,
     }
 }
 

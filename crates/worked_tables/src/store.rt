@@ -2,6 +2,7 @@
 
 use crate::compare::same;
 use bank_books::{Entry, EntryForm, RowWrite};
+use bank_policy::{PolicyWrite, Triple};
 use bank_terms::Procedure;
 use money::{Delta, Fault};
 use open_sql::create;
@@ -149,8 +150,10 @@ fn same_reports<S: Store, T: Store>(rt: &impl Abort, alloc: Global, tables: &mut
     for after in [0, 10, 11, 12, 101, 102, 201] {
         both!(rt, alloc, tables, lists, next_teller(1, after));
         for user in [7, 9, 99] {
-            both!(rt, alloc, tables, lists, shown(user, after, 2));
-            both!(rt, alloc, tables, lists, next_shown(user, after));
+            for moment in [700, 800, 900, 901] {
+                both!(rt, alloc, tables, lists, shown(user, after, 2, moment));
+                both!(rt, alloc, tables, lists, next_shown(user, after, moment));
+            }
         }
     }
 }
@@ -216,6 +219,34 @@ fn tables_answer_as_lists_do(rt: HostRuntime) {
         write(&rt, alloc, &mut tables, number);
         write(&rt, alloc, &mut lists, number);
         same_answers(&rt, alloc, &mut tables, &mut lists);
+    }
+}
+
+/// Gives Sue leave to list the accounts of set 5 from moment 800 to 900.
+fn grant_sue<S: Store>(rt: &impl Abort, alloc: Global, store: &mut S) {
+    let grant = RowWrite::Policy(PolicyWrite::Triple(Triple {
+        user: 9,
+        procedure: Procedure::Accounts,
+        set: 5,
+        limit: 0,
+        first: 800,
+        last: 900,
+    }));
+    let plan = vec![in alloc; grant].expect(rt, "memory");
+    assert!(rt; store.apply(alloc, plan).is_ok());
+}
+
+#[test]
+fn tables_show_accounts_at_a_moment_as_lists_do(rt: HostRuntime) {
+    let alloc = rt.alloc();
+    let mut tables = sample_tables(&rt, alloc);
+    let mut lists = sample_lists(&rt, alloc);
+    grant_sue(&rt, alloc, &mut tables);
+    grant_sue(&rt, alloc, &mut lists);
+    same_answers(&rt, alloc, &mut tables, &mut lists);
+    for (moment, count) in [(799, 0), (800, 2), (900, 2), (901, 0)] {
+        let rows = tables.shown(alloc, 9, 0, 9, moment);
+        assert!(rt; rows.expect(&rt, "no fault").len() == count, "{moment}");
     }
 }
 

@@ -1,5 +1,5 @@
 use bank_policy::{Certifier, ItemSet, Member, Name, Policy, Relation, Triple, User};
-use bank_terms::{Kind, Procedure};
+use bank_terms::{Kind, MAX_MOMENT, Procedure};
 use policy_check::{PolicyFault, check_policy};
 use std::alloc::Global;
 use std::process::Abort;
@@ -23,6 +23,8 @@ fn triple(user: u32, procedure: Procedure, limit: u32) -> Triple {
         procedure,
         set: 1,
         limit,
+        first: 0,
+        last: MAX_MOMENT,
     }
 }
 
@@ -143,6 +145,48 @@ fn one_triple_more_is_at_fault(rt: HostRuntime) {
     ] {
         let mut policy = small_policy(&rt, rt.alloc());
         add_triple(&rt, &mut policy, triple(user, procedure, limit));
+        is_at_fault(&rt, &policy, PolicyFault::Dangling);
+    }
+}
+
+/// The small policy, where Tess may make transfers from the first of these moments to the last.
+fn with_moments(rt: &impl Abort, alloc: Global, first: u64, last: u64) -> Policy {
+    let mut policy = small_policy(rt, alloc);
+    let moments = Triple {
+        first,
+        last,
+        ..triple(7, Procedure::Transfer, 1_000)
+    };
+    add_triple(rt, &mut policy, moments);
+    policy
+}
+
+#[test]
+fn triples_may_begin_and_end_at_any_moment(rt: HostRuntime) {
+    for (first, last) in [
+        (0, MAX_MOMENT),
+        (0, 0),
+        (MAX_MOMENT, MAX_MOMENT),
+        (800, 800),
+        (800, 900),
+    ] {
+        let policy = with_moments(&rt, rt.alloc(), first, last);
+        assert!(rt; check_policy(&policy).is_ok(), "{first} {last}");
+    }
+}
+
+#[test]
+fn a_triple_with_other_moments_is_at_fault(rt: HostRuntime) {
+    for (first, last) in [
+        (1, 0),
+        (801, 800),
+        (MAX_MOMENT, MAX_MOMENT - 1),
+        (0, MAX_MOMENT + 1),
+        (MAX_MOMENT + 1, MAX_MOMENT + 1),
+        (MAX_MOMENT + 1, MAX_MOMENT),
+        (0, u64::MAX),
+    ] {
+        let policy = with_moments(&rt, rt.alloc(), first, last);
         is_at_fault(&rt, &policy, PolicyFault::Dangling);
     }
 }

@@ -18,7 +18,7 @@ returns-then-is_released g c = record {
       let before = c.load_named_release.ensures.kept.answers.honest honest in
       by_release w c.args.execution.now c.in-Some.user c.in-Ok-Release.number c.in_ok-named-in-Ok-Release.named c.in-Some.is
       (subst (λ l. Ok l ≡ leave_sought (grounds w c.args.execution.now)) c.in-Ok-Release.field-0-is (sym c.in-Ok-Release.is ∙ c.in_ok-rule.ensures.told before w holds))
-      (c.in_ok-named-in-Ok-Release.ensures.told honest w (c.in_ok-rule.ensures.kept.kept w holds)) c.if-is_released.ensures;
+      (c.in_ok-named-in-Ok-Release.ensures.told honest w (c.in_ok-rule.ensures.kept.kept w holds) c.args.execution.now.moment) c.if-is_released.ensures;
   kept = search rules;
   refused = search rules;
   counted = search rules;
@@ -30,7 +30,7 @@ returns g c = record {
       let before = c.load_named_release.ensures.kept.answers.honest honest in
       refused_by_release w c.args.execution.now c.in-Some.user c.in-Ok-Release.number c.in_ok-named-in-Ok-Release.named c.in-Some.is
       (subst (λ l. Ok l ≡ leave_sought (grounds w c.args.execution.now)) c.in-Ok-Release.field-0-is (sym c.in-Ok-Release.is ∙ c.in_ok-rule.ensures.told before w holds))
-      (c.in_ok-named-in-Ok-Release.ensures.told honest w (c.in_ok-rule.ensures.kept.kept w holds)) c.if-is_released.ensures;
+      (c.in_ok-named-in-Ok-Release.ensures.told honest w (c.in_ok-rule.ensures.kept.kept w holds) c.args.execution.now.moment) c.if-is_released.ensures;
   kept = search rules;
   refused = search rules;
   counted = search rules;

@@ -1,7 +1,7 @@
 use Rattle.sqlite.specs.Held.{state}
-use Rattle.bank_schema.specs.CreateTexts.{create_certifiers, create_relations, create_triples}
+use Rattle.bank_schema.specs.CreateTexts.{create_certifiers, create_relations, create_grants}
 use Rattle.open_sql.specs.Blank.{IsBlank, begun}
-use Rattle.open_sql.proofs.CreateLemmas.{certifiers_defined, relations_defined, triples_defined}
+use Rattle.open_sql.proofs.CreateLemmas.{certifiers_defined, relations_defined, grants_defined}
 use Rattle.open_sql.proofs.GoesLemmas.{goes_on, goes_then, went_on, went_then}
 use Rattle.open_sql.proofs.tables.make_rights.Goals as goal
 
@@ -12,5 +12,5 @@ returns-clause-goes g c =
     let s2 = state g.S.Store c.define-2.new.tx.conn.now in
     let new = state g.S.Store c.define-3.new.tx.conn.now in
     goes_then old s2 new (IsBlank (begun 4 1)) (IsBlank (begun 6 3)) (IsBlank (begun 7 4)) c.define-3.result
-    (went_then old s1 s2 (IsBlank (begun 4 1)) (IsBlank (begun 5 2)) (IsBlank (begun 6 3)) (went_on create_relations _ _ _ relations_defined old s1 c.in_ok-define.ensures.ran) c.define-2.ensures.survives (went_on create_triples _ _ _ triples_defined s1 s2 c.in_ok-define-2.ensures.ran))
+    (went_then old s1 s2 (IsBlank (begun 4 1)) (IsBlank (begun 5 2)) (IsBlank (begun 6 3)) (went_on create_relations _ _ _ relations_defined old s1 c.in_ok-define.ensures.ran) c.define-2.ensures.survives (went_on create_grants _ _ _ grants_defined s1 s2 c.in_ok-define-2.ensures.ran))
     c.define-3.ensures.survives (goes_on create_certifiers _ _ _ certifiers_defined s2 new c.define-3.result c.define-3.ensures.ran)

@@ -1,7 +1,6 @@
-use Rattle.std.proofs.Common.{Ok, [], ◌∷◌, pos, subst}
+use Rattle.std.proofs.Common.{Ok, subst}
 use Rattle.sqlite.specs.Held.{state}
 use Rattle.sqlite.specs.State.{Executes}
-use Rattle.sqlite.specs.declared.types.Value.TheVariants.{Int}
 use Rattle.keyed_rows.specs.Ordered.{add_row}
 use Rattle.bank_policy.specs.PolicyKeys.{triple_key}
 use Rattle.bank_schema.proofs.StepLemmas.{write_steps}
@@ -14,10 +13,10 @@ returns-clause-steps g c clean inside s holds =
     let old = state g.S.Store c.args.tx.now.conn.now in
     let new = state g.S.Store c.insert_triple.new.tx.conn.now in
     write_steps add_triple_text _ old new (Ok c.in_ok-insert_triple.field-0) (record s { triples = add_row triple_key c.args.triple.now s.triples }) (c.in_ok-insert_triple.ensures.runs clean inside)
-    (λ count h. (adds_triple old new s c.args.triple.now count c.insert_triple.ensures.small holds (subst (λ n. Executes add_triple_text (Int (pos c.args.triple.now.user) ∷ Int (pos n) ∷ Int (pos c.args.triple.now.set) ∷ Int (pos c.args.triple.now.limit) ∷ []) old new (Ok count)) c.number-procedure.ensures h)).0)
+    (λ count h. (adds_triple old new s c.args.triple.now count c.in_ok-cells.ensures.fits holds (subst (λ ps. Executes add_triple_text ps old new (Ok count)) c.in_ok-cells.ensures.cells h)).0)
 
 pub returns-clause-free : goal.returns-clause-free
 returns-clause-free g c clean inside s holds =
     let old = state g.S.Store c.args.tx.now.conn.now in
     let new = state g.S.Store c.insert_triple.new.tx.conn.now in
-    (adds_triple old new s c.args.triple.now c.in_ok-insert_triple.field-0 c.insert_triple.ensures.small holds (subst (λ n. Executes add_triple_text (Int (pos c.args.triple.now.user) ∷ Int (pos n) ∷ Int (pos c.args.triple.now.set) ∷ Int (pos c.args.triple.now.limit) ∷ []) old new (Ok c.in_ok-insert_triple.field-0)) c.number-procedure.ensures (c.in_ok-insert_triple.ensures.runs clean inside).0)).1
+    (adds_triple old new s c.args.triple.now c.in_ok-insert_triple.field-0 c.in_ok-cells.ensures.fits holds (subst (λ ps. Executes add_triple_text ps old new (Ok c.in_ok-insert_triple.field-0)) c.in_ok-cells.ensures.cells (c.in_ok-insert_triple.ensures.runs clean inside).0)).1

@@ -1,13 +1,11 @@
 use Rattle.std.proofs.Common.{Some, option_map, ap, ◌∙◌}
 use Rattle.std.specs.List.{find}
-use Rattle.bank_policy.specs.HeldRows.{triples_of}
-use Rattle.bank_terms.specs.declared.procedure.Procedure.TheVariants as procedure
 use Rattle.bank_books.specs.Records.{account_record_of}
 use Rattle.row_reads.specs.BookReads.{is_account_after}
 use Rattle.row_reads.proofs.accounts.next_shown.Goals as goal
 
 pub returns-in-Some : goal.returns-in-Some
 returns-in-Some c =
-    let held = c.deref.ensures.value ∙ c.in_ok-held.ensures ∙ ap (λ p. triples_of p c.args.user procedure.Accounts) c.policy.ensures in
+    let held = c.deref.ensures.value ∙ c.in_ok-held.ensures in
     ap (λ r. Some r) c.account_record_of.ensures
     ∙ ap (option_map (account_record_of c.args.world.now)) (c.in-Some.ensures ∙ (λ i. find (is_account_after (held i) c.args.after) (c.accounts.ensures.value i)))

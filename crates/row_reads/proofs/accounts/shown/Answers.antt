@@ -1,7 +1,5 @@
 use Rattle.std.proofs.Common.{◌≡◌, length, map, take, ap, ◌∙◌, sym, arith}
 use Rattle.std.specs.List.{filter}
-use Rattle.bank_policy.specs.HeldRows.{triples_of}
-use Rattle.bank_terms.specs.declared.procedure.Procedure.TheVariants as procedure
 use Rattle.bank_books.specs.Records.{account_record_of}
 use Rattle.row_reads.specs.BookReads.{is_account_after}
 use Rattle.bank_policy.proofs.KeptRows.{kept_more, passed_over}
@@ -12,7 +10,7 @@ use Rattle.row_reads.proofs.accounts.shown.Goals.{then-is_account_after+in_ok-pu
 pub returns-then-len-from : goal.returns-then-len-from
 returns-then-len-from c =
     let w = c.args.world.now in
-    let held = c.in_ok-held.ensures ∙ ap (λ p. triples_of p c.args.user procedure.Accounts) c.policy.ensures in
+    let held = c.in_ok-held.ensures in
     let many : length c.loop-account.rows.items ≡ c.args.count = omega (arith, c.loop-account.rows.ok.0) in
     kept_enough (account_record_of w) (is_account_after c.in_ok-held.held.items c.args.after) c.accounts-account-items.result.now
     c.loop-account.account-index c.args.count _ c.loop-account.invariant.rows many

@@ -1,9 +1,19 @@
+use Rattle.std.proofs.Common.{◌∙◌, subst, sym}
 use Rattle.bank_schema.specs.Held.Sheet.{triples as in_triples}
-use Rattle.whole_tables.proofs.PolicyWhole.{tells_triples}
+use Rattle.bank_schema.specs.Readable.{IsReadableTriple}
+use Rattle.whole_tables.specs.Faults.{IsOfDatabase}
+use Rattle.whole_tables.specs.Typed.{Each}
+use Rattle.whole_tables.proofs.ReadsLemmas.{handed_on}
+use Rattle.whole_tables.proofs.PolicyWhole.{tells_first_triples}
 use Rattle.whole_tables.proofs.triples.first_triples.Goals as goal
 
 pub whole_table-requires : goal.whole_table-requires
-whole_table-requires g c = tells_triples
+whole_table-requires g c = tells_first_triples
 
-pub returns-clause-takes : goal.returns-clause-takes
-returns-clause-takes g c clean has s holds readable = c.whole_table.ensures.takes clean has s.triples (holds in_triples) readable.triples
+pub returns-in_err-rows-clause-takes : goal.returns-in_err-rows-clause-takes
+returns-in_err-rows-clause-takes g c clean has s holds readable =
+    handed_on c.from_residual.result c.in_err-rows.field-0.0 IsOfDatabase c.from_residual.ensures.1 (c.in_err-rows.ensures.takes clean has s.triples (holds in_triples) readable.triples)
+
+pub returns-in-Ok-clause-typed : goal.returns-in-Ok-clause-typed
+returns-in-Ok-clause-typed g c =
+    subst (λ rows. Each IsReadableTriple rows) (sym (c.in-Ok.ensures ∙ c.deref.ensures.value)) c.in_ok-rows.ensures.typed

@@ -1,12 +1,11 @@
-use Rattle.bank_schema.specs.declared.edition.Edition.{Edition}
-use Rattle.bank_schema.specs.declared.edition.Edition.TheVariants.{First}
-use Rattle.whole_tables.specs.Texts.{all_triples_text}
+use Rattle.std.proofs.Common.{subst, sym}
+use Rattle.whole_tables.specs.Texts.{first_triples_text, second_triples_text}
 use Rattle.whole_tables.specs.Whole.{IsAnswered}
-use Rattle.whole_tables.proofs.PolicyWhole.{tells_triples}
+use Rattle.whole_tables.proofs.PolicyWhole.{tells_first_triples, tells_second_triples}
 use Rattle.whole_tables.proofs.triples.query.Goals as goal
 
-pub returns : goal.returns
-returns c = asked c.args.edition
-  where
-    asked : (e : Edition) → IsAnswered e all_triples_text
-    asked First = tells_triples.asks
+pub returns-in-First : goal.returns-in-First
+returns-in-First c = subst (λ e. IsAnswered e first_triples_text) (sym c.in-First.is) tells_first_triples.asks
+
+pub returns-in-Second : goal.returns-in-Second
+returns-in-Second c = subst (λ e. IsAnswered e second_triples_text) (sym c.in-Second.is) tells_second_triples.asks

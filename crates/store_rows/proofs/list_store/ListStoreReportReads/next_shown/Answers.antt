@@ -6,7 +6,7 @@ use Rattle.store_rows.proofs.list_store.ListStoreReportReads.next_shown.Goals as
 pub returns : goal.returns
 returns c = record {
   read = record {
-    told = λ honest w holds. subst (λ v. IfOk c.counted.result (λ row. row ≡ next_shown v c.args.user c.args.after)) holds (told_still _ _ c.counted.result c.counted.ensures.ok c.next_shown-row.ensures);
+    told = λ honest w holds. subst (λ v. IfOk c.counted.result (λ row. row ≡ next_shown v c.args.user c.args.after c.args.moment)) holds (told_still _ _ c.counted.result c.counted.ensures.ok c.next_shown-row.ensures);
     kept = search rules;
     refused = search rules;
     counted = search rules;

@@ -6,7 +6,7 @@ use Rattle.store_rows.proofs.list_store.ListStoreReportReads.shown.Goals as goal
 pub returns : goal.returns
 returns c = record {
   read = record {
-    told = λ honest w holds. subst (λ v. IfOk c.counted.result (λ rows. rows.items ≡ shown v c.args.user c.args.after c.args.count)) holds (told_still _ _ c.counted.result c.counted.ensures.ok c.shown-rows.ensures);
+    told = λ honest w holds. subst (λ v. IfOk c.counted.result (λ rows. rows.items ≡ shown v c.args.user c.args.after c.args.count c.args.moment)) holds (told_still _ _ c.counted.result c.counted.ensures.ok c.shown-rows.ensures);
     kept = search rules;
     refused = search rules;
     counted = search rules;

@@ -1,0 +1,73 @@
+-- A bank that was read and then written anew.
+use Rattle.std.proofs.Common.{◌≡◌, ◌∙◌, Err, IfErr, IfOk, IsErr, IsErrAnd, IsTrue, Ok, OnErr, OnOk, Result, ap, inl, inr, subst, sym}
+use Rattle.sqlite.specs.Effect.{Database}
+use Rattle.sqlite.specs.State.{HasCleanDisk, IsRolledBack, KeepsCommit, State, Survives}
+use Rattle.sqlite.specs.Tree.{Trees}
+use Rattle.sqlite.proofs.StateLemmas.{survives_then}
+use Rattle.bank_books.specs.WorldLists.{WorldLists}
+use Rattle.bank_schema.specs.Held.{AreOfWorld, HoldsBank}
+use Rattle.bank_schema.specs.declared.edition.Edition.TheVariants.{First}
+use Rattle.bank_schema.proofs.StepLemmas.{early}
+use Rattle.adopt_sql.specs.Adopted.{Finds, IsBankFileIn, IsLeft}
+use Rattle.sql_upgrade.specs.Carried.{Carries, IsCarriedOver, IsFirst}
+
+-- after a read that changed nothing
+pub still_first : (old mid : State) → IsBankFileIn First old → IsLeft old mid → IsFirst mid
+still_first old mid file left = record {
+  schema = λ is_open. ap (λ (d : Database). d.schema) (left.now is_open) ∙ file.schema;
+  settled = left.settled;
+}
+
+pub left_then : (old mid new : State) → IsLeft old mid → IsLeft mid new → IsLeft old new
+left_then old mid new first second = record {
+  was_open = λ is_open. first.was_open (second.was_open is_open);
+  now = λ is_open. second.now is_open ∙ first.now (second.was_open is_open);
+  settled = second.settled;
+}
+
+-- what commits nothing may leave anything more
+pub survives_more : (old new : State) (Commits : Trees → Type 0) → Survives old new (λ _. ⊥) → Survives old new Commits
+survives_more old new Commits s = record {
+  clean = s.clean;
+  shield = s.shield;
+  counts = s.counts;
+  limit = s.limit;
+  closes = s.closes;
+  crash = λ clean trees may. elim (s.crash clean trees may) [ inl old ↦ inl old | inr none ↦ absurd none ];
+}
+
+-- a transaction that was rolled back leaves what was there before it
+pub left_undone : (old mid new : State) → IsFirst old → KeepsCommit old mid → IsRolledBack mid new → IsLeft old new
+left_undone old mid new is kept undone = record {
+  was_open = λ is_open. kept.was_open (undone.was_open is_open);
+  now = λ is_open.
+      let was_open = undone.was_open is_open in
+      (undone.undone is_open).0 ∙ kept.committed was_open ∙ is.settled (kept.was_open was_open);
+  settled = λ is_open. (undone.undone is_open).1 ∙ sym (undone.undone is_open).0;
+}
+
+pub handed : {X : Type 0} {E : Type 0} (r : Result X E) (P : Type 0) → P → OnErr r P
+handed (Ok x) P p = tt
+handed (Err e) P p = p
+
+module _ (old mid new : State) (w : WorldLists) (read : Survives old mid (λ _. ⊥)) (found : HasCleanDisk mid → IsBankFileIn First old → Finds First old.now w) (left : HasCleanDisk mid → IsBankFileIn First old → IsLeft old mid)
+    (written : Survives mid new (λ trees. IsFirst mid → AreOfWorld w trees)) where
+  pub carried_over : Survives old new (λ trees. HasCleanDisk new → IsBankFileIn First old → IsCarriedOver First old trees)
+  carried_over =
+      survives_then old mid new _ _ _ (λ clean trees none. absurd none)
+      (λ clean trees it _ file.
+      let was_clean = early mid new _ written clean in
+      record { world = w; found = found was_clean file; holds = it (still_first old mid file (left was_clean file)) })
+      read written
+
+  pub carries : HasCleanDisk new → IsBankFileIn First old → (IsFirst mid → HoldsBank new w) → (IsFirst mid → (trees : Trees) → new.may_leave trees → trees ≡ new.committed.trees) → Carries First old new
+  carries clean file made settled =
+      let was_clean = early mid new _ written clean in
+      let first = still_first old mid file (left was_clean file) in
+      let holds = made first in
+      record {
+        world = w;
+        found = found was_clean file;
+        holds = holds;
+        durable = λ trees may. subst (AreOfWorld w) (sym (settled first trees may ∙ ap (λ (d : Database). d.trees) holds.settled)) holds.now.world;
+      }

@@ -1,0 +1,3 @@
+pub mod CarryLemmas
+pub mod DropLemmas
+pub mod ProceedsLemmas

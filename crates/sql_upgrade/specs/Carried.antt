@@ -1,0 +1,29 @@
+-- What a file that was carried over holds.
+use Rattle.std.specs.Prelude.{◌≡◌, IsTrue}
+use Rattle.sqlite.specs.State.{State}
+use Rattle.sqlite.specs.Tree.{Trees}
+use Rattle.bank_books.specs.WorldLists.{WorldLists}
+use Rattle.bank_schema.specs.Held.{AreOfWorld, HoldsBank}
+use Rattle.bank_schema.specs.Schema.{schema_of}
+use Rattle.bank_schema.specs.declared.edition.Edition.{Edition}
+use Rattle.bank_schema.specs.declared.edition.Edition.TheVariants.{First}
+use Rattle.adopt_sql.specs.Adopted.{Finds}
+
+-- The tables of an older edition held a World whose books hold and whose policy is sound, and no other. Those of the newest hold it now, and
+-- a crash leaves it in them alone.
+pub record Carries (e : Edition) (old new : State) : Type 0 where
+  pub world : WorldLists
+  pub found : Finds e old.now world
+  pub holds : HoldsBank new world
+  pub durable : (trees : Trees) → new.may_leave trees → AreOfWorld world trees
+
+-- these trees are the tables of the newest edition, with the World that those of the older one held
+pub record IsCarriedOver (e : Edition) (old : State) (trees : Trees) : Type 0 where
+  pub world : WorldLists
+  pub found : Finds e old.now world
+  pub holds : AreOfWorld world trees
+
+-- If the connection is open, its tables are those of the first edition, with nothing uncommitted in them.
+pub record IsFirst (s : State) : Type 0 where
+  pub schema : IsTrue s.is_open → s.now.schema ≡ schema_of First
+  pub settled : IsTrue s.is_open → s.committed ≡ s.now

@@ -1,0 +1,71 @@
+//! The tables of a file of the first edition, taken away: the last that was made first, so that no key of
+//! another table acts on the rows that go.
+
+ghost use Rattle.std.specs.Prelude.{◌≡◌};
+ghost use Rattle.sqlite.specs.Held.{state};
+ghost use Rattle.sqlite.specs.State.{Survives};
+ghost use Rattle.sql_upgrade.specs.Left.{HasSchema, left};
+ghost use Rattle.sql_upgrade.specs.Proceeds.{Proceeds};
+
+use money::Fault;
+use open_sql::define;
+use sqlite::{Alter, Transaction};
+
+/// Takes away the tables of lines, proofs and releases.
+fn drop_history<S: Alter>(tx: &mut Transaction<'_, S>) -> Result<(), Fault>
+    ensures same_reference { tx.new.conn.ghost_name ≡ tx.old.conn.ghost_name }
+    ensures proceeds { Proceeds (state S.Store tx.old.conn.now) (state S.Store tx.new.conn.now) (HasSchema (left 14 9)) (HasSchema (left 11 6)) result }
+    ensures survives { Survives (state S.Store tx.old.conn.now) (state S.Store tx.new.conn.now) (λ _. ⊥) }
+{
+    define(tx, "DROP TABLE releases")?;
+    define(tx, "DROP TABLE proofs")?;
+    define(tx, "DROP TABLE lines")
+}
+
+/// Takes away the tables of branches, tellers, accounts and entries.
+fn drop_books<S: Alter>(tx: &mut Transaction<'_, S>) -> Result<(), Fault>
+    ensures same_reference { tx.new.conn.ghost_name ≡ tx.old.conn.ghost_name }
+    ensures proceeds { Proceeds (state S.Store tx.old.conn.now) (state S.Store tx.new.conn.now) (HasSchema (left 11 6)) (HasSchema (left 7 4)) result }
+    ensures survives { Survives (state S.Store tx.old.conn.now) (state S.Store tx.new.conn.now) (λ _. ⊥) }
+{
+    define(tx, "DROP TABLE entries")?;
+    define(tx, "DROP TABLE accounts")?;
+    define(tx, "DROP TABLE tellers")?;
+    define(tx, "DROP TABLE branches")
+}
+
+/// Takes away the tables of relations, triples and certifiers: triples go before the relations that they are
+/// of.
+fn drop_rights<S: Alter>(tx: &mut Transaction<'_, S>) -> Result<(), Fault>
+    ensures same_reference { tx.new.conn.ghost_name ≡ tx.old.conn.ghost_name }
+    ensures proceeds { Proceeds (state S.Store tx.old.conn.now) (state S.Store tx.new.conn.now) (HasSchema (left 7 4)) (HasSchema (left 4 1)) result }
+    ensures survives { Survives (state S.Store tx.old.conn.now) (state S.Store tx.new.conn.now) (λ _. ⊥) }
+{
+    define(tx, "DROP TABLE certifiers")?;
+    define(tx, "DROP TABLE triples")?;
+    define(tx, "DROP TABLE relations")
+}
+
+/// Takes away the tables of the bank, of users, and of sets with their members.
+fn drop_bank_and_sets<S: Alter>(tx: &mut Transaction<'_, S>) -> Result<(), Fault>
+    ensures same_reference { tx.new.conn.ghost_name ≡ tx.old.conn.ghost_name }
+    ensures proceeds { Proceeds (state S.Store tx.old.conn.now) (state S.Store tx.new.conn.now) (HasSchema (left 4 1)) (HasSchema (left 0 0)) result }
+    ensures survives { Survives (state S.Store tx.old.conn.now) (state S.Store tx.new.conn.now) (λ _. ⊥) }
+{
+    define(tx, "DROP TABLE members")?;
+    define(tx, "DROP TABLE sets")?;
+    define(tx, "DROP TABLE users")?;
+    define(tx, "DROP TABLE bank")
+}
+
+/// Takes away all tables of a file of the first edition, whatever stands in them.
+pub(crate) fn drop_tables<S: Alter>(tx: &mut Transaction<'_, S>) -> Result<(), Fault>
+    ensures same_reference { tx.new.conn.ghost_name ≡ tx.old.conn.ghost_name }
+    ensures proceeds { Proceeds (state S.Store tx.old.conn.now) (state S.Store tx.new.conn.now) (HasSchema (left 14 9)) (HasSchema (left 0 0)) result }
+    ensures survives { Survives (state S.Store tx.old.conn.now) (state S.Store tx.new.conn.now) (λ _. ⊥) }
+{
+    drop_history(tx)?;
+    drop_books(tx)?;
+    drop_rights(tx)?;
+    drop_bank_and_sets(tx)
+}
