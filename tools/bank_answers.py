@@ -13,11 +13,11 @@ from bank_model import (
     MOST_CENTS,
     MOST_DAY,
     MOST_KEY,
+    MOST_MOMENT,
     MOST_RELATIONS,
     MOST_RELEASES,
     MOST_SETS,
     MOST_TRIPLES,
-    MOMENT,
     OF_OFFICERS,
     OPERATIONS,
     PHRASES,
@@ -26,6 +26,7 @@ from bank_model import (
     KINDS,
     Line,
     Release,
+    Triple,
     accounts_of,
     is_command,
     is_operation,
@@ -45,7 +46,7 @@ def with_entry(bank, request, account, delta, partner=0, undoes=0):
     turn = len(bank.turns_of(account)) + 1
     is_correction = request.kind == "correct"
     place = (branch, number, account, turn, body["teller"], delta)
-    entry = Entry(*place, MOMENT, bank.days[branch], request.user, is_correction, partner, undoes)
+    entry = Entry(*place, request.moment, bank.days[branch], request.user, is_correction, partner, undoes)
     bank.entries = [*bank.entries, entry]
     return number
 
@@ -140,7 +141,8 @@ def stated(bank, request):
 
 
 def shown(bank, request):
-    return bank_reports.accounts(bank, request.user, request.body["after"], request.body["count"])
+    body = request.body
+    return bank_reports.accounts(bank, request.user, body["after"], body["count"], request.moment)
 
 
 def proved(bank, request):
@@ -186,11 +188,12 @@ def commanded(bank, request):
         bank.relations = {**bank.relations, relation: request.user}
     elif command == "withdraw":
         bank.relations = {key: by for key, by in bank.relations.items() if key != relation}
-        bank.triples = {key: limit for key, limit in bank.triples.items() if key[1:] != relation}
+        bank.triples = {key: triple for key, triple in bank.triples.items() if key[1:] != relation}
     elif command == "grant":
-        bank.triples = {**bank.triples, (user, *relation): body["limit"]}
+        triple = Triple(body["limit"], body.get("first", 0), body.get("last", MOST_MOMENT))
+        bank.triples = {**bank.triples, (user, *relation): triple}
     elif command == "revoke":
-        bank.triples = {key: limit for key, limit in bank.triples.items() if key != (user, *relation)}
+        bank.triples = {key: triple for key, triple in bank.triples.items() if key != (user, *relation)}
     elif command == "appoint":
         bank.certifiers = bank.certifiers | {(user, body["procedure"])}
     elif command == "dismiss":
@@ -347,7 +350,7 @@ def rule_of_policy(bank, request):
     items = touched(request.kind, request.body)
     if not any(procedure == request.kind and bank.holds(number, items) for procedure, number in bank.relations):
         return 2
-    if not bank.limits(request.user, request.kind, items):
+    if not bank.limits(request.user, request.kind, items, request.moment):
         return 3
     if bank.is_within(request):
         return None

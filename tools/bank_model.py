@@ -9,8 +9,9 @@ from typing import NamedTuple
 
 BADGES = {1: "olga", 2: "carl", 3: "cora", 7: "tess", 8: "tom", 9: "sue"}
 NAMES = {1: "Olga", 2: "Carl", 3: "Cora", 7: "Tess", 8: "Tom", 9: "Sue"}
-# The moment that every message bears.
+# The moment that every message of a stream bears, and those that one bears whose moment moves on.
 MOMENT = 700
+MOMENTS = (MOMENT, 701, 702, 750, 800)
 KINDS = ["account", "teller", "branch", "history", "drawer", "vault"]
 PROCEDURES = (
     "post transfer correct drawer-on drawer-off move-cash new-account release balance statement accounts proof close-day"
@@ -26,6 +27,7 @@ PHRASES = {200: "OK", 403: "Forbidden", 409: "Conflict", 422: "Unprocessable Ent
 MOST_KEY = 999_999_999
 MOST_CENTS = 999_999_999_999
 MOST_DAY = 999_999
+MOST_MOMENT = 99_999_999_999
 MOST_ACCOUNTS = MOST_RELEASES = 100_000
 MOST_SETS = 9_999
 MOST_RELATIONS = MOST_TRIPLES = 1_000
@@ -37,6 +39,7 @@ DELTA = (-999_999, 999_999)
 AMOUNT = (1, 999_999)
 CASH = (0, MOST_KEY)
 COUNT = (1, 1_000)
+MOMENT_OF_TRIPLE = (0, MOST_MOMENT)
 
 # The members of each operation, and their ranges.
 OPERATIONS = {
@@ -71,6 +74,8 @@ COMMANDS = {
     "suspend": {"user": USER},
     "restore": {"user": USER},
 }
+# What a grant has beside them: both, or neither.
+OF_MOMENTS = {"first": MOMENT_OF_TRIPLE, "last": MOMENT_OF_TRIPLE}
 OF_OFFICERS = {"appoint", "dismiss", "enrol", "suspend", "restore"}
 
 
@@ -95,6 +100,17 @@ class Line(NamedTuple):
     amount: int
     form: str
     user: int
+
+
+class Triple(NamedTuple):
+    """What a triple says of its user, procedure and set: it counts from its first moment to its last."""
+
+    limit: int
+    first: int = 0
+    last: int = MOST_MOMENT
+
+    def counts_at(self, moment):
+        return self.first <= moment <= self.last
 
 
 class Release(NamedTuple):
@@ -151,8 +167,13 @@ def is_releasable(value):
 
 def is_command(command, body):
     """Whether the body states this command of the policy."""
-    forms = COMMANDS[command]
-    return type(body) is dict and set(body) == set(forms) and all(fits(body[it], forms[it]) for it in forms)
+    if type(body) is not dict:
+        return False
+    has_moments = command == "grant" and any(it in body for it in OF_MOMENTS)
+    forms = {**COMMANDS[command], **OF_MOMENTS} if has_moments else COMMANDS[command]
+    if set(body) != set(forms) or not all(fits(body[it], forms[it]) for it in forms):
+        return False
+    return not has_moments or body["first"] <= body["last"]
 
 
 # ---- what an operation touches and comes to
@@ -296,16 +317,20 @@ class Bank:
         members = self.sets.get(number, [])
         return all(any(kind == k and low <= key <= high for k, low, high in members) for kind, key in items)
 
-    def limits(self, user, procedure, items):
-        """The limits of the user's triples for a procedure, each of which has all these items."""
+    def sets_of(self, user, procedure, moment):
+        """The sets of the user's triples for a procedure that count at a moment, each with the triple's limit."""
         return [
-            limit
-            for (who, what, number), limit in self.triples.items()
-            if (who, what) == (user, procedure) and self.holds(number, items)
+            (number, triple.limit)
+            for (who, what, number), triple in self.triples.items()
+            if (who, what) == (user, procedure) and triple.counts_at(moment)
         ]
 
+    def limits(self, user, procedure, items, moment):
+        """The limits of the user's triples for a procedure that count at a moment, each of which has all these items."""
+        return [limit for number, limit in self.sets_of(user, procedure, moment) if self.holds(number, items)]
+
     def users_of(self, procedure):
-        """Those who have a triple for the procedure."""
+        """Those who have a triple for the procedure, whatever its moments."""
         return sorted({user for user, what, _ in self.triples if what == procedure})
 
     def makes(self, user, procedure):
@@ -319,7 +344,7 @@ class Bank:
         if not leave or (request.user, request.release) in self.used:
             return False
         items, amount = touched(request.kind, request.body), amount_of(request.kind, request.body)
-        is_given = any(amount <= it for it in self.limits(leave.giver, "release", items))
+        is_given = any(amount <= it for it in self.limits(leave.giver, "release", items, request.moment))
         is_of_another = leave.giver != request.user and leave.giver not in self.suspended
         names_it = leave.operation == {"procedure": request.kind, **request.body}
         return names_it and leave.day == self.days.get(request.body["branch"]) and is_of_another and is_given
@@ -330,8 +355,8 @@ class Bank:
 
     def is_within(self, request):
         """Whether a triple of the user lets him do it."""
-        amount = amount_of(request.kind, request.body)
-        return any(amount <= it for it in self.limits(request.user, request.kind, touched(request.kind, request.body)))
+        items, amount = touched(request.kind, request.body), amount_of(request.kind, request.body)
+        return any(amount <= it for it in self.limits(request.user, request.kind, items, request.moment))
 
 
 def opened_sets():
@@ -360,7 +385,7 @@ def opened_relations():
 
 
 def opened_triples():
-    """The limit of each user for a procedure on a set."""
+    """The triple of each user for a procedure on a set."""
     granted = {
         7: "post 2 999999, transfer 3 50000, transfer 4 50000, correct 2 999999, drawer-on 2 100000, drawer-off 2 0, "
         "move-cash 2 100000, balance 2 0, statement 2 0, accounts 5 0",
@@ -369,4 +394,4 @@ def opened_triples():
         9: "new-account 1 0, release 1 999999, proof 2 0, close-day 2 0",
     }
     rows = [(user, *row.split()) for user, text in granted.items() for row in text.split(",")]
-    return {(user, procedure, int(number)): int(limit) for user, procedure, number, limit in rows}
+    return {(user, procedure, int(number)): Triple(int(limit)) for user, procedure, number, limit in rows}

@@ -2,15 +2,16 @@
 
 A pair is made of opening lists and of requests by others. The user's triples reach branch 1 with its two tellers and a few
 accounts; these, his row, the relations of the procedures that he asks for and the releases that he was given are the same in
-both banks. Other branches, tellers, accounts, sets and users are there in one bank alone or with other numbers, and other
-users' triples, sessions, histories, cash, days and releases come to be others.
+both banks, and so are his triples with their moments and those of who gave the releases. Other branches, tellers, accounts,
+sets and users are there in one bank alone or with other numbers, and other users' triples, sessions, histories, cash, days and
+releases come to be others.
 """
 import csv
 import os
 from typing import NamedTuple
 
 from bank_answers import answer, first_rule, is_stated
-from bank_model import NAMES, PROCEDURES, Bank, touched
+from bank_model import MOMENT, MOST_MOMENT, NAMES, PROCEDURES, Bank, Triple, touched
 from bank_requests import DRAWN, Request, spoiled
 
 # One set that holds everything, those of the user's triples, and one that holds nothing of these.
@@ -34,11 +35,19 @@ OF_TELLERS = "post transfer correct drawer-on drawer-off move-cash balance state
 RELATIONS = {
     **{(procedure, number): 2 for procedure in PROCEDURES for number in (ALL, COUNTER, ELSEWHERE)},
     **{("transfer", number): 2 for number in (ONE, OTHER)},
-    ("accounts", LISTED): 2,
+    **{("accounts", number): 2 for number in (LISTED, ONE)},
     ("new-account", NEW_ACCOUNTS): 2,
 }
 LIMITS = {"post": 40_000, "transfer": 20_000, "correct": 999_999, "drawer-on": 100_000, "move-cash": 50_000}
+# The first and the last moments of triples by which something is asked for before the stream, and of all others.
+AT_FIRST = [(0, MOST_MOMENT), (0, MOMENT), (MOMENT, 701), (699, 750), (MOMENT, 799)]
+AT_ANY_TIME = [*AT_FIRST, (0, 699), (701, 750), (702, 702), (751, MOST_MOMENT)]
+NEEDED_AT_FIRST = {"post", "drawer-on", "drawer-off", "release"}
+# So often all of the user's triples count at each moment.
+WIDEST = 0.2
 OFFICER, CERTIFIER, SUPERVISOR = 1, 2, 9
+# For whom the supervisor gives releases: how many each has is the same in both banks.
+BENEFICIARIES = [7, 8]
 STRANGER = 20
 # What is asked for, and how many requests others have made before.
 ASKED_BY_TELLERS = ["session", "end", *OF_TELLERS * 3, *["post", "transfer", "correct", "drawer-on"] * 4, *["use of a release"] * 3, "proof", "new-account"]
@@ -64,11 +73,13 @@ class Made(NamedTuple):
 def triples_of_tellers(user):
     """The triples of a teller at branch 1."""
     held = {(user, procedure, COUNTER): LIMITS.get(procedure, 0) for procedure in OF_TELLERS if procedure not in ("accounts", "transfer")}
-    return {**held, (user, "transfer", ONE): 20_000, (user, "transfer", OTHER): 20_000, (user, "accounts", LISTED): 0}
+    transfers = {(user, "transfer", number): 20_000 for number in (ONE, OTHER)}
+    listed = {(user, "accounts", number): 0 for number in (LISTED, ONE)}
+    return {key: Triple(limit) for key, limit in {**held, **transfers, **listed}.items()}
 
 
 def triples_of_supervisor():
-    return {
+    limits = {
         (SUPERVISOR, "new-account", NEW_ACCOUNTS): 1_000,
         (SUPERVISOR, "release", COUNTER): 999_999,
         (SUPERVISOR, "proof", COUNTER): 0,
@@ -76,6 +87,15 @@ def triples_of_supervisor():
         (SUPERVISOR, "balance", COUNTER): 0,
         (SUPERVISOR, "accounts", LISTED): 0,
     }
+    return {key: Triple(limit) for key, limit in limits.items()}
+
+
+def with_moments(triples, rng):
+    """The same triples, some of which begin or end while the stream goes on."""
+    if rng.random() < WIDEST:
+        return triples
+    moments = {key: rng.choice(AT_FIRST if key[1] in NEEDED_AT_FIRST else AT_ANY_TIME) for key in triples}
+    return {key: Triple(triple.limit, *moments[key]) for key, triple in triples.items()}
 
 
 def shared_out(rng, total, names):
@@ -95,11 +115,12 @@ def opened(user, common, rng):
     bank.triples = {**triples_of_tellers(7), **triples_of_tellers(8), **triples_of_supervisor()}
     of_others = [key for key in bank.triples if key[0] not in (user, SUPERVISOR)]
     for key in rng.sample(of_others, rng.randint(0, 2)):
-        bank.triples[key] = rng.choice([1_000, 80_000])
+        bank.triples[key] = Triple(rng.choice([1_000, 80_000]), *rng.choice(AT_FIRST))
     for other in {7, 8, SUPERVISOR} - {user, SUPERVISOR}:
-        bank.triples.update({(other, procedure, ELSEWHERE): 999_999 for procedure in OF_TELLERS})
+        bank.triples.update({(other, procedure, ELSEWHERE): Triple(999_999) for procedure in OF_TELLERS})
     if user != SUPERVISOR:
-        bank.triples.update({(SUPERVISOR, procedure, ELSEWHERE): 999_999 for procedure in ("new-account", "proof", "close-day")})
+        bank.triples.update({(SUPERVISOR, it, ELSEWHERE): Triple(999_999) for it in ("new-account", "proof", "close-day")})
+    bank.triples.update(common["triples"])
     if rng.random() < 0.5:
         bank.users[STRANGER], bank.sessions[STRANGER] = "Ann", 0
         bank.officers = rng.choice([{OFFICER}, {OFFICER, STRANGER}])
@@ -158,7 +179,7 @@ def is_apart(user, request):
     if request.kind in ("grant", "revoke", "suspend", "restore"):
         return body["user"] not in (user, SUPERVISOR)
     if request.kind == "release":
-        return body["beneficiary"] != user
+        return body["beneficiary"] not in (BENEFICIARIES if user == SUPERVISOR else [user])
     of_user = [Bank.holds(WITH_SETS, number, [item]) for item in touched(request.kind, body) for number in (COUNTER, LISTED, NEW_ACCOUNTS)]
     return not any(of_user)
 
@@ -200,39 +221,49 @@ def pair_of(rng):
     common["cash"] += 100_000
     common["homed"], common["off"] = rng.randint(0, 4), rng.random() < 0.5
     common["posts"] = [rng.randint(0, 200) for _ in ACCOUNTS]
+    own = triples_of_tellers(user) if user != SUPERVISOR else {}
+    common["triples"] = with_moments({**own, **triples_of_supervisor()}, rng)
     return user, [made(user, common, rng) for _ in range(2)]
 
 
-def by_user(banks, user, rng):
-    """A request of the user by what either bank has, most often one that is allowed."""
+def by_user(banks, user, rng, moment):
+    """A request of the user at a moment by what either bank has, most often one that is allowed."""
     kinds = rng.choices(ASKED_BY_SUPERVISOR if user == SUPERVISOR else ASKED_BY_TELLERS, k=KINDS_TRIED)
     if rng.random() < ANY:
-        request = of_user(rng.choice(banks), kinds[0], user, rng)
+        request = of_user(rng.choice(banks), kinds[0], user, rng, moment)
         request.session = max(request.session + rng.choice([0, 0, 0, 0, -1, 1]), 1)
         if request.body and rng.random() < SPOILED:
             request.body = spoiled(request.body, rng)
         return request
-    requests = (of_user(rng.choice(banks), kind, user, rng) for kind in kinds for _ in range(DRAWS))
-    return next((it for it in requests if is_stated(it) and not first_rule(banks[0], it)), Request(banks[0], "session", user, {}))
+    requests = (of_user(rng.choice(banks), kind, user, rng, moment) for kind in kinds for _ in range(DRAWS))
+    allowed = (it for it in requests if is_stated(it) and not first_rule(banks[0], it))
+    return next(allowed, Request(banks[0], "session", user, {}, moment=moment))
 
 
-def of_user(bank, kind, user, rng):
-    """A request of this kind, as it is drawn first."""
+def of_user(bank, kind, user, rng, moment):
+    """A request of this kind at a moment, as it is drawn first."""
     given = [(number, leave.operation) for (whom, number), leave in bank.releases.items() if whom == user]
     if kind == "use of a release" and given:
         release, operation = rng.choice(given)
         body = {name: it for name, it in operation.items() if name != "procedure"}
-        return Request(bank, operation["procedure"], user, body, rng.choice([release, release, 7]))
+        return Request(bank, operation["procedure"], user, body, rng.choice([release, release, 7]), moment)
     kind = "balance" if kind == "use of a release" else kind
     body = {} if kind in ("session", "end") else DRAWN[kind](bank, user, rng)
     if kind == "new-account" and rng.random() < 0.8:
         body = {"account": rng.randint(*TO_OPEN), "branch": 1, "floor": -rng.randint(0, 1_200)}
     if kind == "release":
-        body = {**body, "beneficiary": rng.choice([7, 8])}
-    return Request(bank, kind, user, body)
+        body = {**body, "beneficiary": rng.choice(BENEFICIARIES)}
+    return Request(bank, kind, user, body, moment=moment)
 
 
 # ---- opening lists
+
+
+def triple_rows(bank):
+    """The triples, the heading first; in the form without moments where each counts at all of them."""
+    if all(it == Triple(it.limit) for it in bank.triples.values()):
+        return [("user", "procedure", "set", "limit"), *((*key, it.limit) for key, it in bank.triples.items())]
+    return [("user", "procedure", "set", "limit", "first", "last"), *((*key, *it) for key, it in bank.triples.items())]
 
 
 def opening_rows(bank):
@@ -240,7 +271,7 @@ def opening_rows(bank):
     yield "users", [("user", "name", "officer"), *((it, name, int(it in bank.officers)) for it, name in bank.users.items())]
     yield "sets", [("set", "kind", "low", "high"), *((it, *member) for it, members in bank.sets.items() for member in members)]
     yield "relations", [("procedure", "set", "by"), *((*key, by) for key, by in bank.relations.items())]
-    yield "triples", [("user", "procedure", "set", "limit"), *((*key, limit) for key, limit in bank.triples.items())]
+    yield "triples", triple_rows(bank)
     yield "certifiers", [("user", "procedure"), *sorted(bank.certifiers)]
     yield "branches", [("branch", "balance", "cash"), *((it, *row) for it, row in bank.branches.items())]
     yield "tellers", [("teller", "branch", "balance"), *((it, *row) for it, row in bank.tellers.items())]

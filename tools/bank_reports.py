@@ -32,11 +32,11 @@ def statement(bank, account, start, count):
     return text_of(f"STATEMENT ACCOUNT {account:9} FROM {start:9} LINES {len(lines):5}", lines)
 
 
-# ---- the accounts of a user
+# ---- the accounts of a user, at a moment
 
 
-def accounts(bank, user, after, count):
-    sets = [number for who, procedure, number in bank.triples if (who, procedure) == (user, "accounts")]
+def accounts(bank, user, after, count, moment):
+    sets = [number for number, _ in bank.sets_of(user, "accounts", moment)]
     shown = [it for it in bank.accounts if it > after and any(bank.holds(number, [("account", it)]) for number in sets)]
     lines = [f"{it:9} {bank.accounts[it][0]:9} {cents(bank.balance(it)):>14}" for it in sorted(shown)[:count]]
     return text_of(f"ACCOUNTS AFTER {after:9} LINES {len(lines):5}", lines)
@@ -77,6 +77,11 @@ def user_line(bank, user):
     return f"USER {user:4} {officer}{suspended} {bank.users[user]:20}"
 
 
+def triple_line(key, triple):
+    user, procedure, number = key
+    return f"TRIPLE {user:4} {procedure:11} {number:9} {triple.limit:9} {triple.first:11} {triple.last:11}"
+
+
 def policy(bank):
     place = PROCEDURES.index
     certifiers = sorted(bank.certifiers, key=lambda it: (it[0], place(it[1])))
@@ -86,5 +91,5 @@ def policy(bank):
     lines += [f"CERTIFIER {user:4} {procedure:11}" for user, procedure in certifiers]
     lines += [f"SET {it:9} {kind:7} {low:9} {high:9}" for it in sorted(bank.sets) for kind, low, high in bank.sets[it]]
     lines += [f"RELATION {procedure:11} {number:9} BY {by:4}" for (procedure, number), by in relations]
-    lines += [f"TRIPLE {user:4} {procedure:11} {number:9} {limit:9}" for (user, procedure, number), limit in triples]
+    lines += [triple_line(*it) for it in triples]
     return text_of(f"POLICY LINES {len(lines):9}", lines)

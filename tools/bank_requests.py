@@ -1,18 +1,26 @@
 """Requests to the bank of bank_model as a tool draws them: for each kind that has a body, one by what is there."""
 import json
 
-from bank_model import BADGES, COMMANDS, KINDS, OPERATIONS, PROCEDURES, RELEASABLE
+from bank_model import BADGES, COMMANDS, KINDS, MOMENT, MOMENTS, MOST_MOMENT, OPERATIONS, PROCEDURES, RELEASABLE
+
+
+# The moments near those of a stream at which a triple may begin, and at which it may end.
+BEGINS = sorted({0, *(it + near for it in MOMENTS for near in (-1, 0, 1))})
+ENDS = sorted({*(it + near for it in MOMENTS for near in (-1, 0, 1)), MOST_MOMENT})
+# So often a grant has no moments, one of them alone, or the first above the last.
+WITHOUT, ALONE, ABOVE = 0.4, 0.04, 0.04
 
 
 class Request:
-    """A request of a kind by a user, in his session, which may name a release."""
+    """A request of a kind by a user at a moment, in his session, which may name a release."""
 
-    def __init__(self, bank, kind, user, body, release=0):
+    def __init__(self, bank, kind, user, body, release=0, moment=MOMENT):
         self.kind = kind
         self.user = user
         self.session = bank.sessions[user]
         self.body = body
         self.release = release
+        self.moment = moment
 
     def target(self):
         """The method and the path that ask for it."""
@@ -139,9 +147,21 @@ def withdraw(bank, user, rng):
     return {"procedure": procedure, "set": number}
 
 
+def moments(rng):
+    """The members of a grant that say when the triple counts."""
+    way = rng.random()
+    if way < WITHOUT:
+        return {}
+    first, last = sorted([rng.choice(BEGINS), rng.choice(ENDS)])
+    if way < WITHOUT + ALONE:
+        return rng.choice([{"first": first}, {"last": last}])
+    return {"first": last + 1, "last": first} if way < WITHOUT + ALONE + ABOVE else {"first": first, "last": last}
+
+
 def grant(bank, user, rng):
     limit = rng.choice([0, 1_000, 50_000, 999_999])
-    return {**withdraw(bank, user, rng), "user": rng.choice([7, 8, 9, *sorted(bank.users)]), "limit": limit}
+    drawn = {**withdraw(bank, user, rng), "user": rng.choice([7, 8, 9, *sorted(bank.users)]), "limit": limit}
+    return {**drawn, **moments(rng)}
 
 
 def revoke(bank, user, rng):
@@ -210,5 +230,5 @@ def spoiled(body, rng):
         return {**body, name: rng.choice([None, 1, "post ", []])}
     if way == "text":
         return {**body, name: str(body[name])}
-    edges = [-1_000_000, -999_999, -1, 0, 1, 9_999, 10_000, 999_999, 1_000_000, 999_999_999, 1_000_000_000, 10**12]
+    edges = [-1_000_000, -999_999, -1, 0, 1, 9_999, 10_000, 999_999, 1_000_000, 999_999_999, 1_000_000_000, MOST_MOMENT, MOST_MOMENT + 1, 10**12]
     return {**body, name: rng.choice(edges) if way == "far" else body[name] + rng.choice([-1, 1])}

@@ -8,7 +8,7 @@ import re
 JSON = "application/json"
 # The words of schemas that are read here. The first say what a value is, the last explain.
 READ = {"type", "minimum", "maximum", "minLength", "maxLength", "pattern", "enum", "const", "required", "properties"}
-READ |= {"additionalProperties", "items", "prefixItems", "minItems", "maxItems", "oneOf", "discriminator"}
+READ |= {"additionalProperties", "dependentRequired", "items", "prefixItems", "minItems", "maxItems", "oneOf", "discriminator"}
 READ |= {"description", "examples"}
 # A text whose letters are all between two.
 BETWEEN = re.compile(r"\^\[(.)-(.)\]\*\$")
@@ -83,10 +83,29 @@ def fault_of_schema(document, schema):
         return "a number without a least or a greatest"
     if kind == "string" and "pattern" in schema and not BETWEEN.fullmatch(schema["pattern"]):
         return f"a pattern that is not read: {schema['pattern']}"
-    if kind == "object" and (schema.get("additionalProperties", True) or set(schema["required"]) != set(schema["properties"])):
+    if kind == "object" and schema.get("additionalProperties", True):
         return "an object whose members are not exactly those that it names"
+    if kind == "object" and not are_together(schema):
+        return "members that may be left out, and not only all of them together"
     bad = [it for it in schema.get("examples", []) if not admits(document, schema, it)]
     return f"an example that it doesn't allow: {text_of(bad[0])}" if bad else None
+
+
+def left_out(schema):
+    """The members of an object that may be left out."""
+    return set(schema["properties"]) - set(schema["required"])
+
+
+def are_together(schema):
+    """Whether the members of an object that may be left out are there together or not at all."""
+    names, needed = left_out(schema), schema.get("dependentRequired", {})
+    return set(needed) == names and all({*needed[it], it} == names for it in names)
+
+
+def admits_names(schema, names):
+    """Whether a schema of objects allows members of these names."""
+    needed = [it for name in names for it in schema.get("dependentRequired", {}).get(name, [])]
+    return {*schema["required"], *needed} <= set(names) <= set(schema["properties"])
 
 
 def admits_text(schema, value):
@@ -129,8 +148,8 @@ def admits(document, schema, value):
     if kind == "array":
         return admits_list(document, schema, value)
     if kind == "object":
-        names = schema["properties"]
-        return set(value) == set(names) and all(admits(document, names[it], value[it]) for it in value)
+        of_names = schema["properties"]
+        return admits_names(schema, set(value)) and all(admits(document, of_names[it], value[it]) for it in value)
     return True
 
 
@@ -199,6 +218,10 @@ def lists(document, schema, example):
 
 def objects(document, schema, example):
     """An object with each of its members varied and left out, with one more, and with one of another name."""
+    names = left_out(schema)
+    if names:
+        yield Variant(f"{', '.join(sorted(names))} left out", {it: example[it] for it in schema["required"]}, True)
+        example = schema["examples"][0]
     for name, it in schema["properties"].items():
         for variant in variants(document, it, example[name]):
             yield variant.within(name, lambda value, at=name: {**example, at: value})

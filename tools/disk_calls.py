@@ -1,0 +1,235 @@
+"""A program whose calls that change files are watched: a library of a few lines, which cc compiles and the loader puts before
+the C library, counts those calls and has one of them end the program, fail or do half of what it is asked."""
+import os
+import re
+import subprocess
+
+SECONDS = 60
+
+SHIM = r"""
+#define _GNU_SOURCE
+#include <dlfcn.h>
+#include <errno.h>
+#include <fcntl.h>
+#include <signal.h>
+#include <stdarg.h>
+#include <stdio.h>
+#include <stdlib.h>
+#include <string.h>
+#include <sys/stat.h>
+#include <sys/syscall.h>
+#include <unistd.h>
+
+/* the call `at`, counted from 1, is not made as it is asked for: `way` says how. Each call that is made is written to `told`,
+   where this is no number below zero: a line with its kind, the file, where, and how many bytes follow */
+static unsigned long at, calls;
+static char way;
+static int told = -1;
+
+__attribute__((constructor)) static void start(void)
+{
+    at = strtoul(getenv("DISK_CALL"), NULL, 10);
+    way = getenv("DISK_WAY")[0];
+    told = atoi(getenv("DISK_TOLD"));
+}
+
+static int is_file(int file)
+{
+    struct stat found;
+    return fstat(file, &found) == 0 && S_ISREG(found.st_mode);
+}
+
+static void tell(char kind, int file, long long where, const void *bytes, size_t size)
+{
+    char line[80];
+    int length = snprintf(line, sizeof line, "%c %d %lld %zu\n", kind, file, where, size);
+    if (told < 0)
+        return;
+    if (write(told, line, length) != length || (size && write(told, bytes, size) != (ssize_t)size))
+        abort();
+}
+
+/* what becomes of the next call: 0 it is made, 1 it fails, 2 half of it is made, 3 half of it, and then the program ends */
+static int fate(void)
+{
+    calls += 1;
+    if (calls < at || at == 0 || (calls > at && way != 'f'))
+        return 0;
+    if (way == 'k')
+        kill(getpid(), SIGKILL);
+    if (way == 'f' || way == 'o') {
+        errno = EIO;
+        return 1;
+    }
+    return way == 'h' ? 2 : 3;
+}
+
+ssize_t pwrite64(int file, const void *bytes, size_t size, off64_t where)
+{
+    int next = is_file(file) ? fate() : 0;
+    ssize_t done;
+    if (next == 1)
+        return -1;
+    if (next && size > 1)
+        size /= 2;
+    done = syscall(SYS_pwrite64, file, bytes, size, where);
+    if (next == 3)
+        kill(getpid(), SIGKILL);
+    if (done > 0 && is_file(file))
+        tell('w', file, where, bytes, done);
+    return done;
+}
+
+ssize_t pwrite(int file, const void *bytes, size_t size, off_t where) { return pwrite64(file, bytes, size, where); }
+
+ssize_t write(int file, const void *bytes, size_t size)
+{
+    if (file == told || !is_file(file))
+        return syscall(SYS_write, file, bytes, size);
+    long long where = lseek(file, 0, SEEK_CUR);
+    ssize_t done = pwrite64(file, bytes, size, where);
+    if (done > 0)
+        lseek(file, done, SEEK_CUR);
+    return done;
+}
+
+int ftruncate64(int file, off64_t size)
+{
+    int next = fate();
+    if (next == 1)
+        return -1;
+    if (next == 3)
+        kill(getpid(), SIGKILL);
+    int done = syscall(SYS_ftruncate, file, size);
+    if (done == 0)
+        tell('t', file, size, NULL, 0);
+    return done;
+}
+
+int ftruncate(int file, off_t size) { return ftruncate64(file, size); }
+
+static int synced(int file, int call)
+{
+    int next = fate();
+    if (next == 1)
+        return -1;
+    if (next == 3)
+        kill(getpid(), SIGKILL);
+    int done = syscall(call, file);
+    if (done == 0)
+        tell('s', file, 0, NULL, 0);
+    return done;
+}
+
+int fsync(int file) { return synced(file, SYS_fsync); }
+int fdatasync(int file) { return synced(file, SYS_fdatasync); }
+
+static int opened(int folder, const char *path, int flags, unsigned mode)
+{
+    int is_change = flags & (O_CREAT | O_TRUNC);
+    int next = is_change ? fate() : 0;
+    if (next == 1)
+        return -1;
+    if (next == 3)
+        kill(getpid(), SIGKILL);
+    int file = syscall(SYS_openat, folder, path, flags, mode);
+    if (file >= 0 && is_file(file))
+        tell(is_change ? 'c' : 'o', file, flags & O_TRUNC ? 1 : 0, path, strlen(path));
+    return file;
+}
+
+static unsigned mode_of(int flags, va_list more) { return flags & (O_CREAT | O_TMPFILE) ? va_arg(more, unsigned) : 0; }
+
+#define OPENS(name, head, folder) \
+    int name head \
+    { \
+        va_list more; \
+        va_start(more, flags); \
+        unsigned mode = mode_of(flags, more); \
+        va_end(more); \
+        return opened(folder, path, flags, mode); \
+    }
+OPENS(open, (const char *path, int flags, ...), AT_FDCWD)
+OPENS(open64, (const char *path, int flags, ...), AT_FDCWD)
+OPENS(openat, (int folder, const char *path, int flags, ...), folder)
+OPENS(openat64, (int folder, const char *path, int flags, ...), folder)
+
+int unlinkat(int folder, const char *path, int flags)
+{
+    int next = fate();
+    if (next == 1)
+        return -1;
+    if (next == 3)
+        kill(getpid(), SIGKILL);
+    int done = syscall(SYS_unlinkat, folder, path, flags);
+    if (done == 0)
+        tell('u', 0, 0, path, strlen(path));
+    return done;
+}
+
+int unlink(const char *path) { return unlinkat(AT_FDCWD, path, 0); }
+"""
+LINE = re.compile(rb"(\w) (\d+) (\d+) (\d+)\n")
+
+
+class Call:
+    """A call that changed a file, or opened it."""
+
+    def __init__(self, kind, file, where, data):
+        self.kind = kind
+        self.file = file
+        self.where = where
+        self.data = data
+
+    def is_counted(self):
+        """Whether it can be the call that is not made as it is asked for."""
+        return self.kind != "o"
+
+
+def calls_in(told):
+    """The calls that a run told of."""
+    calls, at = [], 0
+    while at < len(told):
+        line = LINE.match(told, at)
+        kind, file, where, size = line[1].decode(), int(line[2]), int(line[3]), int(line[4])
+        at = line.end() + size
+        calls.append(Call(kind, file, where, told[line.end() : at]))
+    return calls
+
+
+class Watched:
+    """The program, with the library before the C library, which is kept in a folder."""
+
+    def __init__(self, path, folder):
+        self.path = os.path.abspath(path)
+        self.library = os.path.join(folder, "disk-calls.so")
+        source = os.path.join(folder, "disk-calls.c")
+        with open(source, "w", encoding="ascii") as file:
+            file.write(SHIM)
+        subprocess.run(["cc", "-O1", "-w", "-shared", "-fPIC", "-o", self.library, source], check=True)
+
+    def environment(self, call, way, told):
+        """The environment of a run."""
+        return {
+            "PATH": "/usr/local/bin:/usr/bin:/bin",
+            "LANG": "C.UTF-8",
+            "LD_PRELOAD": self.library,
+            "DISK_CALL": str(call),
+            "DISK_WAY": way,
+            "DISK_TOLD": str(told),
+        }
+
+    def run(self, words, call=0, way="n"):
+        """What a run wrote, on both streams, behind its status. The call of this number is not made as it is asked for: `k` the
+        program is killed in its place, `t` behind half of it, `h` half of it is made, `o` it fails, `f` with all behind it."""
+        how = {"env": self.environment(call, way, -1), "stdin": subprocess.DEVNULL}
+        ran = subprocess.run([self.path, *words], capture_output=True, timeout=SECONDS, check=False, **how)
+        return ran.returncode, ran.stdout, ran.stderr
+
+    def calls(self, words, told):
+        """What a run wrote, as above, and the calls that it made, which it tells in a file."""
+        with open(told, "w+b") as file:
+            how = {"env": self.environment(0, "n", file.fileno()), "stdin": subprocess.DEVNULL, "pass_fds": [file.fileno()]}
+            ran = subprocess.run([self.path, *words], capture_output=True, timeout=SECONDS, check=False, **how)
+            file.seek(0)
+            return (ran.returncode, ran.stdout, ran.stderr), calls_in(file.read())
