@@ -23,6 +23,7 @@ written-with_version true (write.Proof row) w = refl
 written-with_version true (write.Release row) w = refl
 written-with_version true (write.Day d) w = refl
 written-with_version true (write.Used k) w = refl
+written-with_version true (write.Slip row) w = refl
 written-with_version true (write.Session s) w = refl
 written-with_version true (write.Policy p) w = refl
 
@@ -66,6 +67,7 @@ all_written-version (row ∷ rows) w = all_written-version rows (written row w) 
     same (write.Release x) = refl
     same (write.Day d) = refl
     same (write.Used k) = refl
+    same (write.Slip x) = refl
     same (write.Session s) = refl
     same (write.Policy p) = refl
 

@@ -15,6 +15,7 @@ is_of_policy (write.Proof row) = false
 is_of_policy (write.Release row) = false
 is_of_policy (write.Day d) = false
 is_of_policy (write.Used k) = false
+is_of_policy (write.Slip row) = false
 is_of_policy (write.Session s) = false
 is_of_policy (write.Policy change) = true
 

@@ -63,6 +63,7 @@ fn write_row(lists: &mut Lists, policy: &mut PolicyRows, row: RowWrite, room: us
             let number = release_number(key.user, key.number);
             change_rows(&mut lists.releases, number, &UsedUp);
         }
+        RowWrite::Slip(slip) => insert_row_reserved(&mut lists.slips, slip),
         RowWrite::Session(session) => policy.set_session(session, room),
         RowWrite::Policy(change) => policy.write(change, room),
     }

@@ -25,6 +25,10 @@ max_accounts = 100000
 abbrev pub max_releases : ℕ
 max_releases = 100000
 
+-- slips of one user
+abbrev pub max_slips : ℕ
+max_slips = 100000
+
 -- sets of the policy
 abbrev pub max_sets : ℕ
 max_sets = 9999

@@ -1,5 +1,5 @@
 -- The numbers and names of the procedures.
-use Rattle.std.specs.Prelude.{ℕ, List, [], ◌∷◌, Option, codes}
+use Rattle.std.specs.Prelude.{ℕ, Bool, true, false, List, [], ◌∷◌, Option, codes}
 use Rattle.std.specs.List.{find}
 use Rattle.std.specs.Str.{bytes_eq}
 use Rattle.bank_terms.specs.declared.procedure.Procedure.{Procedure}
@@ -43,3 +43,19 @@ procedures = Post ∷ Transfer ∷ Correct ∷ DrawerOn ∷ DrawerOff ∷ MoveCa
 -- the procedure of that name
 abbrev pub procedure_named : List ℕ → Option Procedure
 procedure_named name = find (λ procedure. bytes_eq name (name_of procedure)) procedures
+
+-- the forms that write take a slip; with any other none is looked at
+abbrev pub takes_slip : Procedure → Bool
+takes_slip Post = true
+takes_slip Transfer = true
+takes_slip Correct = true
+takes_slip DrawerOn = true
+takes_slip DrawerOff = true
+takes_slip MoveCash = true
+takes_slip NewAccount = true
+takes_slip Release = true
+takes_slip Balance = false
+takes_slip Statement = false
+takes_slip Accounts = false
+takes_slip Proof = false
+takes_slip CloseDay = true

@@ -1,7 +1,7 @@
 -- The numbers and names of the rules, and which of them are about who asks.
 use Rattle.std.specs.Prelude.{ℕ, Bool, List, codes, ◌||◌, nat_le, ◌==◌, ◌&&◌}
 use Rattle.bank_terms.specs.declared.rule.Rule.{Rule}
-use Rattle.bank_terms.specs.declared.rule.Rule.TheVariants.{Identity, NotCertified, NoTriple, Limit, Release, Unknown, Branch, Drawer, SecondPerson, Entry, Floor, Cash, Range, Taken, Day, Full, Officer, Certifier, Separation, PolicyUnknown, PolicyState}
+use Rattle.bank_terms.specs.declared.rule.Rule.TheVariants.{Identity, NotCertified, NoTriple, Limit, Release, Unknown, Branch, Drawer, SecondPerson, Entry, Floor, Cash, Range, Taken, Day, Full, Officer, Certifier, Separation, PolicyUnknown, PolicyState, Slip}
 
 abbrev pub number_of : Rule → ℕ
 number_of Identity = 1
@@ -25,6 +25,7 @@ number_of Certifier = 18
 number_of Separation = 19
 number_of PolicyUnknown = 20
 number_of PolicyState = 21
+number_of Slip = 22
 
 -- as a denial's reply writes it
 abbrev pub name_of : Rule → List ℕ
@@ -49,6 +50,7 @@ name_of Certifier = codes "certifier"
 name_of Separation = codes "separation"
 name_of PolicyUnknown = codes "policy unknown"
 name_of PolicyState = codes "policy state"
+name_of Slip = codes "slip"
 
 -- rules 1 to 5, 8, 9 and 17 to 19 are about who asks, the others about the state of the bank
 abbrev pub is_forbidden : Rule → Bool

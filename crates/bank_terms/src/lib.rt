@@ -13,7 +13,7 @@ mod rule;
 pub use item::{Cdi, Kind};
 pub use limits::{
     MAX_ACCOUNTS, MAX_DAY, MAX_KEY, MAX_LIMIT, MAX_LISTED, MAX_MOMENT, MAX_RELATIONS, MAX_RELEASES,
-    MAX_SETS, MAX_TRANSFER, MAX_TRIPLES, MAX_USER, MAX_VERSION, MIN_FLOOR,
+    MAX_SETS, MAX_SLIPS, MAX_TRANSFER, MAX_TRIPLES, MAX_USER, MAX_VERSION, MIN_FLOOR,
 };
 pub use operation_row::OperationRow;
 pub use procedure::Procedure;

@@ -17,6 +17,9 @@ pub const MAX_ACCOUNTS: u64 = 100_000;
 /// How many releases one user may be given.
 pub const MAX_RELEASES: u32 = 100_000;
 
+/// How many slips one user may have.
+pub const MAX_SLIPS: u64 = 100_000;
+
 /// How many sets a policy may have.
 pub const MAX_SETS: usize = 9_999;
 

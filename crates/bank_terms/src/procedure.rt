@@ -1,5 +1,5 @@
 ghost use Rattle.std.specs.Prelude.{◌≡◌};
-ghost use Rattle.bank_terms.specs.Procedure.{name_of, number_of, procedure_named};
+ghost use Rattle.bank_terms.specs.Procedure.{name_of, number_of, procedure_named, takes_slip};
 
 /// The procedures that users may be given leave to carry out: the transformation procedures of
 /// Clark and Wilson's model, in the order of their numbers, 1 to 13.
@@ -52,6 +52,25 @@ impl Procedure {
             Procedure::Accounts => 11,
             Procedure::Proof => 12,
             Procedure::CloseDay => 13,
+        }
+    }
+
+    /// Whether a slip is looked at with it: it is one of the forms that write.
+    pub fn takes_slip(self) -> bool
+        ensures { result ≡ takes_slip self }
+    {
+        match self {
+            Procedure::Post
+            | Procedure::Transfer
+            | Procedure::Correct
+            | Procedure::DrawerOn
+            | Procedure::DrawerOff
+            | Procedure::MoveCash
+            | Procedure::NewAccount
+            | Procedure::Release
+            | Procedure::CloseDay => true,
+            Procedure::Balance | Procedure::Statement | Procedure::Accounts | Procedure::Proof =>
+                false,
         }
     }
 

@@ -48,10 +48,12 @@ pub enum Rule {
     /// A row that the command adds is there already, or a limit of the policy is reached; or who is to be suspended is who
     /// asks or is suspended, or who is to be restored is not suspended.
     PolicyState,
+    /// The slip that is named is the user's already, with another operation.
+    Slip,
 }
 
 impl Rule {
-    /// Its number, 1 to 21.
+    /// Its number, 1 to 22.
     pub fn number(self) -> u8
         ensures { result ≡ number_of self }
     {
@@ -77,6 +79,7 @@ impl Rule {
             Rule::Separation => 19,
             Rule::PolicyUnknown => 20,
             Rule::PolicyState => 21,
+            Rule::Slip => 22,
         }
     }
 
@@ -106,6 +109,7 @@ impl Rule {
             Rule::Separation => "separation",
             Rule::PolicyUnknown => "policy unknown",
             Rule::PolicyState => "policy state",
+            Rule::Slip => "slip",
         }
     }
 
@@ -135,7 +139,8 @@ impl Rule {
             | Rule::Day
             | Rule::Full
             | Rule::PolicyUnknown
-            | Rule::PolicyState => false,
+            | Rule::PolicyState
+            | Rule::Slip => false,
         }
     }
 }

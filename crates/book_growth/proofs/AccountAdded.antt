@@ -110,6 +110,7 @@ account_keeps_rows w a new ledger =
       lines = ledger.lines;
       proofs = ledger.proofs;
       releases = ledger.releases;
+      slips = ledger.slips;
       users = ledger.users;
       version = ledger.version;
       sums = record {

@@ -70,6 +70,7 @@ rows_of w books =
       };
       proofs = old.proofs;
       releases = old.releases;
+      slips = old.slips;
       users = old.users;
       version = old.version;
       sums = record {
@@ -252,6 +253,7 @@ range_of w ledger limits =
           };
       proofs = rows.proofs;
       releases = rows.releases;
+      slips = rows.slips;
       users = rows.users;
       version = rows.version;
     }

@@ -133,6 +133,7 @@ keeps_rows w p next ledger = record {
         day = was.day;
         operation = was.operation;
       };
+  slips = ledger.slips;
   users = ledger.users;
   version = ledger.version;
   sums = record {

@@ -94,6 +94,7 @@ entry_keeps_ledger w e next ledger = record {
   lines = ledger.lines;
   proofs = ledger.proofs;
   releases = ledger.releases;
+  slips = ledger.slips;
   users = ledger.users;
   version = ledger.version;
   sums = keeps_sums w e next ledger;

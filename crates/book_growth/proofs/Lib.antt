@@ -20,3 +20,4 @@ pub mod ReleaseUsed
 pub mod Rows
 pub mod RuleTests
 pub mod SessionSet
+pub mod SlipAdded

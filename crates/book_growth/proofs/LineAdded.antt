@@ -61,6 +61,7 @@ line_keeps_ledger w l next ledger = record {
   };
   proofs = ledger.proofs;
   releases = ledger.releases;
+  slips = ledger.slips;
   users = ledger.users;
   version = ledger.version;
   sums = ledger.sums;

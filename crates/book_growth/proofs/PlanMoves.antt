@@ -33,6 +33,7 @@ by_posting P entry line (write.Proof row) posting = absurd posting
 by_posting P entry line (write.Release row) posting = absurd posting
 by_posting P entry line (write.Day d) posting = absurd posting
 by_posting P entry line (write.Used k) posting = absurd posting
+by_posting P entry line (write.Slip row) posting = absurd posting
 by_posting P entry line (write.Session s) posting = absurd posting
 by_posting P entry line (write.Policy change) posting = absurd posting
 

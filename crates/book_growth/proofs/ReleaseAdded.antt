@@ -66,6 +66,7 @@ keeps_rows w r next ledger = record {
         day = was.day;
         operation = was.operation;
       });
+  slips = ledger.slips;
   users = ledger.users;
   version = ledger.version;
   sums = ledger.sums;

@@ -50,6 +50,7 @@ keeps_rows w k ledger = record {
       each_changed release_key (release_number k.user k.number) used_up w.releases
       (IsReleaseInRange w.branches (change_rows release_key (release_number k.user k.number) used_up w.releases) w.policy.users)
       (λ r there named. used_in_range w k r (range_still w k r (ledger.releases r there))) (λ r there other. range_still w k r (ledger.releases r there));
+  slips = ledger.slips;
   users = ledger.users;
   version = ledger.version;
   sums = ledger.sums;

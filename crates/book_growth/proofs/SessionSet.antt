@@ -55,6 +55,12 @@ keeps_rows w s high ledger = record {
         day = was.day;
         operation = was.operation;
       };
+  slips = record {
+    keys = ledger.slips.keys;
+    each = λ o there.
+        let was = ledger.slips.each o there in
+        record { user = user_still w s o.user was.user; number = was.number; form = was.form; operation = was.operation; room = was.room };
+  };
   users = each_changed user_key s.user (in_session s) w.policy.users (λ u. u.session ≤ max_key) (λ u there named. high) (λ u there other. ledger.users u there);
   version = ledger.version;
   sums = ledger.sums;

@@ -8,6 +8,7 @@ use Rattle.bank_books.specs.Books.{Books}
 use Rattle.bank_books.specs.Conditions.{IsCashBalanced}
 use Rattle.bank_books.specs.Effects.{written}
 use Rattle.bank_books.specs.Range.{IsBranch}
+use Rattle.bank_books.specs.SlipRow.{SlipRow}
 use Rattle.bank_books.specs.WorldLists.{WorldLists}
 use Rattle.bank_books.specs.declared.row_write.ReleaseKey.{ReleaseKey}
 use Rattle.bank_books.specs.declared.row_write.RowWrite.{RowWrite}
@@ -23,7 +24,7 @@ use Rattle.book_growth.specs.CashGap.{cash_gap, gap_share}
 use Rattle.book_growth.specs.Ledger.{IsLedger, IsOpenLedger, NamesEntries}
 use Rattle.book_growth.specs.Limits.{AreMovedWithin, AreWithinLimits}
 use Rattle.book_growth.specs.Moves.{AreLegs, HasRoomFor, HasRoomForLegs, HasRoomForLine, HasRoomForLines, HasRoomForOppositeLegs, IsMovedAlone, IsMovedByAccount, IsMovedByEntry, IsMovedByLine, MovesNothing, StandsLast, with_proof}
-use Rattle.book_growth.specs.Next.{AreNextLines, IsNextAccount, IsNextEntry, IsNextLine, IsNextProof, IsNextRelease, lined}
+use Rattle.book_growth.specs.Next.{AreNextLines, IsNextAccount, IsNextEntry, IsNextLine, IsNextProof, IsNextRelease, IsNextSlip, lined}
 use Rattle.book_growth.specs.PlanMoves.{IsMovedByPlan, IsPosting}
 
 -- the books are the ledger within its limits
@@ -106,6 +107,12 @@ ReleaseKeepsLedger = (w : WorldLists) (r : Release) → IsNextRelease w r → Is
 
 abbrev pub ReleaseMovesNothing : Type 0
 ReleaseMovesNothing = (w : WorldLists) (r : Release) → MovesNothing w (written (write.Release r) w)
+
+abbrev pub SlipKeepsLedger : Type 0
+SlipKeepsLedger = (w : WorldLists) (s : SlipRow) → IsNextSlip w s → IsLedger w → IsLedger (written (write.Slip s) w)
+
+abbrev pub SlipKeepsBooks : Type 0
+SlipKeepsBooks = (w : WorldLists) (s : SlipRow) → IsNextSlip w s → Books w → Books (written (write.Slip s) w)
 
 abbrev pub ReleaseKeepsBooks : Type 0
 ReleaseKeepsBooks = (w : WorldLists) (r : Release) → IsNextRelease w r → Books w → Books (written (write.Release r) w)

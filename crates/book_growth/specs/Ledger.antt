@@ -10,7 +10,7 @@ use Rattle.bank_books.specs.Cash.{holder_of}
 use Rattle.bank_books.specs.Conditions.{IsCashBalanced}
 use Rattle.bank_books.specs.Keys.{account_key, branch_key, teller_key}
 use Rattle.bank_books.specs.Numbering.{AreNumbered}
-use Rattle.bank_books.specs.Range.{IsAccount, IsBranch, IsDay, IsEntryOrNone, IsProofInRange, IsReleaseInRange, IsTellerOf, IsUser, IsUserNumber}
+use Rattle.bank_books.specs.Range.{AreSlipsInRange, IsAccount, IsBranch, IsDay, IsEntryOrNone, IsProofInRange, IsReleaseInRange, IsTellerOf, IsUser, IsUserNumber}
 use Rattle.bank_books.specs.WorldLists.{WorldLists}
 use Rattle.bank_books.specs.declared.rows.Account.{Account}
 use Rattle.bank_books.specs.declared.rows.Branch.{Branch}
@@ -115,6 +115,7 @@ pub record IsOpenLedger (w : WorldLists) : Type 0 where
   pub lines : AreLinesSound w.branches w.tellers w.policy.users w.lines
   pub proofs : (p : Proof) → Contains w.proofs p → IsProofInRange w.branches p
   pub releases : (r : Release) → Contains w.releases r → IsReleaseInRange w.branches w.releases w.policy.users r
+  pub slips : AreSlipsInRange w.slips w.policy.users
   pub users : (u : User) → Contains w.policy.users u → u.session ≤ max_key
   pub version : w.version ≤ max_version
   pub sums : AreSumsEqual w.branches w.tellers w.accounts w.entries

@@ -1,12 +1,16 @@
 -- What a row has to be to come next.
-use Rattle.std.specs.Prelude.{pos, ◌≡◌, ◌≢◌, ◌+◌, ◌≤◌, ⊤, List, [], ◌∷◌, Contains, IfSome}
-use Rattle.bank_terms.specs.Limits.{max_releases}
+use Rattle.std.specs.Prelude.{true, pos, ◌≡◌, ◌≢◌, ◌+◌, ◌<◌, ◌≤◌, ⊤, List, [], ◌∷◌, Contains, IfSome}
+use Rattle.bank_terms.specs.Limits.{max_releases, max_slips}
+use Rattle.bank_terms.specs.Procedure.{takes_slip}
 use Rattle.bank_books.specs.Balances.{entry_count, turn_count}
 use Rattle.bank_books.specs.Cash.{holder_after, line_count}
 use Rattle.bank_books.specs.Effects.{written}
-use Rattle.bank_books.specs.Range.{HoldsReleasable, IsBranch, IsDay, IsProofInRange, IsUser, IsUserNumber}
-use Rattle.bank_books.specs.Records.{release_count}
+use Rattle.bank_books.specs.Range.{HoldsOperation, HoldsReleasable, IsBranch, IsDay, IsProofInRange, IsUser, IsUserNumber}
+use Rattle.bank_books.specs.Records.{release_count, slip_count}
+use Rattle.bank_books.specs.Keys.{slip_key}
+use Rattle.bank_books.specs.SlipRow.{SlipRow}
 use Rattle.bank_books.specs.WorldLists.{WorldLists}
+use Rattle.counter_ops.specs.Ranges.{IsKey}
 use Rattle.bank_books.specs.declared.row_write.RowWrite.TheVariants as write
 use Rattle.bank_books.specs.declared.rows.Account.{Account}
 use Rattle.bank_books.specs.declared.rows.Branch.{Branch}
@@ -44,6 +48,15 @@ pub record IsNextRelease (w : WorldLists) (r : Release) : Type 0 where
   pub branch : IsBranch w.branches r.branch
   pub day : IsDay r.day
   pub operation : HoldsReleasable r
+
+-- A slip's user is there and has room for one more; he has none of its number, and it holds an operation that takes slips.
+pub record IsNextSlip (w : WorldLists) (s : SlipRow) : Type 0 where
+  pub user : IsUser w.policy.users s.user
+  pub number : IsKey s.number
+  pub form : takes_slip s.operation.form ≡ true
+  pub operation : HoldsOperation s
+  pub free : (o : SlipRow) → Contains w.slips o → slip_key o ≢ slip_key s
+  pub room : slip_count s.user w.slips < max_slips
 
 -- A cash line holds and names what each may, and bears the next number of its branch; who puts a drawer on bears a user's number.
 pub record IsNextLine (w : WorldLists) (l : CashLine) : Type 0 where

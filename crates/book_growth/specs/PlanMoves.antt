@@ -19,6 +19,7 @@ IsPosting (write.Proof row) = ⊥
 IsPosting (write.Release row) = ⊥
 IsPosting (write.Day d) = ⊥
 IsPosting (write.Used k) = ⊥
+IsPosting (write.Slip row) = ⊥
 IsPosting (write.Session s) = ⊥
 IsPosting (write.Policy change) = ⊥
 
@@ -31,6 +32,7 @@ branch_share key (write.Proof row) = pos 0
 branch_share key (write.Release row) = pos 0
 branch_share key (write.Day d) = pos 0
 branch_share key (write.Used k) = pos 0
+branch_share key (write.Slip row) = pos 0
 branch_share key (write.Session s) = pos 0
 branch_share key (write.Policy change) = pos 0
 
@@ -43,6 +45,7 @@ teller_share key (write.Proof row) = pos 0
 teller_share key (write.Release row) = pos 0
 teller_share key (write.Day d) = pos 0
 teller_share key (write.Used k) = pos 0
+teller_share key (write.Slip row) = pos 0
 teller_share key (write.Session s) = pos 0
 teller_share key (write.Policy change) = pos 0
 
@@ -55,6 +58,7 @@ account_share key (write.Proof row) = pos 0
 account_share key (write.Release row) = pos 0
 account_share key (write.Day d) = pos 0
 account_share key (write.Used k) = pos 0
+account_share key (write.Slip row) = pos 0
 account_share key (write.Session s) = pos 0
 account_share key (write.Policy change) = pos 0
 
@@ -67,6 +71,7 @@ entry_share branch (write.Proof row) = 0
 entry_share branch (write.Release row) = 0
 entry_share branch (write.Day d) = 0
 entry_share branch (write.Used k) = 0
+entry_share branch (write.Slip row) = 0
 entry_share branch (write.Session s) = 0
 entry_share branch (write.Policy change) = 0
 
@@ -79,6 +84,7 @@ cash_entry_share branch (write.Proof row) = pos 0
 cash_entry_share branch (write.Release row) = pos 0
 cash_entry_share branch (write.Day d) = pos 0
 cash_entry_share branch (write.Used k) = pos 0
+cash_entry_share branch (write.Slip row) = pos 0
 cash_entry_share branch (write.Session s) = pos 0
 cash_entry_share branch (write.Policy change) = pos 0
 

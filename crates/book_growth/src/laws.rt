@@ -1,6 +1,6 @@
 //! What holds of every change of each kind. The functions do nothing; their contracts are the laws.
 
-ghost use Rattle.book_growth.specs.Laws.{AccountKeepsBooks, AccountKeepsLedger, AccountMoves, BooksParts, CashBalances, EntryKeepsBooks, EntryKeepsLedger, EntryMoves, EntryStandsLast, LegsKeepBooks, LimitsMoved, LineKeepsBooks, LineKeepsLedger, LineMoves, LinesKeepBooks, LinesOfBranchKeepBooks, MovedTwice, OppositeLegsKeepBooks, PlanMoves, ProofAndDayKeepBooks, ProofAndDayKeepLedger, ProofAndDayMoveNothing, ReleaseKeepsBooks, ReleaseKeepsLedger, ReleaseMovesNothing, SessionKeepsBooks, SessionKeepsLedger, SessionMovesNothing, UsedKeepsBooks, UsedKeepsLedger, UsedMovesNothing};
+ghost use Rattle.book_growth.specs.Laws.{AccountKeepsBooks, AccountKeepsLedger, AccountMoves, BooksParts, CashBalances, EntryKeepsBooks, EntryKeepsLedger, EntryMoves, EntryStandsLast, LegsKeepBooks, LimitsMoved, LineKeepsBooks, LineKeepsLedger, LineMoves, LinesKeepBooks, LinesOfBranchKeepBooks, MovedTwice, OppositeLegsKeepBooks, PlanMoves, ProofAndDayKeepBooks, ProofAndDayKeepLedger, ProofAndDayMoveNothing, ReleaseKeepsBooks, ReleaseKeepsLedger, ReleaseMovesNothing, SessionKeepsBooks, SessionKeepsLedger, SessionMovesNothing, SlipKeepsBooks, UsedKeepsBooks, UsedKeepsLedger, UsedMovesNothing};
 
 /// The books hold exactly where the ledger does and all that rows come to is within the limits.
 pub fn books_parts()
@@ -161,4 +161,9 @@ pub fn lines_of_branch_keep_books()
 /// together, only adds rows, and leaves proofs, branches and policy.
 pub fn plan_moves()
     ensures { PlanMoves }
+{}
+
+/// A slip that may come next keeps the books.
+pub fn slip_keeps_books()
+    ensures { SlipKeepsBooks }
 {}

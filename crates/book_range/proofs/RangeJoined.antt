@@ -23,6 +23,7 @@ range_from_parts w kept rows keys parts = record {
   lines = parts.cash_books.lines;
   proofs = parts.cash_books.proofs;
   releases = parts.users.releases;
+  slips = parts.slips;
   users = parts.users.users;
   version = parts.version;
 }
@@ -33,6 +34,7 @@ parts_of_range w kept all = record {
   ledgers = record { accounts = all.accounts; entries = all.entries };
   cash_books = record { lines = all.lines; proofs = all.proofs };
   users = record { releases = all.releases; users = all.users };
+  slips = all.slips;
   version = all.version;
 }
 

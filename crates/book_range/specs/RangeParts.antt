@@ -14,7 +14,7 @@ use Rattle.bank_books.specs.declared.rows.Entry.{Entry}
 use Rattle.bank_books.specs.declared.rows.Proof.{Proof}
 use Rattle.bank_books.specs.declared.rows.Release.{Release}
 use Rattle.bank_books.specs.Numbering.{AreNumbered}
-use Rattle.bank_books.specs.Range.{HoldsReleasable, IsAccountInRange, IsBranch, IsBranchInRange, IsDay, IsEntryInRange, IsEntryOrNone, IsLineInRange, IsProofInRange, IsReleaseInRange, IsTellerInRange, IsUser}
+use Rattle.bank_books.specs.Range.{HoldsReleasable, IsAccountInRange, IsBranch, IsBranchInRange, IsDay, IsEntryInRange, IsEntryOrNone, IsLineInRange, IsProofInRange, AreSlipsInRange, IsReleaseInRange, IsTellerInRange, IsUser}
 use Rattle.bank_books.specs.Records.{KeptLists}
 use Rattle.bank_books.specs.WorldLists.{WorldLists}
 
@@ -81,4 +81,5 @@ pub record AreAllInRange (w : WorldLists) (kept : KeptLists) : Type 0 where
   pub ledgers : AreLedgersInRange w kept
   pub cash_books : AreCashBooksInRange w
   pub users : AreUsersInRange w
+  pub slips : AreSlipsInRange w.slips w.policy.users
   pub version : w.version ≤ max_version

@@ -1,5 +1,5 @@
 ghost use Rattle.std.specs.Prelude.{◌≡◌, ◌↔◌, ◌≤◌, Contains, IsTrue, map};
-ghost use Rattle.bank_books.specs.Range.{AreOfRows, HasDistinctKeys, IsBranchInRange, IsEntryInRange, IsInRange, IsLineInRange, IsReleaseInRange};
+ghost use Rattle.bank_books.specs.Range.{AreOfRows, AreSlipsInRange, IsSlipInRange, HasDistinctKeys, IsBranchInRange, IsEntryInRange, IsInRange, IsLineInRange, IsReleaseInRange};
 ghost use Rattle.bank_terms.specs.Limits.{max_version};
 ghost use Rattle.book_range.specs.RangeParts.{AreAllInRange, AreCashBooksInRange, AreLedgersInRange, ArePlacesInRange, AreUsersInRange};
 ghost use Rattle.book_sums.specs.Records.{AreRecordsOf};
@@ -8,12 +8,13 @@ ghost use Rattle.bank_books.specs.declared.records.BranchRecord.{BranchRecord as
 ghost use Rattle.bank_books.specs.declared.records.EntryRecord.{EntryRecord as AnEntry};
 ghost use Rattle.bank_books.specs.declared.rows.CashLine.{CashLine as ALine};
 ghost use Rattle.bank_books.specs.declared.rows.Release.{Release as ARelease};
+ghost use Rattle.bank_books.specs.SlipRow.{SlipRow as ASlip};
 
 use crate::beside::stand_beside;
 use crate::named::{are_entries_named, are_lines_named};
 use crate::numbering::are_releases_numbered;
-use crate::range_rows::{Limited, is_branch_in_range};
-use bank_books::{BranchRecord, World};
+use crate::range_rows::{Limited, is_branch_in_range, is_slip_in_range};
+use bank_books::{BranchRecord, Slip, World};
 use bank_terms::MAX_VERSION;
 use book_sums::{Kept, Records, Sums};
 use keyed_rows::has_distinct_keys;
@@ -41,6 +42,7 @@ fn are_all_in_range(world: &World, kept: &Kept, sums: &Sums) -> bool
         && are_places_in_range(world, kept, sums)
         && are_ledgers_in_range(world, kept, sums)
         && are_users_in_range(world)
+        && are_slips_in_range(world, sums)
         && is_version_in_range(world)
 }
 
@@ -75,6 +77,21 @@ fn are_users_in_range(world: &World) -> bool
     ensures { IsTrue result ↔ AreUsersInRange world.now }
 {
     are_releases_in_range(world) && are_within_limits(world, world.policy().users())
+}
+
+fn are_slips_in_range(world: &World, sums: &Sums) -> bool
+    requires { AreSumsOf world.now sums.now }
+    ensures { IsTrue result ↔ AreSlipsInRange world.now.slips world.now.policy.users }
+{
+    let slips = world.slips();
+    has_distinct_keys(slips) && is_each_slip_in_range(world, sums, slips)
+}
+
+fn is_each_slip_in_range(world: &World, sums: &Sums, slips: &[Slip]) -> bool
+    requires { AreSumsOf world.now sums.now }
+    ensures { IsTrue result ↔ ((s : ASlip) → Contains slips.now s → IsSlipInRange world.now.slips world.now.policy.users s) }
+{
+    slips.iter().all(|slip| is_slip_in_range(world, sums, slip))
 }
 
 fn is_version_in_range(world: &World) -> bool

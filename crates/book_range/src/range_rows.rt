@@ -3,20 +3,22 @@ ghost use Rattle.bank_terms.specs.Limits.{max_key, max_accounts, min_floor};
 ghost use Rattle.money.specs.Range.{IsCents};
 ghost use Rattle.counter_ops.specs.Ranges.{IsKey, IsWithin};
 ghost use Rattle.book_sums.specs.Sums.{AreSumsOf};
-ghost use Rattle.bank_books.specs.Range.{HasDistinctKeys, HoldsReleasable, IsAccountInRange, IsBranchInRange, IsDay, IsProofInRange, IsTellerInRange, IsUserNumber};
+ghost use Rattle.bank_books.specs.Range.{HasDistinctKeys, HoldsOperation, HoldsReleasable, IsSlipInRange, IsAccountInRange, IsBranchInRange, IsDay, IsProofInRange, IsTellerInRange, IsUserNumber};
 ghost use Rattle.counter_ops.specs.Ranges.{IsCash};
 ghost use Rattle.book_range.specs.RangeParts.{AreCashBooksInRange, IsEntryLimited, IsLineLimited, IsReleaseAlone};
 
 use crate::named::{is_branch, is_entry_or_none, is_user};
 use crate::numbering::has_numbered_days;
 use bank_books::{
-    Account, AccountRecord, Branch, BranchRecord, CashLine, EntryRecord, Proof, Release,
+    Account, AccountRecord, Branch, BranchRecord, CashLine, EntryRecord, Proof, Release, Slip,
     TellerRecord, World,
 };
 use bank_policy::User;
-use bank_terms::{MAX_ACCOUNTS, MAX_DAY, MAX_KEY, MAX_MOMENT, MAX_RELEASES, MAX_USER, MIN_FLOOR};
+use bank_terms::{
+    MAX_ACCOUNTS, MAX_DAY, MAX_KEY, MAX_MOMENT, MAX_RELEASES, MAX_SLIPS, MAX_USER, MIN_FLOOR,
+};
 use book_sums::Sums;
-use counter_ops::Releasable;
+use counter_ops::{Op, Releasable};
 use money::MAX_CENTS;
 
 /// Whether what is kept of a branch is within its limits, and its proofs are those of the days
@@ -33,6 +35,26 @@ pub(crate) fn is_branch_in_range(world: &World, sums: &Sums, branch: &BranchReco
         && are_counts_in_range(branch)
         && has_numbered_days(world, &branch.row)
         && sums.by_home.count_of(branch.row.branch) <= MAX_ACCOUNTS
+}
+
+/// Whether a slip is within its limits: its user is there and has no more than there may be, and it holds
+/// an operation of a form that takes slips.
+pub(crate) fn is_slip_in_range(world: &World, sums: &Sums, slip: &Slip) -> bool
+    requires { AreSumsOf world.now sums.now }
+    ensures { IsTrue result ↔ IsSlipInRange world.now.slips world.now.policy.users slip.now }
+{
+    is_user(world, slip.user())
+        && is_key(slip.number())
+        && slip.operation().form.takes_slip()
+        && holds_operation(slip)
+        && sums.slips_by_user.count_of(slip.user()) <= MAX_SLIPS
+}
+
+/// Whether the row of a slip holds an operation, with all its members in their ranges.
+fn holds_operation(slip: &Slip) -> bool
+    ensures { IsTrue result ↔ HoldsOperation slip.now }
+{
+    Op::from_row(&slip.operation()).is_some()
 }
 
 fn is_branch_row_in_range(row: &Branch) -> bool

@@ -6,9 +6,9 @@ use Rattle.std.proofs.lemmas.List.Sums.{length-filter}
 use Rattle.keyed_rows.specs.Totals.{total}
 use Rattle.bank_policy.specs.declared.rows.User.{User}
 use Rattle.bank_books.specs.Cash.{holder_of, is_cash_entry, is_difference}
-use Rattle.bank_books.specs.Records.{account_record_of, branch_record_of, entry_record_of, release_count_of, teller_record_of}
+use Rattle.bank_books.specs.Records.{account_record_of, branch_record_of, entry_record_of, release_count_of, teller_record_of, release_count, slip_count}
 use Rattle.book_sums.specs.Shares.{group_count}
-use Rattle.book_sums.specs.Sums.{AreSumsOf, account_record_from, branch_record_from, entry_record_from, home_part, place_part, release_count_from, teller_part, teller_record_from, turn_part, user_part}
+use Rattle.book_sums.specs.Sums.{AreSumsOf, account_record_from, branch_record_from, entry_record_from, home_part, place_part, release_count_from, teller_part, teller_record_from, turn_part, user_part, slip_part}
 use Rattle.bank_books.specs.WorldLists.{WorldLists}
 use Rattle.bank_books.specs.declared.rows.Account.{Account}
 use Rattle.bank_books.specs.declared.rows.Branch.{Branch}
@@ -74,9 +74,13 @@ entry_from_sums w s row sums =
     let deltas = of_rows (λ (p : Part). if p.group == row.account && nat_le p.number row.turn then p.amount else pos 0) turn_part w.entries s.by_turn sums.by_turn in
     entry_same (entry_record_from w s row) (entry_record_of w row) refl (ap (λ z. account_opening row.account w.accounts +ℤ z) deltas)
 
+pub slips_from_sums : (w : WorldLists) (s : Sums) (user : ℕ) → AreSumsOf w s → group_count user s.slips_by_user ≡ slip_count user w.slips
+slips_from_sums w s user sums = count_of_rows (λ (p : Part). p.group == user) slip_part w.slips s.slips_by_user sums.slips_by_user
+
 pub releases_from_sums : (w : WorldLists) (s : Sums) (row : User) → AreSumsOf w s → release_count_from s row ≡ release_count_of w row
 releases_from_sums w s row sums =
-    ap (λ n. record { user = row.user; releases = n }) (count_of_rows (λ (p : Part). p.group == row.user) user_part w.releases s.by_user sums.by_user)
+    ap (λ n. record { user = row.user; releases = n; slips = group_count row.user s.slips_by_user }) (count_of_rows (λ (p : Part). p.group == row.user) user_part w.releases s.by_user sums.by_user)
+    ∙ ap (λ n. record { user = row.user; releases = release_count row.user w.releases; slips = n }) (slips_from_sums w s row.user sums)
 
 pub homes_from_sums : (w : WorldLists) (s : Sums) (branch : ℕ) → AreSumsOf w s → group_count branch s.by_home ≡ account_count branch w.accounts
 homes_from_sums w s branch sums = count_of_rows (λ (p : Part). p.group == branch) home_part w.accounts s.by_home sums.by_home

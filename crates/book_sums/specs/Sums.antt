@@ -6,6 +6,7 @@ use Rattle.bank_policy.specs.declared.rows.User.{User}
 use Rattle.bank_books.specs.Balances.{account_opening, branch_deltas}
 use Rattle.bank_books.specs.Cash.{cash_entry_total, difference_total, drawer_total}
 use Rattle.book_sums.specs.Shares.{group_count, group_total, total_at, total_up_to}
+use Rattle.bank_books.specs.SlipRow.{SlipRow}
 use Rattle.bank_books.specs.WorldLists.{WorldLists}
 use Rattle.bank_books.specs.declared.records.AccountRecord.{AccountRecord}
 use Rattle.bank_books.specs.declared.records.BranchRecord.{BranchRecord}
@@ -39,6 +40,10 @@ home_part a = record { group = a.home; number = 0; amount = pos 0 }
 abbrev pub user_part : Release → Part
 user_part r = record { group = r.user; number = 0; amount = pos 0 }
 
+-- a slip, too
+abbrev pub slip_part : SlipRow → Part
+slip_part s = record { group = s.user; number = 0; amount = pos 0 }
+
 -- The sums hold the parts of these rows and no others, in an order of their own. The entries and the lines of a branch are
 -- found by their keys, in which 32 bits hold their numbers.
 pub record AreSumsOf (w : WorldLists) (s : Sums) : Type 0 where
@@ -47,6 +52,7 @@ pub record AreSumsOf (w : WorldLists) (s : Sums) : Type 0 where
   pub by_place : IsPermutation (map place_part w.lines) s.by_place
   pub by_home : IsPermutation (map home_part w.accounts) s.by_home
   pub by_user : IsPermutation (map user_part w.releases) s.by_user
+  pub slips_by_user : IsPermutation (map slip_part w.slips) s.slips_by_user
   pub entry_numbers : All (λ e. e.number < 2 ^ 32) w.entries
   pub line_numbers : All (λ l. l.number < 2 ^ 32) w.lines
 
@@ -87,4 +93,4 @@ entry_record_from w s row = record {
 }
 
 abbrev pub release_count_from : Sums → User → ReleaseCount
-release_count_from s row = record { user = row.user; releases = group_count row.user s.by_user }
+release_count_from s row = record { user = row.user; releases = group_count row.user s.by_user; slips = group_count row.user s.slips_by_user }

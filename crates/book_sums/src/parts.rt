@@ -1,5 +1,5 @@
 use crate::shares::{Part, Parts};
-use bank_books::{Account, CashLine, Entry, Release};
+use bank_books::{Account, CashLine, Entry, Release, Slip};
 
 /// Entries in the sums of their tellers, by branch.
 #[derive(Clone, Copy)]
@@ -85,6 +85,24 @@ impl Parts<Release> for ByUser {
     fn part(&self, row: &Release) -> Part {
         Part {
             group: row.user,
+            number: 0,
+            amount: 0,
+        }
+    }
+}
+
+/// Slips in the counts of their users.
+#[derive(Clone, Copy)]
+pub(crate) struct BySlipUser;
+
+impl Parts<Slip> for BySlipUser {
+    ghost use Rattle.book_sums.specs.Sums.{slip_part};
+
+    ghost part = { λ _ s. slip_part s };
+
+    fn part(&self, row: &Slip) -> Part {
+        Part {
+            group: row.user(),
             number: 0,
             amount: 0,
         }

@@ -2,7 +2,7 @@ ghost use Rattle.std.specs.Prelude.{◌≡◌, ◌+ℤ◌, ◌≤ℤ◌, ◌<◌
 ghost use Rattle.std.specs.List.{All};
 
 use crate::groups::rows_of_group;
-use crate::parts::{ByHome, ByPlace, ByTeller, ByTurn, ByUser};
+use crate::parts::{ByHome, ByPlace, BySlipUser, ByTeller, ByTurn, ByUser};
 use crate::shares::Shares;
 use bank_books::{
     Account, AccountRecord, Branch, BranchRecord, CashLine, Entry, EntryRecord, ReleaseCount,
@@ -27,6 +27,8 @@ pub struct Sums {
     pub by_home: Shares,
     /// The releases by user.
     pub by_user: Shares,
+    /// The slips by user.
+    pub slips_by_user: Shares,
 }
 
 impl Sums {
@@ -46,6 +48,7 @@ impl Sums {
             by_place: Shares::of(alloc, &ByPlace, world.lines())?,
             by_home: Shares::of(alloc, &ByHome, world.accounts())?,
             by_user: Shares::of(alloc, &ByUser, world.releases())?,
+            slips_by_user: Shares::of(alloc, &BySlipUser, world.slips())?,
         })
     }
 
@@ -119,13 +122,14 @@ impl Sums {
         }
     }
 
-    /// How many releases the user was given.
+    /// How many releases the user was given, and how many slips he has.
     pub(crate) fn release_count(&self, row: &User) -> ReleaseCount
         ensures { result ≡ release_count_from self.now row.now }
     {
         ReleaseCount {
             user: row.user,
             releases: self.by_user.count_of(row.user),
+            slips: self.slips_by_user.count_of(row.user),
         }
     }
 }

@@ -37,6 +37,7 @@ one_written (write.Proof row) w entries none = along w (written (write.Proof row
 one_written (write.Release row) w entries none = along w (written (write.Release row) w) entries refl (λ key rows has. has)
 one_written (write.Day d) w entries none = along w (written (write.Day d) w) entries refl (λ key rows has. has)
 one_written (write.Used k) w entries none = along w (written (write.Used k) w) entries refl (λ key rows has. has)
+one_written (write.Slip row) w entries none = along w (written (write.Slip row) w) entries refl (λ key rows has. has)
 one_written (write.Session s) w entries none = along w (written (write.Session s) w) entries refl (λ key rows has. has)
 one_written (write.Policy change) w entries none = absurd (cc)
 
@@ -62,6 +63,7 @@ written_version (row ∷ plan) w = written_version plan (written row w) ∙ same
     same (write.Release x) = refl
     same (write.Day d) = refl
     same (write.Used k) = refl
+    same (write.Slip x) = refl
     same (write.Session s) = refl
     same (write.Policy p) = refl
 

@@ -1,8 +1,8 @@
 use crate::cached::Cached;
-use bank_books::{AccountRecord, BranchRecord, Entry, TellerRecord};
+use bank_books::{AccountRecord, BranchRecord, Entry, Slip, TellerRecord};
 use money::Fault;
 use std::alloc::Global;
-use store_rows::{BookReads, DrawerRecord, Store};
+use store_rows::{BookReads, DrawerRecord, SlipReads, Store};
 
 impl<S: Store> BookReads for Cached<S> {
     fn account(&mut self, alloc: Global, account: u32) -> Result<Option<AccountRecord>, Fault> {
@@ -35,5 +35,15 @@ impl<S: Store> BookReads for Cached<S> {
 
     fn vault(&mut self, alloc: Global, branch: u32) -> Result<Option<i128>, Fault> {
         self.store.vault(alloc, branch)
+    }
+}
+
+impl<S: Store> SlipReads for Cached<S> {
+    fn slip(&mut self, alloc: Global, user: u32, number: u32) -> Result<Option<Slip>, Fault> {
+        self.store.slip(alloc, user, number)
+    }
+
+    fn slips(&mut self, alloc: Global, user: u32) -> Result<u64, Fault> {
+        self.store.slips(alloc, user)
     }
 }

@@ -70,6 +70,12 @@ keeps_rows w policy kept room ledger = record {
         day = was.day;
         operation = was.operation;
       };
+  slips = record {
+    keys = ledger.slips.keys;
+    each = λ o there.
+        let was = ledger.slips.each o there in
+        record { user = kept.there o.user was.user; number = was.number; form = was.form; operation = was.operation; room = was.room };
+  };
   users = kept.sessions;
   version = raised w.version room;
   sums = ledger.sums;

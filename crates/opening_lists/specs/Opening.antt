@@ -103,6 +103,7 @@ opened books policy = record {
   lines = [];
   proofs = [];
   releases = [];
+  slips = [];
   policy = policy;
   version = 0;
 }

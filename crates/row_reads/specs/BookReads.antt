@@ -7,6 +7,7 @@ use Rattle.bank_policy.specs.Tests.{current, is_within}
 use Rattle.bank_terms.specs.declared.item.Kind.TheVariants as kind
 use Rattle.bank_terms.specs.declared.procedure.Procedure.TheVariants as procedure
 use Rattle.bank_books.specs.Records.{account_record_of, branch_record, entry_record_of, teller_record, teller_record_of}
+use Rattle.bank_books.specs.SlipRow.{SlipRow}
 use Rattle.bank_books.specs.WorldLists.{WorldLists}
 use Rattle.bank_books.specs.declared.records.AccountRecord.{AccountRecord}
 use Rattle.bank_books.specs.declared.records.EntryRecord.{EntryRecord}
@@ -78,6 +79,13 @@ is_release user number r = r.user == user && r.number == number
 -- the release of a user that bears this number
 abbrev pub release : WorldLists → ℕ → ℕ → Option Release
 release w user number = find (is_release user number) w.releases
+
+abbrev pub is_slip : ℕ → ℕ → SlipRow → Bool
+is_slip user number s = s.user == user && s.number == number
+
+-- the slip of a user that bears this number
+abbrev pub slip : WorldLists → ℕ → ℕ → Option SlipRow
+slip w user number = find (is_slip user number) w.slips
 
 -- the account lies in the set of some one of these triples
 abbrev pub is_account_of : List HeldTriple → ℕ → Bool

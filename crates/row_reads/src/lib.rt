@@ -13,6 +13,7 @@ mod places;
 mod policy_reads;
 mod policy_row;
 mod records;
+mod slips;
 
 pub use accounts::{next_shown, shown};
 pub use entries::{entries_of, entry, entry_at, undone};
@@ -22,3 +23,4 @@ pub use places::{drawer, next_teller, roster, vault};
 pub use policy_reads::{is_certifier, is_set, release, set_count, triple_count, user_record};
 pub use policy_row::{PolicyKey, PolicyRow, SetMember};
 pub use records::{DrawerRecord, UserRecord};
+pub use slips::{slip, slip_count};

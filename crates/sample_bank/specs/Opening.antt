@@ -41,6 +41,7 @@ opened_books = record {
   lines = [];
   proofs = [];
   releases = [];
+  slips = [];
   policy = sample_policy;
   version = 0;
 }

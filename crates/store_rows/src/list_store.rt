@@ -10,9 +10,9 @@ ghost use Rattle.row_reads.specs.PolicyReads.{is_certifier, is_set, set_count, t
 ghost use Rattle.store_rows.specs.ListStore.{ReadsList, list_status};
 ghost use Rattle.store_rows.specs.Status.{Changes, Refuses, Tells, count_after, mark_of};
 
-use crate::store::{BookReads, PolicyReads, ReportReads, Stands, Store};
+use crate::store::{BookReads, PolicyReads, ReportReads, SlipReads, Stands, Store};
 use bank_books::{
-    AccountRecord, BranchRecord, Entry, EntryRecord, Plan, Release, TellerRecord, World,
+    AccountRecord, BranchRecord, Entry, EntryRecord, Plan, Release, Slip, TellerRecord, World,
     account_record, branch_record, teller_record,
 };
 use bank_policy::{CertifiedRow, HeldRow, relations_of, triples_of};
@@ -21,7 +21,7 @@ use money::Fault;
 use row_reads::{
     DrawerRecord, PolicyKey, PolicyRow, UserRecord, drawer, entries_of, entry, entry_at,
     is_certifier, is_set, next_policy, next_shown, next_teller, policy_rows, release, roster,
-    set_count, shown, triple_count, undone, user_record, vault,
+    set_count, shown, slip, slip_count, triple_count, undone, user_record, vault,
 };
 use std::alloc::{AllocError, Global};
 
@@ -195,6 +195,17 @@ impl BookReads for ListStore {
         ensures { ReadsList self.old self.new result (λ w cash. cash ≡ vault w branch) }
     {
         Ok(vault(&self.world, branch))
+    }
+}
+
+impl SlipReads for ListStore {
+    fn slip(&mut self, alloc: Global, user: u32, number: u32) -> Result<Option<Slip>, Fault> {
+        let row = slip(alloc, &self.world, user, number);
+        self.counted(row)
+    }
+
+    fn slips(&mut self, _alloc: Global, user: u32) -> Result<u64, Fault> {
+        Ok(slip_count(&self.world, user))
     }
 }
 

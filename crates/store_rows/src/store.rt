@@ -1,14 +1,16 @@
 ghost use Rattle.std.specs.Prelude.{◌≡◌, IsTrue, OnOk};
-ghost use Rattle.bank_books.specs.Records.{account_record, branch_record, teller_record};
+ghost use Rattle.bank_books.specs.Records.{account_record, branch_record, slip_count, teller_record};
 ghost use Rattle.bank_books.specs.Effects.{applied};
 ghost use Rattle.bank_books.specs.Version.{has_version_for};
 ghost use Rattle.bank_policy.specs.HeldRows.{relations_of, triples_of};
-ghost use Rattle.row_reads.specs.BookReads.{drawer, entries_of, entry, entry_at, next_shown, next_teller, release, roster, shown, undone, vault};
+ghost use Rattle.row_reads.specs.BookReads.{drawer, entries_of, entry, entry_at, next_shown, next_teller, release, roster, shown, slip, undone, vault};
 ghost use Rattle.row_reads.specs.PolicyListing.{next_policy, policy_rows};
 ghost use Rattle.row_reads.specs.PolicyReads.{is_certifier, is_set, set_count, triple_count, user_record};
 ghost use Rattle.store_rows.specs.Status.{Changes, ReadsRow, Refuses, Status, Tells, count_after, mark_of};
 
-use bank_books::{AccountRecord, BranchRecord, Entry, EntryRecord, Plan, Release, TellerRecord};
+use bank_books::{
+    AccountRecord, BranchRecord, Entry, EntryRecord, Plan, Release, Slip, TellerRecord,
+};
 use bank_policy::{CertifiedRow, HeldRow};
 use bank_terms::Procedure;
 use money::Fault;
@@ -110,6 +112,17 @@ pub trait BookReads: Stands {
         ensures { ReadsRow (Self.status self.old) (Self.status self.new) result (λ w cash. cash ≡ vault w branch) };
 }
 
+/// The reads by which a slip is judged.
+pub trait SlipReads: Stands {
+    /// The slip of this number of a user, or none where it isn't there.
+    fn slip(&mut self, alloc: Global, user: u32, number: u32) -> Result<Option<Slip>, Fault>
+        ensures { ReadsRow (Self.status self.old) (Self.status self.new) result (λ w row. row ≡ slip w user number) };
+
+    /// How many slips this user has.
+    fn slips(&mut self, alloc: Global, user: u32) -> Result<u64, Fault>
+        ensures { ReadsRow (Self.status self.old) (Self.status self.new) result (λ w n. n ≡ slip_count user w.slips) };
+}
+
 /// The reads that reports list: many rows at once, or one after another.
 pub trait ReportReads: Stands {
     /// The entries of an account that are its turns from a first one on, as long as they are there,
@@ -176,7 +189,7 @@ pub trait ReportReads: Stands {
 }
 
 /// A store of one World, however it is kept. A plan is applied whole or not at all.
-pub trait Store: PolicyReads + BookReads + ReportReads {
+pub trait Store: PolicyReads + BookReads + SlipReads + ReportReads {
     /// Carries out the whole plan, or at a fault nothing of it. A store says `Fault::Size` where it has
     /// no room for the plan. A plan that changes the policy is never carried out where the version is
     /// the greatest: there is no next one for it.

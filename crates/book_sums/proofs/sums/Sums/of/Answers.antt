@@ -1,7 +1,7 @@
 use Rattle.std.proofs.Common.{◌≡◌, ◌<◌, ◌^◌, List, map, subst}
 use Rattle.std.specs.List.{All}
 use Rattle.std.specs.List.Sorted.{IsPermutation}
-use Rattle.book_sums.specs.Sums.{teller_part, turn_part, place_part, home_part, user_part}
+use Rattle.book_sums.specs.Sums.{teller_part, turn_part, place_part, home_part, user_part, slip_part}
 use Rattle.book_sums.specs.declared.shares.Part.{Part}
 use Rattle.book_sums.proofs.sums.Sums.of.Goals as goal
 
@@ -18,6 +18,7 @@ returns c =
       by_place = moved place_part c.lines-2.result.now w.lines c.in_ok-of-3.field-0 c.lines-2.ensures.value c.in_ok-of-3.ensures;
       by_home = moved home_part c.accounts.result.now w.accounts c.in_ok-of-4.field-0 c.accounts.ensures.value c.in_ok-of-4.ensures;
       by_user = moved user_part c.releases.result.now w.releases c.in_ok-of-5.field-0 c.releases.ensures.value c.in_ok-of-5.ensures;
+      slips_by_user = moved slip_part c.slips.result.now w.slips c.in_ok-of-6.field-0 c.slips.ensures.value c.in_ok-of-6.ensures;
       entry_numbers = subst (λ es. All (λ e. e.number < 2 ^ 32) es) c.entries.ensures.value c.see_entry_numbers.ensures;
       line_numbers = subst (λ ls. All (λ l. l.number < 2 ^ 32) ls) c.lines.ensures.value c.see_line_numbers.ensures;
     }
