@@ -11,13 +11,15 @@ use Rattle.bank_books.specs.declared.records.BranchRecord.{BranchRecord}
 use Rattle.bank_books.specs.declared.records.EntryRecord.{EntryRecord}
 use Rattle.bank_books.specs.declared.rows.CashLine.{CashLine}
 use Rattle.bank_books.specs.declared.rows.Proof.{Proof}
+use Rattle.bank_books.specs.SlipRow.{SlipRow}
 use Rattle.bank_books.specs.declared.rows.Release.{Release}
 use Rattle.kept_rows.specs.Sheets.{Sheets}
 use Rattle.kept_rows.specs.declared.records.KeptTeller.{KeptTeller}
 use Rattle.kept_rows.specs.declared.records.KeptUser.{KeptUser}
 use Rattle.kept_rows.specs.declared.records.MemberRow.{MemberRow}
+use Rattle.kept_rows.specs.declared.records.SlipCount.{SlipCount}
 use Rattle.bank_schema.specs.Held.{HoldsSheet, HoldsSheets, Sheet, tree_of}
-use Rattle.bank_schema.specs.Held.Sheet.{accounts, bank, branches, certifiers, entries, lines, members, proofs, relations, releases, sets, tellers, triples, users}
+use Rattle.bank_schema.specs.Held.Sheet.{accounts, bank, branches, certifiers, entries, lines, members, proofs, relations, releases, sets, slip_counts, slips, tellers, triples, users}
 use Rattle.bank_schema.specs.Schema.{bank_schema}
 
 -- every table but that of this tree is as it was
@@ -39,6 +41,8 @@ others k old new h entries apart = h.1.1.1.1.1.1.1.1.1.1.0 apart
 others k old new h lines apart = h.1.1.1.1.1.1.1.1.1.1.1.0 apart
 others k old new h proofs apart = h.1.1.1.1.1.1.1.1.1.1.1.1.0 apart
 others k old new h releases apart = h.1.1.1.1.1.1.1.1.1.1.1.1.1.0 apart
+others k old new h slips apart = h.1.1.1.1.1.1.1.1.1.1.1.1.1.1.0 apart
+others k old new h slip_counts apart = h.1.1.1.1.1.1.1.1.1.1.1.1.1.1.1.0 apart
 
 pub with_users : (old new : Trees) (s : Sheets) (rows : List KeptUser) → HoldsSheets old s → KeepsOthers 1 old new → HoldsSheet users (record s { users = rows }) (new 1) → HoldsSheets new (record s { users = rows })
 with_users old new s rows holds kept now users = now
@@ -91,6 +95,14 @@ with_proofs old new s rows holds kept now t = subst (HoldsSheet t s) (sym (other
 pub with_releases : (old new : Trees) (s : Sheets) (rows : List Release) → HoldsSheets old s → KeepsOthers 21 old new → HoldsSheet releases (record s { releases = rows }) (new 21) → HoldsSheets new (record s { releases = rows })
 with_releases old new s rows holds kept now releases = now
 with_releases old new s rows holds kept now t = subst (HoldsSheet t s) (sym (others 21 old new kept t (λ e. omega (arith, e)))) (holds t)
+
+pub with_slips : (old new : Trees) (s : Sheets) (rows : List SlipRow) → HoldsSheets old s → KeepsOthers 25 old new → HoldsSheet slips (record s { slips = rows }) (new 25) → HoldsSheets new (record s { slips = rows })
+with_slips old new s rows holds kept now slips = now
+with_slips old new s rows holds kept now t = subst (HoldsSheet t s) (sym (others 25 old new kept t (λ e. omega (arith, e)))) (holds t)
+
+pub with_slip_counts : (old new : Trees) (s : Sheets) (rows : List SlipCount) → HoldsSheets old s → KeepsOthers 27 old new → HoldsSheet slip_counts (record s { slip_counts = rows }) (new 27) → HoldsSheets new (record s { slip_counts = rows })
+with_slip_counts old new s rows holds kept now slip_counts = now
+with_slip_counts old new s rows holds kept now t = subst (HoldsSheet t s) (sym (others 27 old new kept t (λ e. omega (arith, e)))) (holds t)
 
 -- the file's own row
 pub with_version : (old new : Trees) (s : Sheets) (version : ℕ) → HoldsSheets old s → KeepsOthers 0 old new → HoldsSheet bank (record s { version = version }) (new 0) → HoldsSheets new (record s { version = version })

@@ -2,7 +2,7 @@
 -- of any other table the rowid is left out, since it is the table's own.
 use Rattle.std.specs.Prelude.{ℕ, ◌≡◌, ◌<◌, ◌^◌, ⊤, pos, [], ◌∷◌, length, slice_index_or}
 use Rattle.sqlite.specs.declared.types.Value.{Value}
-use Rattle.sqlite.specs.declared.types.Value.TheVariants.{Null, Int, Text}
+use Rattle.sqlite.specs.declared.types.Value.TheVariants.{Null, Int, Text, Blob}
 use Rattle.sqlite.specs.Order.{Row}
 use Rattle.bank_terms.specs.Limits.{max_moment}
 use Rattle.bank_policy.specs.declared.rows.Certifier.{Certifier}
@@ -13,12 +13,14 @@ use Rattle.bank_books.specs.declared.records.BranchRecord.{BranchRecord}
 use Rattle.bank_books.specs.declared.records.EntryRecord.{EntryRecord}
 use Rattle.bank_books.specs.declared.rows.CashLine.{CashLine}
 use Rattle.bank_books.specs.declared.rows.Proof.{Proof}
+use Rattle.bank_books.specs.SlipRow.{SlipRow}
 use Rattle.bank_books.specs.declared.rows.Release.{Release}
 use Rattle.kept_rows.specs.declared.records.KeptTeller.{KeptTeller}
 use Rattle.kept_rows.specs.declared.records.KeptUser.{KeptUser}
 use Rattle.kept_rows.specs.declared.records.MemberRow.{MemberRow}
+use Rattle.kept_rows.specs.declared.records.SlipCount.{SlipCount}
 use Rattle.bank_schema.specs.declared.edition.Edition.{Edition}
-use Rattle.bank_schema.specs.declared.edition.Edition.TheVariants.{First, Second}
+use Rattle.bank_schema.specs.declared.edition.Edition.TheVariants.{First, Second, Third}
 use Rattle.bank_schema.specs.Numbers.{entry_form_number, kind_cell, line_form_number, procedure_cell, truth_cell}
 use Rattle.bank_schema.specs.Schema.{newest}
 
@@ -26,6 +28,7 @@ use Rattle.bank_schema.specs.Schema.{newest}
 abbrev pub edition_number : Edition → ℕ
 edition_number First = 1
 edition_number Second = 2
+edition_number Third = 3
 
 -- the edition, and the version of the policy
 abbrev pub bank_cells_in : Edition → ℕ → Row
@@ -56,6 +59,7 @@ triple_cells t = Int (pos t.user) ∷ procedure_cell t.procedure ∷ Int (pos t.
 abbrev pub triple_cells_in : Edition → Triple → Row
 triple_cells_in First t = Int (pos t.user) ∷ procedure_cell t.procedure ∷ Int (pos t.set) ∷ Int (pos t.limit) ∷ []
 triple_cells_in Second t = triple_cells t
+triple_cells_in Third t = triple_cells t
 
 abbrev pub certifier_cells : Certifier → Row
 certifier_cells c = Int (pos c.user) ∷ procedure_cell c.procedure ∷ []
@@ -94,6 +98,19 @@ release_cells r =
     Int (pos r.user) ∷ Int (pos r.number) ∷ Int (pos r.giver) ∷ Int (pos r.branch) ∷ Int (pos r.day) ∷ procedure_cell r.operation.form
     ∷ member_cell r 0 ∷ member_cell r 1 ∷ member_cell r 2 ∷ member_cell r 3 ∷ member_cell r 4 ∷ member_cell r 5 ∷ member_cell r 6 ∷ member_cell r 7 ∷ truth_cell r.used ∷ []
 
+-- the member of a slip's operation at this place
+abbrev pub slip_member_cell : SlipRow → ℕ → Value
+slip_member_cell s place = Int (slice_index_or s.operation.members place (pos 0))
+
+abbrev pub slip_cells : SlipRow → Row
+slip_cells s =
+    Int (pos s.user) ∷ Int (pos s.number) ∷ procedure_cell s.operation.form
+    ∷ slip_member_cell s 0 ∷ slip_member_cell s 1 ∷ slip_member_cell s 2 ∷ slip_member_cell s 3 ∷ slip_member_cell s 4 ∷ slip_member_cell s 5 ∷ slip_member_cell s 6 ∷ slip_member_cell s 7
+    ∷ Blob s.reply ∷ []
+
+abbrev pub slip_count_cells : SlipCount → Row
+slip_count_cells c = Int (pos c.user) ∷ Null ∷ Int (pos c.slips) ∷ []
+
 -- ---- what is asked of a row, so that its key and its cells tell it
 
 abbrev pub AnyRow : {X : Type 0} → X → Type 0
@@ -112,6 +129,7 @@ TripleFits t = t.set < 2 ^ 32
 abbrev pub TripleFitsIn : Edition → Triple → Type 0
 TripleFitsIn First t = TripleFits t × (t.first ≡ 0) × (t.last ≡ max_moment)
 TripleFitsIn Second t = TripleFits t
+TripleFitsIn Third t = TripleFits t
 
 abbrev pub EntryFits : EntryRecord → Type 0
 EntryFits e = e.row.number < 2 ^ 32
@@ -126,3 +144,7 @@ ProofFits p = p.day < 2 ^ 32
 pub record ReleaseFits (r : Release) : Type 0 where
   pub number : r.number < 2 ^ 32
   pub members : length r.operation.members ≡ 8
+
+pub record SlipFits (s : SlipRow) : Type 0 where
+  pub number : s.number < 2 ^ 32
+  pub members : length s.operation.members ≡ 8

@@ -48,3 +48,9 @@ create_entries_index = codes "CREATE INDEX entries_by_undoes ON entries (branch,
 
 abbrev pub create_tellers_index : List ℕ
 create_tellers_index = codes "CREATE INDEX tellers_by_branch ON tellers (branch, teller)"
+
+abbrev pub create_slips : List ℕ
+create_slips = codes "CREATE TABLE slips (user_no INTEGER NOT NULL, slip INTEGER NOT NULL, form INTEGER NOT NULL, member1 INTEGER NOT NULL, member2 INTEGER NOT NULL, member3 INTEGER NOT NULL, member4 INTEGER NOT NULL, member5 INTEGER NOT NULL, member6 INTEGER NOT NULL, member7 INTEGER NOT NULL, member8 INTEGER NOT NULL, reply BLOB NOT NULL, PRIMARY KEY (user_no, slip)) STRICT"
+
+abbrev pub create_slip_counts : List ℕ
+create_slip_counts = codes "CREATE TABLE slip_counts (user_no INTEGER PRIMARY KEY, slips INTEGER NOT NULL) STRICT"

@@ -11,10 +11,12 @@ use Rattle.bank_books.specs.declared.records.BranchRecord.{BranchRecord}
 use Rattle.bank_books.specs.declared.records.EntryRecord.{EntryRecord}
 use Rattle.bank_books.specs.declared.rows.CashLine.{CashLine}
 use Rattle.bank_books.specs.declared.rows.Proof.{Proof}
+use Rattle.bank_books.specs.SlipRow.{SlipRow}
 use Rattle.bank_books.specs.declared.rows.Release.{Release}
 use Rattle.kept_rows.specs.declared.records.KeptTeller.{KeptTeller}
 use Rattle.kept_rows.specs.declared.records.KeptUser.{KeptUser}
 use Rattle.kept_rows.specs.declared.records.MemberRow.{MemberRow}
+use Rattle.kept_rows.specs.declared.records.SlipCount.{SlipCount}
 use Rattle.kept_rows.specs.Sheets.{Sheets}
 
 -- A read failed for want of memory, or because what stands there is the cell, or the cells, of nothing that may be read.
@@ -106,6 +108,14 @@ pub record IsReadableRelease (r : Release) : Type 0 where
   -- its operation has as many members as there are columns for them
   pub members : length r.operation.members ≡ 8
 
+pub record IsReadableSlip (s : SlipRow) : Type 0 where
+  pub user : IsShort s.user
+  pub number : IsShort s.number
+  pub members : length s.operation.members ≡ 8
+
+abbrev pub IsReadableSlipCount : SlipCount → Type 0
+IsReadableSlipCount c = IsShort c.user
+
 -- ---- all rows
 
 pub record AreReadable (s : Sheets) : Type 0 where
@@ -122,3 +132,5 @@ pub record AreReadable (s : Sheets) : Type 0 where
   pub lines : (l : CashLine) → Contains s.lines l → IsReadableLine l
   pub proofs : (p : Proof) → Contains s.proofs p → IsReadableProof p
   pub releases : (r : Release) → Contains s.releases r → IsReadableRelease r
+  pub slips : (x : SlipRow) → Contains s.slips x → IsReadableSlip x
+  pub slip_counts : (x : SlipCount) → Contains s.slip_counts x → IsReadableSlipCount x

@@ -8,6 +8,8 @@ pub enum Edition {
     First,
     /// Triples with their first and last moments, in the table `grants`.
     Second,
+    /// Besides, the slips and how many each user has.
+    Third,
 }
 
 impl Edition {
@@ -18,6 +20,7 @@ impl Edition {
         match self {
             Edition::First => 1,
             Edition::Second => 2,
+            Edition::Third => 3,
         }
     }
 }

@@ -16,4 +16,6 @@ pub use cells::{
     sum_cell, truth_at, whole_at,
 };
 pub use edition::Edition;
-pub use values::{delta_at, entry_form_at, line_form_at, members_of, name_at, sum_at};
+pub use values::{
+    bytes_at, delta_at, entry_form_at, line_form_at, members_of, name_at, slip_members_of, sum_at,
+};

@@ -1,6 +1,6 @@
 ghost use Rattle.std.specs.Prelude.{ℤ, List, ◌≡◌, pos, length, map, IfErr, IfOk, IsUtf8};
 ghost use Rattle.money.specs.Range.{IsDelta};
-ghost use Rattle.sqlite.specs.declared.types.Value.TheVariants.{Int, Text};
+ghost use Rattle.sqlite.specs.declared.types.Value.TheVariants.{Blob, Int, Text};
 ghost use Rattle.sqlite_value.specs.Order.{column};
 ghost use Rattle.bank_schema.specs.Cells.{AnyRow};
 ghost use Rattle.bank_schema.specs.Numbers.{entry_form_number, line_form_number};
@@ -22,6 +22,17 @@ pub fn name_at(alloc: Global, row: &Row, at: usize) -> Result<Name, Fault>
 {
     match row.get::<String>(at) {
         Ok(text) => Ok(Name::new(alloc, text.as_str())?),
+        Err(error) => Err(fault_of(error)),
+    }
+}
+
+/// The bytes in a row. A value that is no bytes is a fault of the disk.
+pub fn bytes_at(row: &Row, at: usize) -> Result<Vec<u8>, Fault>
+    ensures told { IfOk result (λ bytes. column row.now at ≡ Blob bytes.items) }
+    ensures unread { IfErr result (IsUnread Blob AnyRow (column row.now at)) }
+{
+    match row.get::<Vec<u8>>(at) {
+        Ok(bytes) => Ok(bytes),
         Err(error) => Err(fault_of(error)),
     }
 }
@@ -88,5 +99,23 @@ pub fn members_of(row: &Row) -> Result<[i64; 8], Fault>
         whole_at(row, 11)?,
         whole_at(row, 12)?,
         whole_at(row, 13)?,
+    ])
+}
+
+/// The numbers of the eight members of a slip's operation, in a row from its fourth column on.
+pub fn slip_members_of(row: &Row) -> Result<[i64; 8], Fault>
+    ensures told { IfOk result (λ members. columns_from 3 8 row.now ≡ map Int members) }
+    ensures eight { IfOk result (λ members. length members ≡ 8) }
+    ensures unread { IfErr result (IsUnread (map Int) (λ (members : List ℤ). length members ≡ 8) (columns_from 3 8 row.now)) }
+{
+    Ok([
+        whole_at(row, 3)?,
+        whole_at(row, 4)?,
+        whole_at(row, 5)?,
+        whole_at(row, 6)?,
+        whole_at(row, 7)?,
+        whole_at(row, 8)?,
+        whole_at(row, 9)?,
+        whole_at(row, 10)?,
     ])
 }

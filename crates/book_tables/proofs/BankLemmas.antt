@@ -90,7 +90,7 @@ unfolding understood everything
 set_version_is = (refl, (refl, refl))
 
 casts : (version : ℕ) → cast_row bank_table (bank_cells version) ≡ bank_cells version
-casts version = rw (cast_int (pos 1), cast_null, cast_int (pos 2), cast_int (pos version)) refl
+casts version = rw (cast_int (pos 1), cast_null, cast_int (pos 3), cast_int (pos version)) refl
 
 made : (version : ℕ) (r : Row) (old : ℕ) → r ≡ bank_cells old → only old ≡ only version → rowid r ≡ Int (id_in (rowid r))
     → cast_row bank_table (drop 1 (output (pick 0 the_first set_version_columns) ((Int (pos version) ∷ []) ∷ r ∷ [])).1) ≡ bank_cells version

@@ -1,14 +1,18 @@
-//! Cash lines, proofs of days and releases in SQL tables, inside a transaction. `add_line`, `add_proof` and
-//! `add_release` add exactly one row. `use_up` marks a release as used, and sets nothing where its key is
-//! not there. `release_of` finds the release of a key, or none. Every other table stays, and nothing is
-//! committed. That a call goes through, and which fault it gives, is not said. Entries are in
-//! `book_tables`.
+//! Cash lines, proofs of days, releases and slips in SQL tables, with how many slips each user has, inside a
+//! transaction. `add_line` and its like add exactly one row. `use_up` marks a release as used and
+//! `set_slip_count` writes a user's count, where their key is there. `release_of`, `slip_of` and
+//! `slip_count_of` find the row of a key, or none. Every other table stays, and nothing is committed. That a
+//! call goes through, and which fault it gives, is not said.
 #![tactic(auto)]
 
 mod day_proofs;
 mod lines;
 mod releases;
+mod slip_counts;
+mod slips;
 
 pub use day_proofs::add_proof;
 pub use lines::add_line;
 pub use releases::{add_release, release_of, use_up};
+pub use slip_counts::{add_slip_count, set_slip_count, slip_count_of};
+pub use slips::{add_slip, slip_of};

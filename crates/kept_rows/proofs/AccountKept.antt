@@ -72,6 +72,7 @@ keeps w a can free = record {
   lines = can.lines;
   proofs = can.proofs;
   releases = can.releases;
+  slips = can.slips;
   policy = can.policy;
 }
 

@@ -6,7 +6,7 @@ use Rattle.bank_terms.specs.Limits.{max_key, max_releases}
 use Rattle.bank_policy.specs.PolicyKeys.{ArePolicyRowsInOrder}
 use Rattle.bank_books.specs.Books.{Books}
 use Rattle.bank_books.specs.Conditions.{home_of}
-use Rattle.bank_books.specs.Keys.{account_key, branch_key, entry_key, line_key, proof_key, release_key, teller_key}
+use Rattle.bank_books.specs.Keys.{account_key, branch_key, entry_key, line_key, proof_key, release_key, teller_key, slip_key}
 use Rattle.bank_books.specs.Range.{IsUserNumber}
 use Rattle.bank_books.specs.Records.{entry_record_of, teller_record_of}
 use Rattle.bank_books.specs.WorldLists.{WorldLists}
@@ -24,6 +24,7 @@ pub record AreBooksInOrder (w : WorldLists) : Type 0 where
   pub lines : IsNonDecreasingBy line_key w.lines
   pub proofs : IsNonDecreasingBy proof_key w.proofs
   pub releases : IsNonDecreasingBy release_key w.releases
+  pub slips : IsNonDecreasingBy slip_key w.slips
 
 key_fits : (n : ℕ) → n ≤ max_key → n < 2 ^ 32
 key_fits n high = omega arith
@@ -66,6 +67,11 @@ books_are_keepable w order policy_order books distinct =
         named = λ r there. (range.releases r there).user;
         numbers = λ r there. (range.releases r there).numbered.high r there refl;
         small = λ r there. release_fits r.number (range.releases r there).number.1;
+      };
+      slips = record {
+        ordered = record { in_order = order.slips; distinct = range.slips.keys };
+        named = λ s there. (range.slips.each s there).user;
+        small = λ s there. key_fits s.number (range.slips.each s there).number.1;
       };
       policy = record {
         users = record { in_order = policy_order.users_in_order; distinct = distinct.users };

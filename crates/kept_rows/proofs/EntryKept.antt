@@ -99,6 +99,7 @@ keeps w e can small turn number x there same =
       lines = can.lines;
       proofs = can.proofs;
       releases = can.releases;
+      slips = can.slips;
       policy = can.policy;
     }
 

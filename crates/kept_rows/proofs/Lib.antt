@@ -12,3 +12,4 @@ pub mod ReleaseKept
 pub mod Rising
 pub mod RowLemmas
 pub mod SheetsTell
+pub mod SlipKept

@@ -143,6 +143,7 @@ keeps w l can small number place holder =
       };
       proofs = can.proofs;
       releases = can.releases;
+      slips = can.slips;
       policy = can.policy;
     }
 

@@ -1,6 +1,6 @@
 -- A World stays kept over changes that move no number.
-use Rattle.std.proofs.Common.{◌≡◌, ◌≢◌, ℕ, List, map, true, false, refl, ap, sym, ◌∙◌, subst, ◌==◌, ◌≤◌, ◌<◌, ◌^◌, Option, Some, None, Contains}
-use Rattle.std.specs.Prelude.{option_map}
+use Rattle.std.proofs.Common.{◌≡◌, ◌≢◌, ℕ, List, map, true, false, refl, ap, sym, ◌∙◌, subst, ◌==◌, ◌≤◌, ◌<◌, ◌^◌, Option, Some, None, Contains, Bool}
+use Rattle.std.specs.Prelude.{option_map, if◌then◌else◌}
 use Rattle.std.specs.List.{find}
 use Rattle.keyed_rows.specs.Changed.{change_rows}
 use Rattle.keyed_rows.specs.Ordered.{HasRow}
@@ -9,18 +9,19 @@ use Rattle.bank_policy.specs.PolicyWrites.{in_session}
 use Rattle.bank_policy.specs.declared.rows.User.{User}
 use Rattle.bank_books.specs.Effects.{on_day, used_up, written}
 use Rattle.bank_books.specs.Keys.{branch_key, proof_key, release_key, release_number, teller_key}
-use Rattle.bank_books.specs.Records.{account_record_of, branch_record_of, release_count, teller_record_of}
+use Rattle.bank_books.specs.Records.{account_record_of, branch_record_of, release_count, teller_record_of, slip_count}
 use Rattle.bank_books.specs.WorldLists.{WorldLists}
 use Rattle.bank_books.specs.declared.row_write.RowWrite.TheVariants as write
 use Rattle.bank_books.specs.declared.rows.Release.{Release}
 use Rattle.bank_books.specs.declared.rows.Teller.{Teller}
 use Rattle.book_growth.proofs.ChangedRows.{HasRow-changed, count-changed, each_changed}
-use Rattle.book_growth.proofs.Rows.{found_row}
+use Rattle.book_growth.proofs.Rows.{found_row, map-map}
 use Rattle.kept_rows.proofs.RowLemmas.{IsOrdered-add_row, IsOrdered-changed, find-map, map-change_rows, map_same, source}
-use Rattle.kept_rows.specs.Keepable.{AreReleasesKeepable}
+use Rattle.kept_rows.specs.Keepable.{AreReleasesKeepable, AreSlipsKeepable}
 use Rattle.kept_rows.specs.Laws.{DayIsKept, ProofIsKept, RowsAreTold, SessionIsKept, UsedIsKept, VersionIsKept}
-use Rattle.kept_rows.specs.Records.{kept_teller, kept_teller_of, kept_user_of}
+use Rattle.kept_rows.specs.Records.{kept_teller, kept_teller_of, kept_user_of, slip_count_of}
 use Rattle.kept_rows.specs.Sheets.{account_no, branch_no, sheets_of, teller_no, user_no}
+use Rattle.bank_books.specs.SlipRow.{SlipRow}
 
 pub proof_is_kept : ProofIsKept
 proof_is_kept w p can free = record {
@@ -32,6 +33,7 @@ proof_is_kept w p can free = record {
     lines = can.lines;
     proofs = IsOrdered-add_row proof_key p w.proofs can.proofs free;
     releases = can.releases;
+    slips = can.slips;
     policy = can.policy;
   };
   sheets = refl;
@@ -51,6 +53,7 @@ day_is_kept w d can =
         lines = can.lines;
         proofs = can.proofs;
         releases = can.releases;
+        slips = can.slips;
         policy = can.policy;
       };
       sheets = λ i. record (sheets_of w) { branches = branches i };
@@ -89,6 +92,7 @@ used_is_kept w k can =
         lines = can.lines;
         proofs = can.proofs;
         releases = releases_stay w.policy.users key w.releases can.releases;
+        slips = can.slips;
         policy = can.policy;
       };
       sheets = λ i. record (sheets_of w) { releases = with_used key w.releases; users = users i };
@@ -110,9 +114,27 @@ releases_after k made users rows keeps was = record {
   small = was.small;
 }
 
+-- he has as many slips, and those name him still
+pub counts_after : (w : WorldLists) (k : ℕ) (made : User → User) → ((u : User) → (made u).user ≡ u.user) → map (slip_count_of w) (change_rows user_key k made w.policy.users) ≡ map (slip_count_of w) w.policy.users
+counts_after w k made keeps =
+    map-map (λ u. if user_key u == k then made u else u) (slip_count_of w) w.policy.users
+    ∙ map_same (λ u. slip_count_of w (if user_key u == k then made u else u)) (slip_count_of w) w.policy.users (λ u there. by u (user_key u == k))
+  where
+    by : (u : User) (b : Bool) → slip_count_of w (if b then made u else u) ≡ slip_count_of w u
+    by u true = λ i. record { user = keeps u i; slips = slip_count (keeps u i) w.slips }
+    by u false = refl
+
+pub slips_after : (k : ℕ) (made : User → User) (users : List User) (rows : List SlipRow) → ((u : User) → (made u).user ≡ u.user) → AreSlipsKeepable users rows → AreSlipsKeepable (change_rows user_key k made users) rows
+slips_after k made users rows keeps was = record {
+  ordered = was.ordered;
+  named = λ s there. HasRow-changed user_key k made keeps users s.user (was.named s there);
+  small = was.small;
+}
+
 pub session_is_kept : SessionIsKept
 session_is_kept w c can =
     let users = users_after w (written (write.Session c) w) c.user (in_session c) refl (λ u. refl) in
+    let counts = counts_after w c.user (in_session c) (λ u. refl) in
     record {
       keepable = record {
         branches = can.branches;
@@ -122,6 +144,7 @@ session_is_kept w c can =
         lines = can.lines;
         proofs = can.proofs;
         releases = releases_after c.user (in_session c) w.policy.users w.releases (λ u. refl) can.releases;
+        slips = slips_after c.user (in_session c) w.policy.users w.slips (λ u. refl) can.slips;
         policy = record {
           users = IsOrdered-changed user_key c.user (in_session c) (λ u. refl) w.policy.users can.policy.users;
           sets = can.policy.sets;
@@ -131,7 +154,7 @@ session_is_kept w c can =
           certifiers = can.policy.certifiers;
         };
       };
-      sheets = λ i. record (sheets_of w) { users = users i };
+      sheets = λ i. record (sheets_of w) { users = users i; slip_counts = counts i };
     }
 
 pub version_is_kept : VersionIsKept
@@ -144,6 +167,7 @@ version_is_kept w true can = record {
     lines = can.lines;
     proofs = can.proofs;
     releases = can.releases;
+    slips = can.slips;
     policy = can.policy;
   };
   sheets = refl;

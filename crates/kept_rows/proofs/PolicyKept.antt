@@ -11,24 +11,24 @@ use Rattle.bank_policy.specs.declared.policy_write.PolicyWrite.TheVariants as ch
 use Rattle.bank_policy.specs.declared.policy_write.Suspension.{Suspension}
 use Rattle.bank_policy.specs.declared.rows.User.{User}
 use Rattle.bank_books.specs.Effects.{written}
-use Rattle.bank_books.specs.Records.{release_count}
+use Rattle.bank_books.specs.Records.{release_count, slip_count}
 use Rattle.bank_books.specs.WorldLists.{WorldLists}
 use Rattle.bank_books.specs.declared.row_write.RowWrite.TheVariants as write
 use Rattle.book_growth.proofs.Rows.{HasRow-add_row, count_none, each_added}
 use Rattle.kept_rows.proofs.MemberRows.{members_added}
-use Rattle.kept_rows.proofs.PlainKept.{releases_after, users_after}
+use Rattle.kept_rows.proofs.PlainKept.{counts_after, releases_after, slips_after, users_after}
 use Rattle.kept_rows.proofs.RowLemmas.{IsFree-map, IsOrdered-add_row, IsOrdered-changed, IsOrdered-filter, map-add_row}
 use Rattle.kept_rows.specs.Changes.{add_rows, policy_sheets}
-use Rattle.kept_rows.specs.Keepable.{AreReleasesKeepable, IsKeepable, IsOrdered, IsPolicyKeepable}
+use Rattle.kept_rows.specs.Keepable.{AreReleasesKeepable, IsKeepable, IsOrdered, IsPolicyKeepable, AreSlipsKeepable}
 use Rattle.kept_rows.specs.Kept.{IsKept}
 use Rattle.kept_rows.specs.Laws.{PolicyIsKept}
 use Rattle.kept_rows.specs.Named.{IsFree}
-use Rattle.kept_rows.specs.Records.{kept_user_of, member_rows}
-use Rattle.kept_rows.specs.Sheets.{member_no, sheets_of, user_no}
+use Rattle.kept_rows.specs.Records.{kept_user_of, member_rows, slip_count_of}
+use Rattle.kept_rows.specs.Sheets.{member_no, sheets_of, user_no, slip_no}
 
 -- what is kept of the World but of its policy, with the policy in its place
-with_policy : (w : WorldLists) (policy : PolicyLists) → IsKeepable w → AreReleasesKeepable policy.users w.releases → IsPolicyKeepable policy → IsKeepable (record w { policy = policy })
-with_policy w policy can releases is = record {
+with_policy : (w : WorldLists) (policy : PolicyLists) → IsKeepable w → AreReleasesKeepable policy.users w.releases → AreSlipsKeepable policy.users w.slips → IsPolicyKeepable policy → IsKeepable (record w { policy = policy })
+with_policy w policy can releases slips is = record {
   branches = can.branches;
   tellers = can.tellers;
   accounts = can.accounts;
@@ -36,6 +36,7 @@ with_policy w policy can releases is = record {
   lines = can.lines;
   proofs = can.proofs;
   releases = releases;
+  slips = slips;
   policy = is;
 }
 
@@ -47,12 +48,20 @@ no_releases w row can free = count_none (λ r. r.user == row.user) w.releases (�
     let (u, (among, is)) = can.releases.named r there in
     ne_eqb r.user row.user (λ same. free u among (is ∙ same)))
 
+-- nor slips
+no_slips : (w : WorldLists) (row : User) → IsKeepable w → IsFree user_key w.policy.users row.user → slip_count row.user w.slips ≡ 0
+no_slips w row can free = count_none (λ s. s.user == row.user) w.slips (λ s there.
+    let (u, (among, is)) = can.slips.named s there in
+    ne_eqb s.user row.user (λ same. free u among (is ∙ same)))
+
 user_added : (w : WorldLists) (row : User) → IsKeepable w → IsFree user_no (sheets_of w).users row.user → IsKept w (write.Policy (change.User row)) (policy_sheets (change.User row))
 user_added w row can none =
     let free = IsFree-map user_no (kept_user_of w) w.policy.users row.user none in
     let was = can.policy in
     let users : map (kept_user_of w) (add_row user_key row w.policy.users) ≡ add_row user_no (record { row = row; releases = 0 }) (map (kept_user_of w) w.policy.users) =
     map-add_row user_no (kept_user_of w) row w.policy.users ∙ ap (λ n. add_row user_no (record { row = row; releases = n }) (map (kept_user_of w) w.policy.users)) (no_releases w row can free) in
+    let counts : map (slip_count_of w) (add_row user_key row w.policy.users) ≡ add_row slip_no (record { user = row.user; slips = 0 }) (map (slip_count_of w) w.policy.users) =
+    map-add_row slip_no (slip_count_of w) row w.policy.users ∙ ap (λ n. add_row slip_no (record { user = row.user; slips = n }) (map (slip_count_of w) w.policy.users)) (no_slips w row can free) in
     record {
       keepable =
           with_policy w (policy_written (change.User row) w.policy) can
@@ -62,6 +71,7 @@ user_added w row can none =
             numbers = can.releases.numbers;
             small = can.releases.small;
           })
+          (record { ordered = can.slips.ordered; named = λ s there. HasRow-add_row user_key row w.policy.users s.user (can.slips.named s there); small = can.slips.small })
           (record {
             users = IsOrdered-add_row user_key row w.policy.users was.users free;
             sets = was.sets;
@@ -70,16 +80,17 @@ user_added w row can none =
             triples = was.triples;
             certifiers = was.certifiers;
           });
-      sheets = λ i. record (sheets_of w) { users = users i };
+      sheets = λ i. record (sheets_of w) { users = users i; slip_counts = counts i };
     }
 
 suspended : (w : WorldLists) (c : Suspension) → IsKeepable w → IsKept w (write.Policy (change.Suspended c)) (policy_sheets (change.Suspended c))
 suspended w c can =
     let was = can.policy in
     let users = users_after w (written (write.Policy (change.Suspended c)) w) c.user (in_suspension c) refl (λ u. refl) in
+    let counts = counts_after w c.user (in_suspension c) (λ u. refl) in
     record {
       keepable =
-          with_policy w (policy_written (change.Suspended c) w.policy) can (releases_after c.user (in_suspension c) w.policy.users w.releases (λ u. refl) can.releases) (record {
+          with_policy w (policy_written (change.Suspended c) w.policy) can (releases_after c.user (in_suspension c) w.policy.users w.releases (λ u. refl) can.releases) (slips_after c.user (in_suspension c) w.policy.users w.slips (λ u. refl) can.slips) (record {
             users = IsOrdered-changed user_key c.user (in_suspension c) (λ u. refl) w.policy.users was.users;
             sets = was.sets;
             places = was.places;
@@ -87,7 +98,7 @@ suspended w c can =
             triples = was.triples;
             certifiers = was.certifiers;
           });
-      sheets = λ i. record (sheets_of w) { users = users i };
+      sheets = λ i. record (sheets_of w) { users = users i; slip_counts = counts i };
     }
 
 -- ---- the rest
@@ -101,7 +112,7 @@ set_added w row can none few =
     members_added row w.policy.sets was.sets.in_order was.places free few in
     record {
       keepable =
-          with_policy w (policy_written (change.Set row) w.policy) can can.releases (record {
+          with_policy w (policy_written (change.Set row) w.policy) can can.releases can.slips (record {
             users = was.users;
             sets = IsOrdered-add_row set_key row w.policy.sets was.sets free;
             places = each_added set_key row w.policy.sets (λ s. length s.members < 2 ^ 32) few was.places;
@@ -117,7 +128,7 @@ others : (w : WorldLists) (policy : PolicyLists) → IsKeepable w → policy.use
     → IsOrdered certifier_key policy.certifiers → IsKeepable (record w { policy = policy })
 others w policy can users sets relations triples certifiers =
     let was = can.policy in
-    with_policy w policy can (subst (λ rows. AreReleasesKeepable rows w.releases) (sym users) can.releases) (record {
+    with_policy w policy can (subst (λ rows. AreReleasesKeepable rows w.releases) (sym users) can.releases) (subst (λ rows. AreSlipsKeepable rows w.slips) (sym users) can.slips) (record {
       users = subst (IsOrdered user_key) (sym users) was.users;
       sets = subst (IsOrdered set_key) (sym sets) was.sets;
       places = subst (λ rows. (s : SetRow) → Contains rows s → length s.members < 2 ^ 32) (sym sets) was.places;

@@ -39,6 +39,7 @@ keeps w r can small number user =
         numbers = AreCounted-add_row release_key (λ o. o.user) (λ o. o.number) r w.releases was.numbers number;
         small = each_added release_key r w.releases (λ o. o.number < 2 ^ 32) small was.small;
       };
+      slips = can.slips;
       policy = can.policy;
     }
 

@@ -15,8 +15,8 @@ use Rattle.kept_rows.proofs.MemberRows.{each_placed, members_rise}
 use Rattle.kept_rows.proofs.Rising.{IsOrdered-from_rising, IsOrdered-map, Rises-from_order, none_there}
 use Rattle.kept_rows.proofs.RowLemmas.{first_apart, map_same}
 use Rattle.kept_rows.specs.Laws.{SheetsAreOrdered, SheetsTellWorld}
-use Rattle.kept_rows.specs.Records.{kept_teller_of, kept_user_of, member_row, member_rows}
-use Rattle.kept_rows.specs.Sheets.{Sheets, account_no, branch_no, entry_no, member_no, sheets_of, teller_no, user_no}
+use Rattle.kept_rows.specs.Records.{kept_teller_of, kept_user_of, member_row, member_rows, slip_count_of}
+use Rattle.kept_rows.specs.Sheets.{Sheets, account_no, branch_no, entry_no, member_no, sheets_of, teller_no, user_no, slip_no}
 use Rattle.kept_rows.specs.declared.records.MemberRow.{MemberRow}
 
 -- ---- sets, by their numbers and their members
@@ -88,6 +88,7 @@ world_told s = record {
   lines = s.lines;
   proofs = s.proofs;
   releases = s.releases;
+  slips = s.slips;
   policy = record {
     users = map (λ u. u.row) s.users;
     sets = map (set_told s.members) s.sets;
@@ -128,6 +129,8 @@ sheets_are_ordered w can = record {
   lines = can.lines.ordered;
   proofs = can.proofs;
   releases = can.releases.ordered;
+  slips = can.slips.ordered;
+  slip_counts = IsOrdered-map user_key slip_no (slip_count_of w) (λ x. refl) w.policy.users can.policy.users;
   users = IsOrdered-map user_key user_no (kept_user_of w) (λ x. refl) w.policy.users can.policy.users;
   sets = IsOrdered-map set_key (λ n. n) (λ s. s.set) (λ x. refl) w.policy.sets can.policy.sets;
   members =

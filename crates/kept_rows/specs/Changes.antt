@@ -9,7 +9,8 @@ use Rattle.bank_policy.specs.declared.policy_write.PolicyWrite.{PolicyWrite}
 use Rattle.bank_policy.specs.declared.policy_write.PolicyWrite.TheVariants as write
 use Rattle.bank_policy.specs.declared.policy_write.Session.{Session}
 use Rattle.bank_books.specs.Effects.{on_day, used_up}
-use Rattle.bank_books.specs.Keys.{line_key, proof_key, release_key, release_number}
+use Rattle.bank_books.specs.Keys.{line_key, proof_key, release_key, release_number, slip_key}
+use Rattle.bank_books.specs.SlipRow.{SlipRow}
 use Rattle.bank_books.specs.declared.records.BranchRecord.{BranchRecord}
 use Rattle.bank_books.specs.declared.row_write.BranchDay.{BranchDay}
 use Rattle.bank_books.specs.declared.row_write.ReleaseKey.{ReleaseKey}
@@ -18,7 +19,7 @@ use Rattle.bank_books.specs.declared.rows.Proof.{Proof}
 use Rattle.bank_books.specs.declared.rows.Release.{Release}
 use Rattle.kept_rows.specs.Named.{IsFree}
 use Rattle.kept_rows.specs.Records.{member_rows}
-use Rattle.kept_rows.specs.Sheets.{Sheets, account_no, branch_no, entry_no, member_no, set_row, teller_no, user_no}
+use Rattle.kept_rows.specs.Sheets.{Sheets, account_no, branch_no, entry_no, member_no, set_row, slip_no, teller_no, user_no}
 use Rattle.kept_rows.specs.declared.account.AccountRows.{AccountRows}
 use Rattle.kept_rows.specs.declared.entry.EntryRows.{EntryRows}
 use Rattle.kept_rows.specs.declared.lines.LineRows.{LineRows}
@@ -64,6 +65,13 @@ release_sheets r releases s = record s {
 abbrev pub proof_sheets : Proof → Sheets → Sheets
 proof_sheets p s = record s { proofs = add_row proof_key p s.proofs }
 
+-- after a slip: its user bears this number of slips
+abbrev pub slip_sheets : SlipRow → ℕ → Sheets → Sheets
+slip_sheets row slips s = record s {
+  slips = add_row slip_key row s.slips;
+  slip_counts = change_rows slip_no row.user (λ c. record c { slips = slips }) s.slip_counts;
+}
+
 abbrev pub day_sheets : BranchDay → Sheets → Sheets
 day_sheets d s = record s { branches = change_rows branch_no d.branch (λ b. record b { row = on_day d.day b.row }) s.branches }
 
@@ -82,7 +90,10 @@ add_rows key (x ∷ xs) rows = add_rows key xs (add_row key x rows)
 
 -- after a change of the policy: no number beside a row is moved, and a new user has no releases
 abbrev pub policy_sheets : PolicyWrite → Sheets → Sheets
-policy_sheets (write.User row) s = record s { users = add_row user_no (record { row = row; releases = 0 }) s.users }
+policy_sheets (write.User row) s = record s {
+  users = add_row user_no (record { row = row; releases = 0 }) s.users;
+  slip_counts = add_row slip_no (record { user = row.user; slips = 0 }) s.slip_counts;
+}
 policy_sheets (write.Set row) s = record s {
   sets = add_row (λ n. n) row.set s.sets;
   members = add_rows member_no (member_rows row) s.members;

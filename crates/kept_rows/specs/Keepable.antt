@@ -9,9 +9,10 @@ use Rattle.bank_policy.specs.SetRow.{SetRow}
 use Rattle.bank_policy.specs.declared.rows.User.{User}
 use Rattle.bank_books.specs.Balances.{entry_count, turn_count}
 use Rattle.bank_books.specs.Cash.{holder_of, line_count}
-use Rattle.bank_books.specs.Keys.{account_key, branch_key, entry_key, line_key, proof_key, release_key, teller_key}
+use Rattle.bank_books.specs.Keys.{account_key, branch_key, entry_key, line_key, proof_key, release_key, teller_key, slip_key}
 use Rattle.bank_books.specs.Range.{IsTellerOf}
 use Rattle.bank_books.specs.Records.{release_count}
+use Rattle.bank_books.specs.SlipRow.{SlipRow}
 use Rattle.bank_books.specs.WorldLists.{WorldLists}
 use Rattle.bank_books.specs.declared.rows.Account.{Account}
 use Rattle.bank_books.specs.declared.rows.CashLine.{CashLine}
@@ -55,6 +56,13 @@ pub record AreReleasesKeepable (users : List User) (releases : List Release) : T
   -- small enough for the key
   pub small : (r : Release) → Contains releases r → r.number < 2 ^ 32
 
+-- each slip names a user who is there, and those of one bear different numbers
+pub record AreSlipsKeepable (users : List User) (slips : List SlipRow) : Type 0 where
+  pub ordered : IsOrdered slip_key slips
+  pub named : (s : SlipRow) → Contains slips s → HasRow user_key users s.user
+  -- small enough for the key
+  pub small : (s : SlipRow) → Contains slips s → s.number < 2 ^ 32
+
 -- The rows of the policy stand in order, each once.
 pub record IsPolicyKeepable (policy : PolicyLists) : Type 0 where
   pub users : IsOrdered user_key policy.users
@@ -82,4 +90,5 @@ pub record IsKeepable (w : WorldLists) : Type 0 where
   pub lines : AreLinesKeepable w.tellers w.lines
   pub proofs : IsOrdered proof_key w.proofs
   pub releases : AreReleasesKeepable w.policy.users w.releases
+  pub slips : AreSlipsKeepable w.policy.users w.slips
   pub policy : IsPolicyKeepable w.policy

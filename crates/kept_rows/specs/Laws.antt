@@ -1,25 +1,26 @@
 -- What holds of every World whose numbers can be kept.
-use Rattle.std.specs.Prelude.{ℕ, ◌≡◌, ◌≢◌, ◌==◌, Bool, Some, option_map}
+use Rattle.std.specs.Prelude.{ℕ, ◌≡◌, ◌≢◌, ◌==◌, Bool, Some, option_map, ◌<◌, ◌^◌, ◌+◌}
 use Rattle.std.specs.List.{find}
 use Rattle.bank_policy.specs.HeldRows.{user_row}
 use Rattle.bank_policy.specs.declared.policy_write.PolicyWrite.{PolicyWrite}
 use Rattle.bank_policy.specs.declared.policy_write.Session.{Session}
 use Rattle.bank_policy.specs.PolicyKeys.{certifier_key, relation_key, triple_key}
-use Rattle.bank_books.specs.Keys.{line_key, proof_key, release_key}
+use Rattle.bank_books.specs.Keys.{line_key, proof_key, release_key, slip_key}
 use Rattle.bank_books.specs.Records.{account_record, branch_record, teller_record}
 use Rattle.bank_books.specs.Version.{with_version}
+use Rattle.bank_books.specs.SlipRow.{SlipRow}
 use Rattle.bank_books.specs.WorldLists.{WorldLists}
 use Rattle.bank_books.specs.declared.records.TellerRecord.{TellerRecord}
 use Rattle.bank_books.specs.declared.row_write.BranchDay.{BranchDay}
 use Rattle.bank_books.specs.declared.row_write.ReleaseKey.{ReleaseKey}
 use Rattle.bank_books.specs.declared.row_write.RowWrite.TheVariants as write
 use Rattle.bank_books.specs.declared.rows.Proof.{Proof}
-use Rattle.kept_rows.specs.Changes.{IsNew, day_sheets, policy_sheets, proof_sheets, session_sheets, used_sheets, version_sheets}
+use Rattle.kept_rows.specs.Changes.{IsNew, day_sheets, policy_sheets, proof_sheets, session_sheets, slip_sheets, used_sheets, version_sheets}
 use Rattle.kept_rows.specs.Keepable.{IsKeepable, IsOrdered}
 use Rattle.kept_rows.specs.Kept.{IsKept}
-use Rattle.kept_rows.specs.Named.{IsFree}
+use Rattle.kept_rows.specs.Named.{HasSlips, IsFree}
 use Rattle.kept_rows.specs.Records.{kept_teller, kept_user_of}
-use Rattle.kept_rows.specs.Sheets.{Sheets, account_no, branch_no, entry_no, member_no, sheets_of, teller_no, user_no}
+use Rattle.kept_rows.specs.Sheets.{Sheets, account_no, branch_no, entry_no, member_no, sheets_of, slip_no, teller_no, user_no}
 
 -- ---- changes that move no number beside another row
 
@@ -35,6 +36,11 @@ UsedIsKept = (w : WorldLists) (k : ReleaseKey) → IsKeepable w → IsKept w (wr
 
 abbrev pub SessionIsKept : Type 0
 SessionIsKept = (w : WorldLists) (c : Session) → IsKeepable w → IsKept w (write.Session c) (session_sheets c)
+
+-- a slip of a number that its user has not
+abbrev pub SlipIsKept : Type 0
+SlipIsKept = (w : WorldLists) (s : SlipRow) (slips : ℕ) → IsKeepable w → HasSlips (sheets_of w) s.user slips → s.number < 2 ^ 32 → IsFree slip_key (sheets_of w).slips (slip_key s)
+    → IsKept w (write.Slip s) (slip_sheets s (slips + 1))
 
 -- a change of the policy that adds no key that is there
 abbrev pub PolicyIsKept : Type 0
@@ -59,6 +65,8 @@ pub record AreSheetsOrdered (s : Sheets) : Type 0 where
   pub lines : IsOrdered line_key s.lines
   pub proofs : IsOrdered proof_key s.proofs
   pub releases : IsOrdered release_key s.releases
+  pub slips : IsOrdered slip_key s.slips
+  pub slip_counts : IsOrdered slip_no s.slip_counts
   pub users : IsOrdered user_no s.users
   pub sets : IsOrdered (λ n. n) s.sets
   pub members : IsOrdered member_no s.members

@@ -5,9 +5,10 @@ use Rattle.bank_books.specs.declared.records.AccountRecord.{AccountRecord}
 use Rattle.bank_books.specs.declared.records.BranchRecord.{BranchRecord}
 use Rattle.bank_books.specs.declared.rows.CashLine.{CashLine}
 use Rattle.bank_books.specs.declared.rows.Entry.{Entry}
-use Rattle.kept_rows.specs.Sheets.{Sheets, account_no, branch_no, teller_no, user_no}
+use Rattle.kept_rows.specs.Sheets.{Sheets, account_no, branch_no, teller_no, user_no, slip_no}
 use Rattle.kept_rows.specs.declared.records.KeptTeller.{KeptTeller}
 use Rattle.kept_rows.specs.declared.records.KeptUser.{KeptUser}
+use Rattle.kept_rows.specs.declared.records.SlipCount.{SlipCount}
 
 -- this is the row of that key
 abbrev pub IsBranchRow : Sheets → ℕ → BranchRecord → Type 0
@@ -42,3 +43,9 @@ pub record HasReleases (s : Sheets) (user releases : ℕ) : Type 0 where
   pub row : KeptUser
   pub found : IsUserRow s user row
   pub count : row.releases ≡ releases
+
+-- so many slips are kept of that user
+pub record HasSlips (s : Sheets) (user slips : ℕ) : Type 0 where
+  pub row : SlipCount
+  pub found : find (λ c. slip_no c == user) s.slip_counts ≡ Some row
+  pub count : row.slips ≡ slips

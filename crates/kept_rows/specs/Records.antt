@@ -4,7 +4,7 @@ use Rattle.std.specs.List.{enumerate_from}
 use Rattle.bank_policy.specs.SetRow.{SetRow}
 use Rattle.bank_policy.specs.declared.rows.Member.{Member}
 use Rattle.bank_policy.specs.declared.rows.User.{User}
-use Rattle.bank_books.specs.Records.{release_count, teller_record_of}
+use Rattle.bank_books.specs.Records.{release_count, teller_record_of, slip_count}
 use Rattle.bank_books.specs.WorldLists.{WorldLists}
 use Rattle.bank_books.specs.declared.records.AccountRecord.{AccountRecord}
 use Rattle.bank_books.specs.declared.records.EntryRecord.{EntryRecord}
@@ -18,6 +18,7 @@ use Rattle.bank_books.specs.declared.rows.Teller.{Teller}
 use Rattle.kept_rows.specs.declared.records.KeptTeller.{KeptTeller}
 use Rattle.kept_rows.specs.declared.records.KeptUser.{KeptUser}
 use Rattle.kept_rows.specs.declared.records.MemberRow.{MemberRow}
+use Rattle.kept_rows.specs.declared.records.SlipCount.{SlipCount}
 
 -- a teller, whose drawer is held by user 0 where nobody holds it
 abbrev pub kept_teller : TellerRecord → KeptTeller
@@ -50,6 +51,10 @@ entry_left e after = record { row = e; balance_after = after.balance }
 
 abbrev pub kept_user_of : WorldLists → User → KeptUser
 kept_user_of w row = record { row = row; releases = release_count row.user w.releases }
+
+-- how many slips a user has
+abbrev pub slip_count_of : WorldLists → User → SlipCount
+slip_count_of w row = record { user = row.user; slips = slip_count row.user w.slips }
 
 -- a member of a set at its place
 abbrev pub member_row : ℕ → ℕ × Member → MemberRow

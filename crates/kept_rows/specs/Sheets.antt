@@ -7,6 +7,7 @@ use Rattle.bank_policy.specs.declared.rows.Triple.{Triple}
 use Rattle.bank_policy.specs.PolicyKeys.{user_key}
 use Rattle.bank_books.specs.Keys.{account_key, branch_key, entry_key, teller_key}
 use Rattle.bank_books.specs.Records.{account_record_of, branch_record_of, entry_record_of}
+use Rattle.bank_books.specs.SlipRow.{SlipRow}
 use Rattle.bank_books.specs.WorldLists.{WorldLists}
 use Rattle.bank_books.specs.declared.records.AccountRecord.{AccountRecord}
 use Rattle.bank_books.specs.declared.records.BranchRecord.{BranchRecord}
@@ -14,10 +15,11 @@ use Rattle.bank_books.specs.declared.records.EntryRecord.{EntryRecord}
 use Rattle.bank_books.specs.declared.rows.CashLine.{CashLine}
 use Rattle.bank_books.specs.declared.rows.Proof.{Proof}
 use Rattle.bank_books.specs.declared.rows.Release.{Release}
-use Rattle.kept_rows.specs.Records.{kept_teller_of, kept_user_of, member_rows}
+use Rattle.kept_rows.specs.Records.{kept_teller_of, kept_user_of, member_rows, slip_count_of}
 use Rattle.kept_rows.specs.declared.records.KeptTeller.{KeptTeller}
 use Rattle.kept_rows.specs.declared.records.KeptUser.{KeptUser}
 use Rattle.kept_rows.specs.declared.records.MemberRow.{MemberRow}
+use Rattle.kept_rows.specs.declared.records.SlipCount.{SlipCount}
 
 -- Balances, cash, holders and counts stand beside the rows that they are of. Lines, proofs, releases and most of the policy have none.
 pub record Sheets : Type 0 where
@@ -28,6 +30,9 @@ pub record Sheets : Type 0 where
   pub lines : List CashLine
   pub proofs : List Proof
   pub releases : List Release
+  pub slips : List SlipRow
+  -- of each user
+  pub slip_counts : List SlipCount
   pub users : List KeptUser
   pub sets : List ℕ
   pub members : List MemberRow
@@ -47,6 +52,8 @@ sheets_of w = record {
   lines = w.lines;
   proofs = w.proofs;
   releases = w.releases;
+  slips = w.slips;
+  slip_counts = map (slip_count_of w) w.policy.users;
   users = map (kept_user_of w) w.policy.users;
   sets = map (λ row. row.set) w.policy.sets;
   members = flat_map member_rows w.policy.sets;
@@ -72,6 +79,9 @@ entry_no e = entry_key e.row
 
 abbrev pub user_no : KeptUser → ℕ
 user_no u = user_key u.row
+
+abbrev pub slip_no : SlipCount → ℕ
+slip_no c = c.user
 
 -- by set, then place
 abbrev pub member_no : MemberRow → ℕ

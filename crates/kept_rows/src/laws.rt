@@ -3,7 +3,7 @@
 
 ghost use Rattle.bank_books.specs.Books.{Books};
 ghost use Rattle.kept_rows.specs.Keepable.{HasDistinctRows, IsKeepable};
-ghost use Rattle.kept_rows.specs.Laws.{DayIsKept, PolicyIsKept, ProofIsKept, RowsAreTold, SessionIsKept, SheetsAreOrdered, SheetsTellWorld, UsedIsKept, VersionIsKept};
+ghost use Rattle.kept_rows.specs.Laws.{DayIsKept, PolicyIsKept, ProofIsKept, RowsAreTold, SessionIsKept, SlipIsKept, SheetsAreOrdered, SheetsTellWorld, UsedIsKept, VersionIsKept};
 
 use bank_books::World;
 
@@ -19,6 +19,7 @@ pub fn books_are_keepable(world: &World)
     let _lines = world.lines();
     let _proofs = world.proofs();
     let _releases = world.releases();
+    let _slips = world.slips();
     let policy = world.policy();
     let _users = policy.users();
     let _sets = policy.sets();
@@ -45,6 +46,11 @@ pub fn used_is_kept()
 /// A user's session moves no number.
 pub fn session_is_kept()
     ensures { SessionIsKept }
+{}
+
+/// A slip that its user has not is kept as a row of its own.
+pub fn slip_is_kept()
+    ensures { SlipIsKept }
 {}
 
 /// A change of the policy moves no number, and a new user has no releases.

@@ -17,5 +17,5 @@ pub use account::{AccountRows, with_account};
 pub use entry::{EntryRows, with_entry};
 pub use lines::{LineRows, with_drawer_line, with_vault_line};
 pub use posting::with_posting;
-pub use records::{KeptTeller, KeptUser, MemberRow};
+pub use records::{KeptTeller, KeptUser, MemberRow, SlipCount};
 pub use release::with_release;

@@ -66,3 +66,12 @@ pub struct MemberRow {
     /// The interval.
     pub member: Member,
 }
+
+/// How many slips a user has.
+#[derive(Clone, Copy, Debug, PartialEq, Eq)]
+pub struct SlipCount {
+    /// The user, 1 to 9,999.
+    pub user: u32,
+    /// How many slips bear that user.
+    pub slips: u64,
+}

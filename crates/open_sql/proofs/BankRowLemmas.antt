@@ -20,7 +20,7 @@ use Rattle.std.specs.List.{AllByRecursion}
 use Rattle.kept_rows.specs.Sheets.{Sheets}
 use Rattle.bank_schema.specs.Cells.{bank_cells}
 use Rattle.bank_schema.specs.Held.{HoldsSheet, HoldsTables, Sheet, tree_of}
-use Rattle.bank_schema.specs.Held.Sheet.{accounts, bank, branches, certifiers, entries, lines, members, proofs, relations, releases, sets, tellers, triples, users}
+use Rattle.bank_schema.specs.Held.Sheet.{accounts, bank, branches, certifiers, entries, lines, members, proofs, relations, releases, sets, slip_counts, slips, tellers, triples, users}
 use Rattle.bank_schema.specs.HeldRows.{HoldsRows}
 use Rattle.bank_schema.specs.Schema.{bank_schema, bank_table}
 use Rattle.bank_schema.proofs.FrameLemmas.{others}
@@ -45,6 +45,8 @@ empty_sheet trees h entries = h.1.1.1.1.1.1.1.1.1.1.0
 empty_sheet trees h lines = h.1.1.1.1.1.1.1.1.1.1.1.0
 empty_sheet trees h proofs = h.1.1.1.1.1.1.1.1.1.1.1.1.0
 empty_sheet trees h releases = h.1.1.1.1.1.1.1.1.1.1.1.1.1.0
+empty_sheet trees h slips = h.1.1.1.1.1.1.1.1.1.1.1.1.1.1.0
+empty_sheet trees h slip_counts = h.1.1.1.1.1.1.1.1.1.1.1.1.1.1.1.0
 
 no_rows : {X : Type 0} (shows : Row → Row) (cells : X → Row) (key : X → ℕ) (Fits : X → Type 0) → HoldsRows shows cells key Fits [] []
 no_rows {X} shows cells key Fits = record {
@@ -73,16 +75,18 @@ bare_sheet version entries other = no_rows _ _ _ _
 bare_sheet version lines other = no_rows _ _ _ _
 bare_sheet version proofs other = no_rows _ _ _ _
 bare_sheet version releases other = no_rows _ _ _ _
+bare_sheet version slips other = no_rows _ _ _ _
+bare_sheet version slip_counts other = no_rows _ _ _ _
 
 abbrev add_bank_terms : List Term
-add_bank_terms = lit (Int (pos 1)) ∷ lit Null ∷ lit (Int (pos 2)) ∷ col 0 0 ∷ []
+add_bank_terms = lit (Int (pos 1)) ∷ lit Null ∷ lit (Int (pos 3)) ∷ col 0 0 ∷ []
 
 pub add_bank_is : (command_of (understood bank_schema add_bank_text) ≡ Insert 0 (Values add_bank_terms 4)) × IsPlain (understood bank_schema add_bank_text)
 unfolding understood everything
 add_bank_is = (refl, (refl, refl))
 
 news_are : (db : Trees) (version : ℕ) → (edit_of db bank_table [] Chosen 0 (value_rows (Int (pos version) ∷ []) 4 (4 / 4) add_bank_terms)).news ≡ bank_cells version ∷ []
-news_are db version = rw (cast_int (pos 1), cast_null, cast_int (pos 2), cast_int (pos version)) refl
+news_are db version = rw (cast_int (pos 1), cast_null, cast_int (pos 3), cast_int (pos version)) refl
 
 pub adds_bank : (old new : State) (version count : ℕ) → IsBlank bank_schema old.now → Executes add_bank_text (Int (pos version) ∷ []) old new (Ok count) → HoldsTables new.now (bare version)
 adds_bank old new version count blank h =

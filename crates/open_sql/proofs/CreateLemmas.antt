@@ -16,8 +16,8 @@ use Rattle.sqlite.proofs.Callers.{IsPlain, command_of, runs_as, statement_of}
 use Rattle.sqlite_schema.specs.declared.schema.Index.{Index}
 use Rattle.sqlite_tied.specs.Compute.{everything}
 use Rattle.open_sql.specs.Blank.{IsBlank, begun}
-use Rattle.bank_schema.specs.CreateTexts.{create_accounts, create_bank, create_branches, create_certifiers, create_entries, create_entries_index, create_lines, create_members, create_proofs, create_relations, create_releases, create_sets, create_tellers, create_tellers_index, create_grants, create_users}
-use Rattle.bank_schema.specs.Schema.{accounts_table, bank_table, branches_table, certifiers_table, entries_table, lines_table, look_up_index, members_table, proofs_table, relations_table, releases_table, sets_table, tellers_table, grants_table, users_table}
+use Rattle.bank_schema.specs.CreateTexts.{create_accounts, create_bank, create_branches, create_certifiers, create_entries, create_entries_index, create_lines, create_members, create_proofs, create_relations, create_releases, create_sets, create_slip_counts, create_slips, create_tellers, create_tellers_index, create_grants, create_users}
+use Rattle.bank_schema.specs.Schema.{accounts_table, bank_table, branches_table, certifiers_table, entries_table, lines_table, look_up_index, members_table, proofs_table, relations_table, releases_table, sets_table, slip_counts_table, slips_table, tellers_table, grants_table, users_table}
 
 -- where the schema is this, the text is one command that makes a table, by all of it, and then the schema is that
 pub record IsDefinition (text : List ℕ) (table : Table) (before after : Schema) : Type 0 where
@@ -86,6 +86,14 @@ proofs_defined = record { command = refl; whole = refl; plain = (refl, refl); de
 pub releases_defined : IsDefinition create_releases (unplaced releases_table) (begun 13 8) (begun 14 9)
 unfolding understood everything Rattle.std.specs.Fmt.digits
 releases_defined = record { command = refl; whole = refl; plain = (refl, refl); defined = refl; uncounted = refl; after_is = refl }
+
+pub slips_defined : IsDefinition create_slips (unplaced slips_table) (begun 14 11) (begun 15 12)
+unfolding understood everything Rattle.std.specs.Fmt.digits
+slips_defined = record { command = refl; whole = refl; plain = (refl, refl); defined = refl; uncounted = refl; after_is = refl }
+
+pub slip_counts_defined : IsDefinition create_slip_counts (unplaced slip_counts_table) (begun 15 12) (begun 16 12)
+unfolding understood everything Rattle.std.specs.Fmt.digits
+slip_counts_defined = record { command = refl; whole = refl; plain = (refl, refl); defined = refl; uncounted = refl; after_is = refl }
 
 -- where the schema is this, the text is one command that makes an index on the table at this place, by all of it, and then the schema is that
 pub record IsIndexDefinition (text : List ℕ) (at : ℕ) (table : Table) (index : Index) (before after : Schema) : Type 0 where

@@ -11,12 +11,14 @@ use Rattle.bank_policy.specs.SetRow.{SetRow}
 use Rattle.bank_policy.specs.declared.rows.Certifier.{Certifier}
 use Rattle.bank_policy.specs.declared.rows.Relation.{Relation}
 use Rattle.bank_policy.specs.declared.rows.Triple.{Triple}
-use Rattle.bank_books.specs.Keys.{line_key, proof_key, release_key}
-use Rattle.bank_books.specs.Records.{kept_of, teller_record_of}
+use Rattle.bank_books.specs.Keys.{line_key, proof_key, release_key, slip_key}
+use Rattle.bank_books.specs.Records.{kept_of, release_count_of, teller_record_of}
+use Rattle.bank_books.specs.SlipRow.{SlipRow}
 use Rattle.bank_books.specs.WorldLists.{WorldLists}
 use Rattle.bank_books.specs.declared.records.AccountRecord.{AccountRecord}
 use Rattle.bank_books.specs.declared.records.BranchRecord.{BranchRecord}
 use Rattle.bank_books.specs.declared.records.EntryRecord.{EntryRecord}
+use Rattle.bank_books.specs.declared.records.ReleaseCount.{ReleaseCount}
 use Rattle.bank_books.specs.declared.records.TellerRecord.{TellerRecord}
 use Rattle.bank_books.specs.declared.rows.CashLine.{CashLine}
 use Rattle.bank_books.specs.declared.rows.Proof.{Proof}
@@ -25,13 +27,13 @@ use Rattle.book_growth.proofs.Rows.{Contains-head, Contains-tail, map-map}
 use Rattle.kept_rows.specs.Changes.{add_rows}
 use Rattle.kept_rows.specs.Keepable.{IsKeepable, IsOrdered}
 use Rattle.kept_rows.specs.Records.{kept_teller, kept_teller_of, kept_user_of, member_rows}
-use Rattle.kept_rows.specs.Sheets.{Sheets, account_no, branch_no, entry_no, member_no, sheets_of, teller_no, user_no}
+use Rattle.kept_rows.specs.Sheets.{Sheets, account_no, branch_no, entry_no, member_no, sheets_of, slip_no, teller_no, user_no}
 use Rattle.kept_rows.specs.declared.records.KeptUser.{KeptUser}
 use Rattle.kept_rows.proofs.Rising.{Rises, Rises-from_order}
 use Rattle.kept_rows.proofs.SheetsTell.{sheets_are_ordered}
 use Rattle.bank_schema.specs.Held.{set_no}
 use Rattle.open_sql.specs.Blank.{bare}
-use Rattle.open_sql.specs.Filled.{filled, with_account, with_all, with_branch, with_certifier, with_entry, with_line, with_proof, with_relation, with_release, with_set, with_teller, with_triple, with_user}
+use Rattle.open_sql.specs.Filled.{filled, with_account, with_all, with_branch, with_certifier, with_entry, with_line, with_proof, with_relation, with_release, with_set, with_slip, with_slip_count, slips_in, with_teller, with_triple, with_user}
 
 -- ---- rows in order
 
@@ -141,6 +143,20 @@ releases_added (x ∷ xs) s = releases_added xs (with_release x s)
 releases_are : (xs : List Release) (s : Sheets) → s.releases ≡ [] → IsOrdered release_key xs → with_all with_release xs s ≡ record s { releases = xs }
 releases_are xs s none ordered = releases_added xs s ∙ ap (λ rows. record s { releases = rows }) (placed release_key xs s.releases none ordered)
 
+slips_added : (xs : List SlipRow) (s : Sheets) → with_all with_slip xs s ≡ record s { slips = add_rows slip_key xs s.slips }
+slips_added [] s = refl
+slips_added (x ∷ xs) s = slips_added xs (with_slip x s)
+
+slips_are : (xs : List SlipRow) (s : Sheets) → s.slips ≡ [] → IsOrdered slip_key xs → with_all with_slip xs s ≡ record s { slips = xs }
+slips_are xs s none ordered = slips_added xs s ∙ ap (λ rows. record s { slips = rows }) (placed slip_key xs s.slips none ordered)
+
+counts_added : (xs : List ReleaseCount) (s : Sheets) → with_all with_slip_count xs s ≡ record s { slip_counts = add_rows slip_no (map slips_in xs) s.slip_counts }
+counts_added [] s = refl
+counts_added (x ∷ xs) s = counts_added xs (with_slip_count x s)
+
+counts_are : (xs : List ReleaseCount) (s : Sheets) → s.slip_counts ≡ [] → IsOrdered slip_no (map slips_in xs) → with_all with_slip_count xs s ≡ record s { slip_counts = map slips_in xs }
+counts_are xs s none ordered = counts_added xs s ∙ ap (λ rows. record s { slip_counts = rows }) (placed slip_no (map slips_in xs) s.slip_counts none ordered)
+
 tellers_added : (xs : List TellerRecord) (s : Sheets) → with_all with_teller xs s ≡ record s { tellers = add_rows teller_no (map kept_teller xs) s.tellers }
 tellers_added [] s = refl
 tellers_added (x ∷ xs) s = tellers_added xs (with_teller x s)
@@ -184,7 +200,9 @@ filled_is w can =
     let s10 : Sheets = record s9 { lines = rows.lines } in
     let s11 : Sheets = record s10 { proofs = rows.proofs } in
     let s12 : Sheets = record s11 { releases = rows.releases } in
-    ap (with_all with_release w.releases) ((ap (with_all with_proof w.proofs) ((ap (with_all with_line w.lines) ((ap (with_all with_entry k.entries) ((ap (with_all with_account k.accounts) ((ap (with_all with_teller k.tellers) ((ap (with_all with_branch k.branches) ((ap (with_all with_certifier w.policy.certifiers) ((ap (with_all with_triple w.policy.triples) ((ap (with_all with_relation w.policy.relations) ((ap (with_all with_set w.policy.sets) (users_are users s0 refl order.users)
+    let s13 : Sheets = record s12 { slips = rows.slips } in
+    let counts_same : map slips_in k.users ≡ rows.slip_counts = map-map (release_count_of w) slips_in w.policy.users in
+    ap (with_all with_slip_count k.users) ((ap (with_all with_slip w.slips) ((ap (with_all with_release w.releases) ((ap (with_all with_proof w.proofs) ((ap (with_all with_line w.lines) ((ap (with_all with_entry k.entries) ((ap (with_all with_account k.accounts) ((ap (with_all with_teller k.tellers) ((ap (with_all with_branch k.branches) ((ap (with_all with_certifier w.policy.certifiers) ((ap (with_all with_triple w.policy.triples) ((ap (with_all with_relation w.policy.relations) ((ap (with_all with_set w.policy.sets) (users_are users s0 refl order.users)
     ∙ sets_are w.policy.sets s1 refl refl order.sets order.members))
     ∙ relations_are w.policy.relations s2 refl order.relations))
     ∙ triples_are w.policy.triples s3 refl order.triples))
@@ -195,4 +213,6 @@ filled_is w can =
     ∙ entries_are k.entries s8 refl order.entries))
     ∙ lines_are w.lines s9 refl order.lines))
     ∙ proofs_are w.proofs s10 refl order.proofs))
-    ∙ releases_are w.releases s11 refl order.releases
+    ∙ releases_are w.releases s11 refl order.releases))
+    ∙ slips_are w.slips s12 refl order.slips))
+    ∙ (counts_are k.users s13 refl (subst (IsOrdered slip_no) (sym counts_same) order.slip_counts) ∙ ap (λ cs. record s13 { slip_counts = cs }) counts_same)

@@ -7,20 +7,23 @@ use Rattle.bank_policy.specs.SetRow.{SetRow}
 use Rattle.bank_policy.specs.declared.rows.Certifier.{Certifier}
 use Rattle.bank_policy.specs.declared.rows.Relation.{Relation}
 use Rattle.bank_policy.specs.declared.rows.Triple.{Triple}
-use Rattle.bank_books.specs.Keys.{line_key, proof_key, release_key}
+use Rattle.bank_books.specs.Keys.{line_key, proof_key, release_key, slip_key}
 use Rattle.bank_books.specs.Records.{KeptLists, kept_of}
+use Rattle.bank_books.specs.SlipRow.{SlipRow}
 use Rattle.bank_books.specs.WorldLists.{WorldLists}
 use Rattle.bank_books.specs.declared.records.AccountRecord.{AccountRecord}
 use Rattle.bank_books.specs.declared.records.BranchRecord.{BranchRecord}
 use Rattle.bank_books.specs.declared.records.EntryRecord.{EntryRecord}
+use Rattle.bank_books.specs.declared.records.ReleaseCount.{ReleaseCount}
 use Rattle.bank_books.specs.declared.records.TellerRecord.{TellerRecord}
 use Rattle.bank_books.specs.declared.rows.CashLine.{CashLine}
 use Rattle.bank_books.specs.declared.rows.Proof.{Proof}
 use Rattle.bank_books.specs.declared.rows.Release.{Release}
 use Rattle.kept_rows.specs.Changes.{add_rows}
 use Rattle.kept_rows.specs.Records.{kept_teller, kept_user_of, member_rows}
-use Rattle.kept_rows.specs.Sheets.{Sheets, account_no, branch_no, entry_no, member_no, teller_no, user_no}
+use Rattle.kept_rows.specs.Sheets.{Sheets, account_no, branch_no, entry_no, member_no, slip_no, teller_no, user_no}
 use Rattle.kept_rows.specs.declared.records.KeptUser.{KeptUser}
+use Rattle.kept_rows.specs.declared.records.SlipCount.{SlipCount}
 use Rattle.bank_schema.specs.Held.{set_no}
 
 -- ---- one row
@@ -62,6 +65,16 @@ with_proof p s = record s { proofs = add_row proof_key p s.proofs }
 abbrev pub with_release : Release → Sheets → Sheets
 with_release r s = record s { releases = add_row release_key r s.releases }
 
+abbrev pub with_slip : SlipRow → Sheets → Sheets
+with_slip row s = record s { slips = add_row slip_key row s.slips }
+
+-- how many slips a user has, of what is counted of him
+abbrev pub slips_in : ReleaseCount → SlipCount
+slips_in c = record { user = c.user; slips = c.slips }
+
+abbrev pub with_slip_count : ReleaseCount → Sheets → Sheets
+with_slip_count c s = record s { slip_counts = add_row slip_no (slips_in c) s.slip_counts }
+
 -- ---- several of one table, one after another
 
 abbrev pub with_all : {X : Type 0} → (X → Sheets → Sheets) → List X → Sheets → Sheets
@@ -86,5 +99,9 @@ with_books k s = with_accounts k (with_all with_teller k.tellers (with_all with_
 abbrev pub with_history : WorldLists → Sheets → Sheets
 with_history w s = with_all with_release w.releases (with_all with_proof w.proofs (with_all with_line w.lines s))
 
+-- and how many each user has
+abbrev pub with_slips : WorldLists → KeptLists → Sheets → Sheets
+with_slips w k s = with_all with_slip_count k.users (with_all with_slip w.slips s)
+
 abbrev pub filled : WorldLists → Sheets → Sheets
-filled w s = with_history w (with_books (kept_of w) (with_policy w s))
+filled w s = with_slips w (kept_of w) (with_history w (with_books (kept_of w) (with_policy w s)))

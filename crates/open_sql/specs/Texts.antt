@@ -3,4 +3,4 @@ use Rattle.std.specs.Prelude.{ℕ, List, codes}
 
 -- the number of the newest edition, behind the key of the only row
 abbrev pub add_bank_text : List ℕ
-add_bank_text = codes "INSERT INTO bank (id, version, policy) VALUES (1, 2, ?1)"
+add_bank_text = codes "INSERT INTO bank (id, version, policy) VALUES (1, 3, ?1)"

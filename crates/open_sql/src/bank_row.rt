@@ -36,7 +36,7 @@ fn insert_bank<S: Alter>(tx: &mut Transaction<'_, S>, cells: &BankCells) -> Resu
 {
     run(
         tx,
-        "INSERT INTO bank (id, version, policy) VALUES (1, 2, ?1)",
+        "INSERT INTO bank (id, version, policy) VALUES (1, 3, ?1)",
         params![&cells.policy],
     )
 }

@@ -6,7 +6,7 @@ ghost use Rattle.sqlite.specs.State.{Survives};
 ghost use Rattle.bank_books.specs.Records.{kept_of};
 ghost use Rattle.kept_rows.specs.Records.{kept_user_of};
 ghost use Rattle.bank_schema.specs.Steps.{Steps};
-ghost use Rattle.open_sql.specs.Filled.{filled, with_accounts, with_all, with_books, with_history, with_policy, with_rights, with_user};
+ghost use Rattle.open_sql.specs.Filled.{filled, with_accounts, with_all, with_books, with_history, with_policy, with_rights, with_slips, with_user};
 
 use crate::sheet_row::add_all;
 use bank_books::World;
@@ -121,6 +121,16 @@ fn add_history<S: Alter>(tx: &mut Transaction<'_, S>, world: &World) -> Result<(
     add_all(tx, world.releases())
 }
 
+/// The slips, and how many each user has.
+fn add_slips<S: Alter>(tx: &mut Transaction<'_, S>, world: &World, kept: &Kept) -> Result<(), Fault>
+    ensures same_reference { tx.new.conn.ghost_name ≡ tx.old.conn.ghost_name }
+    ensures steps { Steps (state S.Store tx.old.conn.now) (state S.Store tx.new.conn.now) (with_slips world.now kept.now) result }
+    ensures survives { Survives (state S.Store tx.old.conn.now) (state S.Store tx.new.conn.now) (λ _. ⊥) }
+{
+    add_all(tx, world.slips())?;
+    add_all(tx, kept.users())
+}
+
 /// Writes all rows of the World, with the numbers that are kept beside them.
 pub(crate) fn fill<S: Alter>(
     alloc: Global,
@@ -135,5 +145,6 @@ pub(crate) fn fill<S: Alter>(
 {
     add_policy(alloc, tx, world, kept)?;
     add_books(tx, kept)?;
-    add_history(tx, world)
+    add_history(tx, world)?;
+    add_slips(tx, world, kept)
 }

@@ -1,13 +1,14 @@
 //! The rows of each table.
 
-ghost use Rattle.open_sql.specs.Filled.{with_account, with_branch, with_certifier, with_entry, with_line, with_proof, with_relation, with_release, with_set, with_teller, with_triple, with_user};
+ghost use Rattle.open_sql.specs.Filled.{with_account, with_branch, with_certifier, with_entry, with_line, with_proof, with_relation, with_release, with_set, with_slip, with_slip_count, with_teller, with_triple, with_user};
 
 use crate::sheet_row::SheetRow;
 use bank_books::{
-    AccountRecord, BranchRecord, CashLine, EntryRecord, Proof, Release, TellerRecord,
+    AccountRecord, BranchRecord, CashLine, EntryRecord, Proof, Release, ReleaseCount, Slip,
+    TellerRecord,
 };
 use bank_policy::{Certifier, ItemSet, Relation, Triple};
-use kept_rows::{KeptTeller, KeptUser};
+use kept_rows::{KeptTeller, KeptUser, SlipCount};
 use money::Fault;
 use sqlite::{Alter, Transaction};
 use table_plans::write_members;
@@ -106,5 +107,25 @@ impl SheetRow for Release {
 
     fn add<S: Alter>(&self, tx: &mut Transaction<'_, S>) -> Result<(), Fault> {
         history_tables::add_release(tx, self)
+    }
+}
+
+impl SheetRow for Slip {
+    ghost with_it = { with_slip };
+
+    fn add<S: Alter>(&self, tx: &mut Transaction<'_, S>) -> Result<(), Fault> {
+        history_tables::add_slip(tx, self)
+    }
+}
+
+impl SheetRow for ReleaseCount {
+    ghost with_it = { with_slip_count };
+
+    fn add<S: Alter>(&self, tx: &mut Transaction<'_, S>) -> Result<(), Fault> {
+        let count = SlipCount {
+            user: self.user,
+            slips: self.slips,
+        };
+        history_tables::add_slip_count(tx, &count)
     }
 }

@@ -106,7 +106,7 @@ fn make_history<S: Alter>(tx: &mut Transaction<'_, S>) -> Result<(), Fault>
     )
 }
 
-/// The indexes by which rows are looked up that no key finds, behind all tables.
+/// The indexes by which rows are looked up that no key finds, behind the tables of earlier editions.
 fn make_indexes<S: Alter>(tx: &mut Transaction<'_, S>) -> Result<(), Fault>
     ensures same_reference { tx.new.conn.ghost_name ≡ tx.old.conn.ghost_name }
     ensures goes { Goes (state S.Store tx.old.conn.now) (state S.Store tx.new.conn.now) (IsBlank (begun 14 9)) (IsBlank (begun 14 11)) result }
@@ -122,15 +122,32 @@ fn make_indexes<S: Alter>(tx: &mut Transaction<'_, S>) -> Result<(), Fault>
     )
 }
 
+/// The tables of slips and of how many each user has, behind all others.
+fn make_slips<S: Alter>(tx: &mut Transaction<'_, S>) -> Result<(), Fault>
+    ensures same_reference { tx.new.conn.ghost_name ≡ tx.old.conn.ghost_name }
+    ensures goes { Goes (state S.Store tx.old.conn.now) (state S.Store tx.new.conn.now) (IsBlank (begun 14 11)) (IsBlank (begun 16 12)) result }
+    ensures survives { Survives (state S.Store tx.old.conn.now) (state S.Store tx.new.conn.now) (λ _. ⊥) }
+{
+    define(
+        tx,
+        "CREATE TABLE slips (user_no INTEGER NOT NULL, slip INTEGER NOT NULL, form INTEGER NOT NULL, member1 INTEGER NOT NULL, member2 INTEGER NOT NULL, member3 INTEGER NOT NULL, member4 INTEGER NOT NULL, member5 INTEGER NOT NULL, member6 INTEGER NOT NULL, member7 INTEGER NOT NULL, member8 INTEGER NOT NULL, reply BLOB NOT NULL, PRIMARY KEY (user_no, slip)) STRICT",
+    )?;
+    define(
+        tx,
+        "CREATE TABLE slip_counts (user_no INTEGER PRIMARY KEY, slips INTEGER NOT NULL) STRICT",
+    )
+}
+
 /// All tables of a bank's file with its indexes, with no rows.
 pub(crate) fn make_tables<S: Alter>(tx: &mut Transaction<'_, S>) -> Result<(), Fault>
     ensures same_reference { tx.new.conn.ghost_name ≡ tx.old.conn.ghost_name }
-    ensures goes { Goes (state S.Store tx.old.conn.now) (state S.Store tx.new.conn.now) (IsBlank (begun 0 0)) (IsBlank (begun 14 11)) result }
+    ensures goes { Goes (state S.Store tx.old.conn.now) (state S.Store tx.new.conn.now) (IsBlank (begun 0 0)) (IsBlank (begun 16 12)) result }
     ensures survives { Survives (state S.Store tx.old.conn.now) (state S.Store tx.new.conn.now) (λ _. ⊥) }
 {
     make_bank_and_sets(tx)?;
     make_rights(tx)?;
     make_books(tx)?;
     make_history(tx)?;
-    make_indexes(tx)
+    make_indexes(tx)?;
+    make_slips(tx)
 }

@@ -2,7 +2,7 @@
 use Rattle.std.proofs.Common.{◌≡◌, ℕ, ℤ, pos, List, [], ◌∷◌, length, Bool, true, false, cond, ◌==◌, refl, sym, arith}
 use Rattle.std.specs.Prelude.{slice_index_or}
 use Rattle.sqlite.specs.declared.types.Value.{Value}
-use Rattle.sqlite.specs.declared.types.Value.TheVariants.{Int, Text}
+use Rattle.sqlite.specs.declared.types.Value.TheVariants.{Blob, Int, Text}
 use Rattle.sqlite.specs.Order.{Row}
 use Rattle.sqlite_value.specs.Order.{column}
 use Rattle.bank_terms.specs.Limits.{max_moment}
@@ -24,12 +24,14 @@ use Rattle.bank_books.specs.declared.rows.LineForm.{LineForm}
 use Rattle.bank_books.specs.declared.rows.LineForm.TheVariants as line
 use Rattle.bank_books.specs.declared.rows.Proof.{Proof}
 use Rattle.bank_books.specs.declared.rows.Release.{Release}
+use Rattle.bank_books.specs.SlipRow.{SlipRow}
 use Rattle.kept_rows.specs.declared.records.KeptTeller.{KeptTeller}
 use Rattle.kept_rows.specs.declared.records.KeptUser.{KeptUser}
 use Rattle.kept_rows.specs.declared.records.MemberRow.{MemberRow}
-use Rattle.bank_schema.specs.Cells.{ReleaseFits, TripleFitsIn, account_cells, branch_cells, certifier_cells, entry_cells, line_cells, member_cells, proof_cells, relation_cells, release_cells, set_cells, teller_cells, triple_cells, triple_cells_in, user_cells}
+use Rattle.kept_rows.specs.declared.records.SlipCount.{SlipCount}
+use Rattle.bank_schema.specs.Cells.{ReleaseFits, SlipFits, TripleFitsIn, account_cells, branch_cells, certifier_cells, entry_cells, line_cells, member_cells, proof_cells, relation_cells, release_cells, set_cells, slip_cells, slip_count_cells, teller_cells, triple_cells, triple_cells_in, user_cells}
 use Rattle.bank_schema.specs.declared.edition.Edition.{Edition}
-use Rattle.bank_schema.specs.declared.edition.Edition.TheVariants.{First, Second}
+use Rattle.bank_schema.specs.declared.edition.Edition.TheVariants.{First, Second, Third}
 use Rattle.bank_schema.specs.Numbers.{entry_form_number, kind_number, line_form_number, truth_cell}
 
 -- ---- single cells
@@ -45,6 +47,10 @@ int_of _ = pos 0
 abbrev pub text_of : Value → List ℕ
 text_of (Text text) = text
 text_of _ = []
+
+abbrev pub bytes_of : Value → List ℕ
+bytes_of (Blob bytes) = bytes
+bytes_of _ = []
 
 abbrev pub truth_of : Value → Bool
 truth_of v = nat_of v == 1
@@ -143,10 +149,12 @@ triple_tells t = λ i. record t { procedure = procedure_back t.procedure i }
 abbrev pub triple_back_in : Edition → Row → Triple
 triple_back_in First r = record { user = nat_of (column r 0); procedure = procedure_of (nat_of (column r 1)); set = nat_of (column r 2); limit = nat_of (column r 3); first = 0; last = max_moment }
 triple_back_in Second r = triple_back r
+triple_back_in Third r = triple_back r
 
 pub triple_tells_in : (e : Edition) (t : Triple) → TripleFitsIn e t → triple_back_in e (triple_cells_in e t) ≡ t
 triple_tells_in First t fits = λ i. record t { procedure = procedure_back t.procedure i; first = sym fits.1 i; last = sym fits.2 i }
 triple_tells_in Second t fits = triple_tells t
+triple_tells_in Third t fits = triple_tells t
 
 abbrev pub certifier_back : Row → Certifier
 certifier_back r = record { user = nat_of (column r 0); procedure = procedure_of (nat_of (column r 1)) }
@@ -258,3 +266,23 @@ eight (a ∷ b ∷ c ∷ d ∷ e ∷ f ∷ g ∷ h ∷ x ∷ xs) long = absurd (
 
 pub release_tells : (r : Release) → ReleaseFits r → release_back (release_cells r) ≡ r
 release_tells r fits = λ i. record r { operation = record r.operation { form = procedure_back r.operation.form i; members = eight r.operation.members fits.members i }; used = truth_back r.used i }
+
+abbrev pub slip_back : Row → SlipRow
+slip_back r = record {
+  user = nat_of (column r 0);
+  number = nat_of (column r 1);
+  operation = record {
+    form = procedure_of (nat_of (column r 2));
+    members = int_of (column r 3) ∷ int_of (column r 4) ∷ int_of (column r 5) ∷ int_of (column r 6) ∷ int_of (column r 7) ∷ int_of (column r 8) ∷ int_of (column r 9) ∷ int_of (column r 10) ∷ [];
+  };
+  reply = bytes_of (column r 11);
+}
+
+pub slip_tells : (s : SlipRow) → SlipFits s → slip_back (slip_cells s) ≡ s
+slip_tells s fits = λ i. record s { operation = record s.operation { form = procedure_back s.operation.form i; members = eight s.operation.members fits.members i } }
+
+abbrev pub slip_count_back : Row → SlipCount
+slip_count_back r = record { user = nat_of (column r 0); slips = nat_of (column r 2) }
+
+pub slip_count_tells : (c : SlipCount) → slip_count_back (slip_count_cells c) ≡ c
+slip_count_tells c = refl

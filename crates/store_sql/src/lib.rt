@@ -10,6 +10,7 @@ mod book_reads;
 pub mod laws;
 mod policy_reads;
 mod report_reads;
+mod slip_reads;
 mod sql_store;
 
 pub use sql_store::SqlStore;

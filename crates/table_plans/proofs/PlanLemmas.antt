@@ -23,6 +23,7 @@ version_stays (write.Proof row) w = refl
 version_stays (write.Release row) w = refl
 version_stays (write.Day d) w = refl
 version_stays (write.Used k) w = refl
+version_stays (write.Slip s) w = refl
 version_stays (write.Session s) w = refl
 version_stays (write.Policy change) w = refl
 

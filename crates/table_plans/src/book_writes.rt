@@ -1,15 +1,17 @@
 //! Changes of the books, written to their tables: each writes its row and the numbers that it moves.
 
-ghost use Rattle.std.specs.Prelude.{◌≡◌, IfOk, IsTrue};
+ghost use Rattle.std.specs.Prelude.{◌≡◌, ◌+◌, ◌==◌, ◌<◌, ◌≤◌, ◌^◌, IfErr, IfOk, IsTrue, Some, OnOk};
+ghost use Rattle.std.specs.List.{find};
+ghost use Rattle.money.specs.declared.fault.Fault.TheVariants.{Size};
 ghost use Rattle.sqlite.specs.Held.{state};
 ghost use Rattle.sqlite.specs.State.{HasCleanDisk, Survives};
 ghost use Rattle.keyed_rows.specs.Ordered.{add_row};
 ghost use Rattle.bank_books.specs.Effects.{on_day, written};
-ghost use Rattle.bank_books.specs.Keys.{release_key};
+ghost use Rattle.bank_books.specs.Keys.{release_key, slip_key};
 ghost use Rattle.bank_books.specs.declared.row_write.RowWrite.TheVariants as write;
 ghost use Rattle.kept_rows.specs.Changes.{account_sheets, drawer_sheets, entry_sheets, vault_sheets};
 ghost use Rattle.kept_rows.specs.Named.{AreOfEntry, AreOfLine, IsAccountRow, IsBranchRow, IsFree, IsTellerRow};
-ghost use Rattle.kept_rows.specs.Sheets.{Sheets, account_no, set_row, user_no};
+ghost use Rattle.kept_rows.specs.Sheets.{Sheets, account_no, set_row, slip_no, user_no};
 ghost use Rattle.bank_schema.specs.Held.{HoldsTables};
 ghost use Rattle.bank_schema.specs.Steps.{Moves, Steps, Tells};
 
@@ -17,14 +19,17 @@ use crate::policy_writes::user_row;
 use crate::required::required;
 use bank_books::{
     Account, AccountRecord, BranchDay, BranchRecord, CashLine, Entry, Proof, Release, ReleaseKey,
+    Slip,
 };
 use book_tables::{
     account_of, add_account, add_entry, branch_of, set_account, set_branch, set_teller, teller_of,
 };
-use history_tables::{add_line, add_proof, add_release, use_up};
+use history_tables::{
+    add_line, add_proof, add_release, add_slip, set_slip_count, slip_count_of, use_up,
+};
 use kept_rows::{
-    AccountRows, EntryRows, KeptTeller, KeptUser, LineRows, with_account, with_drawer_line,
-    with_entry, with_release, with_vault_line,
+    AccountRows, EntryRows, KeptTeller, KeptUser, LineRows, SlipCount, with_account,
+    with_drawer_line, with_entry, with_release, with_vault_line,
 };
 use money::Fault;
 use policy_tables::set_user;
@@ -295,4 +300,55 @@ pub(crate) fn write_release<S: Alter>(
     let releases = required(with_release(user.releases, release))?;
     user.releases = releases;
     put_release(tx, release, &user)
+}
+
+/// How many slips this user has. Where there is no row for him it is a fault of the disk.
+fn slip_count_row<S: Alter>(tx: &mut Transaction<'_, S>, user: u32) -> Result<SlipCount, Fault>
+    ensures same_reference { tx.new.conn.ghost_name ≡ tx.old.conn.ghost_name }
+    ensures told { HasCleanDisk (state S.Store tx.new.conn.now) → IsTrue (state S.Store tx.old.conn.now).in_transaction → (s : Sheets) → HoldsTables (state S.Store tx.old.conn.now).now s → IfOk result (λ row. find (λ c. slip_no c == user) s.slip_counts ≡ Some row) }
+    ensures steps { Steps (state S.Store tx.old.conn.now) (state S.Store tx.new.conn.now) (λ s. s) result }
+    ensures survives { Survives (state S.Store tx.old.conn.now) (state S.Store tx.new.conn.now) (λ _. ⊥) }
+{
+    required(slip_count_of(tx, user)?)
+}
+
+/// One slip more. More than there are numbers for is a fault of size.
+fn one_more(count: &SlipCount) -> Result<SlipCount, Fault>
+    ensures ok { IfOk result (λ after. after ≡ record count.now { slips = count.now.slips + 1 }) }
+    ensures err { IfErr result (λ fault. (fault ≡ Size) × (2 ^ 64 ≤ count.now.slips + 1)) }
+{
+    match count.slips.checked_add(1) {
+        Some(slips) => Ok(SlipCount {
+            user: count.user,
+            slips,
+        }),
+        None => Err(Fault::Size),
+    }
+}
+
+/// Writes a slip and how many its user has.
+fn put_slip<S: Alter>(
+    tx: &mut Transaction<'_, S>,
+    slip: &Slip,
+    count: &SlipCount,
+) -> Result<(), Fault>
+    ensures same_reference { tx.new.conn.ghost_name ≡ tx.old.conn.ghost_name }
+    ensures steps { Steps (state S.Store tx.old.conn.now) (state S.Store tx.new.conn.now) (λ s. record s { slips = add_row slip_key slip.now s.slips; slip_counts = set_row slip_no count.now s.slip_counts }) result }
+    ensures free { Tells (state S.Store tx.old.conn.now) (state S.Store tx.new.conn.now) (λ s. IsFree slip_key s.slips (slip_key slip.now)) result }
+    ensures small { slip.now.number < 2 ^ 32 }
+    ensures survives { Survives (state S.Store tx.old.conn.now) (state S.Store tx.new.conn.now) (λ _. ⊥) }
+{
+    add_slip(tx, slip)?;
+    set_slip_count(tx, count)
+}
+
+/// Writes a slip. One of its user and number that is there already is a fault of the disk.
+pub(crate) fn write_slip<S: Alter>(tx: &mut Transaction<'_, S>, slip: &Slip) -> Result<(), Fault>
+    ensures same_reference { tx.new.conn.ghost_name ≡ tx.old.conn.ghost_name }
+    ensures moves { Moves (state S.Store tx.old.conn.now) (state S.Store tx.new.conn.now) (written (write.Slip slip.now)) result }
+    ensures survives { Survives (state S.Store tx.old.conn.now) (state S.Store tx.new.conn.now) (λ _. ⊥) }
+{
+    let count = slip_count_row(tx, slip.user())?;
+    let after = one_more(&count)?;
+    put_slip(tx, slip, &after)
 }

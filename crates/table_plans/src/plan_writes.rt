@@ -11,7 +11,8 @@ ghost use Rattle.bank_schema.specs.Held.{HoldsWorld};
 ghost use Rattle.bank_schema.specs.Steps.{Moves};
 
 use crate::book_writes::{
-    write_account, write_day, write_entry, write_line, write_proof, write_release, write_used,
+    write_account, write_day, write_entry, write_line, write_proof, write_release, write_slip,
+    write_used,
 };
 use crate::policy_writes::{write_policy, write_session};
 use crate::posting_writes::write_posting;
@@ -39,6 +40,7 @@ fn write_row<S: Alter>(
         RowWrite::Release(release) => write_release(alloc, tx, release),
         RowWrite::Day(day) => write_day(tx, day),
         RowWrite::Used(key) => write_used(tx, key),
+        RowWrite::Slip(slip) => write_slip(tx, slip),
         RowWrite::Session(session) => write_session(alloc, tx, session),
         RowWrite::Policy(change) => write_policy(alloc, tx, change),
     }

@@ -4,22 +4,23 @@
 ghost use Rattle.std.specs.Prelude.{◌≡◌, ◌<◌, ◌↔◌, ◌^◌, length, IfOk, IsTrue, OnOk};
 ghost use Rattle.sqlite.specs.Held.{state};
 ghost use Rattle.sqlite.specs.State.{HasCleanDisk, Survives};
+ghost use Rattle.keyed_rows.specs.Ordered.{add_row};
 ghost use Rattle.bank_policy.specs.declared.policy_write.PolicyWrite.TheVariants as policy;
 ghost use Rattle.bank_books.specs.Effects.{written};
 ghost use Rattle.bank_books.specs.declared.row_write.RowWrite.TheVariants as write;
 ghost use Rattle.kept_rows.specs.Changes.{add_rows};
-ghost use Rattle.kept_rows.specs.Named.{IsUserRow};
+ghost use Rattle.kept_rows.specs.Named.{IsFree, IsUserRow};
 ghost use Rattle.kept_rows.specs.Records.{member_rows};
-ghost use Rattle.kept_rows.specs.Sheets.{Sheets, member_no};
+ghost use Rattle.kept_rows.specs.Sheets.{Sheets, member_no, slip_no, user_no};
 ghost use Rattle.bank_schema.specs.Held.{HoldsTables};
-ghost use Rattle.bank_schema.specs.Steps.{Moves, Steps};
+ghost use Rattle.bank_schema.specs.Steps.{Moves, Steps, Tells};
 
 use crate::required::required;
 use bank_policy::{
     Certifier, ItemSet, Name, PolicyWrite, Relation, RelationKey, Session, Suspension, Triple,
     TripleKey, User,
 };
-use kept_rows::{KeptUser, MemberRow};
+use kept_rows::{KeptUser, MemberRow, SlipCount};
 use money::Fault;
 use sqlite::{Alter, Transaction};
 use std::alloc::Global;
@@ -102,6 +103,21 @@ fn kept_user(alloc: Global, user: &User) -> Result<KeptUser, Fault>
     })
 }
 
+/// A user with his count of slips, of which he has none.
+fn put_user<S: Alter>(tx: &mut Transaction<'_, S>, kept: &KeptUser) -> Result<(), Fault>
+    ensures same_reference { tx.new.conn.ghost_name ≡ tx.old.conn.ghost_name }
+    ensures steps { Steps (state S.Store tx.old.conn.now) (state S.Store tx.new.conn.now) (λ s. record s { users = add_row user_no kept.now s.users; slip_counts = add_row slip_no (record { user = kept.now.row.user; slips = 0 }) s.slip_counts }) result }
+    ensures free { Tells (state S.Store tx.old.conn.now) (state S.Store tx.new.conn.now) (λ s. IsFree user_no s.users (user_no kept.now)) result }
+    ensures survives { Survives (state S.Store tx.old.conn.now) (state S.Store tx.new.conn.now) (λ _. ⊥) }
+{
+    policy_tables::add_user(tx, kept)?;
+    let count = SlipCount {
+        user: kept.row.user,
+        slips: 0,
+    };
+    history_tables::add_slip_count(tx, &count)
+}
+
 /// A new user. One of his number who is there already is a fault of the disk.
 fn write_user<S: Alter>(
     alloc: Global,
@@ -113,7 +129,7 @@ fn write_user<S: Alter>(
     ensures survives { Survives (state S.Store tx.old.conn.now) (state S.Store tx.new.conn.now) (λ _. ⊥) }
 {
     let kept = kept_user(alloc, user)?;
-    policy_tables::add_user(tx, &kept)
+    put_user(tx, &kept)
 }
 
 /// The user of this number. One who isn't there is a fault of the disk.

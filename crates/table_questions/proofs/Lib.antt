@@ -5,4 +5,5 @@ pub mod PolicyLemmas
 pub mod ReadLemmas
 pub mod ReportLemmas
 pub mod ShownLemmas
+pub mod SlipLemmas
 pub mod StepsLemmas

@@ -29,7 +29,7 @@ pub any-mapped : {X Y : Type 0} (f : X → Y) (p : Y → Bool) (xs : List X) →
 any-mapped f p [] = refl
 any-mapped f p (x ∷ xs) = ap (λ b. p (f x) || b) (any-mapped f p xs)
 
-find_alike : {X : Type 0} (p q : X → Bool) (xs : List X) → ((x : X) → Contains xs x → p x ≡ q x) → find p xs ≡ find q xs
+pub find_alike : {X : Type 0} (p q : X → Bool) (xs : List X) → ((x : X) → Contains xs x → p x ≡ q x) → find p xs ≡ find q xs
 find_alike p q [] same = refl
 find_alike p q (x ∷ xs) same =
     ap (λ b. cond b (Some x) (find p xs)) (same x (Contains-head x xs)) ∙ ap (λ o. cond (q x) (Some x) o) (find_alike p q xs (λ y there. same y (Contains-tail x xs y there)))

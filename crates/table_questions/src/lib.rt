@@ -13,6 +13,7 @@ mod question;
 mod report_questions;
 mod report_rows;
 mod shown_reads;
+mod slip_questions;
 
 pub use book_questions::{
     AccountRow, BranchRow, DrawerRow, EntryRow, IsUndone, Roster, TellerRow, VaultCash,
@@ -24,3 +25,4 @@ pub use policy_questions::{
 };
 pub use question::Question;
 pub use report_questions::{EntriesOf, EntryAt, NextShown, NextTeller, Shown};
+pub use slip_questions::{SlipOf, SlipsOf};

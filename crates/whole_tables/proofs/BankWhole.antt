@@ -7,7 +7,7 @@ use Rattle.sqlite_value.specs.declared.keys.Key.{Key}
 use Rattle.bank_schema.specs.Cells.{AnyRow, bank_cells}
 use Rattle.bank_schema.specs.Held.Sheet.{bank as in_bank}
 use Rattle.bank_schema.specs.declared.edition.Edition.{Edition}
-use Rattle.bank_schema.specs.declared.edition.Edition.TheVariants.{First, Second}
+use Rattle.bank_schema.specs.declared.edition.Edition.TheVariants.{First, Second, Third}
 use Rattle.bank_schema.specs.HeldRows.{all_of_it}
 use Rattle.bank_schema.specs.Schema.{bank_table}
 use Rattle.bank_schema.proofs.ReadLemmas.{rises_by_one, rising_key}
@@ -28,6 +28,7 @@ bank_is : (e : Edition) → IsScanOf e all_bank_text 0 bank_columns bank_order (
 unfolding understood everything
 bank_is First = (refl, refl, (refl, refl), (refl, refl), refl)
 bank_is Second = (refl, refl, (refl, refl), (refl, refl), refl)
+bank_is Third = (refl, refl, (refl, refl), (refl, refl), refl)
 
 -- the key of its only row
 abbrev pub bank_no : ℕ → ℕ
@@ -35,5 +36,5 @@ bank_no version = 1
 
 pub tells_bank : (e : Edition) → TellsWhole e all_of_it (told_by_key 2) bank_cells bank_no AnyRow in_bank all_bank_text
 tells_bank e =
-    by_rowid_whole e bank_cells bank_no AnyRow in_bank bank_table all_bank_text bank_columns bank_order _ 2 (bank_is e)
+    by_rowid_whole e bank_cells bank_no AnyRow in_bank tt bank_table all_bank_text bank_columns bank_order _ 2 (bank_is e)
     (inl refl) refl (λ db. refl) refl refl (inr refl) (λ r. refl) (λ version. refl) (λ x y _ _ less. rises_by_one 1 1 less)

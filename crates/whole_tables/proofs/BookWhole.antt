@@ -8,7 +8,7 @@ use Rattle.kept_rows.specs.Sheets.{account_no, branch_no, entry_no, teller_no}
 use Rattle.bank_schema.specs.Cells.{AnyRow, EntryFits, account_cells, branch_cells, entry_cells, teller_cells}
 use Rattle.bank_schema.specs.Held.Sheet.{branches as in_branches, tellers as in_tellers, accounts as in_accounts, entries as in_entries}
 use Rattle.bank_schema.specs.declared.edition.Edition.{Edition}
-use Rattle.bank_schema.specs.declared.edition.Edition.TheVariants.{First, Second}
+use Rattle.bank_schema.specs.declared.edition.Edition.TheVariants.{First, Second, Third}
 use Rattle.bank_schema.specs.HeldRows.{all_but_rowid, all_of_it}
 use Rattle.bank_schema.specs.Schema.{accounts_table, branches_table, entries_table, tellers_table}
 use Rattle.bank_schema.specs.Told.{told_by_columns, told_by_key}
@@ -29,10 +29,11 @@ branches_is : (e : Edition) → IsScanOf e all_branches_text 11 branches_columns
 unfolding understood everything
 branches_is First = (refl, refl, (refl, refl), (refl, refl), refl)
 branches_is Second = (refl, refl, (refl, refl), (refl, refl), refl)
+branches_is Third = (refl, refl, (refl, refl), (refl, refl), refl)
 
 pub tells_branches : (e : Edition) → TellsWhole e all_of_it (told_by_key 12) branch_cells branch_no AnyRow in_branches all_branches_text
 tells_branches e =
-    by_rowid_whole e branch_cells branch_no AnyRow in_branches branches_table all_branches_text branches_columns branches_order _ 12 (branches_is e)
+    by_rowid_whole e branch_cells branch_no AnyRow in_branches tt branches_table all_branches_text branches_columns branches_order _ 12 (branches_is e)
     (inr (inr (inr (inr (inr (inr (inr (inl refl)))))))) refl (λ db. refl) refl refl (inr refl) (λ r. refl) (λ x. refl)
     (λ x y _ _ less. rises_by_one x.row.branch y.row.branch less)
 
@@ -48,10 +49,11 @@ tellers_is : (e : Edition) → IsScanOf e all_tellers_text 12 tellers_columns te
 unfolding understood everything
 tellers_is First = (refl, refl, (refl, refl), (refl, refl), refl)
 tellers_is Second = (refl, refl, (refl, refl), (refl, refl), refl)
+tellers_is Third = (refl, refl, (refl, refl), (refl, refl), refl)
 
 pub tells_tellers : (e : Edition) → TellsWhole e all_of_it (told_by_key 5) teller_cells teller_no AnyRow in_tellers all_tellers_text
 tells_tellers e =
-    by_rowid_whole e teller_cells teller_no AnyRow in_tellers tellers_table all_tellers_text tellers_columns tellers_order _ 5 (tellers_is e)
+    by_rowid_whole e teller_cells teller_no AnyRow in_tellers tt tellers_table all_tellers_text tellers_columns tellers_order _ 5 (tellers_is e)
     (inr (inr (inr (inr (inr (inr (inr (inr (inl refl))))))))) refl (λ db. refl) refl refl (inr refl) (λ r. refl) (λ x. refl)
     (λ x y _ _ less. rises_by_one x.row.teller y.row.teller less)
 
@@ -67,10 +69,11 @@ accounts_is : (e : Edition) → IsScanOf e all_accounts_text 13 accounts_columns
 unfolding understood everything
 accounts_is First = (refl, refl, (refl, refl), (refl, refl), refl)
 accounts_is Second = (refl, refl, (refl, refl), (refl, refl), refl)
+accounts_is Third = (refl, refl, (refl, refl), (refl, refl), refl)
 
 pub tells_accounts : (e : Edition) → TellsWhole e all_of_it (told_by_key 5) account_cells account_no AnyRow in_accounts all_accounts_text
 tells_accounts e =
-    by_rowid_whole e account_cells account_no AnyRow in_accounts accounts_table all_accounts_text accounts_columns accounts_order _ 5 (accounts_is e)
+    by_rowid_whole e account_cells account_no AnyRow in_accounts tt accounts_table all_accounts_text accounts_columns accounts_order _ 5 (accounts_is e)
     (inr (inr (inr (inr (inr (inr (inr (inr (inr (inl refl)))))))))) refl (λ db. refl) refl refl (inr refl) (λ r. refl) (λ x. refl)
     (λ x y _ _ less. rises_by_one x.row.account y.row.account less)
 
@@ -86,6 +89,7 @@ entries_is : (e : Edition) → IsScanOf e all_entries_text 14 entries_columns en
 unfolding understood everything
 entries_is First = (refl, refl, (refl, refl), (refl, refl), refl)
 entries_is Second = (refl, refl, (refl, refl), (refl, refl), refl)
+entries_is Third = (refl, refl, (refl, refl), (refl, refl), refl)
 
 entries_alike : ReadsNoRowid (whole_scan 14 entries_columns entries_order)
 entries_alike [] = refl
@@ -93,6 +97,6 @@ entries_alike (id ∷ r) = refl
 
 pub tells_entries : (e : Edition) → TellsWhole e all_but_rowid (told_by_columns 13) entry_cells entry_no EntryFits in_entries all_entries_text
 tells_entries e =
-    by_columns_whole e entry_cells entry_no EntryFits in_entries entries_table all_entries_text entries_columns entries_order _ 13 (entries_is e)
+    by_columns_whole e entry_cells entry_no EntryFits in_entries tt entries_table all_entries_text entries_columns entries_order _ 13 (entries_is e)
     (inr (inr (inr (inr (inr (inr (inr (inr (inr (inr (inl refl))))))))))) refl (λ db. refl) refl refl (λ r. refl) entries_alike (λ x. refl)
     (λ x y p q less. rises_by_two x.row.branch x.row.number y.row.branch y.row.number p q less)

@@ -1,6 +1,7 @@
 pub mod BankRowLemmas
 pub mod BankWhole
 pub mod BookWhole
+pub mod CountLemmas
 pub mod DecodeLemmas
 pub mod HistoryWhole
 pub mod PolicyWhole

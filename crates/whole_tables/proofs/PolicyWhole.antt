@@ -1,5 +1,5 @@
 -- The queries for the tables of the policy, whole.
-use Rattle.std.proofs.Common.{List, [], ◌∷◌, codes, inl, inr, refl}
+use Rattle.std.proofs.Common.{ℕ, List, [], ◌∷◌, codes, inl, inr, refl}
 use Rattle.sqlite.specs.Listing.{understood}
 use Rattle.sqlite.specs.Term.{Term, col}
 use Rattle.sqlite_tied.specs.Compute.{everything}
@@ -11,13 +11,13 @@ use Rattle.bank_schema.specs.Cells.{AnyRow, MemberFits, RelationFits, TripleFits
 use Rattle.bank_schema.specs.Held.{set_no}
 use Rattle.bank_schema.specs.Held.Sheet.{users as in_users, sets as in_sets, members as in_members, relations as in_relations, triples as in_triples, certifiers as in_certifiers}
 use Rattle.bank_schema.specs.declared.edition.Edition.{Edition}
-use Rattle.bank_schema.specs.declared.edition.Edition.TheVariants.{First, Second}
+use Rattle.bank_schema.specs.declared.edition.Edition.TheVariants.{First, Second, Third}
 use Rattle.bank_schema.specs.HeldRows.{all_but_rowid, all_of_it}
 use Rattle.bank_schema.specs.Schema.{certifiers_table, grants_table, members_table, relations_table, sets_table, triples_table, users_table}
 use Rattle.bank_schema.specs.Told.{told_by_columns, told_by_key}
 use Rattle.bank_schema.proofs.ProcedureNumbers.{small_number}
 use Rattle.bank_schema.proofs.ReadLemmas.{rises_by_one, rises_by_three, rises_by_two, rising_key}
-use Rattle.whole_tables.specs.Texts.{all_users_text, all_sets_text, all_members_text, all_relations_text, all_certifiers_text, first_triples_text, second_triples_text}
+use Rattle.whole_tables.specs.Texts.{all_users_text, all_sets_text, all_members_text, all_relations_text, all_certifiers_text, first_triples_text, grants_text}
 use Rattle.whole_tables.specs.Whole.{TellsWhole}
 use Rattle.whole_tables.proofs.WholeLemmas.{IsScanOf, ReadsNoRowid, by_columns_whole, by_rowid_whole, whole_scan}
 
@@ -33,10 +33,11 @@ users_is : (e : Edition) → IsScanOf e all_users_text 1 users_columns users_ord
 unfolding understood everything
 users_is First = (refl, refl, (refl, refl), (refl, refl), refl)
 users_is Second = (refl, refl, (refl, refl), (refl, refl), refl)
+users_is Third = (refl, refl, (refl, refl), (refl, refl), refl)
 
 pub tells_users : (e : Edition) → TellsWhole e all_of_it (told_by_key 6) user_cells user_no AnyRow in_users all_users_text
 tells_users e =
-    by_rowid_whole e user_cells user_no AnyRow in_users users_table all_users_text users_columns users_order _ 6 (users_is e)
+    by_rowid_whole e user_cells user_no AnyRow in_users tt users_table all_users_text users_columns users_order _ 6 (users_is e)
     (inr (inl refl)) refl (λ db. refl) refl refl (inr refl) (λ r. refl) (λ x. refl)
     (λ x y _ _ less. rises_by_one x.row.user y.row.user less)
 
@@ -52,10 +53,11 @@ sets_is : (e : Edition) → IsScanOf e all_sets_text 2 sets_columns sets_order (
 unfolding understood everything
 sets_is First = (refl, refl, (refl, refl), (refl, refl), refl)
 sets_is Second = (refl, refl, (refl, refl), (refl, refl), refl)
+sets_is Third = (refl, refl, (refl, refl), (refl, refl), refl)
 
 pub tells_sets : (e : Edition) → TellsWhole e all_of_it (told_by_key 0) set_cells set_no AnyRow in_sets all_sets_text
 tells_sets e =
-    by_rowid_whole e set_cells set_no AnyRow in_sets sets_table all_sets_text sets_columns sets_order _ 0 (sets_is e)
+    by_rowid_whole e set_cells set_no AnyRow in_sets tt sets_table all_sets_text sets_columns sets_order _ 0 (sets_is e)
     (inr (inr (inl refl))) refl (λ db. refl) refl refl (inl refl) (λ r. refl) (λ x. refl)
     (λ x y _ _ less. rises_by_one x y less)
 
@@ -71,6 +73,7 @@ members_is : (e : Edition) → IsScanOf e all_members_text 3 members_columns mem
 unfolding understood everything
 members_is First = (refl, refl, (refl, refl), (refl, refl), refl)
 members_is Second = (refl, refl, (refl, refl), (refl, refl), refl)
+members_is Third = (refl, refl, (refl, refl), (refl, refl), refl)
 
 members_alike : ReadsNoRowid (whole_scan 3 members_columns members_order)
 members_alike [] = refl
@@ -78,7 +81,7 @@ members_alike (id ∷ r) = refl
 
 pub tells_members : (e : Edition) → TellsWhole e all_but_rowid (told_by_columns 5) member_cells member_no MemberFits in_members all_members_text
 tells_members e =
-    by_columns_whole e member_cells member_no MemberFits in_members members_table all_members_text members_columns members_order _ 5 (members_is e)
+    by_columns_whole e member_cells member_no MemberFits in_members tt members_table all_members_text members_columns members_order _ 5 (members_is e)
     (inr (inr (inr (inl refl)))) refl (λ db. refl) refl refl (λ r. refl) members_alike (λ x. refl)
     (λ x y p q less. rises_by_two x.set x.place y.set y.place p q less)
 
@@ -94,6 +97,7 @@ relations_is : (e : Edition) → IsScanOf e all_relations_text 5 relations_colum
 unfolding understood everything
 relations_is First = (refl, refl, (refl, refl), (refl, refl), refl)
 relations_is Second = (refl, refl, (refl, refl), (refl, refl), refl)
+relations_is Third = (refl, refl, (refl, refl), (refl, refl), refl)
 
 relations_alike : ReadsNoRowid (whole_scan 5 relations_columns relations_order)
 relations_alike [] = refl
@@ -101,7 +105,7 @@ relations_alike (id ∷ r) = refl
 
 pub tells_relations : (e : Edition) → TellsWhole e all_but_rowid (told_by_columns 3) relation_cells relation_key RelationFits in_relations all_relations_text
 tells_relations e =
-    by_columns_whole e relation_cells relation_key RelationFits in_relations relations_table all_relations_text relations_columns relations_order _ 3 (relations_is e)
+    by_columns_whole e relation_cells relation_key RelationFits in_relations tt relations_table all_relations_text relations_columns relations_order _ 3 (relations_is e)
     (inr (inr (inr (inr (inl refl))))) refl (λ db. refl) refl refl (λ r. refl) relations_alike (λ x. refl)
     (λ x y p q less. rises_by_two (number_of x.procedure) x.set (number_of y.procedure) y.set p q less)
 
@@ -125,27 +129,40 @@ first_triples_alike (id ∷ r) = refl
 
 pub tells_first_triples : TellsWhole First all_but_rowid (told_by_columns 4) (triple_cells_in First) triple_key (TripleFitsIn First) in_triples first_triples_text
 tells_first_triples =
-    by_columns_whole First (triple_cells_in First) triple_key (TripleFitsIn First) in_triples triples_table first_triples_text first_triples_columns triples_order _ 4 first_triples_is
+    by_columns_whole First (triple_cells_in First) triple_key (TripleFitsIn First) in_triples tt triples_table first_triples_text first_triples_columns triples_order _ 4 first_triples_is
     (inr (inr (inr (inr (inr (inl refl)))))) refl (λ db. refl) refl refl (λ r. refl) first_triples_alike (λ x. refl)
     (λ x y p q less. rises_by_three x.user (number_of x.procedure) x.set y.user (number_of y.procedure) y.set (small_number x.procedure) (small_number y.procedure) p.0 q.0 less)
 
--- as the second has them
+-- as the later ones have them
 
-abbrev second_triples_columns : List Term
-second_triples_columns = col 1 1 ∷ col 1 2 ∷ col 1 3 ∷ col 1 4 ∷ col 1 5 ∷ col 1 6 ∷ []
+abbrev grants_columns : List Term
+grants_columns = col 1 1 ∷ col 1 2 ∷ col 1 3 ∷ col 1 4 ∷ col 1 5 ∷ col 1 6 ∷ []
 
-second_triples_is : IsScanOf Second second_triples_text 7 second_triples_columns triples_order (codes "user_no" ∷ codes "procedure" ∷ codes "set_no" ∷ codes "ceiling" ∷ codes "first_at" ∷ codes "last_at" ∷ [])
+abbrev grants_names : List (List ℕ)
+grants_names = codes "user_no" ∷ codes "procedure" ∷ codes "set_no" ∷ codes "ceiling" ∷ codes "first_at" ∷ codes "last_at" ∷ []
+
+grants_alike : ReadsNoRowid (whole_scan 7 grants_columns triples_order)
+grants_alike [] = refl
+grants_alike (id ∷ r) = refl
+
+second_triples_is : IsScanOf Second grants_text 7 grants_columns triples_order grants_names
 unfolding understood everything
 second_triples_is = (refl, refl, (refl, refl), (refl, refl), refl)
 
-second_triples_alike : ReadsNoRowid (whole_scan 7 second_triples_columns triples_order)
-second_triples_alike [] = refl
-second_triples_alike (id ∷ r) = refl
-
-pub tells_second_triples : TellsWhole Second all_but_rowid (told_by_columns 6) triple_cells triple_key TripleFits in_triples second_triples_text
+pub tells_second_triples : TellsWhole Second all_but_rowid (told_by_columns 6) triple_cells triple_key TripleFits in_triples grants_text
 tells_second_triples =
-    by_columns_whole Second triple_cells triple_key TripleFits in_triples grants_table second_triples_text second_triples_columns triples_order _ 6 second_triples_is
-    (inr (inr (inr (inr (inr (inl refl)))))) refl (λ db. refl) refl refl (λ r. refl) second_triples_alike (λ x. refl)
+    by_columns_whole Second triple_cells triple_key TripleFits in_triples tt grants_table grants_text grants_columns triples_order _ 6 second_triples_is
+    (inr (inr (inr (inr (inr (inl refl)))))) refl (λ db. refl) refl refl (λ r. refl) grants_alike (λ x. refl)
+    (λ x y p q less. rises_by_three x.user (number_of x.procedure) x.set y.user (number_of y.procedure) y.set (small_number x.procedure) (small_number y.procedure) p q less)
+
+third_triples_is : IsScanOf Third grants_text 7 grants_columns triples_order grants_names
+unfolding understood everything
+third_triples_is = (refl, refl, (refl, refl), (refl, refl), refl)
+
+pub tells_third_triples : TellsWhole Third all_but_rowid (told_by_columns 6) triple_cells triple_key TripleFits in_triples grants_text
+tells_third_triples =
+    by_columns_whole Third triple_cells triple_key TripleFits in_triples tt grants_table grants_text grants_columns triples_order _ 6 third_triples_is
+    (inr (inr (inr (inr (inr (inl refl)))))) refl (λ db. refl) refl refl (λ r. refl) grants_alike (λ x. refl)
     (λ x y p q less. rises_by_three x.user (number_of x.procedure) x.set y.user (number_of y.procedure) y.set (small_number x.procedure) (small_number y.procedure) p q less)
 
 -- ---- certifiers
@@ -160,6 +177,7 @@ certifiers_is : (e : Edition) → IsScanOf e all_certifiers_text 9 certifiers_co
 unfolding understood everything
 certifiers_is First = (refl, refl, (refl, refl), (refl, refl), refl)
 certifiers_is Second = (refl, refl, (refl, refl), (refl, refl), refl)
+certifiers_is Third = (refl, refl, (refl, refl), (refl, refl), refl)
 
 certifiers_alike : ReadsNoRowid (whole_scan 9 certifiers_columns certifiers_order)
 certifiers_alike [] = refl
@@ -167,6 +185,6 @@ certifiers_alike (id ∷ r) = refl
 
 pub tells_certifiers : (e : Edition) → TellsWhole e all_but_rowid (told_by_columns 2) certifier_cells certifier_key AnyRow in_certifiers all_certifiers_text
 tells_certifiers e =
-    by_columns_whole e certifier_cells certifier_key AnyRow in_certifiers certifiers_table all_certifiers_text certifiers_columns certifiers_order _ 2 (certifiers_is e)
+    by_columns_whole e certifier_cells certifier_key AnyRow in_certifiers tt certifiers_table all_certifiers_text certifiers_columns certifiers_order _ 2 (certifiers_is e)
     (inr (inr (inr (inr (inr (inr (inl refl))))))) refl (λ db. refl) refl refl (λ r. refl) certifiers_alike (λ x. refl)
     (λ x y _ _ less. rises_by_two x.user (number_of x.procedure) y.user (number_of y.procedure) (small_number x.procedure) (small_number y.procedure) less)

@@ -1,5 +1,5 @@
 -- Reads of whole tables, one after another.
-use Rattle.std.proofs.Common.{◌≡◌, ◌≢◌, Ok, Err, IfErr, IsErr, IsErrAnd, Result, refl, sym, ap, ◌∙◌, subst}
+use Rattle.std.proofs.Common.{◌≡◌, ◌≢◌, Ok, Err, IfErr, IsErr, IsErrAnd, IsTrue, Result, refl, sym, ap, ◌∙◌, subst}
 use Rattle.money.specs.declared.fault.Fault.{Fault}
 use Rattle.money.specs.declared.fault.Fault.TheVariants.{Disk, Memory, Size, Stopped}
 use Rattle.sqlite.specs.Effect.{Database, IsDatabase}
@@ -30,7 +30,7 @@ pub still_bank : (e : Edition) (a b : State) → IsUnchanged a b → HasBankTabl
 still_bank e a b same has = record {
   schema = ap (λ (d : Database). d.schema) same.0.now_is ∙ has.schema;
   sound = λ _. subst IsDatabase (sym same.0.now_is) (has.sound same.0.was_open);
-  kept = λ t. subst (λ (d : Database). IsKeptTable (d.trees (tree_of t))) (sym same.0.now_is) (has.kept t);
+  kept = λ t inside. subst (λ (d : Database). IsKeptTable (d.trees (tree_of t))) (sym same.0.now_is) (has.kept t inside);
 }
 
 pub done_then : (e : Edition) (a b c : State) (P Q : Trees → Type 0) → Survives b c (λ _. ⊥) → Done e a b P → Done e b c Q → Done e a c (λ db. P db × Q db)
@@ -49,6 +49,29 @@ pub readable_then : (e : Edition) (a b c : State) (P : Trees → Type 0) (Q : Ty
 readable_then e a b c P Q survives first second clean has s holds readable =
     let p = first (early b c _ survives clean) has in
     second clean (still_bank e a b p.1 has) s (subst (λ (d : Database). HoldsSheetsIn e d.trees s) (sym p.1.0.now_is) holds) readable
+
+-- ---- reads that may ask no table, on a connection that an earlier one found open
+
+-- tables that were not asked are as they were
+pub still : (e : Edition) (s : State) (says : Trees → Type 0) → ((db : Trees) → says db) → IsTrue s.is_open → Done e s s says
+still e s says is was clean has = (
+  is s.now.trees,
+  (record { was_open = was; is_open = was; now_is = refl; committed_is = refl; mode = refl }, record { changes = refl; last_rowid = refl }, refl),
+  record { was_open = λ is_open. is_open; committed = λ is_open. refl },
+)
+
+module _ (e : Edition) (a b c : State) (P : Trees → Type 0) (survives : Survives b c (λ _. ⊥)) (first : Done e a b P) where
+  found_open : HasCleanDisk c → HasBankTables e a → IsTrue b.is_open
+  found_open clean has = (first (early b c _ survives clean) has).1.0.is_open
+
+  pub done_open : (Q : Trees → Type 0) → (IsTrue b.is_open → Done e b c Q) → Done e a c (λ db. P db × Q db)
+  done_open Q second clean has = done_then e a b c P Q survives first (second (found_open clean has)) clean has
+
+  pub gave_open : (IsTrue b.is_open → Gave e b c) → Gave e a c
+  gave_open second clean has = gave_then e a b c P survives first (second (found_open clean has)) clean has
+
+  pub readable_open : (Q : Type 0) → (IsTrue b.is_open → OnReadable e b c Q) → OnReadable e a c Q
+  readable_open Q second clean has = readable_then e a b c P Q survives first (second (found_open clean has)) clean has
 
 -- nothing more is said of what a refusal gives
 pub gave_whole : {X E : Type 0} (e : Edition) (old new : State) (says : Trees → X → Type 0) (r : Result X E) → IsErr r → Gave e old new → Reads e old new says r

@@ -1,4 +1,4 @@
--- The eight members of a release's operation, each in a column of its own.
+-- The eight members of the operation of a release, or of a slip, each in a column of its own.
 use Rattle.std.proofs.Common.{◌≡◌, ℤ, pos, List, [], ◌∷◌, ◌++◌, map, length, Result, IfErr, IsErrAnd, refl, sym, arith, ◌∙◌}
 use Rattle.std.specs.Prelude.{slice_index_or}
 use Rattle.money.specs.declared.fault.Fault.{Fault}
@@ -6,8 +6,8 @@ use Rattle.sqlite.specs.declared.types.Value.{Value}
 use Rattle.sqlite.specs.declared.types.Value.TheVariants.{Int}
 use Rattle.sqlite.specs.Order.{Row}
 use Rattle.sqlite_value.specs.Order.{column}
-use Rattle.bank_schema.specs.Cells.{release_cells}
-use Rattle.bank_schema.specs.Readable.{IsReadableRelease, IsUnread}
+use Rattle.bank_schema.specs.Cells.{release_cells, slip_cells}
+use Rattle.bank_schema.specs.Readable.{IsReadableRelease, IsReadableSlip, IsUnread}
 use Rattle.bank_schema.specs.Told.{columns_from, told_by_columns}
 use Rattle.bank_schema.proofs.ReadableLemmas.{unread_part}
 
@@ -30,3 +30,14 @@ pub unread_members : {R : Type 0} (there : Row) (r : Result R Fault) (fault : Fa
     → IfErr r (IsUnread release_cells IsReadableRelease there)
 unread_members there r fault handed unread =
     unread_part release_cells IsReadableRelease there (columns_from 6 8) (map Int) (λ members. length members ≡ 8) (λ x. x.operation.members) r fault handed unread (λ x can. (sym (all_eight x.operation.members can.members), can.members))
+
+pub slip_told : (row : Row) (user number form reply : Value) (members : List ℤ) → column row 0 ≡ user → column row 1 ≡ number → column row 2 ≡ form
+    → columns_from 3 8 row ≡ map Int members → length members ≡ 8 → column row 11 ≡ reply → told_by_columns 12 row ≡ user ∷ number ∷ form ∷ (eight_cells members ++ reply ∷ [])
+slip_told row user number form reply members first second third then eight last =
+    let fourth : columns_from 3 8 row ≡ eight_cells members = then ∙ all_eight members eight in
+    λ i. first i ∷ second i ∷ third i ∷ (fourth i ++ last i ∷ [])
+
+pub unread_slip_members : {R : Type 0} (there : Row) (r : Result R Fault) (fault : Fault) → IsErrAnd r (λ e. e ≡ fault) → IsUnread (map Int) (λ (members : List ℤ). length members ≡ 8) (columns_from 3 8 there) fault
+    → IfErr r (IsUnread slip_cells IsReadableSlip there)
+unread_slip_members there r fault handed unread =
+    unread_part slip_cells IsReadableSlip there (columns_from 3 8) (map Int) (λ members. length members ≡ 8) (λ x. x.operation.members) r fault handed unread (λ x can. (sym (all_eight x.operation.members can.members), can.members))

@@ -25,7 +25,7 @@ use Rattle.sqlite_sql.specs.Query.{output_cmp}
 use Rattle.sqlite_typing.specs.Types.{accepts_program}
 use Rattle.sqlite_value.specs.declared.keys.Key.{Key}
 use Rattle.sqlite_value.specs.Order.{column}
-use Rattle.bank_schema.specs.Held.{Sheet, tree_of}
+use Rattle.bank_schema.specs.Held.{IsIn, Sheet, tree_of}
 use Rattle.bank_schema.specs.HeldRows.{HoldsRows, all_but_rowid, all_of_it}
 use Rattle.bank_schema.specs.Schema.{schema_of}
 use Rattle.bank_schema.specs.declared.edition.Edition.{Edition}
@@ -167,7 +167,7 @@ module _ {X : Type 0} (e : Edition) (shows told : Row → Row) (cells : X → Ro
   pub all_answered : (old new : State) (rows : List Row) → HasBankTables e old → Shown text [] old new rows → IsPermutation (map told rows) (map shows (old.now.trees (tree_of t)))
   all_answered old new rows has h =
       let sound = has.sound (shown_open text [] old new rows h) in
-      tells.whole old.now.trees rows (subst (λ z. Obeys z old.now.trees) has.schema sound.obeys) (has.kept t) (is_answer old new rows has h)
+      tells.whole old.now.trees rows (subst (λ z. Obeys z old.now.trees) has.schema sound.obeys) (has.kept t tells.inside) (is_answer old new rows has h)
 
   -- in order of their keys
   pub in_order_answered : (old new : State) (rows : List Row) (xs : List X) → HasBankTables e old → HoldsRows shows cells key fits xs (old.now.trees (tree_of t)) → Shown text [] old new rows → map told rows ≡ map cells xs
@@ -187,7 +187,7 @@ plain_there e text s plain has = subst (λ z. IsPlain (understood z text)) (sym 
 
 -- ---- the queries for whole tables
 
-module _ {X : Type 0} (e : Edition) (cells : X → Row) (key : X → ℕ) (Fits : X → Type 0) (t : Sheet) (table : Table) (text : List ℕ) (columns : List Term) (order : List (Term × Key)) (names : List (List ℕ)) (count : ℕ)
+module _ {X : Type 0} (e : Edition) (cells : X → Row) (key : X → ℕ) (Fits : X → Type 0) (t : Sheet) (inside : IsIn e t) (table : Table) (text : List ℕ) (columns : List Term) (order : List (Term × Key)) (names : List (List ℕ)) (count : ℕ)
     (is : IsScanOf e text (tree_of t) columns order names) (listed : Has (schema_of e).tables table) (place : table.tree ≡ tree_of t) (over : (db : Trees) → overlay db [] (tree_of t) ≡ db (tree_of t)) where
   there : (db : Trees) (row : Row) → Has (db (tree_of t)) row → Has (db table.tree) row
   there db row h = subst (λ n. Has (db n) row) (sym place) h
@@ -198,6 +198,7 @@ module _ {X : Type 0} (e : Edition) (cells : X → Row) (key : X → ℕ) (Fits 
       → ((x : X) → column (cells x) 0 ∷ Null ∷ columns_from 2 count (cells x) ≡ cells x) → ComesInOrder cells key Fits (whole_scan (tree_of t) columns order)
       → TellsWhole e all_of_it (told_by_key count) cells key Fits t text
   by_rowid_whole keyed wide need told same rises = record {
+    inside = inside;
     asks = answers e text (tree_of t) columns order names is;
     whole = λ db answer obeys kept h. all_told (tree_of t) over columns order all_of_it (told_by_key count) db answer
         (λ r here.
@@ -217,6 +218,7 @@ module _ {X : Type 0} (e : Edition) (cells : X → Row) (key : X → ℕ) (Fits 
       → ((x : X) → columns_from 1 count (Null ∷ cells x) ≡ cells x) → ComesInOrder (λ x. Null ∷ cells x) key Fits (whole_scan (tree_of t) columns order)
       → TellsWhole e all_but_rowid (told_by_columns count) cells key Fits t text
   by_columns_whole wide need told reads same rises = record {
+    inside = inside;
     asks = answers e text (tree_of t) columns order names is;
     whole = λ db answer obeys kept h. all_told (tree_of t) over columns order all_but_rowid (told_by_columns count) db answer
         (λ r here. told r ∙ ap (λ n. columns_from 1 n r) (sym wide) ∙ tells_columns table r need (of_table e db table obeys listed r (there db r here)))

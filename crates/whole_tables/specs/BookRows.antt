@@ -1,9 +1,13 @@
 -- That these are all rows of the books and all users, each table in order of key.
+use Rattle.std.specs.Prelude.{List}
 use Rattle.sqlite.specs.Tree.{Trees}
-use Rattle.whole_tables.specs.Tables.{AreAccounts, AreBranches, AreEntries, AreLines, AreProofs, AreReleases, AreTellers, AreUsers}
+use Rattle.bank_schema.specs.declared.edition.Edition.{Edition}
+use Rattle.kept_rows.specs.declared.records.KeptUser.{KeptUser}
+use Rattle.whole_tables.specs.Tables.{AreAccounts, AreBranches, AreEntries, AreLines, AreProofs, AreReleases, AreSlipCounts, AreSlips, AreTellers, AreUsers}
 use Rattle.whole_tables.specs.declared.book_rows.BookRows.{BookRows}
 use Rattle.whole_tables.specs.declared.book_rows.HistoryRows.{HistoryRows}
 use Rattle.whole_tables.specs.declared.book_rows.LedgerRows.{LedgerRows}
+use Rattle.whole_tables.specs.declared.book_rows.SlipRows.{SlipRows}
 use Rattle.whole_tables.specs.declared.book_rows.UserRows.{UserRows}
 
 pub record AreLedgerRows (db : Trees) (rows : LedgerRows) : Type 0 where
@@ -20,7 +24,13 @@ pub record AreUserRows (db : Trees) (rows : UserRows) : Type 0 where
   pub releases : AreReleases db rows.releases.items
   pub users : AreUsers db rows.users.items
 
-pub record AreBookRows (db : Trees) (rows : BookRows) : Type 0 where
+-- beside these users
+pub record AreSlipRows (e : Edition) (users : List KeptUser) (db : Trees) (rows : SlipRows) : Type 0 where
+  pub slips : AreSlips e db rows.slips.items
+  pub counts : AreSlipCounts e users db rows.counts.items
+
+pub record AreBookRows (e : Edition) (db : Trees) (rows : BookRows) : Type 0 where
   pub ledger : AreLedgerRows db rows.ledger
   pub history : AreHistoryRows db rows.history
   pub users : AreUserRows db rows.users
+  pub slips : AreSlipRows e rows.users.users.items db rows.slips

@@ -1,25 +1,28 @@
 -- That these are all rows of a table, in order of key.
-use Rattle.std.specs.Prelude.{ℕ, List}
+use Rattle.std.specs.Prelude.{ℕ, ◌≡◌, List, [], map}
 use Rattle.sqlite.specs.Tree.{Trees}
 use Rattle.bank_policy.specs.PolicyKeys.{certifier_key, relation_key, triple_key}
 use Rattle.bank_policy.specs.declared.rows.Certifier.{Certifier}
 use Rattle.bank_policy.specs.declared.rows.Relation.{Relation}
 use Rattle.bank_policy.specs.declared.rows.Triple.{Triple}
-use Rattle.bank_books.specs.Keys.{line_key, proof_key, release_key}
+use Rattle.bank_books.specs.Keys.{line_key, proof_key, release_key, slip_key}
+use Rattle.bank_books.specs.SlipRow.{SlipRow}
 use Rattle.bank_books.specs.declared.records.AccountRecord.{AccountRecord}
 use Rattle.bank_books.specs.declared.records.BranchRecord.{BranchRecord}
 use Rattle.bank_books.specs.declared.records.EntryRecord.{EntryRecord}
 use Rattle.bank_books.specs.declared.rows.CashLine.{CashLine}
 use Rattle.bank_books.specs.declared.rows.Proof.{Proof}
 use Rattle.bank_books.specs.declared.rows.Release.{Release}
-use Rattle.kept_rows.specs.Sheets.{account_no, branch_no, entry_no, member_no, teller_no, user_no}
+use Rattle.kept_rows.specs.Sheets.{account_no, branch_no, entry_no, member_no, slip_no, teller_no, user_no}
 use Rattle.kept_rows.specs.declared.records.KeptTeller.{KeptTeller}
 use Rattle.kept_rows.specs.declared.records.KeptUser.{KeptUser}
 use Rattle.kept_rows.specs.declared.records.MemberRow.{MemberRow}
-use Rattle.bank_schema.specs.Cells.{AnyRow, EntryFits, LineFits, MemberFits, ProofFits, RelationFits, ReleaseFits, TripleFitsIn, account_cells, branch_cells, certifier_cells, entry_cells, line_cells, member_cells, proof_cells, relation_cells, release_cells, set_cells, teller_cells, triple_cells_in, user_cells}
+use Rattle.kept_rows.specs.declared.records.SlipCount.{SlipCount}
+use Rattle.bank_schema.specs.Cells.{AnyRow, EntryFits, LineFits, MemberFits, ProofFits, RelationFits, ReleaseFits, SlipFits, TripleFitsIn, account_cells, branch_cells, certifier_cells, entry_cells, line_cells, member_cells, proof_cells, relation_cells, release_cells, set_cells, slip_cells, slip_count_cells, teller_cells, triple_cells_in, user_cells}
 use Rattle.bank_schema.specs.declared.edition.Edition.{Edition}
-use Rattle.bank_schema.specs.Held.{set_no}
-use Rattle.bank_schema.specs.Held.Sheet.{accounts as in_accounts, branches as in_branches, certifiers as in_certifiers, entries as in_entries, lines as in_lines, members as in_members, proofs as in_proofs, relations as in_relations, releases as in_releases, sets as in_sets, tellers as in_tellers, triples as in_triples, users as in_users}
+use Rattle.bank_schema.specs.declared.edition.Edition.TheVariants.{First, Second, Third}
+use Rattle.bank_schema.specs.Held.{set_no, without_slips}
+use Rattle.bank_schema.specs.Held.Sheet.{accounts as in_accounts, branches as in_branches, certifiers as in_certifiers, entries as in_entries, lines as in_lines, members as in_members, proofs as in_proofs, relations as in_relations, releases as in_releases, sets as in_sets, slip_counts as in_slip_counts, slips as in_slips, tellers as in_tellers, triples as in_triples, users as in_users}
 use Rattle.bank_schema.specs.HeldRows.{all_but_rowid, all_of_it}
 use Rattle.whole_tables.specs.Whole.{AreAll}
 
@@ -65,3 +68,15 @@ AreProofs db rows = AreAll all_but_rowid proof_cells proof_key ProofFits in_proo
 
 abbrev pub AreReleases : Trees → List Release → Type 0
 AreReleases db rows = AreAll all_but_rowid release_cells release_key ReleaseFits in_releases db rows
+
+-- editions before the third have no slips
+abbrev pub AreSlips : Edition → Trees → List SlipRow → Type 0
+AreSlips First db rows = rows ≡ []
+AreSlips Second db rows = rows ≡ []
+AreSlips Third db rows = AreAll all_but_rowid slip_cells slip_key SlipFits in_slips db rows
+
+-- and no user has any in them
+abbrev pub AreSlipCounts : Edition → List KeptUser → Trees → List SlipCount → Type 0
+AreSlipCounts First users db rows = rows ≡ map without_slips users
+AreSlipCounts Second users db rows = rows ≡ map without_slips users
+AreSlipCounts Third users db rows = AreAll all_of_it slip_count_cells slip_no AnyRow in_slip_counts db rows

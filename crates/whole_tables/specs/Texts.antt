@@ -18,13 +18,13 @@ all_members_text = codes "SELECT set_no, place, kind, low, high FROM members ORD
 abbrev pub all_relations_text : List ℕ
 all_relations_text = codes "SELECT procedure, set_no, by_user FROM relations ORDER BY procedure, set_no"
 
--- the triples of the first edition, and of the second
+-- the triples of the first edition, and of the later ones
 
 abbrev pub first_triples_text : List ℕ
 first_triples_text = codes "SELECT user_no, procedure, set_no, ceiling FROM triples ORDER BY user_no, procedure, set_no"
 
-abbrev pub second_triples_text : List ℕ
-second_triples_text = codes "SELECT user_no, procedure, set_no, ceiling, first_at, last_at FROM grants ORDER BY user_no, procedure, set_no"
+abbrev pub grants_text : List ℕ
+grants_text = codes "SELECT user_no, procedure, set_no, ceiling, first_at, last_at FROM grants ORDER BY user_no, procedure, set_no"
 
 abbrev pub all_certifiers_text : List ℕ
 all_certifiers_text = codes "SELECT user_no, procedure FROM certifiers ORDER BY user_no, procedure"
@@ -51,3 +51,9 @@ all_proofs_text = codes "SELECT branch, day, entries, balance, cash FROM proofs 
 
 abbrev pub all_releases_text : List ℕ
 all_releases_text = codes "SELECT user_no, number, giver, branch, day, form, member1, member2, member3, member4, member5, member6, member7, member8, used FROM releases ORDER BY user_no, number"
+
+abbrev pub all_slips_text : List ℕ
+all_slips_text = codes "SELECT user_no, slip, form, member1, member2, member3, member4, member5, member6, member7, member8, reply FROM slips ORDER BY user_no, slip"
+
+abbrev pub all_slip_counts_text : List ℕ
+all_slip_counts_text = codes "SELECT user_no, slips FROM slip_counts ORDER BY user_no"

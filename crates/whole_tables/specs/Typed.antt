@@ -1,9 +1,10 @@
 -- Rows whose numbers and texts are of the types that their columns are read as, as all are that were read.
 use Rattle.std.specs.Prelude.{List, Contains}
-use Rattle.bank_schema.specs.Readable.{IsReadableAccount, IsReadableBranch, IsReadableCertifier, IsReadableEntry, IsReadableLine, IsReadableMember, IsReadableProof, IsReadableRelation, IsReadableRelease, IsReadableTeller, IsReadableTriple, IsReadableUser, IsShort}
+use Rattle.bank_schema.specs.Readable.{IsReadableAccount, IsReadableBranch, IsReadableCertifier, IsReadableEntry, IsReadableLine, IsReadableMember, IsReadableProof, IsReadableRelation, IsReadableRelease, IsReadableSlip, IsReadableSlipCount, IsReadableTeller, IsReadableTriple, IsReadableUser, IsShort}
 use Rattle.whole_tables.specs.declared.book_rows.BookRows.{BookRows}
 use Rattle.whole_tables.specs.declared.book_rows.HistoryRows.{HistoryRows}
 use Rattle.whole_tables.specs.declared.book_rows.LedgerRows.{LedgerRows}
+use Rattle.whole_tables.specs.declared.book_rows.SlipRows.{SlipRows}
 use Rattle.whole_tables.specs.declared.book_rows.UserRows.{UserRows}
 use Rattle.whole_tables.specs.declared.policy_tables.GrantRows.{GrantRows}
 use Rattle.whole_tables.specs.declared.policy_tables.PolicyTables.{PolicyTables}
@@ -28,10 +29,15 @@ pub record AreUsersTyped (rows : UserRows) : Type 0 where
   pub releases : Each IsReadableRelease rows.releases.items
   pub users : Each IsReadableUser rows.users.items
 
+pub record AreSlipsTyped (rows : SlipRows) : Type 0 where
+  pub slips : Each IsReadableSlip rows.slips.items
+  pub counts : Each IsReadableSlipCount rows.counts.items
+
 pub record AreBooksTyped (rows : BookRows) : Type 0 where
   pub ledger : IsLedgerTyped rows.ledger
   pub history : IsHistoryTyped rows.history
   pub users : AreUsersTyped rows.users
+  pub slips : AreSlipsTyped rows.slips
 
 -- ---- the policy
 

@@ -16,7 +16,7 @@ use Rattle.sqlite_sql.specs.Program.{IsProgramAnswer, ProgramOverflows}
 use Rattle.sqlite_typing.specs.Types.{accepts_program}
 use Rattle.sqlite_trees.specs.View.{IsShaped}
 use Rattle.sqlite_trees.specs.declared.store.Shape.TheVariants.{Table}
-use Rattle.bank_schema.specs.Held.{HoldsSheetsIn, Sheet, tree_of}
+use Rattle.bank_schema.specs.Held.{HoldsSheetsIn, IsIn, Sheet, tree_of}
 use Rattle.bank_schema.specs.HeldRows.{HoldsRows}
 use Rattle.bank_schema.specs.Readable.{AreReadable}
 use Rattle.bank_schema.specs.Schema.{schema_of}
@@ -34,7 +34,7 @@ pub record IsKeptTable (tree : List Row) : Type 0 where
 pub record HasBankTables (e : Edition) (s : State) : Type 0 where
   pub schema : s.now.schema ≡ schema_of e
   pub sound : IsTrue s.is_open → IsDatabase s.now
-  pub kept : (t : Sheet) → IsKeptTable (s.now.trees (tree_of t))
+  pub kept : (t : Sheet) → IsIn e t → IsKeptTable (s.now.trees (tree_of t))
 
 -- These are the rows of a table, each once, and none of them has a number too great for its key. Where the table holds rows whose keys differ,
 -- they are these, in order of their keys.
@@ -81,6 +81,7 @@ pub record IsAnswered (e : Edition) (text : List ℕ) : Type 0 where
 -- The text is a query of which each answer tells the rows of a table, each once, in order of their keys where these differ: `shows` gives
 -- what of a row counts, and `told` what a row of the answer tells of it.
 pub record TellsWhole {X : Type 0} (e : Edition) (shows told : Row → Row) (cells : X → Row) (key : X → ℕ) (Fits : X → Type 0) (t : Sheet) (text : List ℕ) : Type 0 where
+  pub inside : IsIn e t
   pub asks : IsAnswered e text
   pub whole : (db : Trees) (answer : List Row) → Obeys (schema_of e) db → IsKeptTable (db (tree_of t)) → IsProgramAnswer [] asks.query db [] answer
       → IsPermutation (map told answer) (map shows (db (tree_of t)))

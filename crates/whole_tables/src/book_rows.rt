@@ -1,19 +1,20 @@
-ghost use Rattle.std.specs.Prelude.{◌≡◌, IfErr, IfOk};
+ghost use Rattle.std.specs.Prelude.{◌≡◌, IfErr, IfOk, IsTrue};
 ghost use Rattle.sqlite.specs.Held.{state};
 ghost use Rattle.sqlite.specs.State.{Survives};
-ghost use Rattle.whole_tables.specs.BookRows.{AreBookRows, AreHistoryRows, AreLedgerRows, AreUserRows};
+ghost use Rattle.bank_schema.specs.Readable.{IsReadableUser};
+ghost use Rattle.whole_tables.specs.BookRows.{AreBookRows, AreHistoryRows, AreLedgerRows, AreSlipRows, AreUserRows};
 ghost use Rattle.whole_tables.specs.Faults.{IsOfDatabase};
-ghost use Rattle.whole_tables.specs.Typed.{AreBooksTyped, AreUsersTyped, IsHistoryTyped, IsLedgerTyped};
+ghost use Rattle.whole_tables.specs.Typed.{AreBooksTyped, AreSlipsTyped, AreUsersTyped, Each, IsHistoryTyped, IsLedgerTyped};
 ghost use Rattle.whole_tables.specs.Whole.{OnReadable, Reads};
 
 use crate::fault::ReadFault;
 use crate::{
-    all_accounts, all_branches, all_entries, all_lines, all_proofs, all_releases, all_tellers,
-    all_users,
+    all_accounts, all_branches, all_entries, all_lines, all_proofs, all_releases, all_slip_counts,
+    all_slips, all_tellers, all_users,
 };
-use bank_books::{AccountRecord, BranchRecord, CashLine, EntryRecord, Proof, Release};
+use bank_books::{AccountRecord, BranchRecord, CashLine, EntryRecord, Proof, Release, Slip};
 use bank_schema::Edition;
-use kept_rows::{KeptTeller, KeptUser};
+use kept_rows::{KeptTeller, KeptUser, SlipCount};
 use sqlite::{Alter, Transaction};
 use std::alloc::Global;
 
@@ -48,6 +49,15 @@ pub struct UserRows {
     pub users: Vec<KeptUser>,
 }
 
+/// Slips, and how many each user has.
+#[derive(Drop)]
+pub struct SlipRows {
+    /// The slips.
+    pub slips: Vec<Slip>,
+    /// How many of them each user has.
+    pub counts: Vec<SlipCount>,
+}
+
 /// All that a check of the books looks at.
 #[derive(Drop)]
 pub struct BookRows {
@@ -57,6 +67,8 @@ pub struct BookRows {
     pub history: HistoryRows,
     /// Users and releases.
     pub users: UserRows,
+    /// Slips and how many each user has.
+    pub slips: SlipRows,
 }
 
 fn ledger_rows<S: Alter>(
@@ -117,6 +129,24 @@ fn user_rows<S: Alter>(
     Ok(UserRows { releases, users })
 }
 
+/// The slips and their numbers beside these users, on a connection that is open.
+fn slip_rows<S: Alter>(
+    alloc: Global,
+    tx: &mut Transaction<'_, S>,
+    edition: Edition,
+    users: &[KeptUser],
+) -> Result<SlipRows, ReadFault>
+    ensures same_reference { tx.new.conn.ghost_name ≡ tx.old.conn.ghost_name }
+    ensures whole { IsTrue (state S.Store tx.old.conn.now).is_open → Reads edition (state S.Store tx.old.conn.now) (state S.Store tx.new.conn.now) (AreSlipRows edition users.now) result }
+    ensures typed { Each IsReadableUser users.now → IfOk result AreSlipsTyped }
+    ensures takes { IsTrue (state S.Store tx.old.conn.now).is_open → OnReadable edition (state S.Store tx.old.conn.now) (state S.Store tx.new.conn.now) (IfErr result IsOfDatabase) }
+    ensures survives { Survives (state S.Store tx.old.conn.now) (state S.Store tx.new.conn.now) (λ _. ⊥) }
+{
+    let slips = all_slips(alloc, tx, edition)?;
+    let counts = all_slip_counts(alloc, tx, edition, users)?;
+    Ok(SlipRows { slips, counts })
+}
+
 /// All rows that a check of the books looks at: those of the books, and the users.
 pub fn all_book_rows<S: Alter>(
     alloc: Global,
@@ -124,7 +154,7 @@ pub fn all_book_rows<S: Alter>(
     edition: Edition,
 ) -> Result<BookRows, ReadFault>
     ensures same_reference { tx.new.conn.ghost_name ≡ tx.old.conn.ghost_name }
-    ensures whole { Reads edition (state S.Store tx.old.conn.now) (state S.Store tx.new.conn.now) AreBookRows result }
+    ensures whole { Reads edition (state S.Store tx.old.conn.now) (state S.Store tx.new.conn.now) (AreBookRows edition) result }
     ensures typed { IfOk result AreBooksTyped }
     ensures takes { OnReadable edition (state S.Store tx.old.conn.now) (state S.Store tx.new.conn.now) (IfErr result IsOfDatabase) }
     ensures survives { Survives (state S.Store tx.old.conn.now) (state S.Store tx.new.conn.now) (λ _. ⊥) }
@@ -132,9 +162,11 @@ pub fn all_book_rows<S: Alter>(
     let ledger = ledger_rows(alloc, tx, edition)?;
     let history = history_rows(alloc, tx, edition)?;
     let users = user_rows(alloc, tx, edition)?;
+    let slips = slip_rows(alloc, tx, edition, &users.users)?;
     Ok(BookRows {
         ledger,
         history,
         users,
+        slips,
     })
 }

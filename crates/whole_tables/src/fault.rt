@@ -38,6 +38,10 @@ pub enum Table {
     Proofs,
     /// The releases.
     Releases,
+    /// The slips.
+    Slips,
+    /// How many slips each user has.
+    SlipCounts,
 }
 
 /// Why a table was not read whole.

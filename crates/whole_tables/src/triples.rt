@@ -3,7 +3,7 @@ ghost use Rattle.sqlite.specs.Held.{state};
 ghost use Rattle.sqlite.specs.State.{Survives};
 ghost use Rattle.bank_schema.specs.Readable.{IsReadableTriple};
 ghost use Rattle.bank_schema.specs.Steps.{StaysOpen};
-ghost use Rattle.bank_schema.specs.declared.edition.Edition.TheVariants.{First, Second};
+ghost use Rattle.bank_schema.specs.declared.edition.Edition.TheVariants.{First, Second, Third};
 ghost use Rattle.whole_tables.specs.Tables.{AreTriples};
 ghost use Rattle.whole_tables.specs.Faults.{IsOfDatabase};
 ghost use Rattle.whole_tables.specs.Typed.{Each};
@@ -25,14 +25,15 @@ pub(crate) fn query(edition: Edition) -> &'static str
 {
     match edition {
         Edition::First => FIRST_QUERY,
-        Edition::Second => SECOND_QUERY,
+        Edition::Second => GRANTS_QUERY,
+        Edition::Third => GRANTS_QUERY,
     }
 }
 
 const FIRST_QUERY: &str =
     "SELECT user_no, procedure, set_no, ceiling FROM triples ORDER BY user_no, procedure, set_no";
 
-const SECOND_QUERY: &str =
+const GRANTS_QUERY: &str =
     "SELECT user_no, procedure, set_no, ceiling, first_at, last_at FROM grants ORDER BY user_no, procedure, set_no";
 
 /// All triples, by user, then procedure, then set.
@@ -51,6 +52,7 @@ pub fn all_triples<S: Alter>(
     match edition {
         Edition::First => first_triples(alloc, tx),
         Edition::Second => second_triples(alloc, tx),
+        Edition::Third => third_triples(alloc, tx),
     }
 }
 
@@ -135,7 +137,7 @@ impl TableRow for FirstTriple {
     }
 }
 
-/// Those of the table `grants`.
+/// Those of the table `grants`, as the second edition has it.
 fn second_triples<S: Alter>(
     alloc: Global,
     tx: &mut Transaction<'_, S>,
@@ -147,7 +149,22 @@ fn second_triples<S: Alter>(
     ensures open { StaysOpen (state S.Store tx.old.conn.now) (state S.Store tx.new.conn.now) result }
     ensures survives { Survives (state S.Store tx.old.conn.now) (state S.Store tx.new.conn.now) (λ _. ⊥) }
 {
-    whole_table(alloc, tx, Edition::Second, SECOND_QUERY, Table::Triples)
+    whole_table(alloc, tx, Edition::Second, GRANTS_QUERY, Table::Triples)
+}
+
+/// Those of the table `grants`, as the third edition has it.
+fn third_triples<S: Alter>(
+    alloc: Global,
+    tx: &mut Transaction<'_, S>,
+) -> Result<Vec<Triple>, ReadFault>
+    ensures same_reference { tx.new.conn.ghost_name ≡ tx.old.conn.ghost_name }
+    ensures whole { Reads Third (state S.Store tx.old.conn.now) (state S.Store tx.new.conn.now) (λ trees rows. AreTriples Third trees rows.items) result }
+    ensures typed { IfOk result (λ rows. Each IsReadableTriple rows.items) }
+    ensures takes { OnReadable Third (state S.Store tx.old.conn.now) (state S.Store tx.new.conn.now) (IfErr result IsOfDatabase) }
+    ensures open { StaysOpen (state S.Store tx.old.conn.now) (state S.Store tx.new.conn.now) result }
+    ensures survives { Survives (state S.Store tx.old.conn.now) (state S.Store tx.new.conn.now) (λ _. ⊥) }
+{
+    whole_table(alloc, tx, Edition::Third, GRANTS_QUERY, Table::Triples)
 }
 
 impl TableRow for Triple {

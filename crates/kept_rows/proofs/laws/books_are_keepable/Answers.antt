@@ -14,6 +14,7 @@ returns c books distinct =
       lines = c.lines-lines.ensures.in_order;
       proofs = c.proofs-proofs.ensures.in_order;
       releases = c.releases-releases.ensures.in_order;
+      slips = c.slips-slips.ensures.in_order;
     })
     (subst (λ p. ArePolicyRowsInOrder p.users p.sets p.relations p.triples p.certifiers) c.policy-policy.ensures (record {
       users_in_order = c.users-users.ensures.in_order;

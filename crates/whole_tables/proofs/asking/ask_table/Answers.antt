@@ -1,18 +1,12 @@
-use Rattle.std.specs.Prelude.{⊤}
+use Rattle.std.proofs.Common.{subst}
+use Rattle.std.specs.Prelude.{IfSome, ⊤}
 use Rattle.sqlite.specs.Held.{state}
-use Rattle.whole_tables.proofs.ReadsLemmas.{gave_whole}
-use Rattle.whole_tables.proofs.WholeLemmas.{plain_there}
+use Rattle.whole_tables.specs.Whole.{IsAnswered}
+use Rattle.whole_tables.proofs.ReadsLemmas.{still}
 use Rattle.whole_tables.proofs.asking.ask_table.Goals as goal
 
-pub returns-in_err-shown_rows-clause-whole : goal.returns-in_err-shown_rows-clause-whole
-returns-in_err-shown_rows-clause-whole g c =
-    let old = state g.S.Store c.args.tx.now.conn.now in
-    let new = state g.S.Store c.shown_rows.new.tx.conn.now in
-    gave_whole c.args.edition old new (λ _ _. ⊤) c.from_residual.result c.from_residual.ensures.0
-    (λ clean has. (c.in_err-shown_rows.ensures.still clean (plain_there c.args.edition c.query_for.result.now old c.query_for.ensures.plain has)).1)
+pub ask-requires : goal.ask-requires
+ask-requires g c = subst (λ found. IfSome found (λ sql. IsAnswered c.args.edition sql.now)) c.in-Some.is c.query_for.ensures
 
-pub returns-clause-whole : goal.returns-clause-whole
-returns-clause-whole g c clean has =
-    let old = state g.S.Store c.args.tx.now.conn.now in
-    let still = c.in_ok-shown_rows.ensures.still clean (plain_there c.args.edition c.query_for.result.now old c.query_for.ensures.plain has) in
-    (tt, still.0, still.1)
+pub returns-in-None-clause-whole : goal.returns-in-None-clause-whole
+returns-in-None-clause-whole g c is_open = still c.args.edition (state g.S.Store c.args.tx.now.conn.now) (λ _. ⊤) (λ _. tt) is_open

@@ -1,0 +1,17 @@
+use crate::sql_store::SqlStore;
+use bank_books::Slip;
+use money::Fault;
+use sqlite::Alter;
+use std::alloc::Global;
+use store_rows::SlipReads;
+use table_questions::{SlipOf, SlipsOf};
+
+impl<S: Alter> SlipReads for SqlStore<S> {
+    fn slip(&mut self, alloc: Global, user: u32, number: u32) -> Result<Option<Slip>, Fault> {
+        self.ask(alloc, &SlipOf { user, number })
+    }
+
+    fn slips(&mut self, alloc: Global, user: u32) -> Result<u64, Fault> {
+        self.ask(alloc, &SlipsOf { user })
+    }
+}
