@@ -25,10 +25,7 @@ use Rattle.bank_run.specs.declared.execution.Execution.{Execution}
 use Rattle.bank_run.specs.Sums.{NoOneExecutesWhatHeCertifies}
 use Rattle.bank_run.proofs.FirstRule.{none_denies}
 use Rattle.bank_run.proofs.PolicyLemmas.{books_decide, policy_decides}
-
--- a rule of the policy does not deny
-passes : (w : WorldLists) (q : Execution) (r : Rule) → is_of_policy r ≡ true → first w (executes q) ≡ None → policy_denies r (grounds w q) ≡ false
-passes w q r of is = subst (λ b. (if b then policy_denies r (grounds w q) else (books_meaning w q).denies r) ≡ false) of (none_denies w (executes q) r is)
+use Rattle.bank_run.proofs.SlipFirst.{plain_allowed}
 
 -- ---- the user
 
@@ -45,13 +42,13 @@ user_there w (Some user) session is =
     (row.0, (found.0, eqb-true (user_key row.0) user found.1))
 
 pub allowed_user : (w : WorldLists) (q : Execution) → first w (executes q) ≡ None → IsUser w.policy.users (asker q.who)
-allowed_user w q is = user_there w q.who.user q.who.session (not-false _ (passes w q rule.Identity refl is))
+allowed_user w q is = user_there w q.who.user q.who.session (not-false _ (none_denies w (executes q) rule.Identity is))
 
 -- ---- his triple
 
 may_execute : (w : WorldLists) (q : Execution) → first w (executes q) ≡ None → MayExecute w.policy (asker q.who) (procedure_of q.op)
 may_execute w q is =
-    let some = held_by_some (current q.moment (triples_of w.policy (asker q.who) (procedure_of q.op))) (touched q.op) (not-false _ (passes w q rule.NoTriple refl is)) in
+    let some = held_by_some (current q.moment (triples_of w.policy (asker q.who) (procedure_of q.op))) (touched q.op) (not-false _ (none_denies w (executes q) rule.NoTriple is)) in
     let held = (held_by_rows w.policy (asker q.who) (procedure_of q.op) (touched q.op) some.0 q.moment).1 some.1 in
     (held.0, held.1, held.2, held.3, (held.4.0, held.4.1))
 
@@ -64,5 +61,5 @@ pub allowed_by_books : (w : WorldLists) (q : Execution) → first w (executes q)
 allowed_by_books w q is = go (first_of_policy (grounds w q)) refl
   where
     go : (r : Option Rule) → first_of_policy (grounds w q) ≡ r → (by_books (books_meaning w q)).first ≡ None
-    go None none = sym (books_decide w q none) ∙ is
-    go (Some r) some = let denied : None ≡ Some r = sym is ∙ policy_decides w q r some in absurd cc
+    go None none = sym (books_decide w q none) ∙ plain_allowed w q is
+    go (Some r) some = let denied : None ≡ Some r = sym (plain_allowed w q is) ∙ policy_decides w q r some in absurd cc

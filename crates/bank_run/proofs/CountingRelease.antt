@@ -37,13 +37,13 @@ not_so false is = refl
 
 -- ---- the operation
 
-same_told : (row other : OperationRow) → is_same_operation row other ≡ true → row ≡ other
+pub same_told : (row other : OperationRow) → is_same_operation row other ≡ true → row ≡ other
 same_told row other is =
     let parts = and_parts (number_of row.form == number_of other.form) (pointwise int_eq row.members other.members) is in
     ap (λ f. record { form = f; members = row.members }) (one_procedure row.form other.form (eqb-true (number_of row.form) (number_of other.form) parts.0))
     ∙ ap (λ ms. record { form = other.form; members = ms }) ((signed_items row.members other.members).0 parts.1)
 
-same_tested : (row other : OperationRow) → row ≡ other → is_same_operation row other ≡ true
+pub same_tested : (row other : OperationRow) → row ≡ other → is_same_operation row other ≡ true
 same_tested row other same =
     both (number_of row.form == number_of other.form) (pointwise int_eq row.members other.members) (eq-eqb (number_of row.form) (number_of other.form) (ap (λ r. number_of r.form) same))
     ((signed_items row.members other.members).1 (ap (λ r. r.members) same))

@@ -3,7 +3,7 @@ use Rattle.std.proofs.Common.{◌≡◌, Bool, true, false, List, [], ◌∷◌,
 use Rattle.std.specs.List.{find}
 use Rattle.std.proofs.lemmas.List.Elements.{All-cons, All-nil}
 use Rattle.bank_terms.specs.declared.rule.Rule.{Rule}
-use Rattle.bank_terms.specs.declared.rule.Rule.TheVariants.{Identity, NotCertified, NoTriple, Limit, Release, Unknown, Branch, Drawer, SecondPerson, Entry, Floor, Cash, Range, Taken, Day, Full, Officer, Certifier, Separation, PolicyUnknown, PolicyState}
+use Rattle.bank_terms.specs.declared.rule.Rule.TheVariants.{Identity, NotCertified, NoTriple, Limit, Release, Unknown, Branch, Drawer, SecondPerson, Entry, Floor, Cash, Range, Taken, Day, Full, Officer, Certifier, Separation, PolicyUnknown, PolicyState, Slip}
 use Rattle.bank_books.specs.WorldLists.{WorldLists}
 use Rattle.bank_run.specs.Laws.{FirstByPlace, HasOnePlace, IsFirstRule}
 use Rattle.bank_run.specs.Requests.{denies, first, rules}
@@ -43,26 +43,27 @@ none p (x ∷ xs) y h e = (elim (p x) as (λ b. p x ≡ b → p y ≡ false) [
 -- each rule is listed
 listed : (r : Rule) → Has r rules
 listed Identity = inl refl
-listed NotCertified = inr (inl refl)
-listed NoTriple = inr (inr (inl refl))
-listed Limit = inr (inr (inr (inl refl)))
-listed Release = inr (inr (inr (inr (inl refl))))
-listed Unknown = inr (inr (inr (inr (inr (inl refl)))))
-listed Branch = inr (inr (inr (inr (inr (inr (inl refl))))))
-listed Drawer = inr (inr (inr (inr (inr (inr (inr (inl refl)))))))
-listed SecondPerson = inr (inr (inr (inr (inr (inr (inr (inr (inl refl))))))))
-listed Entry = inr (inr (inr (inr (inr (inr (inr (inr (inr (inl refl)))))))))
-listed Floor = inr (inr (inr (inr (inr (inr (inr (inr (inr (inr (inl refl))))))))))
-listed Cash = inr (inr (inr (inr (inr (inr (inr (inr (inr (inr (inr (inl refl)))))))))))
-listed Range = inr (inr (inr (inr (inr (inr (inr (inr (inr (inr (inr (inr (inl refl))))))))))))
-listed Taken = inr (inr (inr (inr (inr (inr (inr (inr (inr (inr (inr (inr (inr (inl refl)))))))))))))
-listed Day = inr (inr (inr (inr (inr (inr (inr (inr (inr (inr (inr (inr (inr (inr (inl refl))))))))))))))
-listed Full = inr (inr (inr (inr (inr (inr (inr (inr (inr (inr (inr (inr (inr (inr (inr (inl refl)))))))))))))))
-listed Officer = inr (inr (inr (inr (inr (inr (inr (inr (inr (inr (inr (inr (inr (inr (inr (inr (inl refl))))))))))))))))
-listed Certifier = inr (inr (inr (inr (inr (inr (inr (inr (inr (inr (inr (inr (inr (inr (inr (inr (inr (inl refl)))))))))))))))))
-listed Separation = inr (inr (inr (inr (inr (inr (inr (inr (inr (inr (inr (inr (inr (inr (inr (inr (inr (inr (inl refl))))))))))))))))))
-listed PolicyUnknown = inr (inr (inr (inr (inr (inr (inr (inr (inr (inr (inr (inr (inr (inr (inr (inr (inr (inr (inr (inl refl)))))))))))))))))))
-listed PolicyState = inr (inr (inr (inr (inr (inr (inr (inr (inr (inr (inr (inr (inr (inr (inr (inr (inr (inr (inr (inr (inl refl))))))))))))))))))))
+listed NotCertified = inr (inr (inl refl))
+listed NoTriple = inr (inr (inr (inl refl)))
+listed Limit = inr (inr (inr (inr (inl refl))))
+listed Release = inr (inr (inr (inr (inr (inl refl)))))
+listed Unknown = inr (inr (inr (inr (inr (inr (inl refl))))))
+listed Branch = inr (inr (inr (inr (inr (inr (inr (inl refl)))))))
+listed Drawer = inr (inr (inr (inr (inr (inr (inr (inr (inl refl))))))))
+listed SecondPerson = inr (inr (inr (inr (inr (inr (inr (inr (inr (inl refl)))))))))
+listed Entry = inr (inr (inr (inr (inr (inr (inr (inr (inr (inr (inl refl))))))))))
+listed Floor = inr (inr (inr (inr (inr (inr (inr (inr (inr (inr (inr (inl refl)))))))))))
+listed Cash = inr (inr (inr (inr (inr (inr (inr (inr (inr (inr (inr (inr (inl refl))))))))))))
+listed Range = inr (inr (inr (inr (inr (inr (inr (inr (inr (inr (inr (inr (inr (inl refl)))))))))))))
+listed Taken = inr (inr (inr (inr (inr (inr (inr (inr (inr (inr (inr (inr (inr (inr (inl refl))))))))))))))
+listed Day = inr (inr (inr (inr (inr (inr (inr (inr (inr (inr (inr (inr (inr (inr (inr (inl refl)))))))))))))))
+listed Full = inr (inr (inr (inr (inr (inr (inr (inr (inr (inr (inr (inr (inr (inr (inr (inr (inl refl))))))))))))))))
+listed Officer = inr (inr (inr (inr (inr (inr (inr (inr (inr (inr (inr (inr (inr (inr (inr (inr (inr (inl refl)))))))))))))))))
+listed Certifier = inr (inr (inr (inr (inr (inr (inr (inr (inr (inr (inr (inr (inr (inr (inr (inr (inr (inr (inl refl))))))))))))))))))
+listed Separation = inr (inr (inr (inr (inr (inr (inr (inr (inr (inr (inr (inr (inr (inr (inr (inr (inr (inr (inr (inl refl)))))))))))))))))))
+listed PolicyUnknown = inr (inr (inr (inr (inr (inr (inr (inr (inr (inr (inr (inr (inr (inr (inr (inr (inr (inr (inr (inr (inl refl))))))))))))))))))))
+listed PolicyState = inr (inr (inr (inr (inr (inr (inr (inr (inr (inr (inr (inr (inr (inr (inr (inr (inr (inr (inr (inr (inr (inl refl)))))))))))))))))))))
+listed Slip = inr (inl refl)
 
 -- and stands there once
 one_place : (r : Rule) → HasOnePlace r
@@ -87,6 +88,7 @@ one_place Certifier = refl
 one_place Separation = refl
 one_place PolicyUnknown = refl
 one_place PolicyState = refl
+one_place Slip = refl
 
 is_first_rule : (w : WorldLists) (q : Request) → IsFirstRule w q
 is_first_rule w q = record {

@@ -23,6 +23,7 @@ use Rattle.bank_run.specs.declared.execution.Execution.{Execution}
 use Rattle.bank_run.specs.declared.leave.Leave.TheVariants as leave
 use Rattle.bank_run.proofs.AllowedRequest.{allowed_by_books}
 use Rattle.bank_run.proofs.CountingRelease.{released_by_grounds}
+use Rattle.bank_run.proofs.SlipFirst.{has_room, not_another, slip_passes}
 use Rattle.bank_run.proofs.PolicyLemmas.{books_decide}
 use Rattle.bank_run.specs.declared.who.Who.{Who}
 use Rattle.bank_run.proofs.FirstRule.{none_denies}
@@ -51,16 +52,16 @@ tested_row row session active on present given =
     ∙ ap (λ b. b && row.session == session) on
     ∙ eq-eqb row.session session present
 
-told_standing : (w : WorldLists) (user session release : ℕ) (o : Option Standing) → standing w.policy user ≡ o → is_identified o session ≡ true
-    → IsIdentified w (record { user = Some user; session = session; release = release })
-told_standing w user session release None at is = absurd cc
-told_standing w user session release (Some row) at is =
+told_standing : (w : WorldLists) (user session release slip : ℕ) (o : Option Standing) → standing w.policy user ≡ o → is_identified o session ≡ true
+    → IsIdentified w (record { user = Some user; session = session; release = release; slip = slip })
+told_standing w user session release slip None at is = absurd cc
+told_standing w user session release slip (Some row) at is =
     let told = told_row row session is in
     record { user = user; row = row; named = refl; there = at; active = told.0; on = told.1; present = told.2; given = told.3 }
 
-told_user : (w : WorldLists) (user : Option ℕ) (session release : ℕ) → is_identified (option_and_then (λ u. standing w.policy u) user) session ≡ true → IsIdentified w (record { user = user; session = session; release = release })
-told_user w None session release is = absurd cc
-told_user w (Some user) session release is = told_standing w user session release (standing w.policy user) refl is
+told_user : (w : WorldLists) (user : Option ℕ) (session release slip : ℕ) → is_identified (option_and_then (λ u. standing w.policy u) user) session ≡ true → IsIdentified w (record { user = user; session = session; release = release; slip = slip })
+told_user w None session release slip is = absurd cc
+told_user w (Some user) session release slip is = told_standing w user session release slip (standing w.policy user) refl is
 
 tested_user : (w : WorldLists) (who : Who) → IsIdentified w who → is_identified (option_and_then (λ u. standing w.policy u) who.user) who.session ≡ true
 tested_user w who known =
@@ -69,10 +70,10 @@ tested_user w who known =
     ∙ tested_row known.row who.session known.active known.on known.present known.given
 
 identified_passed : (w : WorldLists) (q : Execution) → (denies rule.Identity w (executes q) ≡ false → IsIdentified w q.who) × (IsIdentified w q.who → denies rule.Identity w (executes q) ≡ false)
-identified_passed w q = passed (is_identified (grounds w q).standing q.who.session) (told_user w q.who.user q.who.session q.who.release) (tested_user w q.who)
+identified_passed w q = passed (is_identified (grounds w q).standing q.who.session) (told_user w q.who.user q.who.session q.who.release q.who.slip) (tested_user w q.who)
 
 known_passed : (w : WorldLists) (who : Who) → (not (is_identified (standing_of_asker who w) who.session) ≡ false → IsIdentified w who) × (IsIdentified w who → not (is_identified (standing_of_asker who w) who.session) ≡ false)
-known_passed w who = passed (is_identified (standing_of_asker who w) who.session) (told_user w who.user who.session who.release) (tested_user w who)
+known_passed w who = passed (is_identified (standing_of_asker who w) who.session) (told_user w who.user who.session who.release who.slip) (tested_user w who)
 
 told_active : (w : WorldLists) (user : ℕ) (o : Option Standing) → standing w.policy user ≡ o → is_active o ≡ true → MayOpen w (Some user)
 told_active w user None at is = absurd cc
@@ -227,9 +228,11 @@ allowed_exactly_when_held w q = (
         (certified_passed w q).0 (each rule.NotCertified),
         told_either w q ((held_passed w q).0 (each rule.NoTriple)) ((limit_passed w q).0 (each rule.Limit)) ((release_passed w q).0 (each rule.Release)),
         allowed_by_books w q is,
+        record { not_another = not_another w q is; has_room = has_room w q is },
       ),
   λ says.
-      books_decide w q (none_found (λ r. policy_denies r (grounds w q)) rules_of_policy
+      slip_passes w q says.4.not_another says.4.has_room
+      ∙ books_decide w q (none_found (λ r. policy_denies r (grounds w q)) rules_of_policy
       (policy_passes w q says.0 says.1 (held_either w q says.2) (limit_either w q says.2) (release_either w q says.2)))
       ∙ says.3,
 )

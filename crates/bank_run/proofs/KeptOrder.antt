@@ -13,7 +13,8 @@ use Rattle.bank_policy.specs.declared.policy_write.PolicyWrite.TheVariants as ch
 use Rattle.bank_policy.specs.declared.policy_write.Session.{Session}
 use Rattle.bank_policy.specs.declared.rows.User.{User}
 use Rattle.bank_books.specs.Effects.{all_written, applied, on_day, used_up, written}
-use Rattle.bank_books.specs.Keys.{account_key, branch_key, entry_key, line_key, proof_key, release_key, release_number}
+use Rattle.bank_books.specs.Keys.{account_key, branch_key, entry_key, line_key, proof_key, release_key, release_number, slip_key}
+use Rattle.bank_books.specs.SlipRow.{SlipRow}
 use Rattle.bank_books.specs.Version.{changes_policy, has_version_for, with_version}
 use Rattle.bank_books.specs.WorldLists.{WorldLists}
 use Rattle.bank_books.specs.declared.row_write.RowWrite.{RowWrite}
@@ -32,15 +33,16 @@ use Rattle.postings.specs.Correct.{correct_changes, correct_rows}
 use Rattle.postings.specs.Post.{post_changes, post_rows}
 use Rattle.postings.specs.Transfer.{transfer_changes, transfer_rows}
 use Rattle.store_rows.specs.Status.{after_mark}
-use Rattle.bank_run.specs.Executions.{books_meaning, signature_of}
+use Rattle.bank_run.specs.Executions.{books_meaning, execution_meaning, signature_of}
 use Rattle.bank_run.specs.NewAccount.{opened}
 use Rattle.bank_run.specs.Operations.{meaning_of}
 use Rattle.bank_run.specs.Order.{AreBooksInOrder, IsInOrder, IsPolicyInOrder}
 use Rattle.bank_run.specs.PolicyRules.{asker, grounds, leave_of, used_by}
 use Rattle.bank_run.specs.Release.{release_changes, release_rows}
-use Rattle.bank_run.specs.Requests.{asked_meaning, effect, first}
-use Rattle.bank_run.specs.Run.{Marked, after_request, if_allowed}
+use Rattle.bank_run.specs.Requests.{asked_meaning, effect, first, repeated}
+use Rattle.bank_run.specs.Run.{Marked, after_request, if_allowed, unless_repeated}
 use Rattle.bank_run.specs.Sessions.{latest, session_of, standing_of_asker}
+use Rattle.bank_run.specs.Slips.{slip_named, slip_of}
 use Rattle.bank_run.specs.declared.execution.Execution.{Execution}
 use Rattle.bank_run.specs.declared.leave.Leave.{Leave}
 use Rattle.bank_run.specs.declared.leave.Leave.TheVariants as leave
@@ -134,6 +136,7 @@ books_written (write.Account row) w was = record {
   lines = was.lines;
   proofs = was.proofs;
   releases = was.releases;
+  slips = was.slips;
 }
 books_written (write.Entry row) w was = record {
   branches = was.branches;
@@ -143,6 +146,7 @@ books_written (write.Entry row) w was = record {
   lines = was.lines;
   proofs = was.proofs;
   releases = was.releases;
+  slips = was.slips;
 }
 books_written (write.Line row) w was = record {
   branches = was.branches;
@@ -152,6 +156,7 @@ books_written (write.Line row) w was = record {
   lines = IsNonDecreasingBy-add_row line_key row w.lines was.lines;
   proofs = was.proofs;
   releases = was.releases;
+  slips = was.slips;
 }
 books_written (write.Proof row) w was = record {
   branches = was.branches;
@@ -161,6 +166,7 @@ books_written (write.Proof row) w was = record {
   lines = was.lines;
   proofs = IsNonDecreasingBy-add_row proof_key row w.proofs was.proofs;
   releases = was.releases;
+  slips = was.slips;
 }
 books_written (write.Release row) w was = record {
   branches = was.branches;
@@ -170,6 +176,7 @@ books_written (write.Release row) w was = record {
   lines = was.lines;
   proofs = was.proofs;
   releases = IsNonDecreasingBy-add_row release_key row w.releases was.releases;
+  slips = was.slips;
 }
 books_written (write.Day d) w was = record {
   branches = IsNonDecreasingBy-made branch_key (λ row. if row.branch == d.branch then on_day d.day row else row) (key-changed branch_key (on_day d.day) d.branch (λ row. refl)) w.branches was.branches;
@@ -179,6 +186,7 @@ books_written (write.Day d) w was = record {
   lines = was.lines;
   proofs = was.proofs;
   releases = was.releases;
+  slips = was.slips;
 }
 books_written (write.Used k) w was = record {
   branches = was.branches;
@@ -188,6 +196,7 @@ books_written (write.Used k) w was = record {
   lines = was.lines;
   proofs = was.proofs;
   releases = IsNonDecreasingBy-made release_key (λ row. if release_key row == release_number k.user k.number then used_up row else row) (key-changed release_key used_up (release_number k.user k.number) (λ row. refl)) w.releases was.releases;
+  slips = was.slips;
 }
 books_written (write.Session s) w was = record {
   branches = was.branches;
@@ -197,6 +206,7 @@ books_written (write.Session s) w was = record {
   lines = was.lines;
   proofs = was.proofs;
   releases = was.releases;
+  slips = was.slips;
 }
 books_written (write.Policy c) w was = record {
   branches = was.branches;
@@ -206,6 +216,17 @@ books_written (write.Policy c) w was = record {
   lines = was.lines;
   proofs = was.proofs;
   releases = was.releases;
+  slips = was.slips;
+}
+books_written (write.Slip row) w was = record {
+  branches = was.branches;
+  tellers = was.tellers;
+  accounts = was.accounts;
+  entries = was.entries;
+  lines = was.lines;
+  proofs = was.proofs;
+  releases = was.releases;
+  slips = IsNonDecreasingBy-add_row slip_key row w.slips was.slips;
 }
 
 policy_after : (c : RowWrite) (w : WorldLists) → IsPolicyInOrder w.policy → IsPolicyInOrder (written c w).policy
@@ -218,6 +239,7 @@ policy_after (write.Day d) w was = was
 policy_after (write.Used k) w was = was
 policy_after (write.Session s) w was = session_in_order w.policy s was
 policy_after (write.Policy c) w was = change_in_order w.policy c was
+policy_after (write.Slip row) w was = was
 
 pub in_order_written : (c : RowWrite) (w : WorldLists) → IsInOrder w → IsInOrder (written c w)
 in_order_written c w was = record { books = books_written c w was.books; policy = policy_after c w was.policy }
@@ -238,6 +260,7 @@ in_order_with_version true w was = record {
     lines = was.books.lines;
     proofs = was.books.proofs;
     releases = was.books.releases;
+    slips = was.books.slips;
   };
   policy = was.policy;
 }
@@ -271,19 +294,25 @@ with_leave : (l : Leave) (user : ℕ) (w : WorldLists) → IsInOrder w → IsInO
 with_leave leave.Triple user w was = was
 with_leave (leave.Release number) user w was = in_order_written (write.Used (record { user = user; number = number })) w was
 
+with_taken : (b : Bool) (row : SlipRow) (w : WorldLists) → IsInOrder w → IsInOrder (if b then w else written (write.Slip row) w)
+with_taken true row w was = was
+with_taken false row w was = in_order_written (write.Slip row) w was
+
 by_asked : (a : Asked) (who : Who) (moment : ℕ) (w : WorldLists) → IsInOrder w → IsInOrder (asked_meaning a who moment w).effect
 by_asked (asked.Operation o) who moment w was =
     let x : Execution = record { who = who; moment = moment; op = o } in
-    with_leave (leave_of (grounds w x)) (asker who) (books_meaning w x).effect (by_form o (signature_of x) w was)
+    with_taken (slip_named x == 0) (slip_of x (execution_meaning w x).reply.bytes) (execution_meaning w x).effect
+    (with_leave (leave_of (grounds w x)) (asker who) (books_meaning w x).effect (by_form o (signature_of x) w was))
 by_asked asked.Opening who moment w was = in_order_written (write.Session (session_of who (latest (standing_of_asker who w) + 1) true)) w was
 by_asked asked.Ending who moment w was = in_order_written (write.Session (session_of who (latest (standing_of_asker who w)) false)) w was
 by_asked (asked.Command command) who moment w was = in_order_applied (command_changes command (asker who)) w was
 by_asked asked.Listing who moment w was = was
 
 pub stays_in_order : (w : WorldLists) (m : Marked) → IsInOrder w → IsInOrder (after_request w m)
-stays_in_order w m was = go m.mark (first w m.request)
+stays_in_order w m was = go m.mark (repeated w m.request) (first w m.request)
   where
-    go : (mark : Option Fault) (r : Option Rule) → IsInOrder (after_mark mark (if_allowed r (effect w m.request) w) w)
-    go None None = by_asked m.request.asked m.request.who m.request.moment w was
-    go None (Some r) = was
-    go (Some f) r = was
+    go : (mark : Option Fault) (kept : Option (List ℕ)) (r : Option Rule) → IsInOrder (after_mark mark (unless_repeated kept (if_allowed r (effect w m.request) w) w) w)
+    go None None None = by_asked m.request.asked m.request.who m.request.moment w was
+    go None None (Some r) = was
+    go None (Some kept) r = was
+    go (Some f) kept r = was

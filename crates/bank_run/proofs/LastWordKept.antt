@@ -1,10 +1,12 @@
 -- An operation leaves the policy and its version as they are, whatever rows it finds.
-use Rattle.std.proofs.Common.{◌≡◌, ℕ, Bool, true, false, List, [], Option, Some, None, refl}
+use Rattle.std.proofs.Common.{◌≡◌, ℕ, ◌==◌, Bool, true, false, List, [], Option, Some, None, refl}
 use Rattle.std.specs.Prelude.{if◌then◌else◌}
 use Rattle.std.specs.Option.{option_map_or}
-use Rattle.bank_books.specs.Effects.{applied}
+use Rattle.bank_books.specs.Effects.{applied, written}
 use Rattle.bank_books.specs.WorldLists.{WorldLists}
+use Rattle.bank_books.specs.SlipRow.{SlipRow}
 use Rattle.bank_books.specs.declared.row_write.RowWrite.{RowWrite}
+use Rattle.bank_books.specs.declared.row_write.RowWrite.TheVariants as write
 use Rattle.bank_books.specs.declared.signature.Signature.{Signature}
 use Rattle.counter_ops.specs.declared.close_day.CloseDay.{CloseDay}
 use Rattle.counter_ops.specs.declared.correct.Correct.{Correct}
@@ -30,7 +32,8 @@ use Rattle.postings.specs.Transfer.{transfer_changes, transfer_rows}
 use Rattle.postings.specs.declared.correct.CorrectRows.{CorrectRows}
 use Rattle.postings.specs.declared.post.PostRows.{PostRows}
 use Rattle.postings.specs.declared.transfer.TransferRows.{TransferRows}
-use Rattle.bank_run.specs.Executions.{books_meaning, signature_of}
+use Rattle.bank_run.specs.Executions.{books_meaning, execution_meaning, signature_of}
+use Rattle.bank_run.specs.Slips.{slip_named, slip_of}
 use Rattle.bank_run.specs.Operations.{meaning_of}
 use Rattle.bank_run.specs.PolicyRules.{asker, grounds, leave_of, used_by}
 use Rattle.bank_run.specs.Release.{release_changes, release_rows}
@@ -109,5 +112,13 @@ with_leave : (l : Leave) (user : ℕ) (w after : WorldLists) → IsPolicyKept w 
 with_leave leave.Triple user w after kept = kept
 with_leave (leave.Release number) user w after kept = record { policy = kept.policy; version = kept.version }
 
+pub plain_kept : (w : WorldLists) (x : Execution) → IsPolicyKept w (execution_meaning w x).effect
+plain_kept w x = with_leave (leave_of (grounds w x)) (asker x.who) w (books_meaning w x).effect (by_form w x.op (signature_of x))
+
+-- nor is a slip that is taken
+with_taken : (b : Bool) (row : SlipRow) (w after : WorldLists) → IsPolicyKept w after → IsPolicyKept w (if b then after else written (write.Slip row) after)
+with_taken true row w after kept = kept
+with_taken false row w after kept = record { policy = kept.policy; version = kept.version }
+
 pub operation_kept : (w : WorldLists) (x : Execution) → IsPolicyKept w (effect w (executes x))
-operation_kept w x = with_leave (leave_of (grounds w x)) (asker x.who) w (books_meaning w x).effect (by_form w x.op (signature_of x))
+operation_kept w x = with_taken (slip_named x == 0) (slip_of x (execution_meaning w x).reply.bytes) w (execution_meaning w x).effect (plain_kept w x)

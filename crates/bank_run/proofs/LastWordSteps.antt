@@ -1,5 +1,5 @@
 -- What one request leaves of the policy, whatever is asked for, made or not, allowed or not; and that it leaves the books or the policy alone.
-use Rattle.std.proofs.Common.{◌≡◌, ℕ, ◌+◌, ◌&&◌, Bool, true, false, cond, Option, Some, None, refl, sym, subst, ◌∙◌}
+use Rattle.std.proofs.Common.{◌≡◌, ℕ, ◌+◌, ◌&&◌, Bool, true, false, cond, List, Option, Some, None, refl, sym, subst, ◌∙◌}
 use Rattle.std.specs.Prelude.{is_none, nat_lt, if◌then◌else◌}
 use Rattle.bank_terms.specs.Limits.{max_version}
 use Rattle.bank_terms.specs.declared.rule.Rule.{Rule}
@@ -13,8 +13,8 @@ use Rattle.policy_ops.specs.declared.policy_op.PolicyOp.{PolicyOp}
 use Rattle.store_rows.specs.Status.{after_mark}
 use Rattle.bank_run.specs.LastWord.{LeavesAlone, finds_room, is_command, is_heard}
 use Rattle.bank_run.specs.PolicyRules.{asker}
-use Rattle.bank_run.specs.Requests.{effect, first}
-use Rattle.bank_run.specs.Run.{Marked, after_request, if_allowed}
+use Rattle.bank_run.specs.Requests.{effect, first, repeated}
+use Rattle.bank_run.specs.Run.{Marked, after_request, if_allowed, unless_repeated}
 use Rattle.bank_run.specs.Sessions.{standing_of_asker}
 use Rattle.bank_run.specs.Sums.{IsAsked, IsProper, PassesChecks}
 use Rattle.bank_run.specs.declared.request.Asked.{Asked}
@@ -66,13 +66,15 @@ by_asked w (asked.Command c) who moment checks proper is = command_next w c who 
 by_asked w asked.Listing who moment checks proper is = record { said = listing_said who w.policy; version = none_more w.version }
 
 pub one_request : (w : WorldLists) (m : Marked) → PassesChecks w → (m.mark ≡ None → IsProper m.request) → IsNext (is_heard w m) m.request w (after_request w m)
-one_request w m checks proper = go m.mark (first w m.request) refl refl
+one_request w m checks proper = go m.mark (repeated w m.request) (first w m.request) refl refl
   where
-    go : (mark : Option Fault) (r : Option Rule) → m.mark ≡ mark → first w m.request ≡ r
-        → IsNext ((is_none mark && is_none r) && finds_room w m.request.asked) m.request w (after_mark mark (if_allowed r (effect w m.request) w) w)
-    go None None made is = by_asked w m.request.asked m.request.who m.request.moment checks (proper made).asked is
-    go None (Some r) made is = kept_itself w
-    go (Some f) r made is = kept_itself w
+    go : (mark : Option Fault) (kept : Option (List ℕ)) (r : Option Rule) → m.mark ≡ mark → first w m.request ≡ r
+        → IsNext ((is_none mark && (is_none kept && is_none r)) && finds_room w m.request.asked) m.request w
+        (after_mark mark (unless_repeated kept (if_allowed r (effect w m.request) w) w) w)
+    go None None None made is = by_asked w m.request.asked m.request.who m.request.moment checks (proper made).asked is
+    go None None (Some r) made is = kept_itself w
+    go None (Some kept) r made is = kept_itself w
+    go (Some f) kept r made is = kept_itself w
 
 -- ---- what is left alone
 
@@ -97,9 +99,10 @@ asked_alone w (asked.Command c) who moment = command_alone w c (asker who) (nat_
 asked_alone w asked.Listing who moment = refl
 
 pub leaves_alone : (w : WorldLists) (m : Marked) → LeavesAlone m.request.asked w (after_request w m)
-leaves_alone w m = go m.mark (first w m.request)
+leaves_alone w m = go m.mark (repeated w m.request) (first w m.request)
   where
-    go : (mark : Option Fault) (r : Option Rule) → LeavesAlone m.request.asked w (after_mark mark (if_allowed r (effect w m.request) w) w)
-    go None None = asked_alone w m.request.asked m.request.who m.request.moment
-    go None (Some r) = itself_alone m.request.asked w
-    go (Some f) r = itself_alone m.request.asked w
+    go : (mark : Option Fault) (kept : Option (List ℕ)) (r : Option Rule) → LeavesAlone m.request.asked w (after_mark mark (unless_repeated kept (if_allowed r (effect w m.request) w) w) w)
+    go None None None = asked_alone w m.request.asked m.request.who m.request.moment
+    go None None (Some r) = itself_alone m.request.asked w
+    go None (Some kept) r = itself_alone m.request.asked w
+    go (Some f) kept r = itself_alone m.request.asked w

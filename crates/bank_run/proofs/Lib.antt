@@ -1,3 +1,4 @@
+pub mod ActsOnce
 pub mod AllowedRequest
 pub mod CommandSteps
 pub mod CountingRelease
@@ -5,6 +6,7 @@ pub mod FirstRule
 pub mod GivenRelease
 pub mod JudgedPolicy
 pub mod KeptOrder
+pub mod KeptReplies
 pub mod LastWord
 pub mod LastWordAlone
 pub mod LastWordCommands
@@ -17,8 +19,13 @@ pub mod OpenedAccount
 pub mod OperationSteps
 pub mod PolicyFirst
 pub mod PolicyLemmas
+pub mod Retries
 pub mod RunSums
 pub mod SessionSteps
 pub mod Shares
+pub mod SlipFirst
+pub mod SlipSteps
+pub mod SlipsAside
 pub mod Steps
+pub mod TakenSlip
 pub mod UsedRelease

@@ -22,6 +22,7 @@ use Rattle.book_growth.proofs.DayProved.{branch_still, proof_and_day_move_nothin
 use Rattle.book_growth.proofs.Kept.{kept_beside, kept_same}
 use Rattle.book_growth.proofs.ReleaseAdded.{release_moves_nothing}
 use Rattle.bank_books.specs.Keys.{proof_key}
+use Rattle.bank_terms.specs.Limits.{max_key}
 use Rattle.counter_ops.specs.Correct.{IsCorrect}
 use Rattle.counter_ops.specs.DrawerOff.{IsDrawerOff}
 use Rattle.counter_ops.specs.DrawerOn.{IsDrawerOn}
@@ -66,7 +67,7 @@ use Rattle.bank_run.specs.NewAccount.{first_against_new_account, new_account_eff
 use Rattle.bank_run.specs.Operations.{meaning_of}
 use Rattle.bank_run.specs.PolicyRules.{asker, grounds, leave_of}
 use Rattle.bank_run.specs.Release.{first_against_release, given_release, release_effect, release_rows}
-use Rattle.bank_run.specs.Requests.{effect, executes, first}
+use Rattle.bank_run.specs.Requests.{effect, executes, first, repeated}
 use Rattle.bank_run.specs.Sums.{IsProper, PassesChecks, moves_nothing, moves_of, moves_of_asked}
 use Rattle.bank_run.specs.declared.execution.Execution.{Execution}
 use Rattle.bank_run.specs.declared.request.Asked.{Asked}
@@ -81,6 +82,7 @@ use Rattle.bank_run.proofs.OpenedAccount.{new_account_keeps_books, opened_is_nex
 use Rattle.bank_run.proofs.SessionSteps.{ends_session, opens_session}
 use Rattle.bank_run.proofs.Shares.{moved_sums, post_sums, put_off_sums, put_on_sums, transfer_sums, undone_post_sums, undone_transfer_sums}
 use Rattle.bank_run.proofs.Steps.{IsStep, none_more, passes, plan_step, plus_zero, stands}
+use Rattle.bank_run.proofs.TakenSlip.{taken_step}
 use Rattle.bank_run.proofs.UsedRelease.{used_step}
 
 posts : (w : WorldLists) (post : Post) (by : Signature) → PassesChecks w → IsSigned w by → first_against_post (post_rows w post) post by ≡ None
@@ -246,18 +248,20 @@ by_form w (op.Accounts form) by checks proper signed is = stands w checks
 by_form w (op.Proof form) by checks proper signed is = stands w checks
 by_form w (op.CloseDay form) by checks proper signed is = closes w form checks is
 
-executed : (w : WorldLists) (x : Execution) → PassesChecks w → IsOp x.op → x.moment ≤ 99999999999 → first w (executes x) ≡ None → IsStep w (effect w (executes x)) (moves_of x.op)
-executed w x checks proper high is =
-    used_step w (books_meaning w x).effect (moves_of x.op) (leave_of (grounds w x)) (asker x.who)
-    (by_form w x.op (signature_of x) checks proper (record { user = allowed_user w x is; moment = high }) (allowed_by_books w x is))
+executed : (w : WorldLists) (x : Execution) → PassesChecks w → IsOp x.op → x.moment ≤ 99999999999 → x.who.slip ≤ max_key → repeated w (executes x) ≡ None → first w (executes x) ≡ None
+    → IsStep w (effect w (executes x)) (moves_of x.op)
+executed w x checks proper high slip fresh is =
+    taken_step w x (moves_of x.op) checks proper slip fresh is
+    (used_step w (books_meaning w x).effect (moves_of x.op) (leave_of (grounds w x)) (asker x.who)
+    (by_form w x.op (signature_of x) checks proper (record { user = allowed_user w x is; moment = high }) (allowed_by_books w x is)))
 
 abbrev asks : Asked → Who → ℕ → Request
 asks a who moment = record { who = who; moment = moment; asked = a }
 
-pub by_asked : (w : WorldLists) (a : Asked) (who : Who) (moment : ℕ) → PassesChecks w → IsProper (asks a who moment) → first w (asks a who moment) ≡ None
+pub by_asked : (w : WorldLists) (a : Asked) (who : Who) (moment : ℕ) → PassesChecks w → IsProper (asks a who moment) → repeated w (asks a who moment) ≡ None → first w (asks a who moment) ≡ None
     → IsStep w (effect w (asks a who moment)) (moves_of_asked a)
-by_asked w (asked.Operation op) who moment checks p is = executed w (record { who = who; moment = moment; op = op }) checks p.asked p.moment is
-by_asked w asked.Opening who moment checks p is = opens_session w who moment checks is
-by_asked w asked.Ending who moment checks p is = ends_session w who moment checks
-by_asked w (asked.Command command) who moment checks p is = commands_step w command who checks p.asked is
-by_asked w asked.Listing who moment checks p is = stands w checks
+by_asked w (asked.Operation op) who moment checks p fresh is = executed w (record { who = who; moment = moment; op = op }) checks p.asked p.moment p.slip fresh is
+by_asked w asked.Opening who moment checks p fresh is = opens_session w who moment checks is
+by_asked w asked.Ending who moment checks p fresh is = ends_session w who moment checks
+by_asked w (asked.Command command) who moment checks p fresh is = commands_step w command who checks p.asked is
+by_asked w asked.Listing who moment checks p fresh is = stands w checks

@@ -12,8 +12,7 @@ use Rattle.bank_policy.proofs.Tested.{certified_tested, certified_told, held_for
 use Rattle.bank_books.specs.WorldLists.{WorldLists}
 use Rattle.bank_run.specs.PolicyRules.{Grounds, first_of_policy, grounds, is_identified, is_in_limit, is_released, leave_by_policy, leave_by_triples, leave_of, leave_sought, unless_denied}
 use Rattle.bank_run.specs.Meaning.{by_books}
-use Rattle.bank_run.specs.Requests.{executes, first}
-use Rattle.bank_run.specs.Executions.{books_meaning}
+use Rattle.bank_run.specs.Executions.{books_meaning, execution_verdict}
 use Rattle.bank_run.specs.declared.leave.Leave.{Leave}
 use Rattle.bank_run.specs.declared.leave.Leave.TheVariants as leave
 use Rattle.bank_run.specs.declared.execution.Execution.{Execution}
@@ -127,12 +126,16 @@ one_of_five false false false true e rest r some = some
 one_of_five false false false false true rest r some = some
 one_of_five false false false false false rest r some = cc
 
+-- the first rule beside the slip
+abbrev pub plain_first : WorldLists → Execution → Option Rule
+plain_first w q = (execution_verdict q w).first
+
 -- where no rule of the policy denies, the books decide
-pub books_decide : (w : WorldLists) (q : Execution) → first_of_policy (grounds w q) ≡ None → first w (executes q) ≡ (by_books (books_meaning w q)).first
+pub books_decide : (w : WorldLists) (q : Execution) → first_of_policy (grounds w q) ≡ None → plain_first w q ≡ (by_books (books_meaning w q)).first
 books_decide w q none = none_of_five _ _ _ _ _ _ none
 
 -- and a rule of the policy that denies comes first
-pub policy_decides : (w : WorldLists) (q : Execution) (r : Rule) → first_of_policy (grounds w q) ≡ Some r → first w (executes q) ≡ Some r
+pub policy_decides : (w : WorldLists) (q : Execution) (r : Rule) → first_of_policy (grounds w q) ≡ Some r → plain_first w q ≡ Some r
 policy_decides w q r some = one_of_five _ _ _ _ _ _ r some
 
 -- a release that is sought is the one that is named
@@ -166,5 +169,5 @@ rule_of_leave g r is = go (first_of_policy g) refl is
     go None at is = absurd cc
     go (Some s) at is = let same : s ≡ r = cc in at ∙ ap Some same
 
-pub leave_refused : (w : WorldLists) (q : Execution) (r : Rule) → leave_by_policy (grounds w q) ≡ Err r → first w (executes q) ≡ Some r
+pub leave_refused : (w : WorldLists) (q : Execution) (r : Rule) → leave_by_policy (grounds w q) ≡ Err r → plain_first w q ≡ Some r
 leave_refused w q r is = policy_decides w q r (rule_of_leave (grounds w q) r is)

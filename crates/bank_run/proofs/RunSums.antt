@@ -17,8 +17,8 @@ use Rattle.book_growth.proofs.BooksSplit.{books_parts}
 use Rattle.book_growth.proofs.Kept.{adds_nothing, adds_then}
 use Rattle.book_growth.proofs.LineAdded.{cash_balances}
 use Rattle.store_rows.specs.Status.{after_mark}
-use Rattle.bank_run.specs.Requests.{effect, first}
-use Rattle.bank_run.specs.Run.{Marked, accepted, after_request, if_allowed, is_accepted, world_after}
+use Rattle.bank_run.specs.Requests.{effect, first, repeated}
+use Rattle.bank_run.specs.Run.{Marked, accepted, after_request, if_allowed, is_accepted, world_after, unless_repeated}
 use Rattle.bank_run.specs.Sums.{AreProper, IsProper, Moves, PassesChecks, SumsAlwaysAgree, branch_cash, moved_along, moves, moves_nothing}
 use Rattle.bank_run.proofs.OperationSteps.{by_asked}
 use Rattle.bank_run.proofs.Steps.{IsStep, none_more, plus_zero, stands}
@@ -33,14 +33,15 @@ abbrev moves_if : Bool → Moves → Moves
 moves_if accepted m = if accepted then m else moves_nothing
 
 one_request : (w : WorldLists) (m : Marked) → PassesChecks w → Proper m → IsStep w (after_request w m) (moves_if (is_accepted w m) (moves m.request))
-one_request w m checks proper = go m.mark (first w m.request) refl refl
+one_request w m checks proper = go m.mark (repeated w m.request) (first w m.request) refl refl refl
   where
-    go : (mark : Option Fault) (r : Option Rule) → m.mark ≡ mark → first w m.request ≡ r
-        → IsStep w (after_mark mark (if_allowed r (effect w m.request) w) w) (if is_none mark && is_none r then moves m.request else moves_nothing)
-    go None None made is =
-        by_asked w m.request.asked m.request.who m.request.moment checks (proper made) is
-    go None (Some r) made is = stands w checks
-    go (Some f) r made is = stands w checks
+    go : (mark : Option Fault) (kept : Option (List ℕ)) (r : Option Rule) → m.mark ≡ mark → repeated w m.request ≡ kept → first w m.request ≡ r
+        → IsStep w (after_mark mark (unless_repeated kept (if_allowed r (effect w m.request) w) w) w) (if is_none mark && (is_none kept && is_none r) then moves m.request else moves_nothing)
+    go None None None made fresh is =
+        by_asked w m.request.asked m.request.who m.request.moment checks (proper made) fresh is
+    go None None (Some r) made fresh is = stands w checks
+    go None (Some kept) r made fresh is = stands w checks
+    go (Some f) kept r made fresh is = stands w checks
 
 -- ---- a list of them
 

@@ -170,6 +170,6 @@ alone w s = record { books = refl; policy = refl; users = same_users s w.policy.
 
 pub sessions_change_no_more : SessionsChangeNoMore
 sessions_change_no_more w = (
-  λ user. let who : Who = record { user = user; session = 0; release = 0 } in alone w (session_of who (latest (standing_of_asker who w) + 1) true),
+  λ user. let who : Who = record { user = user; session = 0; release = 0; slip = 0 } in alone w (session_of who (latest (standing_of_asker who w) + 1) true),
   λ who. alone w (session_of who (latest (standing_of_asker who w)) false),
 )

@@ -4,15 +4,17 @@ use Rattle.std.specs.Prelude.{if◌then◌else◌}
 use Rattle.std.specs.List.{find}
 use Rattle.std.proofs.lemmas.Bool.{and_parts, eq-eqb, eqb-true, false≢true}
 use Rattle.keyed_rows.specs.Changed.{change_rows}
-use Rattle.bank_books.specs.Effects.{used_up}
-use Rattle.bank_books.specs.declared.row_write.RowWrite.TheVariants as write
+use Rattle.bank_books.specs.Effects.{used_up, written}
 use Rattle.bank_books.specs.Keys.{release_key, release_number}
 use Rattle.bank_books.specs.WorldLists.{WorldLists}
+use Rattle.bank_books.specs.SlipRow.{SlipRow}
+use Rattle.bank_books.specs.declared.row_write.RowWrite.TheVariants as write
 use Rattle.bank_books.specs.declared.rows.Release.{Release}
 use Rattle.book_growth.proofs.ReleaseUsed.{used_keeps_books}
 use Rattle.counter_ops.specs.declared.op.Op.{Op}
 use Rattle.row_reads.specs.BookReads.{is_release}
-use Rattle.bank_run.specs.Executions.{books_meaning}
+use Rattle.bank_run.specs.Executions.{books_meaning, execution_meaning}
+use Rattle.bank_run.specs.Slips.{slip_named, taken_by}
 use Rattle.bank_run.specs.Laws.{IsUsedOnce, Released, ReleasesAreUsedOnce}
 use Rattle.bank_run.specs.PolicyRules.{asker, used_by}
 use Rattle.bank_run.specs.Sums.{Moves}
@@ -76,12 +78,34 @@ counts_no_more w user number op moment counts = false≢true (sym counts.unused 
 
 -- ---- the law
 
+-- a slip that is taken makes none count
+taken_counts : (b : Bool) (row : SlipRow) (w : WorldLists) (user number : ℕ) (op : Op) (moment : ℕ)
+    → Released (if b then w else written (write.Slip row) w) user number op moment → Released w user number op moment
+taken_counts true row w user number op moment counts = counts
+taken_counts false row w user number op moment counts = record {
+  row = counts.row;
+  there = counts.there;
+  unused = counts.unused;
+  operation = counts.operation;
+  branch = counts.branch;
+  branch_there = counts.branch_there;
+  today = counts.today;
+  other = counts.other;
+  giver = counts.giver;
+  giver_there = counts.giver_there;
+  active = counts.active;
+  limit = counts.limit;
+  held = counts.held;
+  enough = counts.enough;
+}
+
 is_used_once : (w : WorldLists) (x : Execution) → IsUsedOnce w x
 is_used_once w x = record {
-  kept = λ holds. ap (λ l. used_by l (asker x.who) (books_meaning w x).effect) (leave_in_limit w x holds);
+  kept = λ holds. ap (λ l. taken_by x (books_meaning w x).reply.bytes (used_by l (asker x.who) (books_meaning w x).effect)) (leave_in_limit w x holds);
   used = λ past op moment counts.
       counts_no_more (books_meaning w x).effect (asker x.who) x.who.release op moment
-      (subst (λ l. Released (used_by l (asker x.who) (books_meaning w x).effect) (asker x.who) x.who.release op moment) (leave_past_limit w x past) counts);
+      (subst (λ l. Released (used_by l (asker x.who) (books_meaning w x).effect) (asker x.who) x.who.release op moment) (leave_past_limit w x past)
+      (taken_counts (slip_named x == 0) _ (execution_meaning w x).effect (asker x.who) x.who.release op moment counts));
 }
 
 pub releases_are_used_once : ReleasesAreUsedOnce

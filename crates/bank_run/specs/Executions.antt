@@ -1,10 +1,11 @@
 -- What the rules say of an operation that is asked for, what it leaves and what it is answered.
-use Rattle.std.specs.Prelude.{Bool, true, false, if◌then◌else◌}
+use Rattle.std.specs.Prelude.{Bool, true, false, List, ◌∷◌, if◌then◌else◌}
+use Rattle.std.specs.List.{find}
 use Rattle.bank_terms.specs.declared.rule.Rule.{Rule}
 use Rattle.bank_terms.specs.declared.rule.Rule.TheVariants as rule
 use Rattle.bank_books.specs.WorldLists.{WorldLists}
 use Rattle.bank_books.specs.declared.signature.Signature.{Signature}
-use Rattle.bank_run.specs.Meaning.{Meaning}
+use Rattle.bank_run.specs.Meaning.{Meaning, Verdict, rules_behind_policy}
 use Rattle.bank_run.specs.Operations.{meaning_of}
 use Rattle.bank_run.specs.PolicyRules.{asker, grounds, leave_of, policy_denies, used_by}
 use Rattle.bank_run.specs.declared.execution.Execution.{Execution}
@@ -32,4 +33,16 @@ execution_meaning w x = record {
   denies = λ r. if is_of_policy r then policy_denies r (grounds w x) else (books_meaning w x).denies r;
   effect = used_by (leave_of (grounds w x)) (asker x.who) (books_meaning w x).effect;
   reply = (books_meaning w x).reply;
+}
+
+-- the rules that it is judged by beside its slip, in their order
+abbrev pub rules_of_executions : List Rule
+rules_of_executions = rule.Identity ∷ rule.NotCertified ∷ rule.NoTriple ∷ rule.Limit ∷ rule.Release ∷ rules_behind_policy
+
+-- all that is said of it beside its slip
+abbrev pub execution_verdict : Execution → WorldLists → Verdict
+execution_verdict x w = record {
+  first = find (λ r. (execution_meaning w x).denies r) rules_of_executions;
+  effect = (execution_meaning w x).effect;
+  reply = (execution_meaning w x).reply;
 }

@@ -1,6 +1,6 @@
 -- What holds of every decision: the rule that is named is the first that denies, the tests of the policy ask what Clark and
 -- Wilson's rules E1 and E2 ask, a release counts once, an account that is opened and a release that is given keep the books, and a session changes nothing else.
-use Rattle.std.specs.Prelude.{ℕ, ◌≡◌, ◌≢◌, ◌↔◌, ◌⊎◌, ◌==◌, ◌≤◌, ◌++◌, true, false, Option, Some, None, List, [], ◌∷◌, map, All, count_by}
+use Rattle.std.specs.Prelude.{ℕ, ◌≡◌, ◌≢◌, ◌↔◌, ◌⊎◌, ◌==◌, ◌≤◌, ◌++◌, Bool, true, false, Option, Some, None, List, [], ◌∷◌, map, All, count_by}
 use Rattle.std.specs.List.{AllZip}
 use Rattle.bank_policy.specs.Execution.{Certified, Held}
 use Rattle.bank_policy.specs.HeldRows.{standing}
@@ -34,6 +34,7 @@ use Rattle.bank_run.specs.PolicyRules.{asker}
 use Rattle.bank_run.specs.Meaning.{by_books}
 use Rattle.bank_run.specs.Requests.{commands, denies, effect, ends_session, executes, first, opens_session, rules}
 use Rattle.bank_run.specs.Executions.{books_meaning, is_of_policy}
+use Rattle.bank_run.specs.Slips.{has_no_room, is_of_another, slip_grounds, taken_by}
 use Rattle.bank_run.specs.declared.execution.Execution.{Execution}
 use Rattle.bank_run.specs.declared.request.Request.{Request}
 use Rattle.bank_run.specs.declared.who.Who.{Who}
@@ -49,9 +50,9 @@ pub record IsFirstRule (w : WorldLists) (q : Request) : Type 0 where
 abbrev pub HasOnePlace : Rule → Type 0
 HasOnePlace r = count_by (λ other. number_of other == number_of r) rules ≡ 1
 
--- today the places go by the numbers
+-- the places go by the numbers, but that the rule on slips stands behind the one on identity
 abbrev pub numbers : List ℕ
-numbers = 1 ∷ 2 ∷ 3 ∷ 4 ∷ 5 ∷ 6 ∷ 7 ∷ 8 ∷ 9 ∷ 10 ∷ 11 ∷ 12 ∷ 13 ∷ 14 ∷ 15 ∷ 16 ∷ 17 ∷ 18 ∷ 19 ∷ 20 ∷ 21 ∷ []
+numbers = 1 ∷ 22 ∷ 2 ∷ 3 ∷ 4 ∷ 5 ∷ 6 ∷ 7 ∷ 8 ∷ 9 ∷ 10 ∷ 11 ∷ 12 ∷ 13 ∷ 14 ∷ 15 ∷ 16 ∷ 17 ∷ 18 ∷ 19 ∷ 20 ∷ 21 ∷ []
 
 abbrev pub FirstByPlace : Type 0
 FirstByPlace = ((r : Rule) → HasOnePlace r) × (map number_of rules ≡ numbers) × ((w : WorldLists) (q : Request) → IsFirstRule w q)
@@ -123,32 +124,43 @@ pub record IsPolicyJudged (w : WorldLists) (x : Execution) : Type 0 where
 abbrev pub PolicyIsJudged : Type 0
 PolicyIsJudged = (w : WorldLists) (x : Execution) → IsPolicyJudged w x
 
--- What a rule of the policy judges an operation by is the same in both Worlds: the policy and, where it is the rule on releases, the release that is named, with the
--- present day of its branch.
+-- the rule stands in front of those of the books: it is one of the policy's, or the one on slips
+abbrev pub is_before_books : Rule → Bool
+is_before_books rule.Slip = true
+is_before_books r = is_of_policy r
+
+-- What such a rule judges an operation by is the same in both Worlds: the policy; where it is the rule on releases, the release that is named, with the present day of its
+-- branch; and, for all but the rule on identity, which the slip stands behind, whether the slip that is named was taken with another operation.
 pub record IsJudgedAlike (r : Rule) (w v : WorldLists) (x : Execution) : Type 0 where
   pub policy : v.policy ≡ w.policy
   pub release : r ≡ rule.Release → release_grounds v (asker x.who) x.who.release x.moment ≡ release_grounds w (asker x.who) x.who.release x.moment
+  pub slip : r ≢ rule.Identity → is_of_another (slip_grounds v x) ≡ is_of_another (slip_grounds w x)
 
--- Where a rule of the policy is the first in one World, it is the first in each one in which it judges by the same, be the books what they are. So who may not touch an
--- item does not learn whether it is there.
+-- Where such a rule is the first in one World, it is the first in each one in which it judges by the same, be the books what they are. So who may not touch an item does
+-- not learn whether it is there.
 abbrev pub DeniedBeforeTheBooks : Type 0
-DeniedBeforeTheBooks = (w v : WorldLists) (x : Execution) (r : Rule) → is_of_policy r ≡ true → IsJudgedAlike r w v x → first w (executes x) ≡ Some r → first v (executes x) ≡ Some r
+DeniedBeforeTheBooks = (w v : WorldLists) (x : Execution) (r : Rule) → is_before_books r ≡ true → IsJudgedAlike r w v x → first w (executes x) ≡ Some r → first v (executes x) ≡ Some r
 
 -- some one triple of his holds all that is touched: up to the amount at least, or a release that is named counts
 abbrev pub InLimitOrReleased : WorldLists → Execution → Type 0
 InLimitOrReleased w x =
     InLimit w (asker x.who) x.op x.moment ⊎ (((limit : ℕ) × Held w.policy (asker x.who) (procedure_of x.op) (touched x.op) limit x.moment) × IsReleased w x)
 
+-- the slip that it bears, if any, is not one of another operation, and has room where it is a new one
+pub record SlipAllows (w : WorldLists) (x : Execution) : Type 0 where
+  pub not_another : is_of_another (slip_grounds w x) ≡ false
+  pub has_room : has_no_room (slip_grounds w x) ≡ false
+
 -- An operation is allowed exactly when its user is known, its procedure is certified for what it touches, some one triple of his holds all of that, within its limit
 -- or by a release that counts, and no rule of the books denies it.
 abbrev pub AllowedExactlyWhenHeld : Type 0
 AllowedExactlyWhenHeld = (w : WorldLists) (x : Execution) → first w (executes x) ≡ None
-    ↔ (IsIdentified w x.who × Certified w.policy (procedure_of x.op) (touched x.op) × InLimitOrReleased w x × ((by_books (books_meaning w x)).first ≡ None))
+    ↔ (IsIdentified w x.who × Certified w.policy (procedure_of x.op) (touched x.op) × InLimitOrReleased w x × ((by_books (books_meaning w x)).first ≡ None) × SlipAllows w x)
 
 -- A release is used up exactly where it is what lets an operation be: what a triple of the user's own reaches leaves the release that it names as it was, and one that
 -- let an operation be counts for none afterwards.
 pub record IsUsedOnce (w : WorldLists) (x : Execution) : Type 0 where
-  pub kept : InLimit w (asker x.who) x.op x.moment → effect w (executes x) ≡ (books_meaning w x).effect
+  pub kept : InLimit w (asker x.who) x.op x.moment → effect w (executes x) ≡ taken_by x (books_meaning w x).reply.bytes (books_meaning w x).effect
   pub used : ¬ InLimit w (asker x.who) x.op x.moment → (op : Op) (moment : ℕ) → ¬ Released (effect w (executes x)) (asker x.who) x.who.release op moment
 
 abbrev pub ReleasesAreUsedOnce : Type 0

@@ -2,7 +2,7 @@
 use Rattle.std.specs.List.Sorted.{IsNonDecreasingBy}
 use Rattle.bank_policy.specs.Policy.{PolicyLists}
 use Rattle.bank_policy.specs.PolicyKeys.{ArePolicyRowsInOrder}
-use Rattle.bank_books.specs.Keys.{account_key, branch_key, entry_key, line_key, proof_key, release_key, teller_key}
+use Rattle.bank_books.specs.Keys.{account_key, branch_key, entry_key, line_key, proof_key, release_key, slip_key, teller_key}
 use Rattle.bank_books.specs.WorldLists.{WorldLists}
 
 -- the lists of a policy
@@ -18,6 +18,7 @@ pub record AreBooksInOrder (w : WorldLists) : Type 0 where
   pub lines : IsNonDecreasingBy line_key w.lines
   pub proofs : IsNonDecreasingBy proof_key w.proofs
   pub releases : IsNonDecreasingBy release_key w.releases
+  pub slips : IsNonDecreasingBy slip_key w.slips
 
 -- all lists of a World
 pub record IsInOrder (w : WorldLists) : Type 0 where

@@ -1,6 +1,6 @@
 -- What holds along every list of requests: the checks pass, the sums agree, and what is written stays.
 use Rattle.std.specs.Prelude.{ℕ, ℤ, pos, neg_ℤ, ◌≡◌, ◌≤◌, ◌+◌, ◌+ℤ◌, ◌==◌, ◌&&◌, not, ⊤, List, All, map, take, None, if◌then◌else◌}
-use Rattle.bank_terms.specs.Limits.{max_moment}
+use Rattle.bank_terms.specs.Limits.{max_key, max_moment}
 use Rattle.std.specs.List.{sum_by}
 use Rattle.keyed_rows.specs.Totals.{total}
 use Rattle.policy_check.specs.Separation.{Certifies, Separated}
@@ -50,6 +50,7 @@ IsAsked asked.Listing = ⊤
 pub record IsProper (r : Request) : Type 0 where
   pub asked : IsAsked r.asked
   pub moment : r.moment ≤ max_moment
+  pub slip : r.who.slip ≤ max_key
 
 -- as a counter hands them on: those that are made are proper
 abbrev pub AreProper : List Marked → Type 0

@@ -1,5 +1,6 @@
 ghost use Rattle.std.specs.Prelude.{◌≡◌};
 ghost use Rattle.bank_run.specs.Executions.{signature_of};
+ghost use Rattle.bank_run.specs.Slips.{slip_named};
 
 use crate::who::Who;
 use bank_books::Signature;
@@ -17,6 +18,17 @@ pub struct Execution {
 }
 
 impl Execution {
+    /// The number of the slip that it is asked for with; 0 is none.
+    pub fn slip(&self) -> u32
+        ensures { result ≡ slip_named self.now }
+    {
+        if self.op.procedure().takes_slip() {
+            self.who.slip
+        } else {
+            0
+        }
+    }
+
     /// What the rows that it adds bear: its user, 0 where the gate names none, and its moment.
     pub fn signature(&self) -> Signature
         ensures { result ≡ signature_of self.now }

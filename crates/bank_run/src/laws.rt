@@ -2,7 +2,9 @@
 
 ghost use Rattle.bank_run.specs.LastWord.{LastWord};
 ghost use Rattle.bank_run.specs.Laws.{AllowedExactlyWhenHeld, DeniedBeforeTheBooks, FirstByPlace, IdentityIsJudged, NewAccountKeepsBooks, PolicyIsJudged, ReleaseKeepsBooks, ReleasesAreUsedOnce, SessionsChangeNoMore};
+ghost use Rattle.bank_run.specs.Once.{EachActsOnce};
 ghost use Rattle.bank_run.specs.Order.{IsInOrder};
+ghost use Rattle.bank_run.specs.Repeats.{RepliesAreKept, RetriesActOnce, SlipsStay};
 ghost use Rattle.bank_run.specs.Sums.{NoOneExecutesWhatHeCertifies, SumsAlwaysAgree};
 
 use bank_books::World;
@@ -18,6 +20,7 @@ pub fn world_is_in_order(world: &World)
     let _lines = world.lines();
     let _proofs = world.proofs();
     let _releases = world.releases();
+    let _slips = world.slips();
     let policy = world.policy();
     let _users = policy.users();
     let _sets = policy.sets();
@@ -44,8 +47,9 @@ pub fn identity_is_judged()
     ensures { IdentityIsJudged }
 {}
 
-/// An operation that a rule of the policy denies is denied by it in every World of the same policy, and, where it is the rule
-/// on releases, of the same release: of the books nothing but the present day of that release's branch was looked at.
+/// An operation that a rule of the policy or the rule on slips denies is denied by it in every World of the same policy in which
+/// the slip that it bears, if any, is no other, and, where it is the rule on releases, of the same release: of the books nothing
+/// but the present day of that release's branch was looked at.
 pub fn denied_before_the_books()
     ensures { DeniedBeforeTheBooks }
 {}
@@ -98,4 +102,31 @@ pub fn sums()
 /// what is asked for leaves the policy alone, where it is an operation, and else the books.
 pub fn last_word()
     ensures { LastWord }
+{}
+
+/// Of every World, and of every list of requests with any marks and with repeats, in any order: those that
+/// are not taken out leave, in a bank that knows no slips, what the list leaves, slips aside, with the same
+/// replies.
+pub fn once()
+    ensures { EachActsOnce }
+{}
+
+/// Of every World: after an operation that was accepted with a slip, and any further requests with any marks,
+/// what bears that slip with an equal operation gets the same reply and changes nothing, and with another it
+/// is denied by its own rule.
+pub fn replies_are_kept()
+    ensures { RepliesAreKept }
+{}
+
+/// Of every World: a slip that a user has stays his after any requests with any marks, with its operation and its reply.
+pub fn slips_stay()
+    ensures { SlipsStay }
+{}
+
+/// Of every World, and every operation that names a slip: a crash leaves the World before it or the one after it, and sent
+/// to either of them it leaves what it leaves once, and is replied what it was replied at first. The same with its slip in
+/// another session, at another moment or by another release, where it is answered with 200, is its repeat, or it has acted and
+/// the first has not. So who saw no reply sends it again.
+pub fn retries_act_once()
+    ensures { RetriesActOnce }
 {}

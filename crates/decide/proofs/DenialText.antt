@@ -3,7 +3,7 @@ use Rattle.std.proofs.Common.{◌≡◌, refl}
 use Rattle.serde_json.specs.Written.{compact_text}
 use Rattle.serde_json.proofs.OnLiterals.{serde_json_on_literals}
 use Rattle.bank_terms.specs.declared.rule.Rule.{Rule}
-use Rattle.bank_terms.specs.declared.rule.Rule.TheVariants.{Identity, NotCertified, NoTriple, Limit, Release, Unknown, Branch, Drawer, SecondPerson, Entry, Floor, Cash, Range, Taken, Day, Full, Officer, Certifier, Separation, PolicyUnknown, PolicyState}
+use Rattle.bank_terms.specs.declared.rule.Rule.TheVariants.{Identity, NotCertified, NoTriple, Limit, Release, Unknown, Branch, Drawer, SecondPerson, Entry, Floor, Cash, Range, Taken, Day, Full, Officer, Certifier, Separation, PolicyUnknown, PolicyState, Slip}
 use Rattle.bank_run.specs.Denial.{denial_data, denial_text}
 
 pub denial_text_is : (r : Rule) → compact_text (denial_data r) ≡ denial_text r
@@ -29,3 +29,4 @@ denial_text_is Certifier = refl
 denial_text_is Separation = refl
 denial_text_is PolicyUnknown = refl
 denial_text_is PolicyState = refl
+denial_text_is Slip = refl

@@ -16,12 +16,11 @@ use Rattle.bank_books.specs.Effects.{applied}
 use Rattle.bank_books.specs.WorldLists.{WorldLists}
 use Rattle.bank_books.specs.declared.row_write.RowWrite.{RowWrite}
 use Rattle.bank_books.specs.declared.signature.Signature.{Signature}
-use Rattle.bank_run.specs.Executions.{books_meaning, signature_of}
+use Rattle.bank_run.specs.Executions.{books_meaning, execution_verdict, signature_of}
 use Rattle.op_plans.specs.Judged.{IsPrepared, IsReported}
 use Rattle.bank_run.specs.Meaning.{by_books}
 use Rattle.bank_run.specs.Operations.{is_report, meaning_of}
 use Rattle.bank_run.specs.PolicyRules.{asker, first_of_policy, grounds, leave_by_policy, leave_of, policy_denies, rules_of_policy, used_by}
-use Rattle.bank_run.specs.Requests.{executes, first, verdict}
 use Rattle.bank_run.specs.declared.execution.Execution.{Execution}
 use Rattle.bank_run.specs.declared.leave.Leave.{Leave}
 use Rattle.bank_run.specs.declared.leave.Leave.TheVariants as leave
@@ -30,19 +29,19 @@ use Rattle.bank_run.proofs.FirstRule.{none}
 use Rattle.bank_run.proofs.PolicyLemmas.{books_decide, leave_given}
 
 -- where the policy gives leave, what the books say is all that is said
-pub denied_by_books : (w : WorldLists) (x : Execution) (l : Leave) (r : Rule) → leave_by_policy (grounds w x) ≡ Ok l → (by_books (books_meaning w x)).first ≡ Some r → first w (executes x) ≡ Some r
+pub denied_by_books : (w : WorldLists) (x : Execution) (l : Leave) (r : Rule) → leave_by_policy (grounds w x) ≡ Ok l → (by_books (books_meaning w x)).first ≡ Some r → (execution_verdict x w).first ≡ Some r
 denied_by_books w x l r leave books = books_decide w x (leave_given (grounds w x) l leave).0 ∙ books
 
 -- so a rule that denies is one of the books
-pub books_deny : (w : WorldLists) (x : Execution) (l : Leave) (by : Signature) → by ≡ signature_of x → leave_by_policy (grounds w x) ≡ Ok l → IsSome (first w (executes x))
+pub books_deny : (w : WorldLists) (x : Execution) (l : Leave) (by : Signature) → by ≡ signature_of x → leave_by_policy (grounds w x) ≡ Ok l → IsSome (execution_verdict x w).first
     → IsSome (by_books (meaning_of x.op by w)).first
 books_deny w x l by is leave some =
-    let same : first w (executes x) ≡ (by_books (meaning_of x.op by w)).first = books_decide w x (leave_given (grounds w x) l leave).0 ∙ ap (λ s. (by_books (meaning_of x.op s w)).first) (sym is) in
+    let same : (execution_verdict x w).first ≡ (by_books (meaning_of x.op by w)).first = books_decide w x (leave_given (grounds w x) l leave).0 ∙ ap (λ s. (by_books (meaning_of x.op s w)).first) (sym is) in
     subst IsSome same some
 
 -- and the plan of the books, with what the leave takes, makes the effect
 pub prepared : (w : WorldLists) (x : Execution) (l : Leave) (p : Prepared) (plan : Vec RowWrite) → leave_by_policy (grounds w x) ≡ Ok l → IsPrepared w (by_books (books_meaning w x)) p
-    → applied plan.items w ≡ used_by l (asker x.who) (applied p.plan.items w) → IsPrepared w (verdict (executes x) w) (record { plan = plan; text = p.text })
+    → applied plan.items w ≡ used_by l (asker x.who) (applied p.plan.items w) → IsPrepared w (execution_verdict x w) (record { plan = plan; text = p.text })
 prepared w x l p plan leave books takes =
     let given = leave_given (grounds w x) l leave in
     record {
@@ -84,7 +83,7 @@ by_triple w x report passes =
 
 -- where the policy gives leave, a report of the books is one of all
 pub reported : (w : WorldLists) (x : Execution) (l : Leave) (c : Contents) → is_report x.op ≡ true → leave_by_policy (grounds w x) ≡ Ok l → IsReported w (by_books (books_meaning w x)) c
-    → IsReported w (verdict (executes x) w) c
+    → IsReported w (execution_verdict x w) c
 reported w x l c report leave books =
     let given = leave_given (grounds w x) l leave in
     record {

@@ -19,7 +19,7 @@ use Rattle.bank_run.specs.PolicyRules.{Grounds, asker, first_of_policy, grounds,
 use Rattle.bank_run.specs.declared.leave.Leave.{Leave}
 use Rattle.bank_run.specs.declared.leave.Leave.TheVariants as leave
 use Rattle.bank_terms.specs.declared.rule.Rule.TheVariants as rule
-use Rattle.bank_run.specs.Requests.{executes, first}
+use Rattle.bank_run.specs.Executions.{execution_verdict}
 use Rattle.bank_run.specs.declared.execution.Execution.{Execution}
 use Rattle.decide.specs.declared.by_rows.OperationRows.{OperationRows}
 use Rattle.bank_run.proofs.PolicyLemmas.{books_decide, policy_decides}
@@ -47,11 +47,11 @@ same_grounds w x l loaded =
     ∙ ap (λ rows. grounds_with x g.standing g.relations (current x.moment rows) (option_map (grounds_of x.moment) l.policy.released)) loaded.held
     ∙ ap (λ released. grounds_with x g.standing g.relations g.held released) loaded.released
 
-pub denied_by_policy : (w : WorldLists) (x : Execution) (l : OperationRows) (r : Rule) → IsLoadedFor w x l → first_of_policy (loaded_grounds l.policy x) ≡ Some r → Some r ≡ first w (executes x)
+pub denied_by_policy : (w : WorldLists) (x : Execution) (l : OperationRows) (r : Rule) → IsLoadedFor w x l → first_of_policy (loaded_grounds l.policy x) ≡ Some r → Some r ≡ (execution_verdict x w).first
 denied_by_policy w x l r loaded is = sym (policy_decides w x r (ap first_of_policy (sym (same_grounds w x l loaded)) ∙ is))
 
 pub denied_by_books : (w : WorldLists) (x : Execution) (l : OperationRows) (told : Option Rule) → IsLoadedFor w x l → first_of_policy (loaded_grounds l.policy x) ≡ None
-    → told ≡ (by_books (meaning_of x.op (signature_of x) w)).first → told ≡ first w (executes x)
+    → told ≡ (by_books (meaning_of x.op (signature_of x) w)).first → told ≡ (execution_verdict x w).first
 denied_by_books w x l told loaded none says = says ∙ sym (books_decide w x (ap first_of_policy (sym (same_grounds w x l loaded)) ∙ none))
 
 first_by_tests : (known certified held enough none_named counts : Bool) (release : ℕ) (r : Rule) → known ≡ true → certified ≡ true

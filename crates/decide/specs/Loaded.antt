@@ -11,6 +11,7 @@ use Rattle.certify.specs.CommandRows.{command_rows}
 use Rattle.policy_ops.specs.declared.policy_op.PolicyOp.{PolicyOp}
 use Rattle.bank_run.specs.PolicyRules.{Grounds, asker}
 use Rattle.bank_run.specs.Sessions.{standing_of_asker}
+use Rattle.bank_run.specs.Slips.{slip_grounds}
 use Rattle.bank_run.specs.declared.execution.Execution.{Execution}
 use Rattle.op_plans.specs.BookRows.{book_rows}
 use Rattle.decide.specs.NamedRelease.{grounds_of}
@@ -31,6 +32,8 @@ pub record IsLoadedFor (w : WorldLists) (x : Execution) (l : OperationRows) : Ty
   pub held : l.policy.held.items ≡ triples_of w.policy (asker x.who) (procedure_of x.op)
   pub released : option_map (grounds_of x.moment) l.policy.released ≡ release_grounds w (asker x.who) x.who.release x.moment
   pub books : l.books ≡ book_rows w x.op
+  pub slip : l.slip.found ≡ (slip_grounds w x).found
+  pub slips : l.slip.count ≡ (slip_grounds w x).count
 
 -- by which a command of who asks is judged
 pub record IsLoadedForCommand (w : WorldLists) (who : Who) (command : PolicyOp) (l : CommandGrounds) : Type 0 where

@@ -1,4 +1,10 @@
-ghost use Rattle.std.specs.Prelude.{◌≡◌};
+ghost use Rattle.std.specs.Prelude.{◌≡◌, ◌==◌, ◌&&◌, not, false, nat_le, is_none};
+ghost use Rattle.std.specs.Option.{option_map_or};
+ghost use Rattle.bank_terms.specs.Limits.{max_slips};
+ghost use Rattle.counter_ops.specs.Rows.{row_of};
+ghost use Rattle.bank_run.specs.Executions.{execution_verdict};
+ghost use Rattle.bank_run.specs.NamedRelease.{is_same_operation};
+ghost use Rattle.bank_run.specs.Slips.{slip_named};
 ghost use Rattle.bank_books.specs.WorldLists.{WorldLists};
 ghost use Rattle.decide.specs.Loaded.{IsLoaded, IsLoadedFor, loaded_grounds};
 ghost use Rattle.bank_run.specs.PolicyRules.{first_of_policy};
@@ -6,12 +12,13 @@ ghost use Rattle.bank_run.specs.Requests.{executes, first};
 
 use crate::commands::rule_against_asked;
 use crate::listing::rule_against_listing;
-use crate::named_release::{NamedRelease, is_released};
+use crate::named_release::{NamedRelease, is_released, is_same_operation};
 use crate::policy_rules::{is_certified_for, is_identified, leave_by_triples};
 use crate::sessions::{rule_against_ending, rule_against_opening};
+use bank_books::Slip;
 use bank_policy::{CertifiedRow, HeldRow, Standing};
 use bank_run::{Asked, Execution, Leave, Request};
-use bank_terms::Rule;
+use bank_terms::{MAX_SLIPS, Rule};
 use certify::CommandRows;
 use op_plans::{BookRows, first_of_books};
 use touched::{amount, touches};
@@ -36,6 +43,17 @@ pub struct OperationRows {
     pub policy: PolicyRows,
     /// Those of the books.
     pub books: BookRows,
+    /// Those of its slip.
+    pub slip: SlipRows,
+}
+
+/// What the slip of an operation is judged by.
+#[derive(Drop)]
+pub struct SlipRows {
+    /// The slip that is named, or none where none is or who asks has it not.
+    pub found: Option<Slip>,
+    /// How many slips who asks has.
+    pub count: u64,
 }
 
 /// All rows by which one command of the policy is judged.
@@ -87,9 +105,44 @@ pub fn first_rule(rows: &Loaded, request: &Request) -> Option<Rule>
     }
 }
 
-/// The same of an operation: the rules of the policy come first.
+/// The same of an operation: the rule on slips comes right behind that on identity, and the slip is the last
+/// that its counts are asked about.
 fn first_of_operation(rows: &OperationRows, execution: &Execution) -> Option<Rule>
     ensures { (w : WorldLists) → IsLoadedFor w execution.now rows.now → result ≡ first w (executes execution.now) }
+{
+    if !is_identified(rows.policy.standing, execution.who.session) {
+        return Some(Rule::Identity);
+    }
+    if is_of_another(&rows.slip.found, execution) {
+        return Some(Rule::Slip);
+    }
+    match first_without_slip(rows, execution) {
+        Some(rule) => Some(rule),
+        None if has_no_room(&rows.slip, execution) => Some(Rule::Full),
+        None => None,
+    }
+}
+
+/// Whether a slip that is found was taken with another operation.
+fn is_of_another(found: &Option<Slip>, execution: &Execution) -> bool
+    ensures { result ≡ option_map_or (λ s. not (is_same_operation s.operation (row_of execution.now.op))) found.now false }
+{
+    match found {
+        Some(slip) => !is_same_operation(&slip.operation(), &execution.op.to_row()),
+        None => false,
+    }
+}
+
+/// Whether a slip that is named would be a new one, and one too many.
+fn has_no_room(slip: &SlipRows, execution: &Execution) -> bool
+    ensures { result ≡ not (slip_named execution.now == 0) && (is_none slip.now.found && nat_le max_slips slip.now.count) }
+{
+    execution.slip() != 0 && slip.found.is_none() && slip.count >= MAX_SLIPS
+}
+
+/// The same beside its slip: the rules of the policy come first.
+fn first_without_slip(rows: &OperationRows, execution: &Execution) -> Option<Rule>
+    ensures { (w : WorldLists) → IsLoadedFor w execution.now rows.now → result ≡ (execution_verdict execution.now w).first }
 {
     match first_of_policy(&rows.policy, execution) {
         Some(rule) => Some(rule),

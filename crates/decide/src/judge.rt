@@ -4,10 +4,10 @@ ghost use Rattle.bank_books.specs.Version.{changes_policy};
 ghost use Rattle.bank_books.specs.WorldLists.{WorldLists};
 ghost use Rattle.counter_ops.specs.Operations.{IsOp};
 ghost use Rattle.store_rows.specs.Status.{Reads};
-ghost use Rattle.op_plans.specs.Judged.{DeniesOrCounts, IsReady, ReportsOnly};
+ghost use Rattle.op_plans.specs.Judged.{DeniesOrCounts, IsReady, LeavesPolicyReady, ReportsOnly};
 ghost use Rattle.bank_run.specs.Operations.{is_report};
 ghost use Rattle.bank_run.specs.PolicyRules.{used_by};
-ghost use Rattle.bank_run.specs.Requests.{executes, first, verdict};
+ghost use Rattle.bank_run.specs.Executions.{execution_verdict};
 
 use crate::policy_rules::policy_leave;
 use bank_books::{Plan, ReleaseKey, RowWrite};
@@ -18,7 +18,7 @@ use op_plans::{Prepared, Ready, prepare_by_books};
 use std::alloc::{AllocError, Global};
 use store_rows::{BookReads, PolicyReads, ReportReads};
 
-/// What carries an operation out, or the first rule that denies it. The rules of the policy come
+/// What carries an operation out beside its slip, or the first rule that denies it. The rules of the policy come
 /// first: where one of them denies, no row is read that only the books ask about; of a release that is
 /// named the day of its branch is. A report uses up no release, as it comes to no amount.
 pub(crate) fn prepare<S: PolicyReads + BookReads + ReportReads>(
@@ -28,9 +28,10 @@ pub(crate) fn prepare<S: PolicyReads + BookReads + ReportReads>(
 ) -> Result<Result<Ready, Rule>, Fault>
     requires named { IsSome execution.now.who.user }
     requires proper { IsOp execution.now.op }
-    ensures judged { Reads (S.status store.old) (S.status store.new) result (IsReady (verdict (executes execution.now))) }
+    ensures judged { Reads (S.status store.old) (S.status store.new) result (IsReady (execution_verdict execution.now)) }
     ensures reports { ReportsOnly (is_report execution.now.op) result }
-    ensures denied { DeniesOrCounts (S.status store.old) (S.status store.new) (λ w. first w (executes execution.now)) result }
+    ensures denied { DeniesOrCounts (S.status store.old) (S.status store.new) (λ w. (execution_verdict execution.now w).first) result }
+    ensures policy { LeavesPolicyReady result }
 {
     match policy_leave(alloc, store, execution)? {
         Err(rule) => Ok(Err(rule)),
@@ -50,7 +51,8 @@ pub(crate) fn prepare<S: PolicyReads + BookReads + ReportReads>(
 
 /// A plan of the books with what its leave takes: a release is used up with it.
 fn with_leave(mut plan: Plan, leave: Leave, user: u32) -> Result<Plan, AllocError>
-    ensures { IfOk result (λ p. changes_policy plan.items ≡ false → (w : WorldLists) → applied p.items w ≡ used_by leave user (applied plan.items w)) }
+    ensures used { IfOk result (λ p. changes_policy plan.items ≡ false → (w : WorldLists) → applied p.items w ≡ used_by leave user (applied plan.items w)) }
+    ensures policy { IfOk result (λ p. changes_policy p.items ≡ changes_policy plan.items) }
 {
     match leave {
         Leave::Triple => {}

@@ -102,7 +102,7 @@ fn counts(
 }
 
 /// Whether two rows are of one operation: of one form, and with the same members.
-fn is_same_operation(row: &OperationRow, other: &OperationRow) -> bool
+pub(crate) fn is_same_operation(row: &OperationRow, other: &OperationRow) -> bool
     ensures { result ≡ is_same_operation row.now other.now }
 {
     row.form.number() == other.form.number() && row.members == other.members

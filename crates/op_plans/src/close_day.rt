@@ -17,7 +17,7 @@ use std::alloc::{AllocError, Global};
 use store_rows::BookReads;
 
 /// The rows that the closing of a day is judged on. The first rule against it is that of its plan.
-fn load_closing_rows<B: BookReads>(
+pub(crate) fn load_closing_rows<B: BookReads>(
     alloc: Global,
     store: &mut B,
     form: &CloseDay,

@@ -18,7 +18,7 @@ use std::alloc::{AllocError, Global};
 use store_rows::BookReads;
 
 /// The rows that a move of cash is judged on. The first rule against it is that of its plan.
-fn load_move_rows<B: BookReads>(
+pub(crate) fn load_move_rows<B: BookReads>(
     alloc: Global,
     store: &mut B,
     move_cash: &MoveCash,

@@ -16,7 +16,7 @@ use serde_json::{Value, json};
 use std::alloc::{AllocError, Global};
 use store_rows::BookReads;
 
-fn load_opening_rows<B: BookReads>(
+pub(crate) fn load_opening_rows<B: BookReads>(
     alloc: Global,
     store: &mut B,
     form: &NewAccount,

@@ -18,7 +18,7 @@ use std::alloc::{AllocError, Global};
 use store_rows::{BookReads, PolicyReads};
 
 /// The rows that giving a release is judged on: how many the user has for whom it is, and the day of the branch.
-fn load_release_rows<S: PolicyReads + BookReads>(
+pub(crate) fn load_release_rows<S: PolicyReads + BookReads>(
     alloc: Global,
     store: &mut S,
     form: &Release,

@@ -19,7 +19,7 @@ use std::alloc::{AllocError, Global};
 use store_rows::BookReads;
 
 /// The rows that a transfer is judged on. The first rule against it is that of its plan.
-fn load_transfer_rows<B: BookReads>(
+pub(crate) fn load_transfer_rows<B: BookReads>(
     alloc: Global,
     store: &mut B,
     transfer: &Transfer,

@@ -1,5 +1,5 @@
 -- The law of two Worlds along the requests of one user.
-use Rattle.std.proofs.Common.{◌≡◌, ℕ, ◌+◌, [], ◌∷◌, Bool, true, false, not, refl, ap, ap₂, sym, subst, ◌∙◌, ◌==◌, ◌&&◌, ◌||◌, Option, Some, None, Err, inl, inr}
+use Rattle.std.proofs.Common.{◌≡◌, ℕ, ◌+◌, List, [], ◌∷◌, Bool, true, false, not, refl, ap, ap₂, sym, subst, ◌∙◌, ◌==◌, ◌&&◌, ◌||◌, Option, Some, None, Err, inl, inr}
 use Rattle.std.specs.Prelude.{if◌then◌else◌, option_map}
 use Rattle.std.specs.List.{find}
 use Rattle.std.proofs.lemmas.Bool.{false≢true}
@@ -28,8 +28,8 @@ use Rattle.row_reads.specs.PolicyReads.{user_record_of}
 use Rattle.touched.specs.Touched.{amount, touched}
 use Rattle.bank_run.specs.Meaning.{json}
 use Rattle.bank_run.specs.PolicyRules.{asker}
-use Rattle.bank_run.specs.Requests.{denies, effect, executes, first, reply_text, rules}
-use Rattle.bank_run.specs.Run.{if_allowed, reply, step, told}
+use Rattle.bank_run.specs.Requests.{denies, effect, executes, first, repeated, reply_text, rules}
+use Rattle.bank_run.specs.Run.{if_allowed, reply, step, told, told_again, unless_repeated}
 use Rattle.bank_run.specs.Sessions.{ending_denies, ending_text, latest, opening_denies, opening_text, session_of, standing_of_asker}
 use Rattle.bank_run.specs.Sums.{IsProper, PassesChecks}
 use Rattle.bank_run.specs.declared.execution.Execution.{Execution}
@@ -38,13 +38,14 @@ use Rattle.bank_run.specs.declared.request.Asked.TheVariants as asked
 use Rattle.bank_run.specs.declared.request.Request.{Request}
 use Rattle.bank_run.specs.declared.who.Who.{Who}
 use Rattle.bank_run.proofs.RunSums.{sums_always_agree}
-use Rattle.two_worlds.specs.Agree.{Agree, AgreeByForm, AgreeOnPolicy, releases_given}
+use Rattle.two_worlds.specs.Agree.{Agree, AgreeByForm, AgreeOnPolicy, AgreeOnSlip, releases_given}
 use Rattle.two_worlds.specs.Along.{AgreeOn, IsAgreed, IsOutside, TwoWorldsAlong, is_of_triples}
 use Rattle.two_worlds.specs.Laws.{is_blind}
 use Rattle.two_worlds.specs.View.{view_at, view_of}
 use Rattle.two_worlds.proofs.Grown.{find_made}
 use Rattle.two_worlds.proofs.Policy.{standing_same}
-use Rattle.two_worlds.proofs.TwoWorlds.{agree_after, agreeing_answer_alike, all_from, blindly_denied, by_blind, policy_left, told_rule}
+use Rattle.two_worlds.proofs.Slips.{repeated_same}
+use Rattle.two_worlds.proofs.TwoWorlds.{agree_after, agreeing_answer_alike, all_from, blindly_first, by_blind, policy_left, slip_agrees}
 
 -- ---- what the change of a session leaves
 
@@ -93,11 +94,17 @@ module _ (s : Session) (w v : WorldLists) where
           let same = agree.release.giver r is in
           record { user = user_after None r.giver same.user; held = same.held };
     };
+    slip = agree.slip;
+    slips = agree.slips;
     views = all_from (λ item. view_of (written (write.Session s) w) item ≡ view_of (written (write.Session s) v) item) (touched y.op) (λ item there.
         view_stays item.kind item.key s w ∙ All-contains (λ item. view_of w item ≡ view_of v item) (touched y.op) item agree.views there ∙ sym (view_stays item.kind item.key s v));
     form = form_after y.op (asker y.who) y.moment agree.form;
   }
   agree_moved (Some r) y agree = agree
+
+  slip_moved : (f : Option Rule) (y : Execution) → AgreeOnSlip w v y → AgreeOnSlip (moves w f) (moves v f) y
+  slip_moved None y agree = agree
+  slip_moved (Some r) y agree = agree
 
 -- ---- the relations and triples of the policy
 
@@ -132,16 +139,26 @@ module _ (w : WorldLists) (x : Execution) where
   some_denies rule.Limit is at = or_right _ _ (or_right _ _ at)
   some_denies _ is at = absurd (false≢true is)
 
-  blind_first : (a b c d : Bool) (rest : Option Rule) → (b || (c || d)) ≡ true → (r : Rule) × (is_blind r ≡ true) × (by_blind a b c d rest ≡ Some r)
-  blind_first true b c d rest some = (rule.Identity, refl, refl)
-  blind_first false true c d rest some = (rule.NotCertified, refl, refl)
-  blind_first false false true d rest some = (rule.NoTriple, refl, refl)
-  blind_first false false false true rest some = (rule.Limit, refl, refl)
-  blind_first false false false false rest some = absurd (false≢true some)
+  blind_first : (a s b c d : Bool) (rest : Option Rule) → (b || (c || d)) ≡ true → (r : Rule) × (is_blind r ≡ true) × (by_blind a s b c d rest ≡ Some r)
+  blind_first true s b c d rest some = (rule.Identity, refl, refl)
+  blind_first false true b c d rest some = (rule.Slip, refl, refl)
+  blind_first false false true c d rest some = (rule.NotCertified, refl, refl)
+  blind_first false false false true d rest some = (rule.NoTriple, refl, refl)
+  blind_first false false false false true rest some = (rule.Limit, refl, refl)
+  blind_first false false false false false rest some = absurd (false≢true some)
 
   -- it is denied by a rule that looks at no item
   outside_first : IsOutside w x → (r : Rule) × (is_blind r ≡ true) × (first w (executes x) ≡ Some r)
-  outside_first outside = blind_first (by rule.Identity) (by rule.NotCertified) (by rule.NoTriple) (by rule.Limit) _ (some_denies outside.rule outside.of_triples outside.denies)
+  outside_first outside =
+      blind_first (by rule.Identity) (by rule.Slip) (by rule.NotCertified) (by rule.NoTriple) (by rule.Limit) _ (some_denies outside.rule outside.of_triples outside.denies)
+
+  -- so it changes nothing, be it a repeat or not
+  stays_denied : (r : Rule) → first w (executes x) ≡ Some r → step w (executes x) ≡ w
+  stays_denied r denied = ap (λ f. unless_repeated (repeated w (executes x)) (if_allowed f (effect w (executes x)) w) w) denied ∙ same (repeated w (executes x))
+    where
+      same : (kept : Option (List ℕ)) → unless_repeated kept w w ≡ w
+      same None = refl
+      same (Some bytes) = refl
 
 -- it stays outside, whatever becomes of sessions and of the books
 outside_still : (w z : WorldLists) (x : Execution) → AreKept w z → IsOutside w x → IsOutside z x
@@ -160,6 +177,7 @@ record IsAlike (w v : WorldLists) (user : ℕ) (q : Request) : Type 0 where
   pub reply : reply w q ≡ reply v q
   pub row : user_row w.policy user ≡ user_row v.policy user → user_row (step w q).policy user ≡ user_row (step v q).policy user
   pub agree : (y : Execution) → asker y.who ≡ user → Agree w v y → Agree (step w q) (step v q) y
+  pub slip : (y : Execution) → AgreeOnSlip w v y → AgreeOnSlip (step w q) (step v q) y
   pub kept : AreKept w (step w q)
   pub kept' : AreKept v (step v q)
 
@@ -171,21 +189,26 @@ operation_alike w v bank bank' user x proper by agree =
       reply = (agreeing_answer_alike w v x bank bank' proper agree).reply;
       row = λ row. ap (λ p. user_row p user) left ∙ row ∙ sym (ap (λ p. user_row p user) left');
       agree = λ y of other. agree_after w v x bank bank' proper agree y (of ∙ sym by) other;
+      slip = slip_agrees w v x bank bank' proper agree;
       kept = kept_policy w (step w (executes x)) left;
       kept' = kept_policy v (step v (executes x)) left';
     }
 
-outside_alike : (w v : WorldLists) (user : ℕ) (x : Execution) → AgreeOnPolicy w v x → IsOutside w x → IsAlike w v user (executes x)
-outside_alike w v user x agree outside =
+outside_alike : (w v : WorldLists) (user : ℕ) (x : Execution) → AgreeOnPolicy w v x → AgreeOnSlip w v x → IsOutside w x → IsAlike w v user (executes x)
+outside_alike w v user x agree named outside =
     let denied = outside_first w x outside in
-    let here : reply w (executes x) ≡ Err denied.0 = ap (λ f. told f (reply_text w (executes x))) denied.2 in
-    let there = blindly_denied w v x denied.0 agree denied.1 here in
-    let stays : step w (executes x) ≡ w = ap (λ f. if_allowed f (effect w (executes x)) w) denied.2 in
-    let stays' : step v (executes x) ≡ v = ap (λ f. if_allowed f (effect v (executes x)) v) (told_rule (first v (executes x)) (reply_text v (executes x)) denied.0 there) in
+    let there = (blindly_first w v x denied.0 agree (λ behind. named) denied.1 denied.2).0 in
+    let kept = repeated_same w v x agree named in
+    let stays : step w (executes x) ≡ w = stays_denied w x denied.0 denied.2 in
+    let stays' : step v (executes x) ≡ v = stays_denied v x denied.0 there in
     record {
-      reply = here ∙ sym there;
+      reply =
+          ap (λ f. told_again (repeated w (executes x)) (told f (reply_text w (executes x)))) denied.2
+          ∙ ap (λ again. told_again again (Err denied.0)) kept
+          ∙ sym (ap (λ f. told_again (repeated v (executes x)) (told f (reply_text v (executes x)))) there);
       row = λ row. ap (λ z. user_row z.policy user) stays ∙ row ∙ sym (ap (λ z. user_row z.policy user) stays');
       agree = λ y of other. subst (λ z. Agree z (step v (executes x)) y) (sym stays) (subst (λ z. Agree w z y) (sym stays') other);
+      slip = λ y other. subst (λ z. AgreeOnSlip z (step v (executes x)) y) (sym stays) (subst (λ z. AgreeOnSlip w z y) (sym stays') other);
       kept = kept_policy w (step w (executes x)) (ap (λ z. z.policy) stays);
       kept' = kept_policy v (step v (executes x)) (ap (λ z. z.policy) stays');
     }
@@ -201,6 +224,7 @@ opening_alike w v user who moment same =
       reply = ap (λ o. told (denied o) (json (opening_text (latest o + 1)))) same;
       row = λ row. user_after (session here) w v (denied here) user row ∙ ap (λ z. user_row z.policy user) left;
       agree = λ y of agree. subst (λ z. Agree (moves (session here) w v w (denied here)) z y) left (agree_moved (session here) w v (denied here) y agree);
+      slip = λ y agree. subst (λ z. AgreeOnSlip (moves (session here) w v w (denied here)) z y) left (slip_moved (session here) w v (denied here) y agree);
       kept = kept_moved (session here) w (denied here);
       kept' = kept_moved (session there) v (denied there);
     }
@@ -216,6 +240,7 @@ ending_alike w v user who moment same =
       reply = ap (λ o. told (denied o) (json (ending_text (latest o)))) same;
       row = λ row. user_after (session here) w v (denied here) user row ∙ ap (λ z. user_row z.policy user) left;
       agree = λ y of agree. subst (λ z. Agree (moves (session here) w v w (denied here)) z y) left (agree_moved (session here) w v (denied here) y agree);
+      slip = λ y agree. subst (λ z. AgreeOnSlip (moves (session here) w v w (denied here)) z y) left (slip_moved (session here) w v (denied here) y agree);
       kept = kept_moved (session here) w (denied here);
       kept' = kept_moved (session there) v (denied there);
     }
@@ -227,7 +252,7 @@ alike w v bank bank' user q is = go q.asked q.who q.moment is.by is.proper is.ag
         → IsAlike w v user (record { who = who; moment = moment; asked = a })
     go (asked.Operation o) who moment by proper agree = elim agree [
       | inl one ↦ operation_alike w v bank bank' user (record { who = who; moment = moment; op = o }) proper.asked by one
-      | inr other ↦ outside_alike w v user (record { who = who; moment = moment; op = o }) other.0 other.1
+      | inr other ↦ outside_alike w v user (record { who = who; moment = moment; op = o }) other.0 other.1 other.2
     ]
     go asked.Opening who moment by proper agree = opening_alike w v user who moment (standing_same w v who.user agree)
     go asked.Ending who moment by proper agree = ending_alike w v user who moment (standing_same w v who.user agree)
@@ -257,7 +282,7 @@ still_agreed w v user q next alike is = record { by = is.by; proper = is.proper;
         let y : Execution = record { who = next.who; moment = next.moment; op = o } in
         elim agree [
           | inl one ↦ inl (alike.agree y is.by one)
-          | inr other ↦ inr (policy y refl other.0, outside_still w (step w q) y alike.kept other.1)
+          | inr other ↦ inr (policy y refl other.0, alike.slip y other.1, outside_still w (step w q) y alike.kept other.2)
         ]
     go asked.Opening agree = row agree
     go asked.Ending agree = row agree

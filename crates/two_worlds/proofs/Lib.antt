@@ -10,6 +10,7 @@ pub mod Policy
 pub mod Releases
 pub mod Reports
 pub mod Seen
+pub mod Slips
 pub mod Turns
 pub mod TwoWorlds
 pub mod Within

@@ -17,7 +17,6 @@ use Rattle.book_growth.proofs.LastRow.{or_else}
 use Rattle.book_growth.proofs.Rows.{count-add_row, found_row}
 use Rattle.row_reads.specs.BookReads.{is_release, release}
 use Rattle.row_reads.specs.PolicyReads.{user_record_of}
-use Rattle.bank_run.specs.PolicyRules.{used_by}
 use Rattle.bank_run.specs.declared.leave.Leave.{Leave}
 use Rattle.bank_run.specs.declared.leave.Leave.TheVariants as leave
 use Rattle.two_worlds.specs.Agree.{releases_given}
@@ -59,10 +58,6 @@ plan_release (c ∷ cs) w user number order = plan_release cs (written c w) user
 abbrev pub uses : Leave → ℕ → List RowWrite
 uses leave.Triple user = []
 uses (leave.Release number) user = write.Used (record { user = user; number = number }) ∷ []
-
-pub used_written : (l : Leave) (user : ℕ) (w : WorldLists) → used_by l user w ≡ all_written (uses l user) w
-used_written leave.Triple user w = refl
-used_written (leave.Release number) user w = refl
 
 one_user : (a b m n : ℕ) → m < 2 ^ 32 → n < 2 ^ 32 → 2 ^ 32 * a + m ≡ 2 ^ 32 * b + n → (a ≡ b) × (m ≡ n)
 one_user a b m n low low' same = (omega arith, omega arith)

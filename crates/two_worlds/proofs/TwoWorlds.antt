@@ -1,5 +1,5 @@
 -- The law of two Worlds.
-use Rattle.std.proofs.Common.{◌≡◌, ◌≢◌, ℕ, ◌<◌, ◌≤◌, ◌^◌, List, [], ◌∷◌, Bool, true, false, not, cond, refl, ap, ap₂, arith, sym, subst, ◌∙◌, ◌==◌, ◌&&◌, ◌||◌, Option, Some, None, Err, Contains}
+use Rattle.std.proofs.Common.{◌≡◌, ◌≢◌, ℕ, ◌<◌, ◌≤◌, ◌^◌, List, [], ◌∷◌, ◌++◌, Bool, true, false, not, cond, refl, ap, ap₂, arith, sym, subst, ◌∙◌, ◌==◌, ◌&&◌, ◌||◌, Option, Some, None, Err, Contains}
 use Rattle.std.specs.Prelude.{if◌then◌else◌, nat_lt, option_map, All}
 use Rattle.std.specs.List.{find, list_any}
 use Rattle.std.specs.Option.{option_map_or}
@@ -20,6 +20,7 @@ use Rattle.bank_books.specs.Books.{Books}
 use Rattle.bank_books.specs.Keys.{release_key, release_number}
 use Rattle.bank_books.specs.Effects.{used_up, all_written, applied}
 use Rattle.bank_books.specs.Version.{changes_policy, with_version}
+use Rattle.bank_books.specs.SlipRow.{SlipRow}
 use Rattle.bank_books.specs.WorldLists.{WorldLists}
 use Rattle.bank_books.specs.declared.row_write.RowWrite.{RowWrite}
 use Rattle.bank_books.specs.declared.row_write.RowWrite.TheVariants as write
@@ -33,15 +34,16 @@ use Rattle.counter_ops.specs.declared.op.Op.{Op}
 use Rattle.counter_ops.specs.declared.op.Op.TheVariants as op
 use Rattle.row_reads.specs.BookReads.{is_account_of, is_release, release}
 use Rattle.touched.specs.Touched.{account_item, touched}
-use Rattle.bank_run.specs.Executions.{is_of_policy, signature_of}
+use Rattle.bank_run.specs.Executions.{execution_meaning, is_of_policy, signature_of}
 use Rattle.bank_run.specs.LastWord as Said
 use Rattle.bank_run.specs.Meaning.{Meaning, ReplyText, rules_behind_policy, by_books}
 use Rattle.bank_run.specs.NamedRelease.{counts, release_grounds_of}
 use Rattle.bank_run.specs.Operations.{meaning_of}
-use Rattle.bank_run.specs.PolicyRules.{asker, grounds, is_in_limit, is_released, leave_of, used_by}
+use Rattle.bank_run.specs.PolicyRules.{asker, grounds, is_identified, is_in_limit, is_released, leave_of, used_by}
 use Rattle.bank_run.specs.Order.{IsInOrder}
-use Rattle.bank_run.specs.Requests.{denies, effect, executes, first, reply_text, rules}
-use Rattle.bank_run.specs.Run.{if_allowed, step, told}
+use Rattle.bank_run.specs.Requests.{denies, effect, executes, first, repeated, reply_text, rules}
+use Rattle.bank_run.specs.Run.{if_allowed, step, told, told_again, unless_repeated}
+use Rattle.bank_run.specs.Slips.{kept_reply, slip_grounds, slip_named, slip_of, taken_by}
 use Rattle.bank_run.specs.Sums.{PassesChecks}
 use Rattle.bank_run.specs.declared.execution.Execution.{Execution}
 use Rattle.bank_run.specs.declared.leave.Leave.{Leave}
@@ -53,7 +55,7 @@ use Rattle.bank_run.proofs.FirstRule.{none_denies}
 use Rattle.bank_run.proofs.KeptOrder.{in_order_all_written}
 use Rattle.bank_run.proofs.LastWord.{last_word}
 use Rattle.bank_run.proofs.LastWordKept.{IsPolicyKept, kept_itself, operation_kept}
-use Rattle.two_worlds.specs.Agree.{AgreeOnGiver, Agree, AgreeByForm, releases_given}
+use Rattle.two_worlds.specs.Agree.{AgreeOnGiver, Agree, AgreeByForm, AgreeOnPolicy, AgreeOnSlip, AgreeOnSlipCount, releases_given}
 use Rattle.two_worlds.specs.Laws.{AgreeingAnswerAlike, BlindlyDenied, IsNotGiven, IsOtherRelease, OnlyOperationsChangeItems, OthersAreLeftAlone, TwoWorlds, Undisturbed, is_blind, is_operation}
 use Rattle.two_worlds.specs.View.{view_at, view_of}
 use Rattle.two_worlds.proofs.DrawerSum.{have_drawers}
@@ -61,7 +63,8 @@ use Rattle.two_worlds.proofs.Forms.{changes_of, effect_is}
 use Rattle.two_worlds.proofs.Judged.{judged_alike, judgement_of}
 use Rattle.two_worlds.proofs.Plans.{IsCarried, carried}
 use Rattle.two_worlds.proofs.Policy.{blind_same, leave_same, policy_same}
-use Rattle.two_worlds.proofs.Releases.{all_given_after, plan_gives, plan_release, releases_after, use_leaves, used_written, uses}
+use Rattle.two_worlds.proofs.Releases.{all_given_after, plan_gives, plan_release, releases_after, use_leaves, uses}
+use Rattle.two_worlds.proofs.Slips.{another_same, count_still, denied_is_none, made, other_count, other_slip, repeated_same, room_same, slip_still, stays_taken, taken_of, takes, unknown_is_none, used_and_taken}
 use Rattle.two_worlds.proofs.Within.{AreAlike, AreWithin, IsSteady, plan_alike, plan_leaves, plan_steady}
 
 -- ---- what a request makes of a World, as changes
@@ -69,12 +72,12 @@ use Rattle.two_worlds.proofs.Within.{AreAlike, AreWithin, IsSteady, plan_alike, 
 applied_plain : (cs : List RowWrite) (w : WorldLists) → changes_policy cs ≡ false → applied cs w ≡ all_written cs w
 applied_plain cs w plain = ap (λ b. if (not b || nat_lt w.version max_version) then with_version b (all_written cs w) else w) plain
 
--- those of its operation, and the use of a release; none where a rule denies it
+-- those of its operation, and the use of a release and of a slip; none where it is a repeat or a rule denies it
 abbrev plan_of : WorldLists → Execution → List RowWrite
-plan_of w x = if_allowed (first w (executes x)) (changes_of x.op (signature_of x) w) []
+plan_of w x = made w x (changes_of x.op (signature_of x) w) []
 
 abbrev uses_of : WorldLists → Execution → List RowWrite
-uses_of w x = if_allowed (first w (executes x)) (uses (leave_of (grounds w x)) (asker x.who)) []
+uses_of w x = made w x (uses (leave_of (grounds w x)) (asker x.who) ++ takes x (reply_text w (executes x)).bytes) []
 
 is_steady : (w : WorldLists) → PassesChecks w → IsSteady w
 is_steady w bank = record { order = bank.in_order; drawers = have_drawers w bank.books }
@@ -85,29 +88,45 @@ module _ (w : WorldLists) (x : Execution) (bank : PassesChecks w) (proper : IsOp
   its_changes none = carried x.op (signature_of x) w bank.books.in_range.keys.tellers proper (allowed_by_books w x none)
 
   step_is : step w (executes x) ≡ all_written (uses_of w x) (all_written (plan_of w x) w)
-  step_is = go (first w (executes x)) refl
+  step_is = go (repeated w (executes x)) (first w (executes x)) refl
     where
-      go : (f : Option Rule) → first w (executes x) ≡ f
-          → if_allowed f (effect w (executes x)) w ≡ all_written (if_allowed f (uses (leave_of (grounds w x)) (asker x.who)) []) (all_written (if_allowed f (changes_of x.op (signature_of x) w) []) w)
-      go None none =
-          ap (used_by (leave_of (grounds w x)) (asker x.who)) (effect_is x.op (signature_of x) w ∙ applied_plain (changes_of x.op (signature_of x) w) w (its_changes none).plain)
-          ∙ used_written (leave_of (grounds w x)) (asker x.who) (all_written (changes_of x.op (signature_of x) w) w)
-      go (Some r) denied = refl
+      bytes : List ℕ
+      bytes = (reply_text w (executes x)).bytes
+
+      go : (kept : Option (List ℕ)) (f : Option Rule) → first w (executes x) ≡ f
+          → unless_repeated kept (if_allowed f (effect w (executes x)) w) w
+          ≡ all_written (unless_repeated kept (if_allowed f (uses (leave_of (grounds w x)) (asker x.who) ++ takes x bytes) []) [])
+          (all_written (unless_repeated kept (if_allowed f (changes_of x.op (signature_of x) w) []) []) w)
+      go None None none =
+          ap (λ z. taken_by x bytes (used_by (leave_of (grounds w x)) (asker x.who) z))
+          (effect_is x.op (signature_of x) w ∙ applied_plain (changes_of x.op (signature_of x) w) w (its_changes none).plain)
+          ∙ used_and_taken (leave_of (grounds w x)) (asker x.who) x bytes (all_written (changes_of x.op (signature_of x) w) w)
+      go None (Some r) denied = refl
+      go (Some again) f is = refl
 
   plan_within : AreWithin (touched x.op) w.tellers (plan_of w x)
-  plan_within = go (first w (executes x)) refl
+  plan_within = go (repeated w (executes x)) (first w (executes x)) refl
     where
-      go : (f : Option Rule) → first w (executes x) ≡ f → AreWithin (touched x.op) w.tellers (if_allowed f (changes_of x.op (signature_of x) w) [])
-      go None none = (its_changes none).within
-      go (Some r) denied = tt
+      go : (kept : Option (List ℕ)) (f : Option Rule) → first w (executes x) ≡ f
+          → AreWithin (touched x.op) w.tellers (unless_repeated kept (if_allowed f (changes_of x.op (signature_of x) w) []) [])
+      go None None none = (its_changes none).within
+      go None (Some r) denied = tt
+      go (Some again) f is = tt
 
 uses_within : (items : List Cdi) (w : WorldLists) (x : Execution) (z : WorldLists) → AreWithin items z.tellers (uses_of w x)
-uses_within items w x z = go (first w (executes x)) (leave_of (grounds w x))
+uses_within items w x z = go (repeated w (executes x)) (first w (executes x)) (leave_of (grounds w x)) (slip_named x == 0)
   where
-    go : (f : Option Rule) (l : Leave) → AreWithin items z.tellers (if_allowed f (uses l (asker x.who)) [])
-    go None leave.Triple = tt
-    go None (leave.Release number) = (tt, tt)
-    go (Some r) l = tt
+    row : SlipRow
+    row = slip_of x (reply_text w (executes x)).bytes
+
+    go : (kept : Option (List ℕ)) (f : Option Rule) (l : Leave) (b : Bool)
+        → AreWithin items z.tellers (unless_repeated kept (if_allowed f (uses l (asker x.who) ++ (if b then [] else write.Slip row ∷ [])) []) [])
+    go None None leave.Triple true = tt
+    go None None leave.Triple false = (tt, tt)
+    go None None (leave.Release number) true = (tt, tt)
+    go None None (leave.Release number) false = (tt, (tt, tt))
+    go None (Some r) l b = tt
+    go (Some again) f l b = tt
 
 -- ---- two Worlds
 
@@ -121,18 +140,31 @@ module _ (w v : WorldLists) (x : Execution) (bank : PassesChecks w) (bank' : Pas
   judged : judgement_of x.op (signature_of x) w ≡ judgement_of x.op (signature_of x) v
   judged = judged_alike x.op (signature_of x) w v bank bank' views agree.policy.held agree.form
 
-  denied_alike : (r : Rule) → denies r w (executes x) ≡ denies r v (executes x)
-  denied_alike r =
+  -- beside its slip, and with it
+  plainly_denied_alike : (r : Rule) → (execution_meaning w x).denies r ≡ (execution_meaning v x).denies r
+  plainly_denied_alike r =
       ap₂ (λ a b. if is_of_policy r then a else b) (policy_same w v x bank.books bank'.books views agree.policy agree.release r) (ap (λ j. j.denies r) judged)
+
+  denied_alike : (r : Rule) → denies r w (executes x) ≡ denies r v (executes x)
+  denied_alike rule.Slip = another_same w v x agree.slip
+  denied_alike rule.Full = ap₂ (λ a b. a || b) (room_same w v x agree.slip agree.slips) (plainly_denied_alike rule.Full)
+  denied_alike r = plainly_denied_alike r
 
   first_alike : first w (executes x) ≡ first v (executes x)
   first_alike i = find (λ r. denied_alike r i) rules
 
+  repeated_alike : repeated w (executes x) ≡ repeated v (executes x)
+  repeated_alike = repeated_same w v x agree.policy agree.slip
+
   plan_same : plan_of w x ≡ plan_of v x
-  plan_same = ap₂ (λ f cs. if_allowed f cs []) first_alike (ap (λ j. j.changes) judged)
+  plan_same i = unless_repeated (repeated_alike i) (if_allowed (first_alike i) (judged i).changes []) []
 
   uses_same : uses_of w x ≡ uses_of v x
-  uses_same = ap₂ (λ f l. if_allowed f (uses l (asker x.who)) []) first_alike (leave_same w v x agree.policy)
+  uses_same i = unless_repeated (repeated_alike i) (if_allowed (first_alike i) (uses (leave_same w v x agree.policy i) (asker x.who) ++ takes x (judged i).reply.bytes) []) []
+
+  taken_same : taken_of w x ≡ taken_of v x
+  taken_same i =
+      unless_repeated (repeated_alike i) (if_allowed (first_alike i) (if slip_named x == 0 then None else Some (slip_of x (judged i).reply.bytes)) None) None
 
   -- the Worlds afterwards, by the changes of the first
   after_is : step v (executes x) ≡ all_written (uses_of w x) (all_written (plan_of w x) v)
@@ -220,30 +252,72 @@ not_among {X} p q (y ∷ ys) x none is = go (p y) is (not_among p q ys x (or_par
     go true is rest = let same : y ≡ x = cc in subst (λ z. q z ≡ false) same (or_parts (q y) (list_any q ys) none).0
     go false is rest = rest is
 
-abbrev pub by_blind : Bool → Bool → Bool → Bool → Option Rule → Option Rule
-by_blind a b c d rest = cond a (Some rule.Identity) (cond b (Some rule.NotCertified) (cond c (Some rule.NoTriple) (cond d (Some rule.Limit) rest)))
+abbrev pub by_blind : Bool → Bool → Bool → Bool → Bool → Option Rule → Option Rule
+by_blind a s b c d rest = cond a (Some rule.Identity) (cond s (Some rule.Slip) (cond b (Some rule.NotCertified) (cond c (Some rule.NoTriple) (cond d (Some rule.Limit) rest))))
 
-same_blind : (a b c d : Bool) (rest rest' : Option Rule) (r : Rule) → ¬ (rest ≡ Some r) → by_blind a b c d rest ≡ Some r → by_blind a b c d rest' ≡ Some r
-same_blind true b c d rest rest' r not is = is
-same_blind false true c d rest rest' r not is = is
-same_blind false false true d rest rest' r not is = is
-same_blind false false false true rest rest' r not is = is
-same_blind false false false false rest rest' r not is = absurd (not is)
+same_blind : (a s b c d : Bool) (rest rest' : Option Rule) (r : Rule) → ¬ (rest ≡ Some r) → by_blind a s b c d rest ≡ Some r → by_blind a s b c d rest' ≡ Some r
+same_blind true s b c d rest rest' r not is = is
+same_blind false true b c d rest rest' r not is = is
+same_blind false false true c d rest rest' r not is = is
+same_blind false false false true d rest rest' r not is = is
+same_blind false false false false true rest rest' r not is = is
+same_blind false false false false false rest rest' r not is = absurd (not is)
 
-pub told_rule : (f : Option Rule) (text : ReplyText) (r : Rule) → told f text ≡ Err r → f ≡ Some r
-told_rule None text r is = absurd cc
-told_rule (Some s) text r is = let same : s ≡ r = cc in ap Some same
+-- what is found behind the rule on identity is not that
+not_identity : (s b c d : Bool) (rest : Option Rule) (r : Rule) → ¬ (rest ≡ Some r) → by_blind false s b c d rest ≡ Some r → r ≢ rule.Identity
+not_identity true b c d rest r not is same = cc
+not_identity false true c d rest r not is same = cc
+not_identity false false true d rest r not is same = cc
+not_identity false false false true rest r not is same = cc
+not_identity false false false false rest r not is same = not is
+
+module _ (w v : WorldLists) (x : Execution) (r : Rule) (agree : AgreeOnPolicy w v x) (slip_agrees : r ≢ rule.Identity → AgreeOnSlip w v x) (blind : is_blind r ≡ true) (is : first w (executes x) ≡ Some r) where
+  abbrev tested : WorldLists → Rule → Bool
+  tested z other = denies other z (executes x)
+
+  abbrev rest : WorldLists → Option Rule
+  rest z = find (tested z) (rule.Release ∷ rules_behind_policy)
+
+  not_behind : ¬ (rest w ≡ Some r)
+  not_behind some = false≢true (sym (not_among (tested w) is_blind (rule.Release ∷ rules_behind_policy) r refl some) ∙ blind)
+
+  -- where who asks is not known, and where he is
+  abbrev BlindlyFirst : Type 0
+  BlindlyFirst = (first v (executes x) ≡ Some r) × (repeated w (executes x) ≡ None → repeated v (executes x) ≡ None)
+
+  unknown : tested w rule.Identity ≡ true → BlindlyFirst
+  unknown at =
+      let at' = sym (blind_same w v x agree rule.Identity refl) ∙ at in
+      let first_w : first w (executes x) ≡ Some rule.Identity =
+      ap (λ a. by_blind a (tested w rule.Slip) (tested w rule.NotCertified) (tested w rule.NoTriple) (tested w rule.Limit) (rest w)) at in
+      let first_v : first v (executes x) ≡ Some rule.Identity =
+      ap (λ a. by_blind a (tested v rule.Slip) (tested v rule.NotCertified) (tested v rule.NoTriple) (tested v rule.Limit) (rest v)) at' in
+      (first_v ∙ sym first_w ∙ is, λ none. unknown_is_none (is_identified (grounds v x).standing x.who.session) (kept_reply (slip_grounds v x)) at')
+
+  known : tested w rule.Identity ≡ false → BlindlyFirst
+  known at =
+      let behind : by_blind false (tested w rule.Slip) (tested w rule.NotCertified) (tested w rule.NoTriple) (tested w rule.Limit) (rest w) ≡ Some r =
+      sym (ap (λ a. by_blind a (tested w rule.Slip) (tested w rule.NotCertified) (tested w rule.NoTriple) (tested w rule.Limit) (rest w)) at) ∙ is in
+      let named = slip_agrees (not_identity (tested w rule.Slip) (tested w rule.NotCertified) (tested w rule.NoTriple) (tested w rule.Limit) (rest w) r not_behind behind) in
+      let same = λ (other : Rule) (of : is_blind other ≡ true). sym (blind_same w v x agree other of) in
+      let slip_same = sym (another_same w v x named) in
+      let first_v : first v (executes x) ≡ Some r =
+      (λ i. by_blind (same rule.Identity refl i) (slip_same i) (same rule.NotCertified refl i) (same rule.NoTriple refl i) (same rule.Limit refl i) (rest v))
+      ∙ same_blind (tested w rule.Identity) (tested w rule.Slip) (tested w rule.NotCertified) (tested w rule.NoTriple) (tested w rule.Limit) (rest w) (rest v) r not_behind is in
+      (first_v, λ none. sym (repeated_same w v x agree named) ∙ none)
+
+  pub blindly_first : BlindlyFirst
+  blindly_first = go (tested w rule.Identity) refl
+    where
+      go : (b : Bool) → tested w rule.Identity ≡ b → BlindlyFirst
+      go true at = unknown at
+      go false at = known at
 
 pub blindly_denied : BlindlyDenied
-blindly_denied w v x r agree blind is =
-    let rest = λ (z : WorldLists). find (λ r. denies r z (executes x)) (rule.Release ∷ rules_behind_policy) in
-    let same = λ (r : Rule) (of : is_blind r ≡ true). sym (blind_same w v x agree r of) in
-    let denied = told_rule (first w (executes x)) (reply_text w (executes x)) r is in
-    let not = λ (some : rest w ≡ Some r). false≢true (sym (not_among (λ r. denies r w (executes x)) is_blind (rule.Release ∷ rules_behind_policy) r refl some) ∙ blind) in
-    let first' : first v (executes x) ≡ Some r =
-    (λ i. by_blind (same rule.Identity refl i) (same rule.NotCertified refl i) (same rule.NoTriple refl i) (same rule.Limit refl i) (rest v))
-    ∙ same_blind _ _ _ _ (rest w) (rest v) r not denied in
-    ap (λ f. told f (reply_text v (executes x))) first'
+blindly_denied w v x r agree named blind is =
+    let denied = denied_is_none (repeated w (executes x)) (first w (executes x)) (reply_text w (executes x)) r is in
+    let there = blindly_first w v x r agree named blind denied.1 in
+    ap₂ (λ kept f. told_again kept (told f (reply_text v (executes x)))) (there.1 denied.0) there.0
 
 -- ---- one World
 
@@ -288,28 +362,43 @@ module _ (w : WorldLists) (x : Execution) (bank : PassesChecks w) (proper : IsOp
       ∙ plan_leaves (touched x.op) item (not_nothing item.key key) not (plan_of w x) w (is_steady w bank) (plan_within w x bank proper)
 
   pub policy_left : IsPolicyKept w (step w (executes x))
-  policy_left = go (first w (executes x))
+  policy_left = go (repeated w (executes x)) (first w (executes x))
     where
-      go : (f : Option Rule) → IsPolicyKept w (if_allowed f (effect w (executes x)) w)
-      go None = operation_kept w x
-      go (Some r) = kept_itself w
+      go : (kept : Option (List ℕ)) (f : Option Rule) → IsPolicyKept w (unless_repeated kept (if_allowed f (effect w (executes x)) w) w)
+      go None None = operation_kept w x
+      go None (Some r) = kept_itself w
+      go (Some again) f = kept_itself w
 
   plan_leaves_release : (user number : ℕ) → IsOtherRelease w x user number → (o : Option Release) → releases_after (plan_of w x) user number o ≡ o
-  plan_leaves_release user number other o = go (first w (executes x)) refl
+  plan_leaves_release user number other o = go (repeated w (executes x)) (first w (executes x)) refl
     where
-      go : (f : Option Rule) → first w (executes x) ≡ f → releases_after (if_allowed f (changes_of x.op (signature_of x) w) []) user number o ≡ o
-      go None none = (its_changes w x bank proper none).releases user number other.not_given o
-      go (Some r) denied = refl
+      go : (kept : Option (List ℕ)) (f : Option Rule) → first w (executes x) ≡ f
+          → releases_after (unless_repeated kept (if_allowed f (changes_of x.op (signature_of x) w) []) []) user number o ≡ o
+      go None None none = (its_changes w x bank proper none).releases user number other.not_given o
+      go None (Some r) denied = refl
+      go (Some again) f is = refl
 
   uses_leave_release : (user number : ℕ) → IsOtherRelease w x user number → releases_after (uses_of w x) user number (release w user number) ≡ release w user number
-  uses_leave_release user number other = go (first w (executes x)) refl (leave_of (grounds w x)) refl
+  uses_leave_release user number other = go (repeated w (executes x)) (first w (executes x)) refl (leave_of (grounds w x)) refl (slip_named x == 0)
     where
-      go : (f : Option Rule) → first w (executes x) ≡ f → (l : Leave) → leave_of (grounds w x) ≡ l → releases_after (if_allowed f (uses l (asker x.who)) []) user number (release w user number) ≡ release w user number
-      go (Some r) denied l is = refl
-      go None none leave.Triple is = refl
-      go None none (leave.Release used) is =
+      row : SlipRow
+      row = slip_of x (reply_text w (executes x)).bytes
+
+      used_alone : (used : ℕ) → first w (executes x) ≡ None → leave_of (grounds w x) ≡ leave.Release used
+          → releases_after (uses (leave.Release used) (asker x.who)) user number (release w user number) ≡ release w user number
+      used_alone used none is =
           use_leaves (asker x.who) used user number (release w user number) (used_fits w x used bank.books none is) (release_there w user number bank.books)
           (λ same. other.unused (is ∙ ap leave.Release (sym same)))
+
+      go : (kept : Option (List ℕ)) (f : Option Rule) → first w (executes x) ≡ f → (l : Leave) → leave_of (grounds w x) ≡ l → (b : Bool)
+          → releases_after (unless_repeated kept (if_allowed f (uses l (asker x.who) ++ (if b then [] else write.Slip row ∷ [])) []) []) user number (release w user number)
+          ≡ release w user number
+      go (Some again) f denied l is b = refl
+      go None (Some r) denied l is b = refl
+      go None None none leave.Triple is true = refl
+      go None None none leave.Triple is false = refl
+      go None None none (leave.Release used) is true = used_alone used none is
+      go None None none (leave.Release used) is false = used_alone used none is
 
   releases_left : (user number : ℕ) → IsOtherRelease w x user number → release (step w (executes x)) user number ≡ release w user number
   releases_left user number other =
@@ -324,6 +413,9 @@ others_are_left_alone w x bank proper = record {
   policy = (policy_left w x bank proper).policy;
   version = (policy_left w x bank proper).version;
   releases = releases_left w x bank proper;
+  slips = other_slip w x bank.in_order.books.slips;
+  taken = stays_taken w x bank.in_order.books.slips;
+  slip_counts = other_count w x bank.in_order.books.slips;
 }
 
 -- ---- two Worlds that agree for an operation of a user agree after it for each of his for which they agreed before
@@ -336,21 +428,31 @@ module _ (w v : WorldLists) (x : Execution) (bank : PassesChecks w) (bank' : Pas
       go (release w user number) refl
       (sym (ap (λ z. release z user number) (step_is w x bank proper) ∙ release_after_is w v x bank bank' proper agree w bank.in_order (plan_of w x) (uses_of w x) user number) ∙ is)
     where
-      none_given : (f : Option Rule) → first w (executes x) ≡ f → releases_after (if_allowed f (changes_of x.op (signature_of x) w) []) user number None ≡ None
-      none_given None none =
+      none_given : (kept : Option (List ℕ)) (f : Option Rule) → first w (executes x) ≡ f
+          → releases_after (unless_repeated kept (if_allowed f (changes_of x.op (signature_of x) w) []) []) user number None ≡ None
+      none_given None None none =
           (its_changes w x bank proper none).releases user number
           (subst (λ u. IsNotGiven w x.op u number) (sym by) (not_to_himself x.op (signature_of x) w number (allowed_by_books w x none))) None
-      none_given (Some rule) denied = refl
+      none_given None (Some rule) denied = refl
+      none_given (Some again) f is = refl
 
-      none_used : (f : Option Rule) (l : Leave) → releases_after (if_allowed f (uses l (asker x.who)) []) user number None ≡ None
-      none_used None leave.Triple = refl
-      none_used None (leave.Release used) = refl
-      none_used (Some rule) l = refl
+      row : SlipRow
+      row = slip_of x (reply_text w (executes x)).bytes
+
+      none_used : (kept : Option (List ℕ)) (f : Option Rule) (l : Leave) (b : Bool)
+          → releases_after (unless_repeated kept (if_allowed f (uses l (asker x.who) ++ (if b then [] else write.Slip row ∷ [])) []) []) user number None ≡ None
+      none_used None None leave.Triple true = refl
+      none_used None None leave.Triple false = refl
+      none_used None None (leave.Release used) true = refl
+      none_used None None (leave.Release used) false = refl
+      none_used None (Some rule) l b = refl
+      none_used (Some again) f l b = refl
 
       go : (o : Option Release) → release w user number ≡ o → releases_after (uses_of w x) user number (releases_after (plan_of w x) user number o) ≡ Some r
           → (before : Release) × (release w user number ≡ Some before) × (r.giver ≡ before.giver)
       go None at after =
-          absurd (no_release r (sym (ap (releases_after (uses_of w x) user number) (none_given (first w (executes x)) refl) ∙ none_used (first w (executes x)) (leave_of (grounds w x))) ∙ after))
+          absurd (no_release r (sym (ap (releases_after (uses_of w x) user number) (none_given (repeated w (executes x)) (first w (executes x)) refl)
+          ∙ none_used (repeated w (executes x)) (first w (executes x)) (leave_of (grounds w x)) (slip_named x == 0)) ∙ after))
       go (Some before) at after =
           let planned = keeps_giver (plan_of w x) user number before in
           let used = keeps_giver (uses_of w x) user number planned.0 in
@@ -362,6 +464,15 @@ module _ (w v : WorldLists) (x : Execution) (bank : PassesChecks w) (bank' : Pas
       (same key (ap (λ p. is_account_of (current moment (triples_of p user procedure.Accounts)) key) (sym (policy_left w x bank proper).policy) ∙ of))
   form_after (op.Release g) user moment same = given_after w v x bank bank' proper agree g.beneficiary same
   form_after _ user moment same = tt
+
+  -- what they agree on of a slip, and of how many a user has, they do afterwards
+  pub slip_agrees : (y : Execution) → AgreeOnSlip w v y → AgreeOnSlip (step w (executes x)) (step v (executes x)) y
+  slip_agrees y other =
+      λ names. slip_still w v x bank.in_order.books.slips bank'.in_order.books.slips (taken_same w v x bank bank' proper agree) (asker y.who) (slip_named y) (other names)
+
+  slip_count_agrees : (y : Execution) → AgreeOnSlipCount w v y → AgreeOnSlipCount (step w (executes x)) (step v (executes x)) y
+  slip_count_agrees y other =
+      λ names. count_still w v x bank.in_order.books.slips bank'.in_order.books.slips (taken_same w v x bank bank' proper agree) (asker y.who) (other names)
 
   pub agree_after : (y : Execution) → asker y.who ≡ asker x.who → Agree w v y → Agree (step w (executes x)) (step v (executes x)) y
   agree_after y by other =
@@ -385,6 +496,8 @@ module _ (w v : WorldLists) (x : Execution) (bank : PassesChecks w) (bank' : Pas
                 held = ap (λ p. triples_of p before.0.giver procedure.Release) kept.policy ∙ same.held ∙ sym (ap (λ p. triples_of p before.0.giver procedure.Release) kept'.policy);
               });
         };
+        slip = slip_agrees y other.slip;
+        slips = slip_count_agrees y other.slips;
         views = all_from _ (touched y.op) (λ item there.
             view_after w v x bank bank' proper agree item (All-contains (λ item. view_of w item ≡ view_of v item) (touched y.op) item other.views there));
         form = form_after y.op (asker y.who) y.moment other.form;
@@ -392,7 +505,7 @@ module _ (w v : WorldLists) (x : Execution) (bank : PassesChecks w) (bank' : Pas
 
 pub agreeing_answer_alike : AgreeingAnswerAlike
 agreeing_answer_alike w v x bank bank' proper agree = record {
-  reply = ap₂ told (first_alike w v x bank bank' proper agree) (ap (λ j. j.reply) (judged w v x bank bank' proper agree));
+  reply = λ i. told_again (repeated_alike w v x bank bank' proper agree i) (told (first_alike w v x bank bank' proper agree i) (judged w v x bank bank' proper agree i).reply);
   agree = agree_after w v x bank bank' proper agree x refl agree;
 }
 
@@ -421,7 +534,7 @@ two_worlds = (agreeing_answer_alike, blindly_denied, others_are_left_alone, only
 -- ---- operations on other items
 
 pub undisturbed : Undisturbed
-undisturbed w x y bank bank' proper proper' apart other form =
+undisturbed w x y bank bank' proper proper' apart other slips form =
     let after = step w (executes y) in
     let policy = policy_left w y bank proper' in
     let agree : Agree w after x = record {
@@ -437,6 +550,8 @@ undisturbed w x y bank bank' proper proper' apart other form =
           held = ap (λ p. triples_of p r.giver procedure.Release) (sym policy.policy);
         };
       };
+      slip = λ names. sym (other_slip w y bank.in_order.books.slips (asker x.who) (slip_named x) (λ same. slips names (λ none. names (same ∙ none))));
+      slips = λ names. sym (other_count w y bank.in_order.books.slips (asker x.who) (slips names));
       views = all_from (λ item. view_of w item ≡ view_of after item) (touched x.op) (λ item there.
           let one = All-contains (λ item. IsKey item.key × ¬ Contains (touched y.op) item) (touched x.op) item apart there in
           sym (views_left w y bank proper' item one.0 one.1));

@@ -58,6 +58,7 @@ IsWithin items tellers (write.Proof p) = Contains items (branch_item p.branch)
 IsWithin items tellers (write.Day d) = Contains items (branch_item d.branch)
 IsWithin items tellers (write.Release r) = Unit {0}
 IsWithin items tellers (write.Used k) = Unit {0}
+IsWithin items tellers (write.Slip s) = Unit {0}
 IsWithin items tellers _ = ⊥
 
 abbrev pub AreWithin : List Cdi → List Teller → List RowWrite → Type 0
@@ -162,6 +163,7 @@ module _ (items : List Cdi) (w : WorldLists) (holder : Option ℕ) (key : ℕ) (
       ap (λ o. record (view_at kind.Branch key w) { branch = o }) (day_stays w d.day d.branch key (apart items branch_item d.branch key within not))
   left_alone (write.Release r) kind.Account within not = refl
   left_alone (write.Used u) kind.Account within not = refl
+  left_alone (write.Slip u) kind.Account within not = refl
   left_alone (write.Session u) kind.Account within not = refl
   left_alone (write.Policy p) kind.Account within not = refl
   left_alone _ _ within not = refl

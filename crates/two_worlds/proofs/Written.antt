@@ -154,6 +154,7 @@ view_is holder (write.Day d) kind.Vault key w order holds =
     ap (λ o. record (view_at kind.Vault key w) { opening = o }) (ap (option_map (λ b. b.cash)) (day_made d.day d.branch w.branches key) ∙ cash_stays d.day d.branch (branch_row key w.branches))
 view_is holder (write.Release r) kind.Account key w order holds = refl
 view_is holder (write.Used u) kind.Account key w order holds = refl
+view_is holder (write.Slip u) kind.Account key w order holds = refl
 view_is holder (write.Session u) kind.Account key w order holds = refl
 view_is holder (write.Policy p) kind.Account key w order holds = refl
 view_is holder _ _ key w order holds = refl

@@ -14,7 +14,7 @@ use Rattle.bank_run.specs.declared.request.Asked.{Asked}
 use Rattle.bank_run.specs.declared.request.Asked.TheVariants as asked
 use Rattle.bank_run.specs.declared.request.Request.{Request}
 use Rattle.bank_run.specs.declared.who.Who.{Who}
-use Rattle.two_worlds.specs.Agree.{Agree, AgreeOnPolicy}
+use Rattle.two_worlds.specs.Agree.{Agree, AgreeOnPolicy, AgreeOnSlip}
 
 -- the replies to requests, each to the World that the one before it left
 abbrev pub replies : WorldLists → List Request → List (Result ReplyText Rule)
@@ -34,12 +34,12 @@ pub record IsOutside (w : WorldLists) (x : Execution) : Type 0 where
   pub of_triples : is_of_triples rule ≡ true
   pub denies : denies rule w (executes x) ≡ true
 
--- On all that the reply to what is asked for depends on. It is nothing of items where an operation is outside of what his triples hold, and the row of the user where a
--- session is asked for. Of commands and of the listing nothing is said.
+-- On all that the reply to what is asked for depends on. It is nothing of items where an operation is outside of what his triples hold, only the slip that it names, and the
+-- row of the user where a session is asked for. Of commands and of the listing nothing is said.
 abbrev pub AgreeOn : WorldLists → WorldLists → Who → ℕ → Asked → Type 0
 AgreeOn w v who moment (asked.Operation op) =
     let x : Execution = record { who = who; moment = moment; op = op } in
-    Agree w v x ⊎ (AgreeOnPolicy w v x × IsOutside w x)
+    Agree w v x ⊎ (AgreeOnPolicy w v x × AgreeOnSlip w v x × IsOutside w x)
 AgreeOn w v who moment asked.Opening = user_row w.policy (asker who) ≡ user_row v.policy (asker who)
 AgreeOn w v who moment asked.Ending = user_row w.policy (asker who) ≡ user_row v.policy (asker who)
 AgreeOn w v who moment _ = ⊥

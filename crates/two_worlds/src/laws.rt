@@ -6,10 +6,11 @@ ghost use Rattle.two_worlds.specs.Laws.{TwoWorlds, Undisturbed};
 ghost use Rattle.two_worlds.specs.Views.{MissingIsNothing, ViewsGoByTurn};
 
 /// Two banks that agree on the row of a user, on his triples and the relations of a procedure with their sets, on the release
-/// that he names and on who gave it, and on the views of the items that an operation touches, reply to it alike, reports with
-/// their texts, and agree on all of this again afterwards. In each of them the views of all other items stay, and so do the
-/// policy and every release but the one that is used or given. A denial by a rule in front of that on releases is the same
-/// whatever the items are. What is no operation leaves every item.
+/// that he names and on who gave it, on the slip that he names and how many he has, and on the views of the items that an
+/// operation touches, reply to it alike, repeats and reports with their texts, and agree on all of this again afterwards. In
+/// each of them the views of all other items stay, and so do the policy, every release but the one that is used or given, and
+/// every slip but a new one of his. A denial by a rule in front of that on releases is the same whatever the items are. What is
+/// no operation leaves every item.
 pub fn two_worlds()
     ensures { TwoWorlds }
 {}
@@ -20,7 +21,8 @@ pub fn two_worlds_along()
     ensures { TwoWorldsAlong }
 {}
 
-/// An operation leaves the reply to another that touches none of its items, and names no release that it uses or gives.
+/// An operation leaves the reply to another that touches none of its items, names no release that it uses or gives, and bears
+/// no slip where it bears one of the same user.
 pub fn undisturbed()
     ensures { Undisturbed }
 {}

@@ -12,6 +12,7 @@ returns c = record {
     lines = c.lines-lines.ensures.in_order;
     proofs = c.proofs-proofs.ensures.in_order;
     releases = c.releases-releases.ensures.in_order;
+    slips = c.slips-slips.ensures.in_order;
   };
   policy = subst IsPolicyInOrder c.policy-policy.ensures (record {
     users_in_order = c.users-users.ensures.in_order;

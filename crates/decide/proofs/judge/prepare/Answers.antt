@@ -44,7 +44,7 @@ returns-in_ok-plan-in-Ok-Change-clause-judged g c =
           let books = subst (λ by. IsReady (λ v. by_books (meaning_of c.args.execution.now.op by v)) w (Ok (ready.Change c.in-Ok-Change.field-0-0))) c.signature-by.ensures judged in
           let policy = subst (λ (r : Result Ready Rule). LeavesPolicyReady (Ok r)) change c.in_ok-plan-in-Ok.ensures.policy in
           prepared w c.args.execution.now c.in-Ok.leave c.in-Ok-Change.field-0-0 c.in_ok-plan-in-Ok-Change.plan leave books
-          (c.in_ok-plan-in-Ok-Change.ensures policy w ∙ ap (λ by. used_by c.in-Ok.leave by.user (applied c.in-Ok-Change.field-0-0.plan.items w)) c.signature-by.ensures);
+          (c.in_ok-plan-in-Ok-Change.ensures.used policy w ∙ ap (λ by. used_by c.in-Ok.leave by.user (applied c.in-Ok-Change.field-0-0.plan.items w)) c.signature-by.ensures);
       kept = search rules;
       refused = search rules;
     }
@@ -84,3 +84,8 @@ returns-in_err-plan-in-Ok-Change-clause-denied g c = λ honest w holds some.
     let books = subst (IsReady (λ v. by_books (meaning_of c.args.execution.now.op c.signature-by.result v)) w) change
     (c.in_ok-plan-in-Ok.ensures.judged.told honest w (c.in_ok-rule.ensures.kept.kept w holds)) in
     none_denies _ books.allowed (books_deny w c.args.execution.now c.in-Ok.leave c.signature-by.result c.signature-by.ensures leave some)
+
+pub returns-in_ok-plan-in-Ok-Change-clause-policy : goal.returns-in_ok-plan-in-Ok-Change-clause-policy
+returns-in_ok-plan-in-Ok-Change-clause-policy g c =
+    let change = c.in-Ok-Change.is ∙ ap (λ (a : Ready). Ok a) c.in-Ok-Change.field-0-is in
+    c.in_ok-plan-in-Ok-Change.ensures.policy ∙ subst (λ (r : Result Ready Rule). LeavesPolicyReady (Ok r)) change c.in_ok-plan-in-Ok.ensures.policy

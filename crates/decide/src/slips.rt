@@ -1,0 +1,186 @@
+//! An operation with its slip: whether it repeats one that was made, and what its slip adds to its plan.
+
+ghost use Rattle.std.specs.Prelude.{◌≡◌, ◌≢◌, ◌++◌, ◌∷◌, [], IfErr, IfOk, IsSome, None, Some, true};
+ghost use Rattle.bank_books.specs.Records.{slip_count};
+ghost use Rattle.bank_books.specs.declared.row_write.RowWrite.TheVariants as write;
+ghost use Rattle.bank_policy.specs.HeldRows.{standing};
+ghost use Rattle.bank_terms.specs.Procedure.{takes_slip};
+ghost use Rattle.counter_ops.specs.Op.{procedure_of};
+ghost use Rattle.counter_ops.specs.Operations.{IsOp};
+ghost use Rattle.counter_ops.specs.Rows.{row_of};
+ghost use Rattle.row_reads.specs.BookReads.{slip};
+ghost use Rattle.store_rows.specs.Status.{Reads, ReadsRow};
+ghost use Rattle.bank_run.specs.Executions.{execution_verdict};
+ghost use Rattle.bank_run.specs.NamedRelease.{is_same_operation};
+ghost use Rattle.bank_run.specs.Operations.{is_report};
+ghost use Rattle.bank_run.specs.PolicyRules.{is_identified};
+ghost use Rattle.bank_run.specs.Requests.{executes};
+ghost use Rattle.bank_run.specs.Run.{denied_by};
+ghost use Rattle.bank_run.specs.Slips.{slip_named};
+ghost use Rattle.op_plans.specs.Judged.{DeniesOrCounts};
+ghost use Rattle.decide.specs.Slips.{DeniesNewOrCounts, IsJudgedWithSlip, IsOfFound, JudgesReportsOnly, or_full};
+
+use crate::judge::prepare;
+use crate::named_release::is_same_operation;
+use crate::policy_rules::{is_identified, policy_leave, standing_of};
+use bank_books::{Plan, RowWrite, Slip};
+use bank_run::Execution;
+use bank_terms::{MAX_SLIPS, OperationRow, Rule};
+use money::Fault;
+use op_plans::{Prepared, Ready, first_of_books, load_book_rows};
+use std::alloc::{AllocError, Global};
+use store_rows::{BookReads, PolicyReads, ReportReads, SlipReads};
+
+/// What is judged of an operation with its slip.
+pub(crate) enum Judgement {
+    /// The first rule that denies it.
+    Denied(Rule),
+    /// It repeats one that was made: what was replied then.
+    Repeated(Vec<u8>),
+    /// No rule denies it: what carries it out.
+    Ready(Ready),
+}
+
+/// What is judged of an operation with its slip. Whether it repeats one that was made is asked right
+/// behind the rule on identity.
+pub(crate) fn prepare_with_slip<S: PolicyReads + BookReads + ReportReads + SlipReads>(
+    alloc: Global,
+    store: &mut S,
+    execution: &Execution,
+) -> Result<Judgement, Fault>
+    requires named { IsSome execution.now.who.user }
+    requires proper { IsOp execution.now.op }
+    ensures judged { Reads (S.status store.old) (S.status store.new) result (λ w judged. IsJudgedWithSlip w execution.now judged) }
+    ensures reports { IfOk result (JudgesReportsOnly (is_report execution.now.op)) }
+    ensures denied { DeniesOrCounts (S.status store.old) (S.status store.new) (λ w. denied_by w (executes execution.now)) result }
+{
+    let Some(user) = execution.who.user else {
+        unreachable!();
+    };
+    let number = execution.slip();
+    if number == 0 {
+        return prepare_without_slip(alloc, store, execution);
+    }
+    if !is_known(alloc, store, user, execution.who.session)? {
+        return Ok(Judgement::Denied(Rule::Identity));
+    }
+    match store.slip(alloc, user, number)? {
+        Some(slip) => Ok(judged_by(alloc, &slip, execution)?),
+        None => prepare_with_new_slip(alloc, store, user, number, execution),
+    }
+}
+
+/// Whether a user is there, is not suspended, and has this session open.
+fn is_known<P: PolicyReads>(
+    alloc: Global,
+    store: &mut P,
+    user: u32,
+    session: u32,
+) -> Result<bool, Fault>
+    ensures { ReadsRow (P.status store.old) (P.status store.new) result (λ w known. known ≡ is_identified (standing w.policy user) session) }
+{
+    let standing = standing_of(alloc, store, user)?;
+    Ok(is_identified(standing, session))
+}
+
+/// What a slip that its user has makes of an operation. A denial takes no memory.
+fn judged_by(alloc: Global, slip: &Slip, execution: &Execution) -> Result<Judgement, AllocError>
+    ensures judged { IfOk result (λ judged. IsOfFound slip.now execution.now judged) }
+    ensures repeats { IfErr result (λ _. is_same_operation slip.now.operation (row_of execution.now.op) ≡ true) }
+{
+    if is_same_operation(&slip.operation(), &execution.op.to_row()) {
+        Ok(Judgement::Repeated(Vec::from_slice(alloc, slip.reply())?))
+    } else {
+        Ok(Judgement::Denied(Rule::Slip))
+    }
+}
+
+/// The same where no slip is named.
+fn prepare_without_slip<S: PolicyReads + BookReads + ReportReads>(
+    alloc: Global,
+    store: &mut S,
+    execution: &Execution,
+) -> Result<Judgement, Fault>
+    requires named { IsSome execution.now.who.user }
+    requires proper { IsOp execution.now.op }
+    requires none { slip_named execution.now ≡ 0 }
+    ensures judged { Reads (S.status store.old) (S.status store.new) result (λ w judged. IsJudgedWithSlip w execution.now judged) }
+    ensures reports { IfOk result (JudgesReportsOnly (is_report execution.now.op)) }
+    ensures denied { DeniesOrCounts (S.status store.old) (S.status store.new) (λ w. denied_by w (executes execution.now)) result }
+{
+    match prepare(alloc, store, execution)? {
+        Ok(ready) => Ok(Judgement::Ready(ready)),
+        Err(rule) => Ok(Judgement::Denied(rule)),
+    }
+}
+
+/// The same where a slip is named that its user has not: it is taken with the operation, and there has to be
+/// room for it. That is asked before a plan is formed, as a denial takes no memory.
+fn prepare_with_new_slip<S: PolicyReads + BookReads + ReportReads + SlipReads>(
+    alloc: Global,
+    store: &mut S,
+    user: u32,
+    number: u32,
+    execution: &Execution,
+) -> Result<Judgement, Fault>
+    requires named { execution.now.who.user ≡ Some user }
+    requires proper { IsOp execution.now.op }
+    requires number { slip_named execution.now ≡ number }
+    requires some { number ≢ 0 }
+    ensures judged { Reads (S.status store.old) (S.status store.new) result (λ w judged. slip w user number ≡ None → IsJudgedWithSlip w execution.now judged) }
+    ensures reports { IfOk result (JudgesReportsOnly (is_report execution.now.op)) }
+    ensures denied { DeniesNewOrCounts (S.status store.old) (S.status store.new) user number execution.now result }
+{
+    if store.slips(alloc, user)? >= MAX_SLIPS {
+        let first = rule_with_no_room(alloc, store, execution)?;
+        return Ok(Judgement::Denied(first));
+    }
+    match prepare(alloc, store, execution)? {
+        Err(rule) => Ok(Judgement::Denied(rule)),
+        Ok(Ready::Change(Prepared { plan, text })) => {
+            let operation = execution.op.to_row();
+            let plan = with_slip(alloc, plan, user, number, operation, &text)?;
+            Ok(Judgement::Ready(Ready::Change(Prepared { plan, text })))
+        }
+        Ok(Ready::Report(_)) => unreachable!(),
+    }
+}
+
+/// The first rule against an operation whose slip has no room: the counts are full, which comes behind each other
+/// rule that denies it. The rows that it is judged on are read alone, and no plan is formed.
+fn rule_with_no_room<S: PolicyReads + BookReads>(
+    alloc: Global,
+    store: &mut S,
+    execution: &Execution,
+) -> Result<Rule, Fault>
+    requires named { IsSome execution.now.who.user }
+    requires takes { takes_slip (procedure_of execution.now.op) ≡ true }
+    ensures { ReadsRow (S.status store.old) (S.status store.new) result (λ w rule. rule ≡ or_full (execution_verdict execution.now w).first) }
+{
+    match policy_leave(alloc, store, execution)? {
+        Err(rule) => Ok(rule),
+        Ok(_) => {
+            let rows = load_book_rows(alloc, store, &execution.op)?;
+            match first_of_books(&rows, &execution.op, execution.signature()) {
+                Some(rule) => Ok(rule),
+                None => Ok(Rule::Full),
+            }
+        }
+    }
+}
+
+/// A plan and, behind it, a slip that is taken with this operation and this reply.
+fn with_slip(
+    alloc: Global,
+    mut plan: Plan,
+    user: u32,
+    number: u32,
+    operation: OperationRow,
+    text: &[u8],
+) -> Result<Plan, AllocError>
+    ensures { IfOk result (λ p. p.items ≡ plan.items ++ write.Slip (record { user = user; number = number; operation = operation; reply = text.now }) ∷ []) }
+{
+    let reply = Vec::from_slice(alloc, text)?;
+    plan.push(RowWrite::Slip(Slip::new(user, number, operation, reply)))?;
+    Ok(plan)
+}
