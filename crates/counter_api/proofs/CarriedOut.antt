@@ -7,10 +7,11 @@ use Rattle.money.specs.declared.fault.Fault.{Fault}
 use Rattle.money.specs.declared.fault.Fault.TheVariants.{Memory}
 use Rattle.bank_books.specs.WorldLists.{WorldLists}
 use Rattle.store_rows.specs.Status.{Answers, Keeps, Refuses, StaysWhole, Status, Tells, mark_of}
-use Rattle.decide.specs.Permit.{CarriesOut, ChangesNothing, IsLeave, IsPermitOf, IsReplyOf, IsSettled, Makes}
+use Rattle.decide.specs.Permit.{CarriesOut, ChangesNothing, IsDenialOf, IsLeave, IsPermitOf, IsReplyOf, IsSettled, Makes}
 use Rattle.bank_run.specs.LastWord.{finds_room}
-use Rattle.bank_run.specs.Requests.{effect, executes, first, reply_text, verdict}
-use Rattle.bank_run.specs.Run.{if_allowed, is_accepted, reply, step, told}
+use Rattle.bank_run.specs.Requests.{effect, executes, first, repeated, reply_text, verdict}
+use Rattle.bank_run.specs.Run.{if_allowed, is_accepted, reply, step, told, told_again, unless_repeated}
+use Rattle.decide.specs.declared.permit.Denial.{Denial}
 use Rattle.decide.specs.declared.permit.Permit.{Permit}
 use Rattle.decide.specs.declared.permit.Reply.{Reply}
 use Rattle.decide.specs.declared.permit.Reply.TheVariants as answer
@@ -41,7 +42,14 @@ module _ {S : Type 0} where
 
   -- the effect of what was permitted is the step of what was asked
   step_is : (w : WorldLists) (q : Request) (p : Permit S) → IsPermitOf w q p → effect w (executes p.execution) ≡ step w q
-  step_is w q p permit = sym (ap (λ o. if_allowed o (effect w (executes p.execution)) w) permit.leave.allowed) ∙ ap (step w) permit.asked
+  step_is w q p permit =
+      let x = executes p.execution in
+      sym (ap (λ kept. unless_repeated kept (if_allowed (first w x) (effect w x) w) w) permit.leave.fresh ∙ ap (λ o. if_allowed o (effect w x) w) permit.leave.allowed)
+      ∙ ap (step w) permit.asked
+
+  -- and that is no repeat
+  pub permit_fresh : (w : WorldLists) (q : Request) (p : Permit S) → IsPermitOf w q p → repeated w q ≡ None
+  permit_fresh w q p permit = subst (λ r. repeated w r ≡ None) permit.asked permit.leave.fresh
 
   pub settles : (old mid new : Status) (q : Request) (p : Permit S) → Keeps old mid None → Tells old mid (λ w. IsPermitOf w q p) → CarriesOut mid new p None
       → (new.is_honest → (w : WorldLists) → IsLeave w p → mid.holds w → IsSettled mid new w p) → Settles old new q None
@@ -54,10 +62,41 @@ module _ {S : Type 0} where
         | inr same ↦ inr (sym is ∙ same.0, λ left may. kept.crash before left (same.1 left may))
       ]
 
+  -- ---- carried out, or not
+
+  -- the World after it
+  pub permit_moves : (old mid new : Status) (q : Request) (p : Permit S) → Keeps old mid None → Tells old mid (λ w. IsPermitOf w q p) → CarriesOut mid new p None → Moves old new q None
+  permit_moves old mid new q p kept decided carried honest w holds =
+      let permit = decided (carried.answers.honest honest) w holds in
+      subst new.holds (step_is w q p permit) (carried.moved w permit.leave (kept.kept w holds))
+
+  -- and what a crash may leave, whatever carrying it out came to
+  pub permit_leaves : (old mid new : Status) (q : Request) (p : Permit S) (mark : Option Fault) → Keeps old mid None → Tells old mid (λ w. IsPermitOf w q p) → CarriesOut mid new p mark → LeavesBoth old new q
+  permit_leaves old mid new q p mark kept decided carried honest w holds left may =
+      let before = carried.answers.honest honest in
+      let permit = decided before w holds in
+      elim (carried.crash honest w left permit.leave (kept.kept w holds) may) [
+        | inl was ↦ inl (kept.crash before left was)
+        | inr is ↦ inr (is ∙ step_is w q p permit)
+      ]
+
+  -- where it came to a fault, the World is as it was
+  pub permit_stays : (old mid new : Status) (q : Request) (p : Permit S) (fault : Fault) → Keeps old mid None → Tells old mid (λ w. IsPermitOf w q p) → CarriesOut mid new p (Some fault) → Moves old new q (Some fault)
+  permit_stays old mid new q p fault kept decided carried honest w holds =
+      let permit = decided (carried.answers.honest honest) w holds in
+      carried.moved w permit.leave (kept.kept w holds)
+
+  pub permit_whole : (old mid new : Status) (p : Permit S) (mark : Option Fault) → Keeps old mid None → CarriesOut mid new p mark → StaysWhole old new
+  permit_whole old mid new p mark kept carried honest w holds was = carried.whole honest w (kept.kept w holds) (kept.whole (carried.answers.honest honest) was)
+
   -- ---- a text
 
   reply_is : (w : WorldLists) (q : Request) (p : Permit S) → IsPermitOf w q p → reply w q ≡ Ok (reply_text w (executes p.execution))
-  reply_is w q p permit = ap (reply w) (sym permit.asked) ∙ ap (λ f. told f (reply_text w (executes p.execution))) permit.leave.allowed
+  reply_is w q p permit =
+      let x = executes p.execution in
+      ap (reply w) (sym permit.asked)
+      ∙ ap (λ kept. told_again kept (told (first w x) (reply_text w x))) permit.leave.fresh
+      ∙ ap (λ f. told f (reply_text w x)) permit.leave.allowed
 
   pub done_told : (old mid new : Status) (q : Request) (p : Permit S) (r : Reply S) (body : List ℕ) → Keeps old mid None → Tells old mid (λ w. IsPermitOf w q p) → CarriesOut mid new p None
       → IsReplyOf p.ready r → IsText r body → Tells old new (λ w. done_parts (json body) ≡ told_parts (reply w q))
@@ -87,20 +126,32 @@ module _ {S : Type 0} where
 
 -- a request that a rule denies leaves the World
 pub denied_stays : (w : WorldLists) (r : Request) (rule : Rule) → reply w r ≡ Err rule → step w r ≡ w
-denied_stays w r rule = go (first w r)
+denied_stays w r rule = go (repeated w r) (first w r)
   where
-    go : (o : Option Rule) → told o (reply_text w r) ≡ Err rule → if_allowed o (effect w r) w ≡ w
-    go None is = absurd cc
-    go (Some denies) is = refl
+    go : (kept : Option (List ℕ)) (o : Option Rule) → told_again kept (told o (reply_text w r)) ≡ Err rule → unless_repeated kept (if_allowed o (effect w r) w) w ≡ w
+    go None None is = absurd cc
+    go None (Some denies) is = refl
+    go (Some bytes) o is = refl
 
 -- a request that a rule denies is not accepted
 not_accepted : (w : WorldLists) (r : Request) (rule : Rule) (mark : Option Fault) → reply w r ≡ Err rule → is_accepted w (record { request = r; mark = mark }) ≡ true → ⊥
-not_accepted w r rule mark = go (first w r) (is_none mark)
+not_accepted w r rule mark = go (repeated w r) (first w r) (is_none mark)
   where
-    go : (o : Option Rule) (unmarked : Bool) → told o (reply_text w r) ≡ Err rule → (unmarked && is_none o) ≡ true → ⊥
-    go None unmarked is accepted = absurd cc
-    go (Some denies) true is accepted = absurd cc
-    go (Some denies) false is accepted = absurd cc
+    go : (kept : Option (List ℕ)) (o : Option Rule) (unmarked : Bool) → told_again kept (told o (reply_text w r)) ≡ Err rule → (unmarked && (is_none kept && is_none o)) ≡ true → ⊥
+    go (Some bytes) o unmarked is accepted = absurd cc
+    go None None unmarked is accepted = absurd cc
+    go None (Some denies) true is accepted = absurd cc
+    go None (Some denies) false is accepted = absurd cc
+
+-- what is replied to one that is denied, and what a repeat leaves and is replied
+pub denial_replied : (w : WorldLists) (r : Request) (rule : Rule) → repeated w r ≡ None → first w r ≡ Some rule → reply w r ≡ Err rule
+denial_replied w r rule fresh is = ap (λ kept. told_again kept (told (first w r) (reply_text w r))) fresh ∙ ap (λ o. told o (reply_text w r)) is
+
+pub repeat_stays : (w : WorldLists) (r : Request) (bytes : List ℕ) → repeated w r ≡ Some bytes → step w r ≡ w
+repeat_stays w r bytes is = ap (λ kept. unless_repeated kept (if_allowed (first w r) (effect w r) w) w) is
+
+pub repeat_replied : (w : WorldLists) (r : Request) (bytes : List ℕ) → repeated w r ≡ Some bytes → reply w r ≡ Ok (json bytes)
+repeat_replied w r bytes is = ap (λ kept. told_again kept (told (first w r) (reply_text w r))) is
 
 -- so nothing is asked of one that is denied
 pub denied_finds : (old new : Status) (r : Request) (rule : Rule) (mark : Option Fault) → Tells old new (λ w. reply w r ≡ Err rule) → Tells old new (FindsRoom r mark)
@@ -126,6 +177,20 @@ forgotten old new a = record {
   counted = a.counted;
   no_more = let none = a.no_more in omega arith;
   failed = a.failed;
+}
+
+-- so much is said where a rule denies it, and memory is refused for the text of that
+pub denial_forgotten : {S : Type 0} (old new : Status) (r : Request) (d : Denial S) → Keeps old new None → Tells old new (λ w. IsDenialOf w r d) → IsCarriedOut IsResponse old new r (Err Memory)
+denial_forgotten old new r d kept denied = record {
+  answers = forgotten old new kept.answers;
+  moved = λ honest w holds. kept.kept w holds;
+  replied = λ honest w holds. tt;
+  room = denied_finds old new r d.rule (Some Memory) (λ honest w holds. denial_replied w r d.rule (denied honest w holds).fresh (denied honest w holds).first);
+  crash = λ honest w holds left may. inl (kept.crash honest left may);
+  whole = λ honest w holds was. kept.whole honest was;
+  settled = λ none. cc;
+  refused = λ known stopped. inr refl;
+  stranger = λ nobody. refl;
 }
 
 -- so much is said of the response to it

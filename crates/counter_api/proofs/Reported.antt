@@ -9,8 +9,8 @@ use Rattle.messages.specs.Parts.{MessageParts}
 use Rattle.store_rows.specs.Status.{Keeps, Status, Tells}
 use Rattle.bank_run.specs.LastWord.{finds_room}
 use Rattle.bank_run.specs.Meaning.{ReplyText, plain}
-use Rattle.bank_run.specs.Requests.{effect, first, reply_text, verdict}
-use Rattle.bank_run.specs.Run.{if_allowed, reply, step, told}
+use Rattle.bank_run.specs.Requests.{effect, first, repeated, reply_text, verdict}
+use Rattle.bank_run.specs.Run.{if_allowed, reply, step, told, told_again, unless_repeated}
 use Rattle.bank_run.specs.declared.request.Request.{Request}
 use Rattle.op_plans.specs.Judged.{IsReported}
 use Rattle.reports.specs.Report.{BeginsWith, IsCounted, text_of}
@@ -26,23 +26,29 @@ use Rattle.counter_api.specs.declared.counter.Outcome.TheVariants as outcome
 use Rattle.counter_api.specs.declared.sent.Sent.{Sent}
 use Rattle.counter_api.specs.declared.sent.Sent.TheVariants as sent
 
-module _ (w : WorldLists) (q : Request) (c : Contents) (is : IsReported w (verdict q w) c) where
+module _ (w : WorldLists) (q : Request) (c : Contents) (fresh : repeated w q ≡ None) (is : IsReported w (verdict q w) c) where
   pub reply_is : reply w q ≡ Ok (plain (text_of w c))
-  reply_is = ap (λ f. told f (reply_text w q)) is.allowed ∙ ap (λ t. Ok t) (sym is.reply)
+  reply_is =
+      ap (λ kept. told_again kept (told (first w q) (reply_text w q))) fresh
+      ∙ ap (λ f. told f (reply_text w q)) is.allowed
+      ∙ ap (λ t. Ok t) (sym is.reply)
 
   pub step_is_none : step w q ≡ w
-  step_is_none = ap (λ f. if_allowed f (effect w q) w) is.allowed ∙ is.same
+  step_is_none =
+      ap (λ kept. unless_repeated kept (if_allowed (first w q) (effect w q) w) w) fresh
+      ∙ ap (λ f. if_allowed f (effect w q) w) is.allowed
+      ∙ is.same
 
 -- a and e are the store before the decision and behind what went out
 module _ (a b e : Status) (before after : Option (List ℕ)) (m : MessageParts) (q : Request) (c : Contents)
-    (kept : Keeps a b None) (reported : Tells a b (λ w. IsReported w (verdict q w) c)) (room : (w : WorldLists) → finds_room w q.asked ≡ true)
+    (kept : Keeps a b None) (reported : Tells a b (λ w. IsReported w (verdict q w) c)) (fresh : Tells a b (λ w. repeated w q ≡ None)) (room : (w : WorldLists) → finds_room w q.asked ≡ true)
     (refused : IsSome q.who.user → IsTrue a.is_stopped → None ≡ Some Stopped) (asks : IsReport q.asked) where
   -- what went out, of each World
   sent_is : (how : Sent) (bytes : List ℕ) → Keeps b e (fault_of how) → Tells b e (λ w. IsCounted w c → went how (report_reply m (text_of w c)) bytes)
       → Tells a e (λ w. went how (framed m (told_parts (reply w q))) bytes)
   sent_is how bytes on out clean w held =
       let is = reported (on.answers.honest clean) w held in
-      subst (λ (r : Result ReplyText Rule). went how (framed m (told_parts r)) bytes) (sym (reply_is w q c is)) (out clean w (kept.kept w held) is.counted)
+      subst (λ (r : Result ReplyText Rule). went how (framed m (told_parts r)) bytes) (sym (reply_is w q c (fresh (on.answers.honest clean) w held) is)) (out clean w (kept.kept w held) is.counted)
 
   carried : (says : List ℕ → List ℕ → Type 0) (bytes : List ℕ) → Keeps a e None → Tells a e (λ w. says (framed m (told_parts (reply w q))) bytes) → Tells a e (λ w. step w q ≡ w)
       → IsCarriedOut (IsSent says m) a e q (Ok bytes)
@@ -59,7 +65,7 @@ module _ (a b e : Status) (before after : Option (List ℕ)) (m : MessageParts) 
   }
 
   same_step : (mark : Option Fault) → Keeps b e mark → Tells a e (λ w. step w q ≡ w)
-  same_step mark on clean w held = step_is_none w q c (reported (on.answers.honest clean) w held)
+  same_step mark on clean w held = step_is_none w q c (fresh (on.answers.honest clean) w held) (reported (on.answers.honest clean) w held)
 
   pub report_carried : (how : Sent) → IsStreamed b e before after m c how → CountsBreak b e c how → IsCarried a e before after m q (Ok (outcome.Report how))
   report_carried sent.Whole (on, bytes, out, went_out) counts =

@@ -90,6 +90,7 @@ fn operation_done<S: Store, W: Write>(
 {
     match decide(bank, alloc, who, moment, op) {
         Ok(Decision::Denied(denial)) => Ok(Outcome::Told(Response::denied(alloc, denial.rule())?)),
+        Ok(Decision::Repeated(done)) => Ok(Outcome::Told(Response::done(done.into_body()))),
         Ok(Decision::Allowed(permit)) => match carry_out(permit) {
             Ok(Reply::Done(done)) => Ok(Outcome::Told(Response::done(done.into_body()))),
             Ok(Reply::Report(report)) => Ok(Outcome::Report(streamed(report, message, writer))),

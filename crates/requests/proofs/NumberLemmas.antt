@@ -1,4 +1,4 @@
--- The number of a session or of a release, and what its text parses to.
+-- The number of a session, of a release or of a slip, and what its text parses to.
 use Rattle.std.proofs.Common.{◌≡◌, ℕ, ◌<◌, ◌≤◌, ◌&&◌, Bool, true, false, List, [], ◌∷◌, length, get_or, Some, Result, Ok, Err, refl, sym, ap, ◌∙◌, arith, IsUtf8}
 use Rattle.std.specs.Int.{is_in_range}
 use Rattle.std.specs.Result.{result_ok, is_ok}

@@ -35,7 +35,7 @@ session_by asked moment (Err fault) = Err fault
 
 -- the request of a route; who opens a session need not have one, and is known by the badge alone
 abbrev pub asked_of : (List ℕ → Option ℕ) → ℕ → MessageParts → Option Route → Result Request MessageFault
-asked_of users moment m (Some (route.Operation procedure)) = asked_by procedure moment m.body (who_of_operation users m.head.fields)
+asked_of users moment m (Some (route.Operation procedure)) = asked_by procedure moment m.body (who_of_operation users procedure m.head.fields)
 asked_of users moment m (Some route.Opening) = session_by asked.Opening moment (who_by_badge users m.head.fields)
 asked_of users moment m (Some route.Ending) = session_by asked.Ending moment (who_of users m.head.fields)
 asked_of users moment m (Some (route.Policy command)) = commanded_by command moment m.body (who_of users m.head.fields)

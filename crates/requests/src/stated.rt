@@ -56,11 +56,11 @@ fn stated_operation<G: Gate>(
     moment: u64,
 ) -> Result<Result<Request, MessageFault>, Fault>
     requires { moment ≤ max_moment }
-    ensures stated { IfOk result (λ stated. stated ≡ asked_by procedure moment message.now.body (who_of_operation (G.users gate.now) message.now.head.fields)) }
+    ensures stated { IfOk result (λ stated. stated ≡ asked_by procedure moment message.now.body (who_of_operation (G.users gate.now) procedure message.now.head.fields)) }
     ensures proper { IfOk result (λ stated. IfOk stated IsProper) }
     ensures memory { IsOkUnless result Memory }
 {
-    let who = match who_of_operation(message, gate) {
+    let who = match who_of_operation(message, gate, procedure) {
         Ok(who) => who,
         Err(fault) => return Ok(Err(fault)),
     };

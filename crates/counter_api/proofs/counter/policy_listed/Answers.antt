@@ -24,4 +24,4 @@ returns-in-Ok-Report-clause-carried g c =
     let q : Request = record { who = c.args.who; moment = c.args.moment; asked = asked.Listing } in
     at_end (λ (b : Bank g.row.S.Denot). IsCarried start (g.S.Stands.status b.store) (g.W.Write.contents (stream_of c.args.writer.now)) (g.W.Write.contents (stream_of c.streamed.new.writer)) c.args.message.now q (Ok (outcome.Report c.streamed.result)))
     c.bank-in-Ok-Report-1.given.0 c.streamed.new.report.0 (search rules)
-    (report_carried start (g.S.Stands.status c.in-Ok-Report.report.bank.now.store) _ _ _ c.args.message.now q c.in-Ok-Report.report.contents kept reported (λ w. refl) c.in-Ok-Report.ensures.refused tt c.streamed.result c.streamed.ensures.streamed c.streamed.ensures.cause)
+    (report_carried start (g.S.Stands.status c.in-Ok-Report.report.bank.now.store) _ _ _ c.args.message.now q c.in-Ok-Report.report.contents kept reported (λ honest w held. refl) (λ w. refl) c.in-Ok-Report.ensures.refused tt c.streamed.result c.streamed.ensures.streamed c.streamed.ensures.cause)
