@@ -6,14 +6,15 @@ use Rattle.sqlite.specs.Order.{Row}
 use Rattle.sqlite.specs.State.{State}
 use Rattle.sqlite.specs.Tree.{Trees}
 use Rattle.book_growth.proofs.Rows.{Contains-map, Contains-map_source}
+use Rattle.bank_books.specs.SlipRow.{SlipRow}
 use Rattle.bank_books.specs.WorldLists.{WorldLists}
 use Rattle.bank_schema.specs.Cells.{TripleFitsIn, bank_cells_in, triple_cells_in}
 use Rattle.bank_policy.specs.PolicyKeys.{triple_key}
 use Rattle.bank_policy.specs.declared.rows.Triple.{Triple}
 use Rattle.bank_schema.specs.declared.edition.Edition.{Edition}
-use Rattle.bank_schema.specs.declared.edition.Edition.TheVariants.{First, Second}
-use Rattle.bank_schema.specs.Held.{HoldsBank, HoldsSheetsIn, Sheet, tree_of}
-use Rattle.bank_schema.specs.Held.Sheet.{accounts as in_accounts, bank as in_bank, branches as in_branches, certifiers as in_certifiers, entries as in_entries, lines as in_lines, members as in_members, proofs as in_proofs, relations as in_relations, releases as in_releases, sets as in_sets, tellers as in_tellers, triples as in_triples, users as in_users}
+use Rattle.bank_schema.specs.declared.edition.Edition.TheVariants.{First, Second, Third}
+use Rattle.bank_schema.specs.Held.{HasSlips, HoldsBank, HoldsSheetsIn, HoldsSlipCountsIn, HoldsSlipsIn, IsIn, Sheet, tree_of}
+use Rattle.bank_schema.specs.Held.Sheet.{accounts as in_accounts, bank as in_bank, branches as in_branches, certifiers as in_certifiers, entries as in_entries, lines as in_lines, members as in_members, proofs as in_proofs, relations as in_relations, releases as in_releases, sets as in_sets, slip_counts as in_slip_counts, slips as in_slips, tellers as in_tellers, triples as in_triples, users as in_users}
 use Rattle.bank_schema.specs.HeldRows.{HoldsRows, all_but_rowid, all_of_it}
 use Rattle.bank_schema.specs.Schema.{newest}
 use Rattle.kept_rows.specs.Sheets.{Sheets, sheets_of}
@@ -56,22 +57,35 @@ kept_bank e version = record { shaped = ((tt, tt), (refl, tt)); beside = wide_ba
 kept_triples : (e : Edition) (rows : List Triple) (tree : List Row) → HoldsRows all_but_rowid (triple_cells_in e) triple_key (TripleFitsIn e) rows tree → IsKeptTable tree
 kept_triples First rows tree held = kept_beside_rowid _ _ _ _ _ (λ x. omega arith) held
 kept_triples Second rows tree held = kept_beside_rowid _ _ _ _ _ (λ x. omega arith) held
+kept_triples Third rows tree held = kept_beside_rowid _ _ _ _ _ (λ x. omega arith) held
 
-kept_sheets : (e : Edition) (db : Trees) (s : Sheets) → HoldsSheetsIn e db s → (t : Sheet) → IsKeptTable (db (tree_of t))
-kept_sheets e db s holds in_bank = subst IsKeptTable (sym (holds in_bank)) (kept_bank e s.version)
-kept_sheets e db s holds in_users = kept_by_key _ _ _ _ _ (λ x. omega arith) (holds in_users)
-kept_sheets e db s holds in_sets = kept_by_key _ _ _ _ _ (λ x. omega arith) (holds in_sets)
-kept_sheets e db s holds in_members = kept_beside_rowid _ _ _ _ _ (λ x. omega arith) (holds in_members)
-kept_sheets e db s holds in_relations = kept_beside_rowid _ _ _ _ _ (λ x. omega arith) (holds in_relations)
-kept_sheets e db s holds in_triples = kept_triples e _ _ (holds in_triples)
-kept_sheets e db s holds in_certifiers = kept_beside_rowid _ _ _ _ _ (λ x. omega arith) (holds in_certifiers)
-kept_sheets e db s holds in_branches = kept_by_key _ _ _ _ _ (λ x. omega arith) (holds in_branches)
-kept_sheets e db s holds in_tellers = kept_by_key _ _ _ _ _ (λ x. omega arith) (holds in_tellers)
-kept_sheets e db s holds in_accounts = kept_by_key _ _ _ _ _ (λ x. omega arith) (holds in_accounts)
-kept_sheets e db s holds in_entries = kept_beside_rowid _ _ _ _ _ (λ x. omega arith) (holds in_entries)
-kept_sheets e db s holds in_lines = kept_beside_rowid _ _ _ _ _ (λ x. omega arith) (holds in_lines)
-kept_sheets e db s holds in_proofs = kept_beside_rowid _ _ _ _ _ (λ x. omega arith) (holds in_proofs)
-kept_sheets e db s holds in_releases = kept_beside_rowid _ _ _ _ _ (λ x. omega arith) (holds in_releases)
+kept_slips : (e : Edition) (rows : List SlipRow) (tree : List Row) → HasSlips e → HoldsSlipsIn e rows tree → IsKeptTable tree
+kept_slips First rows tree inside held = absurd inside
+kept_slips Second rows tree inside held = absurd inside
+kept_slips Third rows tree inside held = kept_beside_rowid _ _ _ _ _ (λ x. omega arith) held
+
+kept_counts : (e : Edition) (s : Sheets) (tree : List Row) → HasSlips e → HoldsSlipCountsIn e s tree → IsKeptTable tree
+kept_counts First s tree inside held = absurd inside
+kept_counts Second s tree inside held = absurd inside
+kept_counts Third s tree inside held = kept_by_key _ _ _ _ _ (λ x. omega arith) held
+
+kept_sheets : (e : Edition) (db : Trees) (s : Sheets) → HoldsSheetsIn e db s → (t : Sheet) → IsIn e t → IsKeptTable (db (tree_of t))
+kept_sheets e db s holds in_bank inside = subst IsKeptTable (sym (holds in_bank)) (kept_bank e s.version)
+kept_sheets e db s holds in_users inside = kept_by_key _ _ _ _ _ (λ x. omega arith) (holds in_users)
+kept_sheets e db s holds in_sets inside = kept_by_key _ _ _ _ _ (λ x. omega arith) (holds in_sets)
+kept_sheets e db s holds in_members inside = kept_beside_rowid _ _ _ _ _ (λ x. omega arith) (holds in_members)
+kept_sheets e db s holds in_relations inside = kept_beside_rowid _ _ _ _ _ (λ x. omega arith) (holds in_relations)
+kept_sheets e db s holds in_triples inside = kept_triples e _ _ (holds in_triples)
+kept_sheets e db s holds in_certifiers inside = kept_beside_rowid _ _ _ _ _ (λ x. omega arith) (holds in_certifiers)
+kept_sheets e db s holds in_branches inside = kept_by_key _ _ _ _ _ (λ x. omega arith) (holds in_branches)
+kept_sheets e db s holds in_tellers inside = kept_by_key _ _ _ _ _ (λ x. omega arith) (holds in_tellers)
+kept_sheets e db s holds in_accounts inside = kept_by_key _ _ _ _ _ (λ x. omega arith) (holds in_accounts)
+kept_sheets e db s holds in_entries inside = kept_beside_rowid _ _ _ _ _ (λ x. omega arith) (holds in_entries)
+kept_sheets e db s holds in_lines inside = kept_beside_rowid _ _ _ _ _ (λ x. omega arith) (holds in_lines)
+kept_sheets e db s holds in_proofs inside = kept_beside_rowid _ _ _ _ _ (λ x. omega arith) (holds in_proofs)
+kept_sheets e db s holds in_releases inside = kept_beside_rowid _ _ _ _ _ (λ x. omega arith) (holds in_releases)
+kept_sheets e db s holds in_slips inside = kept_slips e s.slips (db 25) inside (holds in_slips)
+kept_sheets e db s holds in_slip_counts inside = kept_counts e s (db 27) inside (holds in_slip_counts)
 
 -- what holds a World, with nothing uncommitted, is a bank's file
 pub bank_is_file : (s : State) (w : WorldLists) → HoldsBank s w → IsBankFile s

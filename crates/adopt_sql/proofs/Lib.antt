@@ -1,8 +1,11 @@
 pub mod AdoptLemmas
+pub mod CountLemmas
 pub mod FileLemmas
 pub mod FoundLemmas
+pub mod LeftLemmas
 pub mod MadeLemmas
 pub mod NamedLemmas
+pub mod OlderLemmas
 pub mod OpenedLemmas
 pub mod ReadingLemmas
 pub mod SchemaLemmas

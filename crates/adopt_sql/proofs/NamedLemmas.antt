@@ -1,16 +1,20 @@
 -- Which fault is named of rows that were read.
-use Rattle.std.proofs.Common.{◌≡◌, ◌∙◌, ℕ, List, map, Ok, Err, IfErr, IsErrAnd, Result, refl, sym, ap, subst}
+use Rattle.std.proofs.Common.{◌≡◌, ◌∙◌, ℕ, List, [], map, Ok, Err, IfErr, IsErrAnd, Result, refl, sym, ap, arith, subst}
 use Rattle.std.specs.List.Sorted.{IsNonDecreasingBy}
+use Rattle.std.proofs.lemmas.List.Sorted.{IsNonDecreasingBy-short}
 use Rattle.sqlite.specs.Tree.{Trees}
 use Rattle.bank_policy.specs.Policy.{PolicyLists}
 use Rattle.bank_policy.specs.PolicyKeys.{user_key}
-use Rattle.bank_books.specs.Keys.{account_key, branch_key, entry_key, line_key, proof_key, release_key, teller_key}
+use Rattle.bank_books.specs.Keys.{account_key, branch_key, entry_key, line_key, proof_key, release_key, slip_key, teller_key}
 use Rattle.bank_books.specs.Records.{KeptLists}
 use Rattle.bank_books.specs.WorldLists.{WorldLists}
 use Rattle.book_check.specs.Verdict.{IsVerdict}
-use Rattle.bank_schema.specs.Held.{HoldsSheetsIn}
+use Rattle.sqlite.specs.Order.{Row}
+use Rattle.bank_books.specs.SlipRow.{SlipRow}
+use Rattle.bank_schema.specs.Held.{HoldsSheetsIn, HoldsSlipsIn}
 use Rattle.bank_schema.specs.declared.edition.Edition.{Edition}
-use Rattle.bank_schema.specs.Held.Sheet.{accounts as in_accounts, branches as in_branches, entries as in_entries, lines as in_lines, proofs as in_proofs, releases as in_releases, tellers as in_tellers, users as in_users}
+use Rattle.bank_schema.specs.declared.edition.Edition.TheVariants.{First, Second, Third}
+use Rattle.bank_schema.specs.Held.Sheet.{accounts as in_accounts, branches as in_branches, entries as in_entries, lines as in_lines, proofs as in_proofs, releases as in_releases, slips as in_slips, tellers as in_tellers, users as in_users}
 use Rattle.kept_rows.proofs.Rising.{IsOrdered-map}
 use Rattle.kept_rows.specs.Keepable.{IsPolicyKeepable}
 use Rattle.kept_rows.specs.Sheets.{Sheets, account_no, branch_no, entry_no, teller_no, user_no}
@@ -34,6 +38,11 @@ named_of_store s Version store = store
 pub handed_named : {X : Type 0} (s : Sheets) (r : Result X AdoptFault) (fault : AdoptFault) → IsErrAnd r (λ e. e ≡ fault) → IsOfStore fault → IfErr r (IsNamedBy s)
 handed_named s (Ok x) fault same store = tt
 handed_named s (Err e) fault same store = subst (IsNamedBy s) (sym same) (named_of_store s fault store)
+
+slips_in_order : (e : Edition) (rows : List SlipRow) (tree : List Row) → HoldsSlipsIn e rows tree → IsNonDecreasingBy slip_key rows
+slips_in_order First rows tree held = subst (IsNonDecreasingBy slip_key) (sym held) (IsNonDecreasingBy-short slip_key [] (omega arith))
+slips_in_order Second rows tree held = subst (IsNonDecreasingBy slip_key) (sym held) (IsNonDecreasingBy-short slip_key [] (omega arith))
+slips_in_order Third rows tree held = held.ordered.in_order
 
 module _ (books : BookRows) (tables : PolicyTables) (version : ℕ) where
   abbrev s : Sheets
@@ -112,6 +121,7 @@ module _ (books : BookRows) (tables : PolicyTables) (version : ℕ) where
       lines = subst (λ (z : Sheets). IsNonDecreasingBy line_key z.lines) same (holds in_lines).ordered.in_order;
       proofs = subst (λ (z : Sheets). IsNonDecreasingBy proof_key z.proofs) same (holds in_proofs).ordered.in_order;
       releases = subst (λ (z : Sheets). IsNonDecreasingBy release_key z.releases) same (holds in_releases).ordered.in_order;
+      slips = subst (λ (z : Sheets). IsNonDecreasingBy slip_key z.slips) same (slips_in_order edition held.slips (db 25) (holds in_slips));
     }
 
     pub held_users : AreUsersOrdered books.users.users.items

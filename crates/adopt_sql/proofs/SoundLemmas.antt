@@ -21,10 +21,11 @@ use Rattle.policy_check.specs.declared.policy_fault.PolicyFault.{PolicyFault}
 use Rattle.policy_check.specs.declared.policy_fault.PolicyFault.TheVariants.{Dangling, OfficerHolds, Separation}
 use Rattle.whole_tables.specs.declared.book_rows.BookRows.{BookRows}
 use Rattle.whole_tables.specs.declared.policy_tables.PolicyTables.{PolicyTables}
+use Rattle.adopt_sql.proofs.CountLemmas.{counts_there}
 use Rattle.adopt_sql.specs.Refused.{IsOfBooks, IsOfPolicy, IsOfStore}
 use Rattle.adopt_sql.specs.declared.adopt_fault.AdoptFault.{AdoptFault}
 use Rattle.adopt_sql.specs.declared.adopt_fault.AdoptFault.TheVariants as adopt_fault
-use Rattle.adopt_sql.specs.Told.{AreBooksInOrder, IsBankOf, IsPolicyOf, count_told, kept_read, sheets_read, teller_told, world_read}
+use Rattle.adopt_sql.specs.Told.{AreBooksInOrder, IsBankOf, IsPolicyOf, counts_told, kept_read, sheets_read, teller_told, world_read}
 
 -- ---- verdicts
 
@@ -69,6 +70,7 @@ books_in_order books policy version can = record {
   lines = can.lines.ordered.in_order;
   proofs = can.proofs.in_order;
   releases = can.releases.ordered.in_order;
+  slips = can.slips.ordered.in_order;
 }
 
 -- ---- what is told of a teller of whom it is kept
@@ -106,6 +108,7 @@ module _ (books : BookRows) (tables : PolicyTables) (version : ℕ) (bank : IsBa
       let lines = ap (λ (z : Sheets). z.lines) s in
       let proofs = ap (λ (z : Sheets). z.proofs) s in
       let releases = ap (λ (z : Sheets). z.releases) s in
+      let slips = ap (λ (z : Sheets). z.slips) s in
       let version_is = ap (λ (z : Sheets). z.version) s in
       λ i. record {
         branches = branches i;
@@ -115,6 +118,7 @@ module _ (books : BookRows) (tables : PolicyTables) (version : ℕ) (bank : IsBa
         lines = lines i;
         proofs = proofs i;
         releases = releases i;
+        slips = slips i;
         policy = w.policy;
         version = version_is i;
       }
@@ -130,7 +134,7 @@ module _ (books : BookRows) (tables : PolicyTables) (version : ℕ) (bank : IsBa
       in
       let accounts = ap (λ (z : Sheets). z.accounts) s in
       let entries = ap (λ (z : Sheets). z.entries) s in
-      let users = ap (map count_told) (ap (λ (z : Sheets). z.users) s) ∙ map-map (kept_user_of w) count_told w.policy.users in
+      let users = (λ i. counts_told (ap (λ (z : Sheets). z.slip_counts) s i) (ap (λ (z : Sheets). z.users) s i)) ∙ counts_there w w.policy.users in
       λ i. record { branches = branches i; tellers = tellers i; accounts = accounts i; entries = entries i; users = users i }
 
   -- what was read with this policy, which is that of the bank

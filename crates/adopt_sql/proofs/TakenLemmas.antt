@@ -1,21 +1,26 @@
 -- That tables which hold a sound bank are read whole, and tell its rows, or the database fails.
-use Rattle.std.proofs.Common.{◌≡◌, ◌≢◌, ◌∙◌, ℕ, ℤ, pos, List, [], ◌∷◌, Ok, Err, IfErr, IfOk, IsErrAnd, IsOk, Option, Some, None, Result, refl, sym, ap, subst}
+use Rattle.std.proofs.Common.{◌≡◌, ◌≢◌, ◌∙◌, ℕ, ℤ, pos, List, [], ◌∷◌, map, Ok, Err, IfErr, IfOk, IsErrAnd, IsOk, Option, Some, None, Result, refl, sym, ap, subst}
 use Rattle.sqlite.specs.Order.{Row}
 use Rattle.sqlite.specs.Tree.{Trees}
 use Rattle.sqlite_value.specs.Order.{column}
 use Rattle.bank_policy.specs.PolicyKeys.{certifier_key, relation_key, triple_key}
-use Rattle.bank_books.specs.Keys.{line_key, proof_key, release_key}
-use Rattle.bank_schema.specs.Cells.{AnyRow, EntryFits, LineFits, MemberFits, ProofFits, RelationFits, ReleaseFits, TripleFitsIn, account_cells, bank_cells_in, edition_number, branch_cells, certifier_cells, entry_cells, line_cells, member_cells, proof_cells, relation_cells, release_cells, set_cells, teller_cells, triple_cells_in, user_cells}
-use Rattle.bank_schema.specs.Held.{HoldsSheetsIn, Sheet, set_no, tree_of}
-use Rattle.bank_schema.specs.Held.Sheet.{accounts as in_accounts, bank as in_bank, branches as in_branches, certifiers as in_certifiers, entries as in_entries, lines as in_lines, members as in_members, proofs as in_proofs, relations as in_relations, releases as in_releases, sets as in_sets, tellers as in_tellers, triples as in_triples, users as in_users}
+use Rattle.bank_books.specs.Keys.{line_key, proof_key, release_key, slip_key}
+use Rattle.bank_schema.specs.Cells.{AnyRow, EntryFits, LineFits, MemberFits, ProofFits, RelationFits, ReleaseFits, SlipFits, TripleFitsIn, account_cells, bank_cells_in, edition_number, branch_cells, certifier_cells, entry_cells, line_cells, member_cells, proof_cells, relation_cells, release_cells, set_cells, slip_cells, slip_count_cells, teller_cells, triple_cells_in, user_cells}
+use Rattle.bank_schema.specs.Held.{HoldsSheetsIn, HoldsSlipCountsIn, HoldsSlipsIn, Sheet, set_no, tree_of, without_slips}
+use Rattle.bank_schema.specs.Held.Sheet.{accounts as in_accounts, bank as in_bank, branches as in_branches, certifiers as in_certifiers, entries as in_entries, lines as in_lines, members as in_members, proofs as in_proofs, relations as in_relations, releases as in_releases, sets as in_sets, slip_counts as in_slip_counts, slips as in_slips, tellers as in_tellers, triples as in_triples, users as in_users}
 use Rattle.bank_schema.specs.declared.edition.Edition.{Edition}
+use Rattle.bank_schema.specs.declared.edition.Edition.TheVariants.{First, Second, Third}
+use Rattle.bank_books.specs.SlipRow.{SlipRow}
+use Rattle.kept_rows.specs.declared.records.KeptUser.{KeptUser}
+use Rattle.kept_rows.specs.declared.records.SlipCount.{SlipCount}
 use Rattle.bank_schema.specs.HeldRows.{HoldsRows, all_but_rowid, all_of_it}
-use Rattle.kept_rows.specs.Sheets.{Sheets, account_no, branch_no, entry_no, member_no, teller_no, user_no}
+use Rattle.kept_rows.specs.Sheets.{Sheets, account_no, branch_no, entry_no, member_no, slip_no, teller_no, user_no}
 use Rattle.store_sql.proofs.CellLemmas as cells
 use Rattle.store_sql.proofs.OrderLemmas.{same_rows}
 use Rattle.whole_tables.specs.BankRow.{IsBankTable, bank_row_cells}
 use Rattle.whole_tables.specs.BookRows.{AreBookRows}
 use Rattle.whole_tables.specs.PolicyTables.{ArePolicyTables}
+use Rattle.whole_tables.specs.Tables.{AreSlipCounts, AreSlips}
 use Rattle.whole_tables.specs.Whole.{AreAll}
 use Rattle.whole_tables.specs.declared.bank.BankRow.{BankRow}
 use Rattle.whole_tables.specs.declared.book_rows.BookRows.{BookRows}
@@ -68,7 +73,17 @@ module _ {X : Type 0} (shows : Row → Row) (row_cells : X → Row) (key : X →
   held_is_read : (xs rows : List X) → HoldsRows shows row_cells key Fits xs (db (tree_of t)) → AreAll shows row_cells key Fits t db rows → xs ≡ rows
   held_is_read xs rows held all = same_rows shows row_cells key Fits back tells xs rows held.fit all.fit (sym (all.in_order xs held))
 
-pub sheets_are_read : (e : Edition) (db : Trees) (s : Sheets) (books : BookRows) (tables : PolicyTables) (version : ℕ) → HoldsSheetsIn e db s → IsBankRow e db version → AreBookRows db books → ArePolicyTables e db tables → s ≡ sheets_read books tables version
+slips_are_read : (e : Edition) (db : Trees) (held rows : List SlipRow) → HoldsSlipsIn e held (db 25) → AreSlips e db rows → held ≡ rows
+slips_are_read First db held rows h are = h ∙ sym are
+slips_are_read Second db held rows h are = h ∙ sym are
+slips_are_read Third db held rows h are = held_is_read all_but_rowid slip_cells slip_key SlipFits cells.slip_back cells.slip_tells in_slips db held rows h are
+
+counts_are_read : (e : Edition) (db : Trees) (s : Sheets) (users : List KeptUser) (rows : List SlipCount) → s.users ≡ users → HoldsSlipCountsIn e s (db 27) → AreSlipCounts e users db rows → s.slip_counts ≡ rows
+counts_are_read First db s users rows same h are = h ∙ ap (map without_slips) same ∙ sym are
+counts_are_read Second db s users rows same h are = h ∙ ap (map without_slips) same ∙ sym are
+counts_are_read Third db s users rows same h are = held_is_read all_of_it slip_count_cells slip_no AnyRow cells.slip_count_back (λ x fits. cells.slip_count_tells x) in_slip_counts db s.slip_counts rows h are
+
+pub sheets_are_read : (e : Edition) (db : Trees) (s : Sheets) (books : BookRows) (tables : PolicyTables) (version : ℕ) → HoldsSheetsIn e db s → IsBankRow e db version → AreBookRows e db books → ArePolicyTables e db tables → s ≡ sheets_read books tables version
 sheets_are_read e db s books tables version h row b p =
     let users = held_is_read all_of_it user_cells user_no AnyRow cells.user_back (λ x fits. cells.user_tells x) in_users db s.users books.users.users.items (h in_users) b.users.users in
     let sets = held_is_read all_of_it set_cells set_no AnyRow cells.set_back (λ x fits. cells.set_tells x) in_sets db s.sets tables.sets.sets.items (h in_sets) p.sets.sets in
@@ -83,8 +98,10 @@ sheets_are_read e db s books tables version h row b p =
     let lines = held_is_read all_but_rowid line_cells line_key LineFits cells.line_back (λ x fits. cells.line_tells x) in_lines db s.lines books.history.lines.items (h in_lines) b.history.lines in
     let proofs = held_is_read all_but_rowid proof_cells proof_key ProofFits cells.proof_back (λ x fits. cells.proof_tells x) in_proofs db s.proofs books.history.proofs.items (h in_proofs) b.history.proofs in
     let releases = held_is_read all_but_rowid release_cells release_key ReleaseFits cells.release_back cells.release_tells in_releases db s.releases books.users.releases.items (h in_releases) b.users.releases in
+    let slips = slips_are_read e db s.slips books.slips.slips.items (h in_slips) b.slips.slips in
+    let slip_counts = counts_are_read e db s books.users.users.items books.slips.counts.items users (h in_slip_counts) b.slips.counts in
     let version_is : s.version ≡ version = ap (λ rows. cells.version_back (first_row rows)) (sym (h in_bank) ∙ row) in
-    λ i. record { users = users i; sets = sets i; members = members i; relations = relations i; triples = triples i; certifiers = certifiers i; branches = branches i; tellers = tellers i; accounts = accounts i; entries = entries i; lines = lines i; proofs = proofs i; releases = releases i; version = version_is i }
+    λ i. record { users = users i; sets = sets i; members = members i; relations = relations i; triples = triples i; certifiers = certifiers i; branches = branches i; tellers = tellers i; accounts = accounts i; entries = entries i; lines = lines i; proofs = proofs i; releases = releases i; slips = slips i; slip_counts = slip_counts i; version = version_is i }
 
 -- ---- tables of another edition
 

@@ -6,18 +6,18 @@ use Rattle.bank_policy.specs.Policy.{PolicyLists}
 use Rattle.bank_books.specs.Books.{ConditionsHold}
 use Rattle.bank_books.specs.Records.{KeptLists, kept_of, release_count_of, teller_record_of}
 use Rattle.bank_books.specs.WorldLists.{WorldLists}
-use Rattle.bank_books.specs.declared.records.ReleaseCount.{ReleaseCount}
 use Rattle.book_check.specs.Verdict.{IsVerdict}
 use Rattle.book_growth.proofs.Rows.{map-made, map-map}
 use Rattle.kept_rows.specs.Keepable.{IsKeepable}
-use Rattle.kept_rows.specs.Records.{kept_teller, kept_user_of}
+use Rattle.kept_rows.specs.Records.{kept_teller, kept_user_of, slip_count_of}
 use Rattle.kept_rows.specs.Sheets.{sheets_of}
 use Rattle.kept_rows.specs.declared.records.KeptTeller.{KeptTeller}
 use Rattle.kept_rows.specs.declared.records.KeptUser.{KeptUser}
 use Rattle.policy_check.specs.PolicyVerdict.{IsPolicyVerdict}
 use Rattle.whole_tables.specs.declared.book_rows.BookRows.{BookRows}
 use Rattle.whole_tables.specs.declared.policy_tables.PolicyTables.{PolicyTables}
-use Rattle.adopt_sql.specs.Told.{AreBankOf, IsPolicyOf, count_told, kept_read, sheets_read, teller_told, world_read}
+use Rattle.adopt_sql.proofs.CountLemmas.{counts_back}
+use Rattle.adopt_sql.specs.Told.{AreBankOf, IsPolicyOf, counts_told, kept_read, sheets_read, teller_told, world_read}
 
 holder_back : (n : ℕ) → unwrap_or (if n == 0 then None else Some n) 0 ≡ n
 holder_back n = go (n == 0) refl
@@ -28,12 +28,6 @@ holder_back n = go (n == 0) refl
 
 teller_back : (t : KeptTeller) → kept_teller (teller_told t) ≡ t
 teller_back t = ap (λ n. record t { holder = n }) (holder_back t.holder)
-
-users_back : (w : WorldLists) (users : List KeptUser) → map (λ u. release_count_of w u.row) users ≡ map count_told users → map (λ u. kept_user_of w u.row) users ≡ users
-users_back w [] same = refl
-users_back w (u ∷ users) same =
-    let count = ap (λ (c : ReleaseCount). c.releases) (ap (λ l. get_or l 0 (count_told u)) same) in
-    ap₂ (λ n us. record { row = u.row; releases = n } ∷ us) count (users_back w users (ap (drop 1) same))
 
 pub sheets_told : (books : BookRows) (tables : PolicyTables) (policy : PolicyLists) (version : ℕ) → IsPolicyOf books.users.users.items tables policy
     → kept_read books ≡ kept_of (world_read books policy version) → sheets_of (world_read books policy version) ≡ sheets_read books tables version
@@ -46,10 +40,12 @@ sheets_told books tables policy version is kept =
     in
     let accounts = sym (ap (λ (k : KeptLists). k.accounts) kept) in
     let entries = sym (ap (λ (k : KeptLists). k.entries) kept) in
-    let counts : map (λ u. release_count_of w u.row) users ≡ map count_told users =
+    let counts : map (λ u. release_count_of w u.row) users ≡ counts_told books.slips.counts.items users =
     sym (map-map (λ (u : KeptUser). u.row) (release_count_of w) users) ∙ sym (ap (map (release_count_of w)) is.users_are) ∙ sym (ap (λ (k : KeptLists). k.users) kept)
     in
-    let kept_users = ap (map (kept_user_of w)) is.users_are ∙ map-map (λ (u : KeptUser). u.row) (kept_user_of w) users ∙ users_back w users counts in
+    let back = counts_back w books.slips.counts.items users counts in
+    let kept_users = ap (map (kept_user_of w)) is.users_are ∙ map-map (λ (u : KeptUser). u.row) (kept_user_of w) users ∙ back.0 in
+    let slip_counts = ap (map (slip_count_of w)) is.users_are ∙ map-map (λ (u : KeptUser). u.row) (slip_count_of w) users ∙ back.1 in
     λ i. record {
       branches = branches i;
       tellers = tellers i;
@@ -58,6 +54,8 @@ sheets_told books tables policy version is kept =
       lines = books.history.lines.items;
       proofs = books.history.proofs.items;
       releases = books.users.releases.items;
+      slips = books.slips.slips.items;
+      slip_counts = slip_counts i;
       users = kept_users i;
       sets = is.sets.numbers_are i;
       members = is.sets.members_are i;

@@ -6,7 +6,7 @@ use Rattle.sqlite.specs.Tree.{Trees}
 use Rattle.bank_books.specs.Books.{Books}
 use Rattle.bank_books.specs.WorldLists.{WorldLists}
 use Rattle.bank_schema.specs.Cells.{bank_cells_in, edition_number}
-use Rattle.bank_schema.specs.Held.{AreOfWorld, HoldsBank, HoldsWorld, HoldsWorldIn, Sheet, tree_of}
+use Rattle.bank_schema.specs.Held.{AreOfWorld, HoldsBank, HoldsWorld, HoldsWorldIn, IsIn, Sheet, tree_of}
 use Rattle.bank_schema.specs.Schema.{newest, schema_of}
 use Rattle.bank_schema.specs.declared.edition.Edition.{Edition}
 use Rattle.policy_check.specs.PolicyVerdict.{IsPolicyVerdict}
@@ -21,7 +21,7 @@ use Rattle.adopt_sql.specs.declared.reading.FileRows.{FileRows}
 -- be anything.
 pub record IsBankFileIn (e : Edition) (s : State) : Type 0 where
   pub schema : s.now.schema ≡ schema_of e
-  pub kept : (t : Sheet) → IsKeptTable (s.now.trees (tree_of t))
+  pub kept : (t : Sheet) → IsIn e t → IsKeptTable (s.now.trees (tree_of t))
   pub settled : s.committed ≡ s.now
 
 abbrev pub IsBankFile : State → Type 0
@@ -38,7 +38,7 @@ IsBankRow e db version = db 0 ≡ bank_cells_in e version ∷ []
 -- The rows of all tables, each of the types that it is read as. Those of the policy may be missing, where one of them is out of its limits.
 pub record AreFileRows (e : Edition) (db : Trees) (rows : FileRows) : Type 0 where
   pub version : IsBankRow e db rows.version
-  pub books : AreBookRows db rows.books
+  pub books : AreBookRows e db rows.books
   pub typed : AreBooksTyped rows.books
   pub policy : IfSome rows.policy (ArePolicyTables e db)
   pub policy_typed : IfSome rows.policy AreTablesTyped

@@ -1,13 +1,14 @@
 -- What rows of tables tell: the World that they are of, and the numbers that are kept beside its rows.
-use Rattle.std.specs.Prelude.{ℕ, ◌≡◌, ◌≢◌, ◌==◌, ◌++◌, List, map, Contains, None, Ok, Result, Some, if◌then◌else◌}
+use Rattle.std.specs.Prelude.{ℕ, slice_get, ◌≡◌, ◌≢◌, ◌==◌, ◌++◌, List, [], ◌∷◌, map, Contains, None, Ok, Result, Some, if◌then◌else◌}
 use Rattle.std.specs.List.{enumerate_from, flat_map}
+use Rattle.std.specs.Option.{option_map_or}
 use Rattle.std.specs.List.Sorted.{IsNonDecreasingBy}
 use Rattle.bank_policy.specs.Policy.{PolicyLists}
 use Rattle.bank_policy.specs.PolicyKeys.{certifier_key, relation_key, triple_key, user_key}
 use Rattle.bank_policy.specs.SetRow.{SetRow}
 use Rattle.bank_policy.specs.declared.rows.Member.{Member}
 use Rattle.bank_books.specs.Books.{Books}
-use Rattle.bank_books.specs.Keys.{account_key, branch_key, entry_key, line_key, proof_key, release_key, teller_key}
+use Rattle.bank_books.specs.Keys.{account_key, branch_key, entry_key, line_key, proof_key, release_key, slip_key, teller_key}
 use Rattle.bank_books.specs.Records.{KeptLists, kept_of}
 use Rattle.bank_books.specs.WorldLists.{WorldLists}
 use Rattle.bank_books.specs.declared.records.ReleaseCount.{ReleaseCount}
@@ -20,6 +21,7 @@ use Rattle.kept_rows.specs.Sheets.{Sheets, sheets_of}
 use Rattle.kept_rows.specs.declared.records.KeptTeller.{KeptTeller}
 use Rattle.kept_rows.specs.declared.records.KeptUser.{KeptUser}
 use Rattle.kept_rows.specs.declared.records.MemberRow.{MemberRow}
+use Rattle.kept_rows.specs.declared.records.SlipCount.{SlipCount}
 use Rattle.policy_check.specs.PolicyVerdict.{IsPolicyVerdict}
 use Rattle.whole_tables.specs.declared.book_rows.BookRows.{BookRows}
 use Rattle.whole_tables.specs.declared.policy_tables.GrantRows.{GrantRows}
@@ -31,8 +33,21 @@ use Rattle.whole_tables.specs.declared.policy_tables.PolicyTables.{PolicyTables}
 abbrev pub teller_told : KeptTeller → TellerRecord
 teller_told t = record { row = t.row; balance = t.balance; cash = t.cash; holder = if t.holder == 0 then None else Some t.holder }
 
-abbrev pub count_told : KeptUser → ReleaseCount
-count_told u = record { user = u.row.user; releases = u.releases }
+-- what is counted of a user: so many releases, and the slips of this row
+abbrev pub count_told : ℕ → SlipCount → ReleaseCount
+count_told releases c = record { user = c.user; releases = releases; slips = c.slips }
+
+-- ---- the users
+
+-- the releases of the user at this place, none where no user is
+abbrev pub releases_at : List KeptUser → ℕ → ℕ
+releases_at users place = option_map_or (λ u. u.releases) (slice_get users place) 0
+
+-- What is counted of them, a row of slips beside each user in their order. Where these are not as many there are too few or too many.
+abbrev pub counts_told : List SlipCount → List KeptUser → List ReleaseCount
+counts_told [] users = []
+counts_told (c ∷ counts) [] = count_told 0 c ∷ counts_told counts []
+counts_told (c ∷ counts) (u ∷ users) = count_told u.releases c ∷ counts_told counts users
 
 -- ---- the policy
 
@@ -81,6 +96,7 @@ pub record AreBooksInOrder (books : BookRows) : Type 0 where
   pub lines : IsNonDecreasingBy line_key books.history.lines.items
   pub proofs : IsNonDecreasingBy proof_key books.history.proofs.items
   pub releases : IsNonDecreasingBy release_key books.users.releases.items
+  pub slips : IsNonDecreasingBy slip_key books.slips.slips.items
 
 -- and so do the users, each once
 abbrev pub AreUsersOrdered : List KeptUser → Type 0
@@ -95,6 +111,7 @@ world_read books policy version = record {
   lines = books.history.lines.items;
   proofs = books.history.proofs.items;
   releases = books.users.releases.items;
+  slips = books.slips.slips.items;
   policy = policy;
   version = version;
 }
@@ -105,7 +122,7 @@ kept_read books = record {
   tellers = map teller_told books.ledger.tellers.items;
   accounts = books.ledger.accounts.items;
   entries = books.history.entries.items;
-  users = map count_told books.users.users.items;
+  users = counts_told books.slips.counts.items books.users.users.items;
 }
 
 abbrev pub sheets_read : BookRows → PolicyTables → ℕ → Sheets
@@ -117,6 +134,8 @@ sheets_read books tables version = record {
   lines = books.history.lines.items;
   proofs = books.history.proofs.items;
   releases = books.users.releases.items;
+  slips = books.slips.slips.items;
+  slip_counts = books.slips.counts.items;
   users = books.users.users.items;
   sets = tables.sets.sets.items;
   members = tables.sets.members.items;
@@ -154,6 +173,7 @@ world_told s policy = record {
   lines = s.lines;
   proofs = s.proofs;
   releases = s.releases;
+  slips = s.slips;
   policy = policy;
   version = s.version;
 }
@@ -164,7 +184,7 @@ kept_told s = record {
   tellers = map teller_told s.tellers;
   accounts = s.accounts;
   entries = s.entries;
-  users = map count_told s.users;
+  users = counts_told s.slip_counts s.users;
 }
 
 -- This is the verdict on the books. Of the policy it needs to know the users alone.

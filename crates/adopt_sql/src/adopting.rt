@@ -12,8 +12,8 @@ ghost use Rattle.adopt_sql.specs.Refused.{HoldsSoundBank, HoldsSoundBankIn, IsNa
 
 use crate::adopt_fault::AdoptFault;
 use crate::bank_rows::BankRows;
-use crate::judging::{judge, with_no_policy};
-use crate::reading::{FileRows, read_file};
+use crate::judging::judge_file;
+use crate::reading::read_file;
 use bank_schema::Edition;
 use sqlite::{Alter, Connection};
 use std::alloc::Global;
@@ -42,15 +42,7 @@ pub fn read_bank<S: Alter>(
     ensures survives { Survives (state S.Store conn.old) (state S.Store conn.new) (λ _. ⊥) }
 {
     let rows = read_file(alloc, conn, edition)?;
-    let FileRows {
-        version,
-        books,
-        policy,
-    } = rows;
-    match policy {
-        Some(tables) => judge(alloc, books, tables, version),
-        None => Err(with_no_policy(alloc, books, version)),
-    }
+    judge_file(alloc, rows)
 }
 
 /// Looks whether a bank stands in the newest tables, as `read_bank` says of them. Nothing is changed.
@@ -65,6 +57,6 @@ pub fn adopt_bank<S: Alter>(alloc: Global, conn: &mut Connection<S>) -> Result<(
     ensures left { HasCleanDisk (state S.Store conn.new) → IsBankFile (state S.Store conn.old) → IsLeft (state S.Store conn.old) (state S.Store conn.new) }
     ensures survives { Survives (state S.Store conn.old) (state S.Store conn.new) (λ _. ⊥) }
 {
-    read_bank(alloc, conn, Edition::Second)?;
+    read_bank(alloc, conn, Edition::Third)?;
     Ok(())
 }

@@ -1,13 +1,14 @@
 ghost use Rattle.std.specs.Prelude.{◌≡◌, IfOk, IfSome, IsSome};
 ghost use Rattle.adopt_sql.specs.Told.{AreBooksInOrder, kept_read, world_read};
 
+use crate::counts::counts_of;
 use crate::made::all_made;
 use bank_books::{Lists, World};
 use bank_policy::Policy;
 use book_sums::Kept;
 use money::Fault;
 use std::alloc::Global;
-use whole_tables::{BookRows, HistoryRows, LedgerRows, UserRows};
+use whole_tables::{BookRows, HistoryRows, LedgerRows, SlipRows, UserRows};
 
 /// A World and the numbers that are kept beside its rows.
 #[derive(Drop)]
@@ -34,6 +35,7 @@ pub(crate) fn bank_rows(
         ledger,
         history,
         users,
+        slips,
     } = books;
     let LedgerRows {
         branches,
@@ -46,6 +48,7 @@ pub(crate) fn bank_rows(
         proofs,
     } = history;
     let UserRows { releases, users } = users;
+    let SlipRows { slips, counts } = slips;
     let lists = Lists {
         branches: all_made(alloc, &branches)?,
         tellers: all_made(alloc, &tellers)?,
@@ -54,9 +57,10 @@ pub(crate) fn bank_rows(
         lines,
         proofs,
         releases,
+        slips,
     };
     let told = all_made(alloc, &tellers)?;
-    let counts = all_made(alloc, &users)?;
+    let counts = counts_of(alloc, &counts, &users)?;
     let kept = Kept::new(branches, told, accounts, entries, counts);
     match World::from_lists(lists, policy, version) {
         Some(world) => Ok(Some(BankRows { world, kept })),

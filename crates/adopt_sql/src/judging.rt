@@ -1,12 +1,22 @@
-ghost use Rattle.std.specs.Prelude.{◌≡◌, IfErr, IfOk, Ok, OnOk};
+ghost use Rattle.std.specs.Prelude.{◌≡◌, IfErr, IfOk, IsSome, Ok, OnOk};
+ghost use Rattle.sqlite.specs.Effect.{Database, IsDatabase};
+ghost use Rattle.sqlite.specs.Tree.{Trees};
+ghost use Rattle.bank_books.specs.Records.{kept_of};
+ghost use Rattle.bank_schema.specs.Held.{HoldsSheetsIn, IsIn, Sheet, tree_of};
+ghost use Rattle.bank_schema.specs.Schema.{schema_of};
+ghost use Rattle.kept_rows.specs.Sheets.{Sheets};
+ghost use Rattle.whole_tables.specs.Whole.{IsKeptTable};
+ghost use Rattle.adopt_sql.specs.Adopted.{AreFileRows, Finds};
 ghost use Rattle.book_check.specs.Verdict.{IsVerdict};
 ghost use Rattle.policy_check.specs.PolicyVerdict.{IsPolicyVerdict};
 ghost use Rattle.kept_rows.specs.Keepable.{IsKeepable};
-ghost use Rattle.adopt_sql.specs.Refused.{IsBeyondBankRow, IsNamedBy, IsOfBooks, IsOfBooksRead, IsOfNoPolicy, IsOfPolicy, IsOfStore};
+ghost use Rattle.bank_schema.specs.declared.edition.Edition.{Edition};
+ghost use Rattle.adopt_sql.specs.Refused.{HoldsSoundBankIn, IsBeyondBankRow, IsNamedBy, IsOfBooks, IsOfBooksRead, IsOfNoPolicy, IsOfPolicy, IsOfStore, IsRefusedIn};
 ghost use Rattle.adopt_sql.specs.Told.{AreBankOf, AreBooksInOrder, AreUsersOrdered, IsBankOf, kept_read, sheets_read, world_read};
 
 use crate::adopt_fault::AdoptFault;
 use crate::bank_rows::{BankRows, bank_rows};
+use crate::reading::FileRows;
 use crate::whole_policy::{users_alone, whole_policy};
 use bank_policy::Policy;
 use book_check::{BooksFault, check_books};
@@ -15,9 +25,28 @@ use policy_check::{PolicyFault, check_policy};
 use std::alloc::Global;
 use whole_tables::{BookRows, PolicyTables};
 
+/// The bank of which these are the rows of all tables: its books are judged and then its policy.
+pub(crate) fn judge_file(alloc: Global, rows: FileRows) -> Result<BankRows, AdoptFault>
+    ensures found { (e : Edition) (db : Database) → db.schema ≡ schema_of e → ((t : Sheet) → IsIn e t → IsKeptTable (db.trees (tree_of t))) → IsDatabase db → AreFileRows e db.trees rows → IfOk result (λ bank. Finds e db bank.world) }
+    ensures refused { (e : Edition) (db : Trees) → AreFileRows e db rows → IfErr result (IsRefusedIn e db) }
+    ensures sound { (e : Edition) (db : Database) → AreFileRows e db.trees rows → IsSome rows.policy → HoldsSoundBankIn e db → IfErr result IsOfStore }
+    ensures named { (e : Edition) (db : Trees) → AreFileRows e db rows → IsSome rows.policy → (s : Sheets) → HoldsSheetsIn e db s → IfErr result (IsNamedBy s) }
+    ensures kept { IfOk result (λ bank. (bank.kept ≡ kept_of bank.world) × IsKeepable bank.world) }
+{
+    let FileRows {
+        version,
+        books,
+        policy,
+    } = rows;
+    match policy {
+        Some(tables) => judge(alloc, books, tables, version),
+        None => Err(with_no_policy(alloc, books, version)),
+    }
+}
+
 /// Whether these are the rows of a bank whose books hold beside the kept numbers, and then whether its
 /// policy is sound. Of such a bank only a fault of the database keeps it from that answer.
-pub(crate) fn judge(
+fn judge(
     alloc: Global,
     books: BookRows,
     tables: PolicyTables,
@@ -43,7 +72,7 @@ pub(crate) fn judge(
 }
 
 /// Why a bank is not adopted of whose policy the tables tell none: its books are judged before.
-pub(crate) fn with_no_policy(alloc: Global, books: BookRows, version: u64) -> AdoptFault
+fn with_no_policy(alloc: Global, books: BookRows, version: u64) -> AdoptFault
     ensures beyond { IsOfBooksRead result }
     ensures named { (tables : PolicyTables) → AreBooksInOrder books → AreUsersOrdered books.users.users.items → IsOfNoPolicy (sheets_read books tables version) result }
 {

@@ -1,17 +1,19 @@
 //! Finds a bank in a SQL database. `read_bank` goes through only where the tables of an edition hold a World
-//! with its kept numbers, whose books hold and whose policy is sound and separated; and it refuses such a
-//! bank for a fault of the database alone. Nothing is changed, whatever it answers. `adopt` answers the
-//! store of a bank of the newest edition, or hands the connection back with the fault; `adopt_bank` only
-//! looks for one. `open_sql` makes banks.
+//! with its kept numbers, whose books hold and whose policy is sound and separated, and refuses such a bank
+//! for a fault of the database alone; `read_older_bank` does so in the older edition that its row names.
+//! Nothing is changed. `adopt` answers the store of a bank of the newest edition, or hands the connection
+//! back with the fault.
 #![tactic(auto)]
 
 mod adopt_fault;
 mod adopting;
 mod bank_rows;
+mod counts;
 mod item_sets;
 mod judging;
 pub mod laws;
 mod made;
+mod older;
 mod opening;
 mod reading;
 mod whole_policy;
@@ -19,4 +21,5 @@ mod whole_policy;
 pub use adopt_fault::AdoptFault;
 pub use adopting::{adopt_bank, read_bank};
 pub use bank_rows::BankRows;
+pub use older::{OlderBank, read_older_bank};
 pub use opening::adopt;

@@ -1,8 +1,7 @@
 ghost use Rattle.std.specs.Prelude.{◌≡◌, map, IfOk};
 
 use bank_books::{
-    Account, AccountRecord, Branch, BranchRecord, Entry, EntryRecord, ReleaseCount, Teller,
-    TellerRecord,
+    Account, AccountRecord, Branch, BranchRecord, Entry, EntryRecord, Teller, TellerRecord,
 };
 use bank_policy::{Name, User};
 use kept_rows::{KeptTeller, KeptUser};
@@ -79,19 +78,6 @@ impl MadeOf<EntryRecord> for Entry {
 
     fn made_of(_alloc: Global, row: &EntryRecord) -> Result<Entry, Fault> {
         Ok(row.row)
-    }
-}
-
-impl MadeOf<KeptUser> for ReleaseCount {
-    ghost use Rattle.adopt_sql.specs.Told.{count_told};
-
-    ghost made = { count_told };
-
-    fn made_of(_alloc: Global, row: &KeptUser) -> Result<ReleaseCount, Fault> {
-        Ok(ReleaseCount {
-            user: row.row.user,
-            releases: row.releases,
-        })
     }
 }
 

@@ -106,7 +106,7 @@ fn book_rows<S: Alter>(
     edition: Edition,
 ) -> Result<BookRows, AdoptFault>
     ensures same_reference { tx.new.conn.ghost_name ≡ tx.old.conn.ghost_name }
-    ensures whole { Reads edition (state S.Store tx.old.conn.now) (state S.Store tx.new.conn.now) AreBookRows result }
+    ensures whole { Reads edition (state S.Store tx.old.conn.now) (state S.Store tx.new.conn.now) (AreBookRows edition) result }
     ensures typed { IfOk result AreBooksTyped }
     ensures takes { OnReadable edition (state S.Store tx.old.conn.now) (state S.Store tx.new.conn.now) (IfErr result IsOfStore) }
     ensures beyond { IfErr result IsOfUnread }
@@ -139,7 +139,7 @@ fn policy_tables<S: Alter>(
 }
 
 /// The rows of all tables: once each table was asked, those of the books are read, then those of the policy.
-fn rows_inside<S: Alter>(
+pub(crate) fn rows_inside<S: Alter>(
     alloc: Global,
     tx: &mut Transaction<'_, S>,
     edition: Edition,

@@ -12,12 +12,14 @@ use Rattle.sqlite.specs.State.{HasCleanDisk, KeepsCommit, Survives}
 use Rattle.bank_books.specs.WorldLists.{WorldLists}
 use Rattle.bank_schema.specs.Held.{AreOfWorld, HoldsSheets, HoldsSheetsIn}
 use Rattle.bank_schema.specs.Readable.{AreReadable}
-use Rattle.bank_schema.specs.declared.edition.Edition.TheVariants.{First}
+use Rattle.bank_schema.specs.Schema.{newest}
+use Rattle.bank_schema.specs.declared.edition.Edition.{Edition}
 use Rattle.kept_rows.specs.Sheets.{Sheets}
 use Rattle.open_sql.specs.Blank.{no_schema}
 use Rattle.open_sql.specs.Made.{IsBank, IsBeforehand, IsKeptAs, IsRefusal}
 use Rattle.open_sql.specs.declared.open_fault.OpenFault.{OpenFault}
-use Rattle.adopt_sql.specs.Adopted.{Adopts, IsBankFile, IsBankFileIn, IsLeft, IsOfAnother}
+use Rattle.adopt_sql.specs.Adopted.{Adopts, IsBankFile, IsLeft, IsOfAnother}
+use Rattle.adopt_sql.specs.Older.{IsNewestFile, IsOlderFile}
 use Rattle.adopt_sql.specs.Refused.{HoldsSoundBank, HoldsSoundBankIn, IsNamedBy, IsOfOther, IsOfStore, IsRefused, IsRefusedIn}
 use Rattle.adopt_sql.specs.declared.adopt_fault.AdoptFault.{AdoptFault}
 use Rattle.store_rows.specs.Status.{Status}
@@ -47,43 +49,45 @@ module _ {D : Type 0} {g : Ghosts D} where
   pub record IsFound (opened : Held (FileStore D g)) (store : BankStore D g) : Type 0 where
     pub adopts : HasCleanDisk (file_state store.conn) → IsBankFile (file_state opened) → Adopts (file_state opened) (file_state store.conn)
     pub unchanged : HasCleanDisk (file_state store.conn) → IsBankFile (file_state opened) → IsLeft (file_state opened) (file_state store.conn)
+    pub other : HasCleanDisk (file_state store.conn) → IsOfAnother newest (file_state opened) → ⊥
     pub survives : Survives (file_state opened) (file_state store.conn) (λ _. ⊥)
     pub begins : IsNewStore store
 
-  -- Where they were those of a bank, this is the first fault of it, and nothing was changed. A sound bank is refused for a fault of the
-  -- file, or for want of memory.
+  -- Where they were those of a bank, this is the first fault of it, and nothing was changed. One of an earlier edition is told as of another
+  -- version. A sound bank is refused for a fault of the file, or for want of memory.
   pub record IsNotFound (opened : Held (FileStore D g)) (told : ActionFault) (left : Held (FileStore D g)) : Type 0 where
     pub why : AdoptFault
     pub told_so : told ≡ fault_of_adopting why
     pub refused : HasCleanDisk (file_state left) → IsBankFile (file_state opened) → IsRefused (file_state opened).now.trees why
     pub sound : HasCleanDisk (file_state left) → IsBankFile (file_state opened) → HoldsSoundBank (file_state opened).now → IsOfStore why
     pub named : HasCleanDisk (file_state left) → IsBankFile (file_state opened) → (s : Sheets) → HoldsSheets (file_state opened).now.trees s → AreReadable s → IsNamedBy s why
+    pub other : HasCleanDisk (file_state left) → IsOfAnother newest (file_state opened) → IsOfOther why
     pub unchanged : HasCleanDisk (file_state left) → IsBankFile (file_state opened) → IsLeft (file_state opened) (file_state left)
     pub idle : left.in_transaction ≡ false
     pub survives : Survives (file_state opened) (file_state left) (λ _. ⊥)
 
-  -- Where the tables of the file were those of a bank in the first edition, they held a World whose books hold and whose policy is sound and
-  -- separated, and those of the newest edition hold it now. A crash leaves the one or the other, whole.
+  -- Where the tables of the file were those of a bank in an edition before the newest, as its row says, they held a World whose books hold
+  -- and whose policy is sound and separated, and those of the newest edition hold it now. A crash leaves the one or the other, whole.
   pub record IsCarried (opened : Held (FileStore D g)) (store : BankStore D g) : Type 0 where
-    pub carries : HasCleanDisk (file_state store.conn) → IsBankFileIn First (file_state opened) → Carries First (file_state opened) (file_state store.conn)
-    pub other : HasCleanDisk (file_state store.conn) → IsOfAnother First (file_state opened) → ⊥
-    pub crash : Survives (file_state opened) (file_state store.conn) (λ trees. HasCleanDisk (file_state store.conn) → IsBankFileIn First (file_state opened) → IsCarriedOver First (file_state opened) trees)
+    pub carries : HasCleanDisk (file_state store.conn) → (e : Edition) → IsOlderFile e (file_state opened) → Carries e (file_state opened) (file_state store.conn)
+    pub other : HasCleanDisk (file_state store.conn) → IsNewestFile (file_state opened) → ⊥
+    pub crash : Survives (file_state opened) (file_state store.conn) (λ trees. HasCleanDisk (file_state store.conn) → (e : Edition) → IsOlderFile e (file_state opened) → IsCarriedOver e (file_state opened) trees)
     pub begins : IsNewStore store
 
-  -- Where they were those of a bank in the first edition, this is the first fault of it, and one of the newest edition is told as of another
-  -- version. What the connection shows is as it was, and only for a fault of the file, or for want of memory, may a crash find the bank
-  -- carried over all the same. A sound bank is refused for such a fault alone.
+  -- Where they were those of a bank in an edition before the newest, this is the first fault of it, and one of the newest edition is told
+  -- as of another version. What the connection shows is as it was, and only for a fault of the file, or for want of memory, may a crash find
+  -- the bank carried over all the same. A sound bank is refused for such a fault alone.
   pub record IsNotCarried (opened : Held (FileStore D g)) (told : ActionFault) (left : Held (FileStore D g)) : Type 0 where
     pub why : AdoptFault
     pub told_so : told ≡ fault_of_adopting why
-    pub refused : HasCleanDisk (file_state left) → IsBankFileIn First (file_state opened) → IsRefusedIn First (file_state opened).now.trees why
-    pub sound : HasCleanDisk (file_state left) → IsBankFileIn First (file_state opened) → HoldsSoundBankIn First (file_state opened).now → IsOfStore why
-    pub named : HasCleanDisk (file_state left) → IsBankFileIn First (file_state opened) → (s : Sheets) → HoldsSheetsIn First (file_state opened).now.trees s → AreReadable s → IsNamedBy s why
-    pub other : HasCleanDisk (file_state left) → IsOfAnother First (file_state opened) → IsOfOther why
-    pub unchanged : HasCleanDisk (file_state left) → IsBankFileIn First (file_state opened) → IsLeft (file_state opened) (file_state left)
+    pub refused : HasCleanDisk (file_state left) → (e : Edition) → IsOlderFile e (file_state opened) → IsRefusedIn e (file_state opened).now.trees why
+    pub sound : HasCleanDisk (file_state left) → (e : Edition) → IsOlderFile e (file_state opened) → HoldsSoundBankIn e (file_state opened).now → IsOfStore why
+    pub named : HasCleanDisk (file_state left) → (e : Edition) → IsOlderFile e (file_state opened) → (s : Sheets) → HoldsSheetsIn e (file_state opened).now.trees s → AreReadable s → IsNamedBy s why
+    pub other : HasCleanDisk (file_state left) → IsNewestFile (file_state opened) → IsOfOther why
+    pub unchanged : HasCleanDisk (file_state left) → (e : Edition) → IsOlderFile e (file_state opened) → IsLeft (file_state opened) (file_state left)
     pub untouched : (IsOfStore why → ⊥) → Survives (file_state opened) (file_state left) (λ _. ⊥)
     pub idle : left.in_transaction ≡ false
-    pub crash : Survives (file_state opened) (file_state left) (λ trees. HasCleanDisk (file_state left) → IsBankFileIn First (file_state opened) → IsCarriedOver First (file_state opened) trees)
+    pub crash : Survives (file_state opened) (file_state left) (λ trees. HasCleanDisk (file_state left) → (e : Edition) → IsOlderFile e (file_state opened) → IsCarriedOver e (file_state opened) trees)
 
   -- The file held no table, and holds the World, whose books hold and whose policy is sound and separated.
   pub record IsMade (opened : Held (FileStore D g)) (w : WorldLists) (store : BankStore D g) : Type 0 where

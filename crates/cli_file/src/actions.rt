@@ -50,7 +50,7 @@ pub fn check_file<D: Disk + Drop, O: Opener<D>, P: Write + Drop>(
     check_in(rt.alloc(), conn, progress).1
 }
 
-/// Carries the bank that stands in a file of the first edition, which is there, over to the newest tables.
+/// Carries the bank that stands in a file of an older edition, which is there, over to the newest tables.
 pub fn upgrade_file<D: Disk + Drop, O: Opener<D>, P: Write + Drop>(
     rt: &HostRuntime,
     file: &str,

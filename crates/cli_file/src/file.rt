@@ -32,7 +32,7 @@ pub(crate) fn find<D: Disk + Drop>(
     }
 }
 
-/// The bank that stands in an open file in the tables of the first edition, carried over to the newest; or the connection
+/// The bank that stands in an open file in the tables of an older edition, carried over to the newest; or the connection
 /// handed back beside why there is none.
 pub(crate) fn carry_over<D: Disk + Drop>(
     alloc: Global,

@@ -9,7 +9,7 @@ use sqlite_disk::Disk;
 use std::alloc::Global;
 use std::io::Write;
 
-/// Carries the bank that stands in an open file of the first edition over to the newest tables, and closes it. What is left
+/// Carries the bank that stands in an open file of an older edition over to the newest tables, and closes it. What is left
 /// of the file is handed back.
 pub fn upgrade_in<D: Disk + Drop, P: Write + Drop>(
     alloc: Global,

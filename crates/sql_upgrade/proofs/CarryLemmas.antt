@@ -1,19 +1,20 @@
 -- A bank that was read and then written anew.
-use Rattle.std.proofs.Common.{◌≡◌, ◌∙◌, Err, IfErr, IfOk, IsErr, IsErrAnd, IsTrue, Ok, OnErr, OnOk, Result, ap, inl, inr, subst, sym}
+use Rattle.std.proofs.Common.{◌≡◌, ◌∙◌, Err, Ok, OnErr, Result, ap, inl, inr, subst, sym}
 use Rattle.sqlite.specs.Effect.{Database}
 use Rattle.sqlite.specs.State.{HasCleanDisk, IsRolledBack, KeepsCommit, State, Survives}
 use Rattle.sqlite.specs.Tree.{Trees}
 use Rattle.sqlite.proofs.StateLemmas.{survives_then}
 use Rattle.bank_books.specs.WorldLists.{WorldLists}
 use Rattle.bank_schema.specs.Held.{AreOfWorld, HoldsBank}
-use Rattle.bank_schema.specs.declared.edition.Edition.TheVariants.{First}
+use Rattle.bank_schema.specs.declared.edition.Edition.{Edition}
 use Rattle.bank_schema.proofs.StepLemmas.{early}
 use Rattle.adopt_sql.specs.Adopted.{Finds, IsBankFileIn, IsLeft}
-use Rattle.sql_upgrade.specs.Carried.{Carries, IsCarriedOver, IsFirst}
+use Rattle.adopt_sql.specs.Older.{IsOlderFile}
+use Rattle.sql_upgrade.specs.Carried.{Carries, IsCarriedOver, IsOf}
 
 -- after a read that changed nothing
-pub still_first : (old mid : State) → IsBankFileIn First old → IsLeft old mid → IsFirst mid
-still_first old mid file left = record {
+pub still_of : (e : Edition) (old mid : State) → IsBankFileIn e old → IsLeft old mid → IsOf e mid
+still_of e old mid file left = record {
   schema = λ is_open. ap (λ (d : Database). d.schema) (left.now is_open) ∙ file.schema;
   settled = left.settled;
 }
@@ -37,8 +38,8 @@ survives_more old new Commits s = record {
 }
 
 -- a transaction that was rolled back leaves what was there before it
-pub left_undone : (old mid new : State) → IsFirst old → KeepsCommit old mid → IsRolledBack mid new → IsLeft old new
-left_undone old mid new is kept undone = record {
+pub left_undone : (e : Edition) (old mid new : State) → IsOf e old → KeepsCommit old mid → IsRolledBack mid new → IsLeft old new
+left_undone e old mid new is kept undone = record {
   was_open = λ is_open. kept.was_open (undone.was_open is_open);
   now = λ is_open.
       let was_open = undone.was_open is_open in
@@ -50,24 +51,28 @@ pub handed : {X : Type 0} {E : Type 0} (r : Result X E) (P : Type 0) → P → O
 handed (Ok x) P p = tt
 handed (Err e) P p = p
 
-module _ (old mid new : State) (w : WorldLists) (read : Survives old mid (λ _. ⊥)) (found : HasCleanDisk mid → IsBankFileIn First old → Finds First old.now w) (left : HasCleanDisk mid → IsBankFileIn First old → IsLeft old mid)
-    (written : Survives mid new (λ trees. IsFirst mid → AreOfWorld w trees)) where
-  pub carried_over : Survives old new (λ trees. HasCleanDisk new → IsBankFileIn First old → IsCarriedOver First old trees)
+module _ (edition : Edition) (old mid new : State) (w : WorldLists) (read : Survives old mid (λ _. ⊥)) (found : HasCleanDisk mid → (e : Edition) → IsOlderFile e old → (edition ≡ e) × Finds e old.now w)
+    (left : HasCleanDisk mid → (e : Edition) → IsOlderFile e old → IsLeft old mid) (written : Survives mid new (λ trees. IsOf edition mid → AreOfWorld w trees)) where
+  -- the file is in the edition in which it was read
+  pub is_of : HasCleanDisk mid → (e : Edition) → IsOlderFile e old → IsOf edition mid
+  is_of clean e older = subst (λ x. IsOf x mid) (sym (found clean e older).0) (still_of e old mid older.file (left clean e older))
+
+  pub carried_over : Survives old new (λ trees. HasCleanDisk new → (e : Edition) → IsOlderFile e old → IsCarriedOver e old trees)
   carried_over =
       survives_then old mid new _ _ _ (λ clean trees none. absurd none)
-      (λ clean trees it _ file.
+      (λ clean trees it _ e older.
       let was_clean = early mid new _ written clean in
-      record { world = w; found = found was_clean file; holds = it (still_first old mid file (left was_clean file)) })
+      record { world = w; found = (found was_clean e older).1; holds = it (is_of was_clean e older) })
       read written
 
-  pub carries : HasCleanDisk new → IsBankFileIn First old → (IsFirst mid → HoldsBank new w) → (IsFirst mid → (trees : Trees) → new.may_leave trees → trees ≡ new.committed.trees) → Carries First old new
-  carries clean file made settled =
+  pub carries : HasCleanDisk new → (e : Edition) → IsOlderFile e old → (IsOf edition mid → HoldsBank new w) → (IsOf edition mid → (trees : Trees) → new.may_leave trees → trees ≡ new.committed.trees) → Carries e old new
+  carries clean e older made settled =
       let was_clean = early mid new _ written clean in
-      let first = still_first old mid file (left was_clean file) in
-      let holds = made first in
+      let of = is_of was_clean e older in
+      let holds = made of in
       record {
         world = w;
-        found = found was_clean file;
+        found = (found was_clean e older).1;
         holds = holds;
-        durable = λ trees may. subst (AreOfWorld w) (sym (settled first trees may ∙ ap (λ (d : Database). d.trees) holds.settled)) holds.now.world;
+        durable = λ trees may. subst (AreOfWorld w) (sym (settled of trees may ∙ ap (λ (d : Database). d.trees) holds.settled)) holds.now.world;
       }

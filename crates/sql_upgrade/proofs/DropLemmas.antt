@@ -1,5 +1,5 @@
 -- What the text that takes a table away makes of a schema, and of the tables that are left.
-use Rattle.std.proofs.Common.{◌≡◌, ◌⊎◌, inl, inr, None, Some, ℕ, List, [], ◌∷◌, codes, slice_get, Bool, true, false, Ok, Err, Result, Option, MatchBool, if◌then◌else◌, refl, sym, ap, subst, ◌∙◌}
+use Rattle.std.proofs.Common.{◌≡◌, ◌⊎◌, inl, inr, None, Some, ℕ, List, [], codes, slice_get, Bool, true, false, Ok, Err, Result, Option, MatchBool, if◌then◌else◌, refl, sym, ap, subst, ◌∙◌}
 use Rattle.sqlite.specs.Change.{without_table, KeepsRows}
 use Rattle.sqlite.specs.Command.TheVariants.{DropTable}
 use Rattle.sqlite.specs.Does.{AtPlace, Drops, Tally, UncountsIn, is_acted_on}
@@ -13,8 +13,10 @@ use Rattle.sqlite.specs.Table.{Table}
 use Rattle.sqlite.proofs.Callers.{IsPlain, command_of, runs_as, statement_of}
 use Rattle.sqlite_schema.specs.declared.schema.Keys.TheVariants.{Enforced}
 use Rattle.sqlite_tied.specs.Compute.{everything}
-use Rattle.sql_upgrade.specs.Left.{HasSchema, left}
-use Rattle.bank_schema.specs.Schema.{accounts_table, bank_table, branches_table, certifiers_table, entries_table, lines_table, members_table, proofs_table, relations_table, releases_table, sets_table, tellers_table, triples_table, users_table}
+use Rattle.bank_schema.specs.declared.edition.Edition.{Edition}
+use Rattle.bank_schema.specs.declared.edition.Edition.TheVariants.{First, Second, Third}
+use Rattle.sql_upgrade.specs.Left.{HasSchema, left, triples_text}
+use Rattle.bank_schema.specs.Schema.{accounts_table, bank_table, branches_table, certifiers_table, entries_table, lines_table, members_table, proofs_table, relations_table, releases_table, sets_table, tellers_table, triples_table_of, users_table}
 
 -- Where the schema is this, the text is one command that takes this table away, no key of another table acts on its rows, and then the
 -- schema is that.
@@ -27,61 +29,89 @@ pub record IsRemoval (text : List ℕ) (at : ℕ) (table : Table) (before after 
   pub uncounted : table.is_counted ≡ false
   pub after_is : without_table before table.tree ≡ after
 
-pub releases_removed : IsRemoval (codes "DROP TABLE releases") 13 releases_table (left 14 9) (left 13 8)
+pub releases_removed : (e : Edition) → IsRemoval (codes "DROP TABLE releases") 13 releases_table (left e 14 9 0) (left e 13 8 0)
 unfolding understood everything
-releases_removed = record { command = refl; whole = refl; plain = (refl, refl); named = refl; alone = refl; uncounted = refl; after_is = refl }
+releases_removed First = record { command = refl; whole = refl; plain = (refl, refl); named = refl; alone = refl; uncounted = refl; after_is = refl }
+releases_removed Second = record { command = refl; whole = refl; plain = (refl, refl); named = refl; alone = refl; uncounted = refl; after_is = refl }
+releases_removed Third = record { command = refl; whole = refl; plain = (refl, refl); named = refl; alone = refl; uncounted = refl; after_is = refl }
 
-pub proofs_removed : IsRemoval (codes "DROP TABLE proofs") 12 proofs_table (left 13 8) (left 12 7)
+pub proofs_removed : (e : Edition) → IsRemoval (codes "DROP TABLE proofs") 12 proofs_table (left e 13 8 0) (left e 12 7 0)
 unfolding understood everything
-proofs_removed = record { command = refl; whole = refl; plain = (refl, refl); named = refl; alone = refl; uncounted = refl; after_is = refl }
+proofs_removed First = record { command = refl; whole = refl; plain = (refl, refl); named = refl; alone = refl; uncounted = refl; after_is = refl }
+proofs_removed Second = record { command = refl; whole = refl; plain = (refl, refl); named = refl; alone = refl; uncounted = refl; after_is = refl }
+proofs_removed Third = record { command = refl; whole = refl; plain = (refl, refl); named = refl; alone = refl; uncounted = refl; after_is = refl }
 
-pub lines_removed : IsRemoval (codes "DROP TABLE lines") 11 lines_table (left 12 7) (left 11 6)
+pub lines_removed : (e : Edition) → IsRemoval (codes "DROP TABLE lines") 11 lines_table (left e 12 7 0) (left e 11 6 0)
 unfolding understood everything
-lines_removed = record { command = refl; whole = refl; plain = (refl, refl); named = refl; alone = refl; uncounted = refl; after_is = refl }
+lines_removed First = record { command = refl; whole = refl; plain = (refl, refl); named = refl; alone = refl; uncounted = refl; after_is = refl }
+lines_removed Second = record { command = refl; whole = refl; plain = (refl, refl); named = refl; alone = refl; uncounted = refl; after_is = refl }
+lines_removed Third = record { command = refl; whole = refl; plain = (refl, refl); named = refl; alone = refl; uncounted = refl; after_is = refl }
 
-pub entries_removed : IsRemoval (codes "DROP TABLE entries") 10 entries_table (left 11 6) (left 10 4)
+pub entries_removed : (e : Edition) → IsRemoval (codes "DROP TABLE entries") 10 entries_table (left e 11 6 0) (left e 10 4 1)
 unfolding understood everything
-entries_removed = record { command = refl; whole = refl; plain = (refl, refl); named = refl; alone = refl; uncounted = refl; after_is = refl }
+entries_removed First = record { command = refl; whole = refl; plain = (refl, refl); named = refl; alone = refl; uncounted = refl; after_is = refl }
+entries_removed Second = record { command = refl; whole = refl; plain = (refl, refl); named = refl; alone = refl; uncounted = refl; after_is = refl }
+entries_removed Third = record { command = refl; whole = refl; plain = (refl, refl); named = refl; alone = refl; uncounted = refl; after_is = refl }
 
-pub accounts_removed : IsRemoval (codes "DROP TABLE accounts") 9 accounts_table (left 10 4) (left 9 4)
+pub accounts_removed : (e : Edition) → IsRemoval (codes "DROP TABLE accounts") 9 accounts_table (left e 10 4 1) (left e 9 4 1)
 unfolding understood everything
-accounts_removed = record { command = refl; whole = refl; plain = (refl, refl); named = refl; alone = refl; uncounted = refl; after_is = refl }
+accounts_removed First = record { command = refl; whole = refl; plain = (refl, refl); named = refl; alone = refl; uncounted = refl; after_is = refl }
+accounts_removed Second = record { command = refl; whole = refl; plain = (refl, refl); named = refl; alone = refl; uncounted = refl; after_is = refl }
+accounts_removed Third = record { command = refl; whole = refl; plain = (refl, refl); named = refl; alone = refl; uncounted = refl; after_is = refl }
 
-pub tellers_removed : IsRemoval (codes "DROP TABLE tellers") 8 tellers_table (left 9 4) (left 8 4)
+pub tellers_removed : (e : Edition) → IsRemoval (codes "DROP TABLE tellers") 8 tellers_table (left e 9 4 1) (left e 8 4 2)
 unfolding understood everything
-tellers_removed = record { command = refl; whole = refl; plain = (refl, refl); named = refl; alone = refl; uncounted = refl; after_is = refl }
+tellers_removed First = record { command = refl; whole = refl; plain = (refl, refl); named = refl; alone = refl; uncounted = refl; after_is = refl }
+tellers_removed Second = record { command = refl; whole = refl; plain = (refl, refl); named = refl; alone = refl; uncounted = refl; after_is = refl }
+tellers_removed Third = record { command = refl; whole = refl; plain = (refl, refl); named = refl; alone = refl; uncounted = refl; after_is = refl }
 
-pub branches_removed : IsRemoval (codes "DROP TABLE branches") 7 branches_table (left 8 4) (left 7 4)
+pub branches_removed : (e : Edition) → IsRemoval (codes "DROP TABLE branches") 7 branches_table (left e 8 4 2) (left e 7 4 2)
 unfolding understood everything
-branches_removed = record { command = refl; whole = refl; plain = (refl, refl); named = refl; alone = refl; uncounted = refl; after_is = refl }
+branches_removed First = record { command = refl; whole = refl; plain = (refl, refl); named = refl; alone = refl; uncounted = refl; after_is = refl }
+branches_removed Second = record { command = refl; whole = refl; plain = (refl, refl); named = refl; alone = refl; uncounted = refl; after_is = refl }
+branches_removed Third = record { command = refl; whole = refl; plain = (refl, refl); named = refl; alone = refl; uncounted = refl; after_is = refl }
 
-pub certifiers_removed : IsRemoval (codes "DROP TABLE certifiers") 6 certifiers_table (left 7 4) (left 6 3)
+pub certifiers_removed : (e : Edition) → IsRemoval (codes "DROP TABLE certifiers") 6 certifiers_table (left e 7 4 2) (left e 6 3 2)
 unfolding understood everything
-certifiers_removed = record { command = refl; whole = refl; plain = (refl, refl); named = refl; alone = refl; uncounted = refl; after_is = refl }
+certifiers_removed First = record { command = refl; whole = refl; plain = (refl, refl); named = refl; alone = refl; uncounted = refl; after_is = refl }
+certifiers_removed Second = record { command = refl; whole = refl; plain = (refl, refl); named = refl; alone = refl; uncounted = refl; after_is = refl }
+certifiers_removed Third = record { command = refl; whole = refl; plain = (refl, refl); named = refl; alone = refl; uncounted = refl; after_is = refl }
 
-pub triples_removed : IsRemoval (codes "DROP TABLE triples") 5 triples_table (left 6 3) (left 5 2)
+pub triples_removed : (e : Edition) → IsRemoval (triples_text e) 5 (triples_table_of e) (left e 6 3 2) (left e 5 2 2)
 unfolding understood everything
-triples_removed = record { command = refl; whole = refl; plain = (refl, refl); named = refl; alone = refl; uncounted = refl; after_is = refl }
+triples_removed First = record { command = refl; whole = refl; plain = (refl, refl); named = refl; alone = refl; uncounted = refl; after_is = refl }
+triples_removed Second = record { command = refl; whole = refl; plain = (refl, refl); named = refl; alone = refl; uncounted = refl; after_is = refl }
+triples_removed Third = record { command = refl; whole = refl; plain = (refl, refl); named = refl; alone = refl; uncounted = refl; after_is = refl }
 
-pub relations_removed : IsRemoval (codes "DROP TABLE relations") 4 relations_table (left 5 2) (left 4 1)
+pub relations_removed : (e : Edition) → IsRemoval (codes "DROP TABLE relations") 4 relations_table (left e 5 2 2) (left e 4 1 2)
 unfolding understood everything
-relations_removed = record { command = refl; whole = refl; plain = (refl, refl); named = refl; alone = refl; uncounted = refl; after_is = refl }
+relations_removed First = record { command = refl; whole = refl; plain = (refl, refl); named = refl; alone = refl; uncounted = refl; after_is = refl }
+relations_removed Second = record { command = refl; whole = refl; plain = (refl, refl); named = refl; alone = refl; uncounted = refl; after_is = refl }
+relations_removed Third = record { command = refl; whole = refl; plain = (refl, refl); named = refl; alone = refl; uncounted = refl; after_is = refl }
 
-pub members_removed : IsRemoval (codes "DROP TABLE members") 3 members_table (left 4 1) (left 3 0)
+pub members_removed : (e : Edition) → IsRemoval (codes "DROP TABLE members") 3 members_table (left e 4 1 2) (left e 3 0 2)
 unfolding understood everything
-members_removed = record { command = refl; whole = refl; plain = (refl, refl); named = refl; alone = refl; uncounted = refl; after_is = refl }
+members_removed First = record { command = refl; whole = refl; plain = (refl, refl); named = refl; alone = refl; uncounted = refl; after_is = refl }
+members_removed Second = record { command = refl; whole = refl; plain = (refl, refl); named = refl; alone = refl; uncounted = refl; after_is = refl }
+members_removed Third = record { command = refl; whole = refl; plain = (refl, refl); named = refl; alone = refl; uncounted = refl; after_is = refl }
 
-pub sets_removed : IsRemoval (codes "DROP TABLE sets") 2 sets_table (left 3 0) (left 2 0)
+pub sets_removed : (e : Edition) → IsRemoval (codes "DROP TABLE sets") 2 sets_table (left e 3 0 2) (left e 2 0 2)
 unfolding understood everything
-sets_removed = record { command = refl; whole = refl; plain = (refl, refl); named = refl; alone = refl; uncounted = refl; after_is = refl }
+sets_removed First = record { command = refl; whole = refl; plain = (refl, refl); named = refl; alone = refl; uncounted = refl; after_is = refl }
+sets_removed Second = record { command = refl; whole = refl; plain = (refl, refl); named = refl; alone = refl; uncounted = refl; after_is = refl }
+sets_removed Third = record { command = refl; whole = refl; plain = (refl, refl); named = refl; alone = refl; uncounted = refl; after_is = refl }
 
-pub users_removed : IsRemoval (codes "DROP TABLE users") 1 users_table (left 2 0) (left 1 0)
+pub users_removed : (e : Edition) → IsRemoval (codes "DROP TABLE users") 1 users_table (left e 2 0 2) (left e 1 0 2)
 unfolding understood everything
-users_removed = record { command = refl; whole = refl; plain = (refl, refl); named = refl; alone = refl; uncounted = refl; after_is = refl }
+users_removed First = record { command = refl; whole = refl; plain = (refl, refl); named = refl; alone = refl; uncounted = refl; after_is = refl }
+users_removed Second = record { command = refl; whole = refl; plain = (refl, refl); named = refl; alone = refl; uncounted = refl; after_is = refl }
+users_removed Third = record { command = refl; whole = refl; plain = (refl, refl); named = refl; alone = refl; uncounted = refl; after_is = refl }
 
-pub bank_removed : IsRemoval (codes "DROP TABLE bank") 0 bank_table (left 1 0) (left 0 0)
+pub bank_removed : (e : Edition) → IsRemoval (codes "DROP TABLE bank") 0 bank_table (left e 1 0 2) (left e 0 0 2)
 unfolding understood everything
-bank_removed = record { command = refl; whole = refl; plain = (refl, refl); named = refl; alone = refl; uncounted = refl; after_is = refl }
+bank_removed First = record { command = refl; whole = refl; plain = (refl, refl); named = refl; alone = refl; uncounted = refl; after_is = refl }
+bank_removed Second = record { command = refl; whole = refl; plain = (refl, refl); named = refl; alone = refl; uncounted = refl; after_is = refl }
+bank_removed Third = record { command = refl; whole = refl; plain = (refl, refl); named = refl; alone = refl; uncounted = refl; after_is = refl }
 
 went : {B E R : Type 0} {b : B} {Stops : E → Type 0} → ((stop : E) × Stops stop × (Ok b ≡ Err stop)) ⊎ R → R
 went (inl stopped) = absurd (let e = stopped.2 in cc)

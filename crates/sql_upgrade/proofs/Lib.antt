@@ -1,3 +1,4 @@
 pub mod CarryLemmas
 pub mod DropLemmas
+pub mod LeftLemmas
 pub mod ProceedsLemmas

@@ -1,5 +1,5 @@
 -- Steps one after another inside a transaction, on a connection that may be shut.
-use Rattle.std.proofs.Common.{◌≡◌, ℕ, List, [], Ok, Err, Result, IsErr, IsTrue, OnOk}
+use Rattle.std.proofs.Common.{ℕ, List, [], Ok, Err, Result, IsErr, IsTrue, OnOk}
 use Rattle.sqlite.specs.Effect.{Database}
 use Rattle.sqlite.specs.Schema.{Schema}
 use Rattle.sqlite.specs.State.{Executes, HasCleanDisk, KeepsCommit, State, Survives}

@@ -6,7 +6,6 @@ use Rattle.bank_books.specs.WorldLists.{WorldLists}
 use Rattle.bank_schema.specs.Held.{AreOfWorld, HoldsBank}
 use Rattle.bank_schema.specs.Schema.{schema_of}
 use Rattle.bank_schema.specs.declared.edition.Edition.{Edition}
-use Rattle.bank_schema.specs.declared.edition.Edition.TheVariants.{First}
 use Rattle.adopt_sql.specs.Adopted.{Finds}
 
 -- The tables of an older edition held a World whose books hold and whose policy is sound, and no other. Those of the newest hold it now, and
@@ -23,7 +22,7 @@ pub record IsCarriedOver (e : Edition) (old : State) (trees : Trees) : Type 0 wh
   pub found : Finds e old.now world
   pub holds : AreOfWorld world trees
 
--- If the connection is open, its tables are those of the first edition, with nothing uncommitted in them.
-pub record IsFirst (s : State) : Type 0 where
-  pub schema : IsTrue s.is_open → s.now.schema ≡ schema_of First
+-- If the connection is open, its tables are those of this edition, with nothing uncommitted in them.
+pub record IsOf (e : Edition) (s : State) : Type 0 where
+  pub schema : IsTrue s.is_open → s.now.schema ≡ schema_of e
   pub settled : IsTrue s.is_open → s.committed ≡ s.now

@@ -1,14 +1,22 @@
--- A file of the first edition of which only the first tables are left.
-use Rattle.std.specs.Prelude.{◌≡◌, ℕ, [], take}
+-- A file of an edition of which only the first tables are left.
+use Rattle.std.specs.Prelude.{◌≡◌, ◌++◌, ℕ, List, [], codes, drop, take}
 use Rattle.sqlite.specs.Effect.{Database}
 use Rattle.sqlite.specs.Schema.{Schema}
-use Rattle.bank_schema.specs.Schema.{schema_of}
-use Rattle.bank_schema.specs.declared.edition.Edition.TheVariants.{First}
+use Rattle.bank_schema.specs.Schema.{last_indexes_of, schema_of}
+use Rattle.bank_schema.specs.declared.edition.Edition.{Edition}
+use Rattle.bank_schema.specs.declared.edition.Edition.TheVariants.{First, Second, Third}
 
--- the first so many tables, and the first so many of the indexes
-abbrev pub left : ℕ → ℕ → Schema
-left tables indexes = record { tables = take tables (schema_of First).tables; indexes = take indexes (schema_of First).indexes; views = [] }
+-- The first so many tables, and the first so many of the indexes of their keys. Of the two indexes for look-ups, where the edition has them,
+-- so many are gone.
+abbrev pub left : Edition → ℕ → ℕ → ℕ → Schema
+left e tables indexes gone = record { tables = take tables (schema_of e).tables; indexes = take indexes (schema_of e).indexes ++ drop gone (take 2 (last_indexes_of e)); views = [] }
 
 -- these are its tables, whatever stands in them
 abbrev pub HasSchema : Schema → Database → Type 0
 HasSchema schema db = db.schema ≡ schema
+
+-- what takes away the table of the triples
+abbrev pub triples_text : Edition → List ℕ
+triples_text First = codes "DROP TABLE triples"
+triples_text Second = codes "DROP TABLE grants"
+triples_text Third = codes "DROP TABLE grants"

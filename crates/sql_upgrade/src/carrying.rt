@@ -1,62 +1,65 @@
-//! The tables of the first edition, replaced by those of the newest.
+//! The tables of an edition before the newest, replaced by those of the newest.
 
-ghost use Rattle.std.specs.Prelude.{◌≡◌, false, IsTrue, OnErr, OnOk};
+ghost use Rattle.std.specs.Prelude.{◌≡◌, ◌≢◌, false, IsTrue, OnErr, OnOk};
 ghost use Rattle.sqlite.specs.Held.{state};
 ghost use Rattle.sqlite.specs.State.{HasCleanDisk, Survives};
 ghost use Rattle.bank_books.specs.Records.{kept_of};
 ghost use Rattle.kept_rows.specs.Keepable.{IsKeepable};
 ghost use Rattle.bank_schema.specs.Held.{AreOfWorld, HoldsBank, HoldsWorld};
-ghost use Rattle.bank_schema.specs.Schema.{schema_of};
-ghost use Rattle.bank_schema.specs.declared.edition.Edition.TheVariants.{First};
+ghost use Rattle.bank_schema.specs.Schema.{newest, schema_of};
 ghost use Rattle.adopt_sql.specs.Adopted.{IsLeft};
-ghost use Rattle.sql_upgrade.specs.Carried.{IsFirst};
+ghost use Rattle.sql_upgrade.specs.Carried.{IsOf};
 ghost use Rattle.sql_upgrade.specs.Left.{HasSchema};
 ghost use Rattle.sql_upgrade.specs.Proceeds.{Proceeds};
 
 use crate::dropping::drop_tables;
 use bank_books::World;
-use bank_schema::commit;
+use bank_schema::{Edition, commit};
 use book_sums::Kept;
 use money::Fault;
 use open_sql::write_bank;
 use sqlite::{Alter, Connection, Transaction};
 use std::alloc::Global;
 
-/// Takes the tables of the first edition away, and writes the bank to those of the newest.
+/// Takes the tables of an older edition away, and writes the bank to those of the newest.
 fn rewrite_bank<S: Alter>(
     alloc: Global,
     tx: &mut Transaction<'_, S>,
+    edition: Edition,
     world: &World,
     kept: &Kept,
 ) -> Result<(), Fault>
+    requires older { edition ≢ newest }
     requires kept { kept.now ≡ kept_of world.now }
     requires keepable { IsKeepable world.now }
     ensures same_reference { tx.new.conn.ghost_name ≡ tx.old.conn.ghost_name }
-    ensures proceeds { Proceeds (state S.Store tx.old.conn.now) (state S.Store tx.new.conn.now) (HasSchema (schema_of First)) (λ db. HoldsWorld db world.now) result }
+    ensures proceeds { Proceeds (state S.Store tx.old.conn.now) (state S.Store tx.new.conn.now) (HasSchema (schema_of edition)) (λ db. HoldsWorld db world.now) result }
     ensures survives { Survives (state S.Store tx.old.conn.now) (state S.Store tx.new.conn.now) (λ _. ⊥) }
 {
-    drop_tables(tx)?;
+    drop_tables(tx, edition)?;
     write_bank(alloc, tx, world, kept)
 }
 
 /// Carries a bank over in one transaction, or at a fault nothing of it: whatever stood in the tables of the
-/// first edition, those of the newest hold this World then.
+/// older edition, those of the newest hold this World then.
 pub(crate) fn carry_bank<S: Alter>(
     alloc: Global,
     conn: &mut Connection<S>,
+    edition: Edition,
     world: &World,
     kept: &Kept,
 ) -> Result<(), Fault>
     requires idle { conn.old.in_transaction ≡ false }
+    requires older { edition ≢ newest }
     requires kept { kept.now ≡ kept_of world.now }
     requires keepable { IsKeepable world.now }
     ensures mode { conn.new.in_transaction ≡ false }
-    ensures made { HasCleanDisk (state S.Store conn.new) → IsFirst (state S.Store conn.old) → OnOk result (HoldsBank (state S.Store conn.new) world.now) }
-    ensures open { HasCleanDisk (state S.Store conn.new) → IsFirst (state S.Store conn.old) → OnOk result (IsTrue (state S.Store conn.new).is_open) }
-    ensures unmade { HasCleanDisk (state S.Store conn.new) → IsFirst (state S.Store conn.old) → OnErr result (IsLeft (state S.Store conn.old) (state S.Store conn.new)) }
-    ensures crash { Survives (state S.Store conn.old) (state S.Store conn.new) (λ trees. IsFirst (state S.Store conn.old) → AreOfWorld world.now trees) }
+    ensures made { HasCleanDisk (state S.Store conn.new) → IsOf edition (state S.Store conn.old) → OnOk result (HoldsBank (state S.Store conn.new) world.now) }
+    ensures open { HasCleanDisk (state S.Store conn.new) → IsOf edition (state S.Store conn.old) → OnOk result (IsTrue (state S.Store conn.new).is_open) }
+    ensures unmade { HasCleanDisk (state S.Store conn.new) → IsOf edition (state S.Store conn.old) → OnErr result (IsLeft (state S.Store conn.old) (state S.Store conn.new)) }
+    ensures crash { Survives (state S.Store conn.old) (state S.Store conn.new) (λ trees. IsOf edition (state S.Store conn.old) → AreOfWorld world.now trees) }
 {
     let mut tx = conn.transaction();
-    rewrite_bank(alloc, &mut tx, world, kept)?;
+    rewrite_bank(alloc, &mut tx, edition, world, kept)?;
     commit(tx)
 }

@@ -1,12 +1,14 @@
-//! The tables of a file of the first edition, taken away: the last that was made first, so that no key of
-//! another table acts on the rows that go.
+//! The tables of a file of an edition before the newest, taken away: the last that was made first, so that no
+//! key of another table acts on the rows that go.
 
 ghost use Rattle.std.specs.Prelude.{◌≡◌};
 ghost use Rattle.sqlite.specs.Held.{state};
 ghost use Rattle.sqlite.specs.State.{Survives};
-ghost use Rattle.sql_upgrade.specs.Left.{HasSchema, left};
+ghost use Rattle.bank_schema.specs.declared.edition.Edition.{Edition as TheEdition};
+ghost use Rattle.sql_upgrade.specs.Left.{HasSchema, left, triples_text};
 ghost use Rattle.sql_upgrade.specs.Proceeds.{Proceeds};
 
+use bank_schema::Edition;
 use money::Fault;
 use open_sql::define;
 use sqlite::{Alter, Transaction};
@@ -14,7 +16,7 @@ use sqlite::{Alter, Transaction};
 /// Takes away the tables of lines, proofs and releases.
 fn drop_history<S: Alter>(tx: &mut Transaction<'_, S>) -> Result<(), Fault>
     ensures same_reference { tx.new.conn.ghost_name ≡ tx.old.conn.ghost_name }
-    ensures proceeds { Proceeds (state S.Store tx.old.conn.now) (state S.Store tx.new.conn.now) (HasSchema (left 14 9)) (HasSchema (left 11 6)) result }
+    ensures proceeds { (e : TheEdition) → Proceeds (state S.Store tx.old.conn.now) (state S.Store tx.new.conn.now) (HasSchema (left e 14 9 0)) (HasSchema (left e 11 6 0)) result }
     ensures survives { Survives (state S.Store tx.old.conn.now) (state S.Store tx.new.conn.now) (λ _. ⊥) }
 {
     define(tx, "DROP TABLE releases")?;
@@ -25,7 +27,7 @@ fn drop_history<S: Alter>(tx: &mut Transaction<'_, S>) -> Result<(), Fault>
 /// Takes away the tables of branches, tellers, accounts and entries.
 fn drop_books<S: Alter>(tx: &mut Transaction<'_, S>) -> Result<(), Fault>
     ensures same_reference { tx.new.conn.ghost_name ≡ tx.old.conn.ghost_name }
-    ensures proceeds { Proceeds (state S.Store tx.old.conn.now) (state S.Store tx.new.conn.now) (HasSchema (left 11 6)) (HasSchema (left 7 4)) result }
+    ensures proceeds { (e : TheEdition) → Proceeds (state S.Store tx.old.conn.now) (state S.Store tx.new.conn.now) (HasSchema (left e 11 6 0)) (HasSchema (left e 7 4 2)) result }
     ensures survives { Survives (state S.Store tx.old.conn.now) (state S.Store tx.new.conn.now) (λ _. ⊥) }
 {
     define(tx, "DROP TABLE entries")?;
@@ -34,22 +36,33 @@ fn drop_books<S: Alter>(tx: &mut Transaction<'_, S>) -> Result<(), Fault>
     define(tx, "DROP TABLE branches")
 }
 
+/// What takes away the table of the triples, which is not the same in all editions.
+fn triples_text(edition: Edition) -> &'static str
+    ensures { result.now ≡ triples_text edition }
+{
+    match edition {
+        Edition::First => "DROP TABLE triples",
+        Edition::Second => "DROP TABLE grants",
+        Edition::Third => "DROP TABLE grants",
+    }
+}
+
 /// Takes away the tables of relations, triples and certifiers: triples go before the relations that they are
 /// of.
-fn drop_rights<S: Alter>(tx: &mut Transaction<'_, S>) -> Result<(), Fault>
+fn drop_rights<S: Alter>(tx: &mut Transaction<'_, S>, edition: Edition) -> Result<(), Fault>
     ensures same_reference { tx.new.conn.ghost_name ≡ tx.old.conn.ghost_name }
-    ensures proceeds { Proceeds (state S.Store tx.old.conn.now) (state S.Store tx.new.conn.now) (HasSchema (left 7 4)) (HasSchema (left 4 1)) result }
+    ensures proceeds { Proceeds (state S.Store tx.old.conn.now) (state S.Store tx.new.conn.now) (HasSchema (left edition 7 4 2)) (HasSchema (left edition 4 1 2)) result }
     ensures survives { Survives (state S.Store tx.old.conn.now) (state S.Store tx.new.conn.now) (λ _. ⊥) }
 {
     define(tx, "DROP TABLE certifiers")?;
-    define(tx, "DROP TABLE triples")?;
+    define(tx, triples_text(edition))?;
     define(tx, "DROP TABLE relations")
 }
 
 /// Takes away the tables of the bank, of users, and of sets with their members.
 fn drop_bank_and_sets<S: Alter>(tx: &mut Transaction<'_, S>) -> Result<(), Fault>
     ensures same_reference { tx.new.conn.ghost_name ≡ tx.old.conn.ghost_name }
-    ensures proceeds { Proceeds (state S.Store tx.old.conn.now) (state S.Store tx.new.conn.now) (HasSchema (left 4 1)) (HasSchema (left 0 0)) result }
+    ensures proceeds { (e : TheEdition) → Proceeds (state S.Store tx.old.conn.now) (state S.Store tx.new.conn.now) (HasSchema (left e 4 1 2)) (HasSchema (left e 0 0 2)) result }
     ensures survives { Survives (state S.Store tx.old.conn.now) (state S.Store tx.new.conn.now) (λ _. ⊥) }
 {
     define(tx, "DROP TABLE members")?;
@@ -58,14 +71,17 @@ fn drop_bank_and_sets<S: Alter>(tx: &mut Transaction<'_, S>) -> Result<(), Fault
     define(tx, "DROP TABLE bank")
 }
 
-/// Takes away all tables of a file of the first edition, whatever stands in them.
-pub(crate) fn drop_tables<S: Alter>(tx: &mut Transaction<'_, S>) -> Result<(), Fault>
+/// Takes away all tables that each edition has, whatever stands in them.
+pub(crate) fn drop_tables<S: Alter>(
+    tx: &mut Transaction<'_, S>,
+    edition: Edition,
+) -> Result<(), Fault>
     ensures same_reference { tx.new.conn.ghost_name ≡ tx.old.conn.ghost_name }
-    ensures proceeds { Proceeds (state S.Store tx.old.conn.now) (state S.Store tx.new.conn.now) (HasSchema (left 14 9)) (HasSchema (left 0 0)) result }
+    ensures proceeds { Proceeds (state S.Store tx.old.conn.now) (state S.Store tx.new.conn.now) (HasSchema (left edition 14 9 0)) (HasSchema (left edition 0 0 2)) result }
     ensures survives { Survives (state S.Store tx.old.conn.now) (state S.Store tx.new.conn.now) (λ _. ⊥) }
 {
     drop_history(tx)?;
     drop_books(tx)?;
-    drop_rights(tx)?;
+    drop_rights(tx, edition)?;
     drop_bank_and_sets(tx)
 }

@@ -3,61 +3,62 @@ ghost use Rattle.sqlite.specs.Held.{state};
 ghost use Rattle.sqlite.specs.State.{HasCleanDisk, Survives};
 ghost use Rattle.bank_schema.specs.Held.{HoldsSheetsIn};
 ghost use Rattle.bank_schema.specs.Readable.{AreReadable};
-ghost use Rattle.bank_schema.specs.declared.edition.Edition.TheVariants.{First};
+ghost use Rattle.bank_schema.specs.declared.edition.Edition.{Edition as TheEdition};
 ghost use Rattle.kept_rows.specs.Sheets.{Sheets};
-ghost use Rattle.adopt_sql.specs.Adopted.{IsBankFileIn, IsLeft, IsOfAnother};
+ghost use Rattle.adopt_sql.specs.Adopted.{IsLeft};
+ghost use Rattle.adopt_sql.specs.Older.{IsNewestFile, IsOlderFile};
 ghost use Rattle.adopt_sql.specs.Refused.{HoldsSoundBankIn, IsNamedBy, IsOfOther, IsOfStore, IsRefusedIn};
 ghost use Rattle.sql_upgrade.specs.Carried.{Carries, IsCarriedOver};
 
 use crate::carrying::carry_bank;
-use adopt_sql::{AdoptFault, read_bank};
-use bank_schema::Edition;
+use adopt_sql::{AdoptFault, read_older_bank};
 use sqlite::{Alter, Connection};
 use std::alloc::Global;
 use store_sql::SqlStore;
 
-/// Carries over the bank that stands in the tables of the first edition: it is read whole and judged, and
-/// then written to those of the newest. It is refused as `read_bank` says.
+/// Carries over the bank that stands in the tables of an older edition, which its own row names: it is read
+/// whole and judged, and then written to those of the newest. It is refused as `read_older_bank` says.
 fn upgrade_bank<S: Alter>(alloc: Global, conn: &mut Connection<S>) -> Result<(), AdoptFault>
     requires { conn.old.in_transaction ≡ false }
     ensures mode { conn.new.in_transaction ≡ false }
-    ensures carries { HasCleanDisk (state S.Store conn.new) → IsBankFileIn First (state S.Store conn.old) → OnOk result (Carries First (state S.Store conn.old) (state S.Store conn.new)) }
-    ensures refused { HasCleanDisk (state S.Store conn.new) → IsBankFileIn First (state S.Store conn.old) → IfErr result (IsRefusedIn First (state S.Store conn.old).now.trees) }
-    ensures other { HasCleanDisk (state S.Store conn.new) → IsOfAnother First (state S.Store conn.old) → IsErrAnd result IsOfOther }
-    ensures sound { HasCleanDisk (state S.Store conn.new) → IsBankFileIn First (state S.Store conn.old) → HoldsSoundBankIn First (state S.Store conn.old).now → IfErr result IsOfStore }
-    ensures named { HasCleanDisk (state S.Store conn.new) → IsBankFileIn First (state S.Store conn.old) → (s : Sheets) → HoldsSheetsIn First (state S.Store conn.old).now.trees s → AreReadable s → IfErr result (IsNamedBy s) }
-    ensures unchanged { HasCleanDisk (state S.Store conn.new) → IsBankFileIn First (state S.Store conn.old) → OnErr result (IsLeft (state S.Store conn.old) (state S.Store conn.new)) }
+    ensures carries { HasCleanDisk (state S.Store conn.new) → (e : TheEdition) → IsOlderFile e (state S.Store conn.old) → OnOk result (Carries e (state S.Store conn.old) (state S.Store conn.new)) }
+    ensures refused { HasCleanDisk (state S.Store conn.new) → (e : TheEdition) → IsOlderFile e (state S.Store conn.old) → IfErr result (IsRefusedIn e (state S.Store conn.old).now.trees) }
+    ensures other { HasCleanDisk (state S.Store conn.new) → IsNewestFile (state S.Store conn.old) → IsErrAnd result IsOfOther }
+    ensures sound { HasCleanDisk (state S.Store conn.new) → (e : TheEdition) → IsOlderFile e (state S.Store conn.old) → HoldsSoundBankIn e (state S.Store conn.old).now → IfErr result IsOfStore }
+    ensures named { HasCleanDisk (state S.Store conn.new) → (e : TheEdition) → IsOlderFile e (state S.Store conn.old) → (s : Sheets) → HoldsSheetsIn e (state S.Store conn.old).now.trees s → AreReadable s → IfErr result (IsNamedBy s) }
+    ensures unchanged { HasCleanDisk (state S.Store conn.new) → (e : TheEdition) → IsOlderFile e (state S.Store conn.old) → OnErr result (IsLeft (state S.Store conn.old) (state S.Store conn.new)) }
     ensures untouched { IfErr result (λ fault. (IsOfStore fault → ⊥) → Survives (state S.Store conn.old) (state S.Store conn.new) (λ _. ⊥)) }
-    ensures crash { Survives (state S.Store conn.old) (state S.Store conn.new) (λ trees. HasCleanDisk (state S.Store conn.new) → IsBankFileIn First (state S.Store conn.old) → IsCarriedOver First (state S.Store conn.old) trees) }
+    ensures crash { Survives (state S.Store conn.old) (state S.Store conn.new) (λ trees. HasCleanDisk (state S.Store conn.new) → (e : TheEdition) → IsOlderFile e (state S.Store conn.old) → IsCarriedOver e (state S.Store conn.old) trees) }
 {
-    let bank = read_bank(alloc, conn, Edition::First)?;
-    match carry_bank(alloc, conn, &bank.world, &bank.kept) {
+    let older = read_older_bank(alloc, conn)?;
+    let bank = &older.bank;
+    match carry_bank(alloc, conn, older.edition, &bank.world, &bank.kept) {
         Ok(()) => Ok(()),
         Err(fault) => Err(AdoptFault::Fault(fault)),
     }
 }
 
-/// The store of the bank that stands in the tables of the first edition, carried over to those of the newest
-/// in one transaction: these hold the World that those held, in which each triple counts from the first
-/// moment to the last that there is. A bank is refused as `adopt` refuses one of the newest edition, and one
-/// of the newest edition is told as of another version; the connection is then handed back beside the fault,
-/// and what it shows is as it was. Only where the fault is one of the database may a crash find the bank
-/// carried over all the same.
+/// The store of the bank that stands in the tables of an edition before the newest, carried over to those of
+/// the newest in one transaction: these hold the World that those held, in which triples of the first edition
+/// count from the first moment to the last that there is, and no user has a slip. A bank is refused as `adopt`
+/// refuses one of the newest edition, and one of the newest edition is told as of another version; the
+/// connection is then handed back beside the fault, and what it shows is as it was. Only where the fault is
+/// one of the database may a crash find the bank carried over all the same.
 pub fn upgrade<S: Alter>(
     alloc: Global,
     mut conn: Connection<S>,
 ) -> Result<SqlStore<S>, (AdoptFault, Connection<S>)>
     requires { conn.in_transaction ≡ false }
-    ensures carries { IfOk result (λ store. HasCleanDisk (state S.Store store.conn) → IsBankFileIn First (state S.Store conn) → Carries First (state S.Store conn) (state S.Store store.conn)) }
+    ensures carries { IfOk result (λ store. HasCleanDisk (state S.Store store.conn) → (e : TheEdition) → IsOlderFile e (state S.Store conn) → Carries e (state S.Store conn) (state S.Store store.conn)) }
     ensures works { IfOk result (λ store. (store.is_stopped ≡ false) × (store.faults ≡ 0) × (store.failures ≡ 0)) }
-    ensures refused { IfErr result (λ e. HasCleanDisk (state S.Store e.1) → IsBankFileIn First (state S.Store conn) → IsRefusedIn First (state S.Store conn).now.trees e.0) }
-    ensures sound { IfErr result (λ e. HasCleanDisk (state S.Store e.1) → IsBankFileIn First (state S.Store conn) → HoldsSoundBankIn First (state S.Store conn).now → IsOfStore e.0) }
-    ensures named { IfErr result (λ e. HasCleanDisk (state S.Store e.1) → IsBankFileIn First (state S.Store conn) → (s : Sheets) → HoldsSheetsIn First (state S.Store conn).now.trees s → AreReadable s → IsNamedBy s e.0) }
-    ensures other { MatchResult result (λ store. HasCleanDisk (state S.Store store.conn) → IsOfAnother First (state S.Store conn) → ⊥) (λ e. HasCleanDisk (state S.Store e.1) → IsOfAnother First (state S.Store conn) → IsOfOther e.0) }
-    ensures unchanged { IfErr result (λ e. HasCleanDisk (state S.Store e.1) → IsBankFileIn First (state S.Store conn) → IsLeft (state S.Store conn) (state S.Store e.1)) }
-    ensures untouched { IfErr result (λ e. (IsOfStore e.0 → ⊥) → Survives (state S.Store conn) (state S.Store e.1) (λ _. ⊥)) }
-    ensures mode { IfErr result (λ e. e.1.in_transaction ≡ false) }
-    ensures crash { MatchResult result (λ store. Survives (state S.Store conn) (state S.Store store.conn) (λ trees. HasCleanDisk (state S.Store store.conn) → IsBankFileIn First (state S.Store conn) → IsCarriedOver First (state S.Store conn) trees)) (λ e. Survives (state S.Store conn) (state S.Store e.1) (λ trees. HasCleanDisk (state S.Store e.1) → IsBankFileIn First (state S.Store conn) → IsCarriedOver First (state S.Store conn) trees)) }
+    ensures refused { IfErr result (λ x. HasCleanDisk (state S.Store x.1) → (e : TheEdition) → IsOlderFile e (state S.Store conn) → IsRefusedIn e (state S.Store conn).now.trees x.0) }
+    ensures sound { IfErr result (λ x. HasCleanDisk (state S.Store x.1) → (e : TheEdition) → IsOlderFile e (state S.Store conn) → HoldsSoundBankIn e (state S.Store conn).now → IsOfStore x.0) }
+    ensures named { IfErr result (λ x. HasCleanDisk (state S.Store x.1) → (e : TheEdition) → IsOlderFile e (state S.Store conn) → (s : Sheets) → HoldsSheetsIn e (state S.Store conn).now.trees s → AreReadable s → IsNamedBy s x.0) }
+    ensures other { MatchResult result (λ store. HasCleanDisk (state S.Store store.conn) → IsNewestFile (state S.Store conn) → ⊥) (λ x. HasCleanDisk (state S.Store x.1) → IsNewestFile (state S.Store conn) → IsOfOther x.0) }
+    ensures unchanged { IfErr result (λ x. HasCleanDisk (state S.Store x.1) → (e : TheEdition) → IsOlderFile e (state S.Store conn) → IsLeft (state S.Store conn) (state S.Store x.1)) }
+    ensures untouched { IfErr result (λ x. (IsOfStore x.0 → ⊥) → Survives (state S.Store conn) (state S.Store x.1) (λ _. ⊥)) }
+    ensures mode { IfErr result (λ x. x.1.in_transaction ≡ false) }
+    ensures crash { MatchResult result (λ store. Survives (state S.Store conn) (state S.Store store.conn) (λ trees. HasCleanDisk (state S.Store store.conn) → (e : TheEdition) → IsOlderFile e (state S.Store conn) → IsCarriedOver e (state S.Store conn) trees)) (λ x. Survives (state S.Store conn) (state S.Store x.1) (λ trees. HasCleanDisk (state S.Store x.1) → (e : TheEdition) → IsOlderFile e (state S.Store conn) → IsCarriedOver e (state S.Store conn) trees)) }
 {
     match upgrade_bank(alloc, &mut conn) {
         Ok(()) => Ok(SqlStore::over(conn)),

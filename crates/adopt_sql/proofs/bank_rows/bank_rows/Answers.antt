@@ -15,4 +15,5 @@ returns-clause-found c can =
       lines_in_order = can.lines;
       proofs_in_order = can.proofs;
       releases_in_order = can.releases;
+      slips_in_order = can.slips;
     })

@@ -1,16 +1,27 @@
 -- What search finds for itself, asked for here so that a mistake is refused soon.
-use Rattle.std.proofs.Common.{◌≢◌, ℕ, IsErrAnd, rules}
+use Rattle.std.proofs.Common.{◌≡◌, ◌≢◌, ℕ, IsErrAnd, IsTrue, rules, subst, sym}
 use Rattle.sqlite.specs.Held.{state}
-use Rattle.sqlite.specs.State.{HasCleanDisk}
+use Rattle.sqlite.specs.State.{HasCleanDisk, KeepsCommit}
 use Rattle.bank_schema.specs.Cells.{edition_number}
 use Rattle.bank_schema.specs.declared.edition.Edition.{Edition}
 use Rattle.whole_tables.specs.Whole.{HasBankTables}
-use Rattle.adopt_sql.specs.Adopted.{IsBankFileIn, IsBankRow}
+use Rattle.adopt_sql.specs.Adopted.{IsBankFileIn, IsBankRow, IsLeft}
 use Rattle.adopt_sql.specs.Refused.{IsOfOther}
+use Rattle.adopt_sql.proofs.LeftLemmas.{left_by}
 use Rattle.adopt_sql.proofs.reading.read_file.Goals as goal
 
 pub returns-clause-left : goal.returns-clause-left
-returns-clause-left g c = search rules
+returns-clause-left g c clean file =
+    let begun = state g.S.Store c.transaction-tx.result.conn.now in
+    let read = state g.S.Store c.rows_inside-rows.new.tx.conn.now in
+    let has : HasBankTables c.args.edition begun = search rules in
+    let was_clean : HasCleanDisk read = search rules in
+    let keeps : KeepsCommit begun read = (c.rows_inside-rows.ensures.whole was_clean has).1 in
+    let was_open : IsTrue begun.is_open → IsTrue (state g.S.Store c.args.conn.now).is_open = search rules in
+    let committed : begun.committed ≡ (state g.S.Store c.args.conn.now).committed = search rules in
+    let end : state g.S.Store c.conn-1.given.0 ≡ state g.S.Store c.rollback.new.self.0 = search rules in
+    subst (IsLeft (state g.S.Store c.args.conn.now)) (sym end)
+    (left_by (state g.S.Store c.args.conn.now) begun read _ was_open committed keeps (c.rollback.ensures.undone (subst HasCleanDisk end clean)) file.settled)
 
 pub returns-clause-other : goal.returns-clause-other
 returns-clause-other g c clean other = told other.is other.file other.version other.row other.differs

@@ -25,8 +25,8 @@ returns-in_err-policy-clause-whole g c =
     let s2 = state g.S.Store c.book_rows.new.tx.conn.now in
     let s3 = state g.S.Store c.policy_tables.new.tx.conn.now in
     gave_last c.args.edition s0 s3 (AreFileRows c.args.edition) c.from_residual-in_err-policy.result c.from_residual-in_err-policy.ensures.0
-    (gave_then c.args.edition s0 s2 s3 (λ db. IsBankRow c.args.edition db c.in_ok-version.version × AreBookRows db c.in_ok-books.books) c.policy_tables.ensures.survives
-    (done_then c.args.edition s0 s1 s2 (λ db. IsBankRow c.args.edition db c.in_ok-version.version) (λ db. AreBookRows db c.in_ok-books.books) c.book_rows.ensures.survives c.in_ok-version.ensures.whole c.in_ok-books.ensures.whole)
+    (gave_then c.args.edition s0 s2 s3 (λ db. IsBankRow c.args.edition db c.in_ok-version.version × AreBookRows c.args.edition db c.in_ok-books.books) c.policy_tables.ensures.survives
+    (done_then c.args.edition s0 s1 s2 (λ db. IsBankRow c.args.edition db c.in_ok-version.version) (λ db. AreBookRows c.args.edition db c.in_ok-books.books) c.book_rows.ensures.survives c.in_ok-version.ensures.whole c.in_ok-books.ensures.whole)
     (λ clean has. (c.in_err-policy.ensures.whole clean has).1))
 
 pub returns-clause-whole : goal.returns-clause-whole
@@ -35,10 +35,10 @@ returns-clause-whole g c =
     let s1 = state g.S.Store c.bank_version.new.tx.conn.now in
     let s2 = state g.S.Store c.book_rows.new.tx.conn.now in
     let s3 = state g.S.Store c.policy_tables.new.tx.conn.now in
-    last_then c.args.edition s0 s2 s3 (λ db. IsBankRow c.args.edition db c.in_ok-version.version × AreBookRows db c.in_ok-books.books) (λ db. IfSome c.in_ok-policy.policy (ArePolicyTables c.args.edition db))
+    last_then c.args.edition s0 s2 s3 (λ db. IsBankRow c.args.edition db c.in_ok-version.version × AreBookRows c.args.edition db c.in_ok-books.books) (λ db. IfSome c.in_ok-policy.policy (ArePolicyTables c.args.edition db))
     (λ db. AreFileRows c.args.edition db (record { version = c.in_ok-version.version; books = c.in_ok-books.books; policy = c.in_ok-policy.policy }))
     (λ db p q. record { version = p.0; books = p.1; typed = c.in_ok-books.ensures.typed; policy = q; policy_typed = c.in_ok-policy.ensures.typed }) c.policy_tables.ensures.survives
-    (done_then c.args.edition s0 s1 s2 (λ db. IsBankRow c.args.edition db c.in_ok-version.version) (λ db. AreBookRows db c.in_ok-books.books) c.book_rows.ensures.survives c.in_ok-version.ensures.whole c.in_ok-books.ensures.whole)
+    (done_then c.args.edition s0 s1 s2 (λ db. IsBankRow c.args.edition db c.in_ok-version.version) (λ db. AreBookRows c.args.edition db c.in_ok-books.books) c.book_rows.ensures.survives c.in_ok-version.ensures.whole c.in_ok-books.ensures.whole)
     c.in_ok-policy.ensures.whole
 
 pub returns-in_err-books-clause-refused : goal.returns-in_err-books-clause-refused
@@ -84,8 +84,8 @@ returns-in_err-policy-clause-takes g c clean has s holds readable =
     let s3 = state g.S.Store c.policy_tables.new.tx.conn.now in
     let fault = c.in_err-policy.field-0.0 in
     handed_both c.from_residual-in_err-policy.result fault (λ rows. IsSome rows.policy) c.from_residual-in_err-policy.ensures.1
-    (readable_then c.args.edition s0 s2 s3 (λ db. IsBankRow c.args.edition db c.in_ok-version.version × AreBookRows db c.in_ok-books.books) (⊤ × IsOfStore fault) c.policy_tables.ensures.survives
-    (done_then c.args.edition s0 s1 s2 (λ db. IsBankRow c.args.edition db c.in_ok-version.version) (λ db. AreBookRows db c.in_ok-books.books) c.book_rows.ensures.survives c.in_ok-version.ensures.whole c.in_ok-books.ensures.whole)
+    (readable_then c.args.edition s0 s2 s3 (λ db. IsBankRow c.args.edition db c.in_ok-version.version × AreBookRows c.args.edition db c.in_ok-books.books) (⊤ × IsOfStore fault) c.policy_tables.ensures.survives
+    (done_then c.args.edition s0 s1 s2 (λ db. IsBankRow c.args.edition db c.in_ok-version.version) (λ db. AreBookRows c.args.edition db c.in_ok-books.books) c.book_rows.ensures.survives c.in_ok-version.ensures.whole c.in_ok-books.ensures.whole)
     c.in_err-policy.ensures.takes clean has s holds readable).1
 
 pub returns-clause-takes : goal.returns-clause-takes
@@ -94,8 +94,8 @@ returns-clause-takes g c clean has s holds readable =
     let s1 = state g.S.Store c.bank_version.new.tx.conn.now in
     let s2 = state g.S.Store c.book_rows.new.tx.conn.now in
     let s3 = state g.S.Store c.policy_tables.new.tx.conn.now in (
-      (readable_then c.args.edition s0 s2 s3 (λ db. IsBankRow c.args.edition db c.in_ok-version.version × AreBookRows db c.in_ok-books.books) (IsSome c.in_ok-policy.policy × ⊤) c.policy_tables.ensures.survives
-          (done_then c.args.edition s0 s1 s2 (λ db. IsBankRow c.args.edition db c.in_ok-version.version) (λ db. AreBookRows db c.in_ok-books.books) c.book_rows.ensures.survives c.in_ok-version.ensures.whole c.in_ok-books.ensures.whole)
+      (readable_then c.args.edition s0 s2 s3 (λ db. IsBankRow c.args.edition db c.in_ok-version.version × AreBookRows c.args.edition db c.in_ok-books.books) (IsSome c.in_ok-policy.policy × ⊤) c.policy_tables.ensures.survives
+          (done_then c.args.edition s0 s1 s2 (λ db. IsBankRow c.args.edition db c.in_ok-version.version) (λ db. AreBookRows c.args.edition db c.in_ok-books.books) c.book_rows.ensures.survives c.in_ok-version.ensures.whole c.in_ok-books.ensures.whole)
           c.in_ok-policy.ensures.takes clean has s holds readable).0,
       tt,
     )

@@ -4,6 +4,7 @@ pub returns-in-Ok : goal.returns-in-Ok
 returns-in-Ok g c = record {
   adopts = c.in-Ok.ensures.adopts;
   unchanged = c.in-Ok.ensures.left;
+  other = c.in-Ok.ensures.other;
   survives = c.in-Ok.ensures.survives;
   begins = record { works = c.in-Ok.ensures.works.0; no_fault = c.in-Ok.ensures.works.1; no_failure = c.in-Ok.ensures.works.2 };
 }
@@ -15,6 +16,7 @@ returns-in-Err g c = record {
   refused = c.in-Err.ensures.refused;
   sound = c.in-Err.ensures.sound;
   named = c.in-Err.ensures.named;
+  other = c.in-Err.ensures.other;
   unchanged = c.in-Err.ensures.unchanged;
   idle = c.in-Err.ensures.mode;
   survives = c.in-Err.ensures.survives;
