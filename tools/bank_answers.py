@@ -17,15 +17,18 @@ from bank_model import (
     MOST_RELATIONS,
     MOST_RELEASES,
     MOST_SETS,
+    MOST_SLIPS,
     MOST_TRIPLES,
     OF_OFFICERS,
     OPERATIONS,
     PHRASES,
     RULES,
+    TAKES_SLIP,
     Entry,
     KINDS,
     Line,
     Release,
+    Slip,
     Triple,
     accounts_of,
     is_command,
@@ -209,8 +212,15 @@ def commanded(bank, request):
     return {"done": command}
 
 
+def with_slip(bank, told, request):
+    """Keeps what was told to a request that bears a slip."""
+    if request.slip and request.kind in TAKES_SLIP:
+        bank.slips = {**bank.slips, (request.user, request.slip): Slip(request.kind, request.body, told)}
+    return bank, told
+
+
 def after(bank, request):
-    """The bank behind a request that no rule denies, and the members of the reply, or its text."""
+    """The bank behind a request that no rule denies, but for its slip, and the members of the reply, or its text."""
     bank, user = copy.copy(bank), request.user
     if request.kind == "session":
         bank.sessions, bank.open = {**bank.sessions, user: bank.sessions[user] + 1}, bank.open | {user}
@@ -314,9 +324,17 @@ def has_held_drawer(bank, request):
     return request.kind == "close-day" and any(bank.holder(it) and bank.branch_of(it) == branch for it in bank.tellers)
 
 
+def has_no_room_for_slip(bank, request):
+    """Whether the request bears a slip that would be a new one of a user who can have no more."""
+    is_new = request.slip and request.kind in TAKES_SLIP and not bank.slip_of(request)
+    return bool(is_new) and sum(user == request.user for user, _ in bank.slips) >= MOST_SLIPS
+
+
 def is_full(bank, request):
     if request.kind == "session":
         return bank.sessions[request.user] == MOST_KEY
+    if has_no_room_for_slip(bank, request):
+        return True
     if request.kind == "release":
         return releases_of(bank, request.body["beneficiary"]) == MOST_RELEASES
     if request.kind == "new-account":
@@ -425,11 +443,34 @@ def first_rule(bank, request):
         return None if request.user in bank.officers else 17
     if request.kind in COMMANDS:
         return rule_of_command(bank, request)
+    if bank.slip_of(request) and not kept_reply(bank, request):
+        return 22
     denied = rule_of_policy(bank, request)
     return denied or next((number for number, denies in RULES_OF_BOOKS.items() if denies(bank, request)), None)
 
 
 # ---- replies
+
+
+def kept_reply(bank, request):
+    """What was told when the user's slip was taken, where that was for the same operation, or none."""
+    slip = bank.slip_of(request)
+    return slip.told if slip and (slip.kind, slip.body) == (request.kind, request.body) else None
+
+
+def repeated(bank, request):
+    """What is told once more to a user who is known and asks for the same with the same slip, or none."""
+    return kept_reply(bank, request) if bank.is_known(request.user, request.session) else None
+
+
+def is_repeat(bank, request):
+    """Whether a request is stated, and answered as it was before."""
+    return is_stated(request) and bool(repeated(bank, request))
+
+
+def is_allowed(bank, request):
+    """Whether a request is stated, and carried out or answered as it was."""
+    return is_stated(request) and bool(repeated(bank, request) or not first_rule(bank, request))
 
 
 def is_stated(request):
@@ -443,12 +484,14 @@ def answer(bank, request):
     """The bank behind a request, the status and the bytes of the reply."""
     if not is_stated(request):
         status, told = 422, {"fault": "M6"}
+    elif repeated(bank, request):
+        status, told = 200, repeated(bank, request)
     else:
         denied = first_rule(bank, request)
         if denied:
             status, told = 403 if denied in FORBIDDEN else 409, {"name": RULES[denied - 1], "rule": denied}
         else:
-            status, (bank, told) = 200, after(bank, request)
+            status, (bank, told) = 200, with_slip(*after(bank, request), request)
     kind, text = ("text/plain", told) if isinstance(told, str) else ("application/json", json_text(told))
     head = f"HTTP/1.1 {status} {PHRASES[status]}\r\nContent-Type: {kind}\r\nContent-Length: {len(text)}\r\n\r\n"
     return bank, status, (head + text).encode()

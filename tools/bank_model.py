@@ -18,7 +18,7 @@ PROCEDURES = (
 ).split()
 RULES = (
     "identity, not certified, no triple, limit, release, unknown, branch, drawer, second person, entry, floor, cash, range, "
-    "taken, day, full, officer, certifier, separation, policy unknown, policy state"
+    "taken, day, full, officer, certifier, separation, policy unknown, policy state, slip"
 ).split(", ")
 # Rules of who may do what; the others are conflicts with what is there.
 FORBIDDEN = {1, 2, 3, 4, 5, 8, 9, 17, 18, 19}
@@ -28,7 +28,7 @@ MOST_KEY = 999_999_999
 MOST_CENTS = 999_999_999_999
 MOST_DAY = 999_999
 MOST_MOMENT = 99_999_999_999
-MOST_ACCOUNTS = MOST_RELEASES = 100_000
+MOST_ACCOUNTS = MOST_RELEASES = MOST_SLIPS = 100_000
 MOST_SETS = 9_999
 MOST_RELATIONS = MOST_TRIPLES = 1_000
 
@@ -60,6 +60,8 @@ OPERATIONS = {
 # The members that may not be equal.
 APART = {"transfer": ("source", "target"), "move-cash": ("source", "target"), "correct": ("account", "other")}
 RELEASABLE = {"post", "transfer", "correct", "drawer-on", "move-cash"}
+# The operations that write, for which alone a slip is read.
+TAKES_SLIP = {"post", "transfer", "correct", "drawer-on", "drawer-off", "move-cash", "new-account", "release", "close-day"}
 
 # The members of each command of the policy; the range of a number, or what else the member is.
 COMMANDS = {
@@ -117,6 +119,14 @@ class Release(NamedTuple):
     giver: int
     day: int
     operation: dict
+
+
+class Slip(NamedTuple):
+    """What a user's slip was taken for, and the members of the reply."""
+
+    kind: str
+    body: dict
+    told: dict
 
 
 # ---- bodies
@@ -249,6 +259,8 @@ class Bank:
         # by user and number
         self.releases = {}
         self.used = set()
+        # by user and number, too
+        self.slips = {}
         # the account's home, opening and floor; the teller's branch and opening; the branch's opening and cash
         self.accounts = {101: (1, 50_000, 0), 102: (1, 0, 0), 201: (2, 30_000, 0)}
         self.tellers = {11: (1, 60_000), 12: (1, 0), 21: (2, 20_000)}
@@ -337,6 +349,10 @@ class Bank:
         """Whether the user is a certifier of the procedure, or made one of its relations."""
         made = any(what == procedure and by == user for (what, _), by in self.relations.items())
         return made or (user, procedure) in self.certifiers
+
+    def slip_of(self, request):
+        """What the slip that a request bears was taken for, or none where it bears none or the user has it not."""
+        return self.slips.get((request.user, request.slip)) if request.kind in TAKES_SLIP else None
 
     def counts(self, request):
         """Whether the release that is named gives leave for the operation."""

@@ -1,18 +1,18 @@
 """Pairs of banks that are the same as far as the requests of one user touch them, and differ in all else.
 
 A pair is made of opening lists and of requests by others. The user's triples reach branch 1 with its two tellers and a few
-accounts; these, his row, the relations of the procedures that he asks for and the releases that he was given are the same in
-both banks, and so are his triples with their moments and those of who gave the releases. Other branches, tellers, accounts,
-sets and users are there in one bank alone or with other numbers, and other users' triples, sessions, histories, cash, days and
-releases come to be others.
+accounts; these, his row, the relations of the procedures that he asks for, the releases that he was given and the slips that he
+has are the same in both banks, and so are his triples with their moments and those of who gave the releases. Other branches,
+tellers, accounts, sets and users are there in one bank alone or with other numbers, and other users' triples, sessions,
+histories, cash, days, releases and slips come to be others.
 """
 import csv
 import os
 from typing import NamedTuple
 
-from bank_answers import answer, first_rule, is_stated
+from bank_answers import answer, is_allowed
 from bank_model import MOMENT, MOST_MOMENT, NAMES, PROCEDURES, Bank, Triple, touched
-from bank_requests import DRAWN, Request, spoiled
+from bank_requests import DRAWN, Request, again, any_slip, spoiled
 
 # One set that holds everything, those of the user's triples, and one that holds nothing of these.
 ALL, COUNTER, ONE, OTHER, LISTED, NEW_ACCOUNTS, ELSEWHERE = 1, 2, 3, 4, 5, 6, 9
@@ -50,8 +50,8 @@ OFFICER, CERTIFIER, SUPERVISOR = 1, 2, 9
 BENEFICIARIES = [7, 8]
 STRANGER = 20
 # What is asked for, and how many requests others have made before.
-ASKED_BY_TELLERS = ["session", "end", *OF_TELLERS * 3, *["post", "transfer", "correct", "drawer-on"] * 4, *["use of a release"] * 3, "proof", "new-account"]
-ASKED_BY_SUPERVISOR = ["session", "end", *["new-account", "release", "proof", "close-day", "balance", "accounts"] * 3, "post", "statement"]
+ASKED_BY_TELLERS = ["session", "end", *OF_TELLERS * 3, *["post", "transfer", "correct", "drawer-on"] * 4, *["use of a release", "slip again"] * 3, "proof", "new-account"]
+ASKED_BY_SUPERVISOR = ["session", "end", *["new-account", "release", "proof", "close-day", "balance", "accounts", "slip again"] * 3, "post", "statement"]
 ASKED_BY_OTHERS = ["session", "end", *OF_TELLERS, "new-account", "release", "close-day", "define-set", "grant", "revoke", "enrol", "suspend", "restore"]
 REQUESTS_BEFORE = 60
 # Requests of a kind are drawn until one is allowed, so many of so many kinds. So often the first is sent as it is, and so often
@@ -197,18 +197,19 @@ def by_another(bank, user, rng):
     body = {} if kind in ("session", "end") else DRAWN[kind](bank, who, rng)
     if kind == "new-account":
         body = {**body, "account": rng.randint(400, 499), "branch": rng.choice(list(bank.branches))}
-    return Request(bank, kind, who, body)
+    return Request(bank, kind, who, body, slip=any_slip(bank, who, rng))
 
 
 def made(user, common, rng):
     """A bank of a pair."""
     opening = opened(user, common, rng)
     bank, before = opening, []
-    for who, kind, body, release in common_requests(user, common):
-        bank = asked(bank, before, Request(bank, kind, who, body, release))
+    for number, (who, kind, body, release) in enumerate(common_requests(user, common), 1):
+        slip = number if who == user else 0
+        bank = asked(bank, before, Request(bank, kind, who, body, release, slip=slip))
     for _ in range(rng.randint(REQUESTS_BEFORE // 3, REQUESTS_BEFORE)):
         drawn = (by_another(bank, user, rng) for _ in range(DRAWS))
-        request = next((it for it in drawn if is_stated(it) and is_apart(user, it) and not first_rule(bank, it)), None)
+        request = next((it for it in drawn if is_allowed(bank, it) and is_apart(user, it)), None)
         if request:
             bank = asked(bank, before, request)
     return Made(opening, before, bank)
@@ -236,7 +237,7 @@ def by_user(banks, user, rng, moment):
             request.body = spoiled(request.body, rng)
         return request
     requests = (of_user(rng.choice(banks), kind, user, rng, moment) for kind in kinds for _ in range(DRAWS))
-    allowed = (it for it in requests if is_stated(it) and not first_rule(banks[0], it))
+    allowed = (it for it in requests if is_allowed(banks[0], it))
     return next(allowed, Request(banks[0], "session", user, {}, moment=moment))
 
 
@@ -246,14 +247,16 @@ def of_user(bank, kind, user, rng, moment):
     if kind == "use of a release" and given:
         release, operation = rng.choice(given)
         body = {name: it for name, it in operation.items() if name != "procedure"}
-        return Request(bank, operation["procedure"], user, body, rng.choice([release, release, 7]), moment)
+        return Request(bank, operation["procedure"], user, body, rng.choice([release, release, 7]), moment, any_slip(bank, user, rng))
+    if kind == "slip again":
+        return again(bank, user, rng, moment) or of_user(bank, "balance", user, rng, moment)
     kind = "balance" if kind == "use of a release" else kind
     body = {} if kind in ("session", "end") else DRAWN[kind](bank, user, rng)
     if kind == "new-account" and rng.random() < 0.8:
         body = {"account": rng.randint(*TO_OPEN), "branch": 1, "floor": -rng.randint(0, 1_200)}
     if kind == "release":
         body = {**body, "beneficiary": rng.choice(BENEFICIARIES)}
-    return Request(bank, kind, user, body, moment=moment)
+    return Request(bank, kind, user, body, moment=moment, slip=any_slip(bank, user, rng))
 
 
 # ---- opening lists

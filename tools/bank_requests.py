@@ -1,7 +1,7 @@
 """Requests to the bank of bank_model as a tool draws them: for each kind that has a body, one by what is there."""
 import json
 
-from bank_model import BADGES, COMMANDS, KINDS, MOMENT, MOMENTS, MOST_MOMENT, OPERATIONS, PROCEDURES, RELEASABLE
+from bank_model import BADGES, COMMANDS, KINDS, MOMENT, MOMENTS, MOST_KEY, MOST_MOMENT, OPERATIONS, PROCEDURES, RELEASABLE
 
 
 # The moments near those of a stream at which a triple may begin, and at which it may end.
@@ -9,18 +9,21 @@ BEGINS = sorted({0, *(it + near for it in MOMENTS for near in (-1, 0, 1))})
 ENDS = sorted({*(it + near for it in MOMENTS for near in (-1, 0, 1)), MOST_MOMENT})
 # So often a grant has no moments, one of them alone, or the first above the last.
 WITHOUT, ALONE, ABOVE = 0.4, 0.04, 0.04
+# So often a request bears a slip, whatever it asks for, and so often of these one that its user has, whatever that was taken for.
+BEARING, OLD = 0.5, 0.1
 
 
 class Request:
-    """A request of a kind by a user at a moment, in his session, which may name a release."""
+    """A request of a kind by a user at a moment, in his session, which may name a release and bear a slip."""
 
-    def __init__(self, bank, kind, user, body, release=0, moment=MOMENT):
+    def __init__(self, bank, kind, user, body, release=0, moment=MOMENT, slip=0):
         self.kind = kind
         self.user = user
         self.session = bank.sessions[user]
         self.body = body
         self.release = release
         self.moment = moment
+        self.slip = slip
 
     def target(self):
         """The method and the path that ask for it."""
@@ -39,9 +42,37 @@ class Request:
             f"Bank-Badge: {BADGES[self.user]}",
             f"Bank-Session: {self.session}",
             *([f"Bank-Release: {self.release}"] if self.release else []),
+            *([f"Bank-Slip: {self.slip}"] if self.slip else []),
             f"Content-Length: {len(body)}",
         ]
         return ("\r\n".join(fields) + "\r\n\r\n" + body).encode()
+
+
+def slips_of(bank, user):
+    """The numbers of the slips that a user has."""
+    return [number for who, number in bank.slips if who == user]
+
+
+def any_slip(bank, user, rng):
+    """The number of a slip, most often one that the user has not, or 0 for none."""
+    if rng.random() >= BEARING:
+        return 0
+    own = slips_of(bank, user)
+    if own and rng.random() < OLD:
+        return rng.choice(own)
+    after_last = max((it for it in own if it < MOST_KEY), default=0) + 1
+    return rng.choice([after_last, after_last, after_last, rng.randint(1, MOST_KEY), MOST_KEY])
+
+
+def again(bank, user, rng, moment=MOMENT):
+    """What a user has asked for with a slip once more, or none where he has no slip."""
+    own = slips_of(bank, user)
+    if not own:
+        return None
+    number = rng.choice(own)
+    slip = bank.slips[user, number]
+    release = rng.choice([0, 0, 1])
+    return Request(bank, slip.kind, user, slip.body, release, moment, number)
 
 
 def any_teller(bank, user, rng):

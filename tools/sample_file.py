@@ -56,25 +56,29 @@ def make_sample(program, file):
         raise Wrong("the bank was not opened")
 
 
-def make_first_edition(folder):
-    """Makes the bank in use of the first edition of the tables with which rows of `upgrade` begin, and returns its file."""
+# The banks in use of earlier editions of the tables with which rows of `upgrade` begin.
+EARLIER = ("first_edition_in_use", "second_edition_in_use")
+
+
+def make_earlier(name, folder):
+    """Makes one of these, and returns its file."""
     suite = Suite()
-    row = suite.row("first_edition_in_use")
+    row = suite.row(name)
     for change in (change for it in [*suite.way_to(row), row] for change in it.changes):
         change.make(folder)
     return os.path.join(folder, "bank")
 
 
-# A question to that bank, in a session that is open there, and the reply.
-FIRST_BALANCE = message("tess", "/do/balance", {"account": 101}, session=3)
-FIRST_REPLY = b'HTTP/1.1 200 OK\r\nContent-Type: application/json\r\nContent-Length: 18\r\n\r\n{"balance":110000}'
+# A question to each of them, in a session that is open there, and the reply.
+EARLIER_BALANCE = message("tess", "/do/balance", {"account": 101}, session=3)
+EARLIER_REPLY = b'HTTP/1.1 200 OK\r\nContent-Type: application/json\r\nContent-Length: 18\r\n\r\n{"balance":110000}'
 
 
 def require_carried_over(program, file):
-    """Goes through where a file has the bank of the first edition, in the present one."""
+    """Goes through where a file has the bank of an earlier edition, in the present one."""
     require_sound(program, file)
-    said = ended(program, run_words(file, 700), FIRST_BALANCE)
-    if said != FIRST_REPLY:
+    said = ended(program, run_words(file, 700), EARLIER_BALANCE)
+    if said != EARLIER_REPLY:
         raise Wrong(f"the bank that was carried over answers {said!r}")
 
 

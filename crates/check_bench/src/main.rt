@@ -70,6 +70,7 @@ fn run(rt: &HostRuntime, task: Task) -> Option<u8> {
         branches: task.branches,
         entries: ENTRIES,
         triples: 0,
+        slips: 0,
     };
     let world = made_up_world(rt.alloc(), size).ok()??;
     let kept = Kept::of(rt.alloc(), &world).ok()?;

@@ -1,5 +1,6 @@
 use crate::policy::{USER, made_up_policy};
 use crate::size::Size;
+use crate::slips::add_slips;
 use bank_books::{Account, Branch, CashLine, Entry, EntryForm, LineForm, Lists, Teller, World};
 use money::{Cents, Delta, Fault};
 use std::alloc::Global;
@@ -37,6 +38,7 @@ pub fn made_up_world(alloc: Global, size: Size) -> Result<Option<World>, Fault> 
             return Ok(None);
         }
     }
+    add_slips(alloc, &mut lists, size.slips)?;
     let policy = made_up_policy(alloc, size.triples)?;
     Ok(World::from_lists(lists, policy, 0))
 }

@@ -7,4 +7,6 @@ pub struct Size {
     pub entries: u32,
     /// How many triples its user has for posts, each on a set of its own.
     pub triples: u32,
+    /// How many slips its user has.
+    pub slips: u32,
 }

@@ -1,8 +1,8 @@
 //! Serves standard input to standard output over a bank made up, and tells on standard error how many
 //! messages it answered and how long that took, so that a script can compare stores and sizes: `post_bench
-//! STORE BRANCHES ENTRIES TRIPLES`. STORE is `lists`, `tables`, `cached_tables`, `file` or `cached_file`;
-//! the file is `bank.db` where the program runs. No contract says what it prints: `create` and `serve` have
-//! theirs.
+//! STORE BRANCHES ENTRIES TRIPLES SLIPS`. STORE is `lists`, `tables`, `cached_tables`, `file` or
+//! `cached_file`; the file is `bank.db` where the program runs. No contract says what it prints: `create` and
+//! `serve` have theirs.
 #![tactic(auto)]
 
 mod client;

@@ -9,6 +9,9 @@ const MOST_ENTRIES: u32 = 1_000_000;
 /// How many triples a user may have.
 const MOST_TRIPLES: u32 = 1_000;
 
+/// How many slips a user may have here, so that as many more may be taken as messages are served.
+const MOST_SLIPS: u32 = 90_000;
+
 /// Where the bank is kept.
 #[derive(Clone, Copy, Debug, PartialEq, Eq)]
 pub enum StoreName {
@@ -53,7 +56,7 @@ fn number_up_to(word: &str, most: u32) -> Option<u32> {
 
 /// What the words behind the program's name ask for. None where they are refused.
 pub fn words_of(given: &[&str]) -> Option<Words> {
-    let [store, branches, entries, triples] = given else {
+    let [store, branches, entries, triples, slips] = given else {
         return None;
     };
     Some(Words {
@@ -62,6 +65,7 @@ pub fn words_of(given: &[&str]) -> Option<Words> {
             branches: number_up_to(branches, MOST_BRANCHES)?,
             entries: number_up_to(entries, MOST_ENTRIES)?,
             triples: number_up_to(triples, MOST_TRIPLES)?,
+            slips: number_up_to(slips, MOST_SLIPS)?,
         },
     })
 }

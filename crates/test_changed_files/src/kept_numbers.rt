@@ -1,6 +1,6 @@
 //! Each number that is kept beside a row, wrong once.
 
-use crate::refusals::refused;
+use crate::refusals::{refused, refused_for};
 use adopt_sql::AdoptFault;
 use book_check::BooksFault;
 
@@ -77,6 +77,26 @@ fn numbers_of_an_account_an_entry_and_a_user_are_compared(rt: HostRuntime) {
                 "UPDATE users SET releases = 2 WHERE user_no = 7",
                 AdoptFault::Books(BooksFault::Range),
             ),
+        ],
+    );
+}
+
+/// How many slips each user has: a wrong number, a user without one, and one that is of no user.
+#[test]
+fn numbers_of_slips_are_compared(rt: HostRuntime) {
+    refused_for(
+        &rt,
+        AdoptFault::Books(BooksFault::Range),
+        &[
+            "UPDATE slip_counts SET slips = 1 WHERE user_no = 7",
+            "UPDATE slip_counts SET slips = -1 WHERE user_no = 7",
+            "UPDATE slip_counts SET user_no = 10 WHERE user_no = 9",
+            "DELETE FROM slip_counts WHERE user_no = 7",
+            "DELETE FROM slip_counts WHERE user_no = 9",
+            "DELETE FROM slip_counts",
+            "INSERT INTO users VALUES (10, 'Zoe', 0, 0, 1, 1, 0)",
+            "INSERT INTO slip_counts (user_no, slips) VALUES (10, 0)",
+            "INSERT INTO slips VALUES (7, 5, 1, 101, 11, 1, 2500, 0, 0, 0, 0, x'7b7d')",
         ],
     );
 }

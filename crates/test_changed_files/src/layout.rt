@@ -24,6 +24,8 @@ fn a_bank_has_one_row_of_its_own(rt: HostRuntime) {
             ),
             ("UPDATE bank SET id = 2", AdoptFault::NotABank),
             ("UPDATE bank SET version = 7", AdoptFault::Version),
+            ("UPDATE bank SET version = 4", AdoptFault::Version),
+            ("UPDATE bank SET version = 2", AdoptFault::Version),
             ("UPDATE bank SET version = 1", AdoptFault::Version),
             ("UPDATE bank SET version = 0", AdoptFault::Version),
         ],
@@ -44,6 +46,8 @@ fn a_bank_has_its_tables_of_the_books(rt: HostRuntime) {
             "DROP TABLE lines",
             "DROP TABLE proofs",
             "DROP TABLE releases",
+            "DROP TABLE slips",
+            "DROP TABLE slip_counts",
         ],
     );
 }
@@ -101,6 +105,10 @@ fn a_table_that_is_not_there_is_told_before_any_value(rt: HostRuntime) {
             ),
             (
                 "UPDATE entries SET form = 4; DROP TABLE releases",
+                AdoptFault::NotABank,
+            ),
+            (
+                "UPDATE entries SET form = 4; DROP TABLE slips",
                 AdoptFault::NotABank,
             ),
             (

@@ -1,6 +1,6 @@
 //! Rows of the books that are out of their limits, or name one that is not there.
 
-use crate::refusals::refused_for;
+use crate::refusals::{TAKEN, refused_behind, refused_for};
 use adopt_sql::AdoptFault;
 use book_check::BooksFault;
 
@@ -66,6 +66,30 @@ fn rows_of_users_and_their_releases_have_limits(rt: HostRuntime) {
             "UPDATE releases SET form = 14",
             "UPDATE releases SET member5 = 1",
             "UPDATE releases SET used = 2",
+        ],
+    );
+}
+
+#[test]
+fn rows_of_slips_have_limits(rt: HostRuntime) {
+    refused_behind(
+        &rt,
+        TAKEN,
+        RANGE,
+        &[
+            "UPDATE slips SET slip = 0",
+            "UPDATE slips SET slip = 1000000000",
+            "UPDATE slips SET form = 0",
+            "UPDATE slips SET form = 14",
+            "UPDATE slips SET form = 9, member2 = 0, member3 = 0, member4 = 0",
+            "UPDATE slips SET member1 = 0",
+            "UPDATE slips SET member4 = 1000000",
+            "UPDATE slips SET member5 = 1",
+            "UPDATE slips SET user_no = 8",
+            "UPDATE slips SET user_no = 99; UPDATE slip_counts SET slips = 0",
+            "UPDATE slip_counts SET slips = 0 WHERE user_no = 7",
+            "UPDATE slip_counts SET slips = 2 WHERE user_no = 7",
+            "DELETE FROM slips",
         ],
     );
 }

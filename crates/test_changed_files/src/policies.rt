@@ -61,7 +61,7 @@ fn rows_of_users_and_sets_do_not_dangle(rt: HostRuntime) {
         DANGLING,
         &[
             "UPDATE users SET name = '' WHERE user_no = 9",
-            "INSERT INTO users VALUES (10000, 'Zoe', 0, 0, 1, 1, 0)",
+            "INSERT INTO users VALUES (10000, 'Zoe', 0, 0, 1, 1, 0); INSERT INTO slip_counts VALUES (10000, 0)",
             "INSERT INTO sets VALUES (6)",
             "DELETE FROM sets WHERE set_no = 5",
             "UPDATE members SET kind = 9 WHERE set_no = 1 AND place = 1",
@@ -126,7 +126,7 @@ fn nobody_is_a_user_twice(rt: HostRuntime) {
     refused(
         &rt,
         &[(
-            "CREATE TABLE copies (user_no INTEGER NOT NULL, name TEXT NOT NULL, officer INTEGER NOT NULL, suspended INTEGER NOT NULL, session INTEGER NOT NULL, is_on INTEGER NOT NULL, releases INTEGER NOT NULL) STRICT; INSERT INTO copies SELECT * FROM users; DROP TABLE users; CREATE TABLE users (user_no INTEGER NOT NULL, name TEXT NOT NULL, officer INTEGER NOT NULL, suspended INTEGER NOT NULL, session INTEGER NOT NULL, is_on INTEGER NOT NULL, releases INTEGER NOT NULL) STRICT; INSERT INTO users SELECT * FROM copies; INSERT INTO users SELECT * FROM copies WHERE user_no = 9; DROP TABLE copies",
+            "CREATE TABLE copies (user_no INTEGER NOT NULL, name TEXT NOT NULL, officer INTEGER NOT NULL, suspended INTEGER NOT NULL, session INTEGER NOT NULL, is_on INTEGER NOT NULL, releases INTEGER NOT NULL) STRICT; INSERT INTO copies SELECT * FROM users; DROP TABLE users; CREATE TABLE users (user_no INTEGER NOT NULL, name TEXT NOT NULL, officer INTEGER NOT NULL, suspended INTEGER NOT NULL, session INTEGER NOT NULL, is_on INTEGER NOT NULL, releases INTEGER NOT NULL) STRICT; INSERT INTO users SELECT * FROM copies; INSERT INTO users SELECT * FROM copies WHERE user_no = 9; DROP TABLE copies; CREATE TABLE counts (user_no INTEGER NOT NULL, slips INTEGER NOT NULL) STRICT; INSERT INTO counts SELECT * FROM slip_counts; DROP TABLE slip_counts; CREATE TABLE slip_counts (user_no INTEGER NOT NULL, slips INTEGER NOT NULL) STRICT; INSERT INTO slip_counts SELECT * FROM counts; INSERT INTO slip_counts SELECT * FROM counts WHERE user_no = 9; DROP TABLE counts",
             DANGLING,
         )],
     );

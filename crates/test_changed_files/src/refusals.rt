@@ -7,6 +7,10 @@ use test_disks::{Deed, Held, Outcome, closed_by, done_in, reopened, worked_files
 /// A change of a bank's tables, and why the bank is then refused.
 pub type Refusal = (&'static str, AdoptFault);
 
+/// Tess has a slip 5, which was taken with a post, and of which `{}` was replied. It leaves the worked bank sound.
+pub const TAKEN: &str =
+    "INSERT INTO slips VALUES (7, 5, 1, 101, 11, 1, 2500, 0, 0, 0, 0, x'7b7d'); UPDATE slip_counts SET slips = 1 WHERE user_no = 7";
+
 /// What files hold after a change of their bank's tables.
 pub fn changed(rt: &impl Runtime, bank: &Held, change: &str) -> Held {
     done_in(rt, bank, Deed::Change(change)).1
@@ -45,6 +49,16 @@ pub fn refused(rt: &impl Runtime, refusals: &[Refusal]) {
 /// Asks that the worked bank is refused for this fault after each of these changes.
 pub fn refused_for(rt: &impl Runtime, fault: AdoptFault, changes: &[&str]) {
     let sound = worked_files(rt);
+    for change in changes {
+        is_refused(rt, &sound, change, fault);
+    }
+}
+
+/// The same of the worked bank behind a change that leaves it sound.
+pub fn refused_behind(rt: &impl Runtime, first: &str, fault: AdoptFault, changes: &[&str]) {
+    let worked = worked_files(rt);
+    assert!(rt; judged(rt, &worked, first) == Ok(()));
+    let sound = changed(rt, &worked, first);
     for change in changes {
         is_refused(rt, &sound, change, fault);
     }

@@ -1,10 +1,10 @@
 //! Banks that are adopted, and what they answer then.
 
-use crate::refusals::{changed, judged, untouched};
+use crate::refusals::{TAKEN, changed, judged, untouched};
 use adopt_sql::AdoptFault;
 use money::Fault;
 use test_counter::Runtime;
-use test_disks::{Act, Deed, Held, Outcome, Tale, done_in, tried_in, worked_files};
+use test_disks::{Act, Deed, Exchange, Held, Outcome, Tale, done_in, tried_in, worked_files};
 
 /// What the bank of these files tells, and how it leaves them.
 fn tale(rt: &impl Runtime, held: &Held, deed: Deed<'_>) -> (Tale, Held) {
@@ -52,6 +52,31 @@ fn a_release_may_be_for_an_account_that_is_not_there(rt: HostRuntime) {
     let other = changed(&rt, &files, change);
     let (told, _) = tale(&rt, &other, Deed::Adopt(Act::Tell));
     assert!(rt; told.released == Some(999));
+}
+
+/// Tess sends again what her slip stands for.
+const SENT_AGAIN: [Exchange; 1] = [Exchange {
+    slip: Some(5),
+    asked: (
+        "tess",
+        None,
+        "/do/post",
+        r#"{"account":101,"branch":1,"delta":2500,"teller":11}"#,
+    ),
+    told: ("200 OK", "{}"),
+}];
+
+#[test]
+fn a_slip_that_stands_in_the_table_is_answered(rt: HostRuntime) {
+    let files = changed(&rt, &worked_files(&rt), TAKEN);
+    let (before, _) = tale(&rt, &files, Deed::Adopt(Act::Tell));
+    let (outcome, after) = done_in(&rt, &files, Deed::Adopt(Act::Serve(&SENT_AGAIN)));
+    match outcome {
+        Outcome::Served(count) => assert!(rt; count == 1),
+        _ => panic!(rt; "how many were served"),
+    }
+    let (behind, _) = tale(&rt, &after, Deed::Adopt(Act::Tell));
+    assert!(rt; behind == before);
 }
 
 #[test]

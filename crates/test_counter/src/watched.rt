@@ -1,13 +1,15 @@
 //! A store in lists that tells of each of its calls.
 
-use bank_books::{AccountRecord, BranchRecord, Entry, EntryRecord, Plan, Release, TellerRecord};
+use bank_books::{
+    AccountRecord, BranchRecord, Entry, EntryRecord, Plan, Release, Slip, TellerRecord,
+};
 use bank_policy::{CertifiedRow, HeldRow};
 use bank_terms::Procedure;
 use money::Fault;
 use std::alloc::Global;
 use store_rows::{
-    BookReads, DrawerRecord, ListStore, PolicyKey, PolicyReads, PolicyRow, ReportReads, Stands,
-    Store, UserRecord,
+    BookReads, DrawerRecord, ListStore, PolicyKey, PolicyReads, PolicyRow, ReportReads, SlipReads,
+    Stands, Store, UserRecord,
 };
 
 /// Which rows are read.
@@ -173,6 +175,18 @@ impl<W: Watch> BookReads for Watched<W> {
     fn vault(&mut self, alloc: Global, branch: u32) -> Result<Option<i128>, Fault> {
         self.watch.on_read(Read::Other)?;
         self.store.vault(alloc, branch)
+    }
+}
+
+impl<W: Watch> SlipReads for Watched<W> {
+    fn slip(&mut self, alloc: Global, user: u32, number: u32) -> Result<Option<Slip>, Fault> {
+        self.watch.on_read(Read::Other)?;
+        self.store.slip(alloc, user, number)
+    }
+
+    fn slips(&mut self, alloc: Global, user: u32) -> Result<u64, Fault> {
+        self.watch.on_read(Read::Other)?;
+        self.store.slips(alloc, user)
     }
 }
 

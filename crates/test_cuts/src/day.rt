@@ -7,6 +7,8 @@ use test_counter::{Runtime, reply_bytes};
 struct Exchange {
     badge: &'static str,
     session: u32,
+    /// 0 for none.
+    slip: u32,
     /// The method and the path.
     asks: &'static str,
     body: &'static str,
@@ -19,6 +21,8 @@ struct Exchange {
 enum Reply {
     Json(&'static str),
     Text(&'static str),
+    /// The head alone of what this would be.
+    Head(&'static str),
 }
 
 /// The accounts that Tess may list.
@@ -51,10 +55,11 @@ const STATEMENT: &str = concat!(
 );
 
 /// The messages, in their order.
-const DAY: [Exchange; 31] = [
+const DAY: [Exchange; 37] = [
     Exchange {
         badge: "tess",
         session: 1,
+        slip: 0,
         asks: "POST /do/accounts",
         body: r#"{"after":0,"count":10}"#,
         status: "200 OK",
@@ -63,6 +68,7 @@ const DAY: [Exchange; 31] = [
     Exchange {
         badge: "sue",
         session: 1,
+        slip: 0,
         asks: "POST /do/proof",
         body: r#"{"branch":1}"#,
         status: "200 OK",
@@ -71,6 +77,7 @@ const DAY: [Exchange; 31] = [
     Exchange {
         badge: "tess",
         session: 1,
+        slip: 0,
         asks: "POST /do/post",
         body: r#"{"account":101,"branch":1,"delta":2500,"teller":11}"#,
         status: "200 OK",
@@ -79,6 +86,7 @@ const DAY: [Exchange; 31] = [
     Exchange {
         badge: "tess",
         session: 1,
+        slip: 0,
         asks: "POST /do/statement",
         body: r#"{"account":101,"count":10,"start":1}"#,
         status: "200 OK",
@@ -87,6 +95,7 @@ const DAY: [Exchange; 31] = [
     Exchange {
         badge: "tom",
         session: 1,
+        slip: 0,
         asks: "POST /do/transfer",
         body: r#"{"amount":20000,"branch":1,"source":101,"target":102,"teller":12}"#,
         status: "200 OK",
@@ -95,6 +104,7 @@ const DAY: [Exchange; 31] = [
     Exchange {
         badge: "tess",
         session: 1,
+        slip: 0,
         asks: "POST /do/balance",
         body: r#"{"account":101}"#,
         status: "200 OK",
@@ -103,6 +113,7 @@ const DAY: [Exchange; 31] = [
     Exchange {
         badge: "tess",
         session: 1,
+        slip: 0,
         asks: "POST /do/correct",
         body: r#"{"account":101,"branch":1,"delta":2500,"entry":1,"other":0,"teller":11}"#,
         status: "403 Forbidden",
@@ -111,6 +122,7 @@ const DAY: [Exchange; 31] = [
     Exchange {
         badge: "tess",
         session: 1,
+        slip: 0,
         asks: "POST /do/move-cash",
         body: r#"{"amount":5000,"branch":1,"source":11,"target":12}"#,
         status: "200 OK",
@@ -119,6 +131,7 @@ const DAY: [Exchange; 31] = [
     Exchange {
         badge: "tess",
         session: 1,
+        slip: 0,
         asks: "POST /do/drawer-off",
         body: r#"{"branch":1,"counted":37500,"teller":11}"#,
         status: "200 OK",
@@ -127,6 +140,7 @@ const DAY: [Exchange; 31] = [
     Exchange {
         badge: "tess",
         session: 1,
+        slip: 0,
         asks: "POST /do/drawer-on",
         body: r#"{"branch":1,"cash":30000,"teller":11}"#,
         status: "200 OK",
@@ -135,6 +149,7 @@ const DAY: [Exchange; 31] = [
     Exchange {
         badge: "sue",
         session: 1,
+        slip: 0,
         asks: "POST /do/new-account",
         body: r#"{"account":103,"branch":1,"floor":0}"#,
         status: "200 OK",
@@ -143,6 +158,7 @@ const DAY: [Exchange; 31] = [
     Exchange {
         badge: "sue",
         session: 1,
+        slip: 0,
         asks: "POST /do/release",
         body: r#"{"beneficiary":8,"operation":{"account":101,"branch":1,"delta":60000,"procedure":"post","teller":12}}"#,
         status: "200 OK",
@@ -151,6 +167,7 @@ const DAY: [Exchange; 31] = [
     Exchange {
         badge: "sue",
         session: 1,
+        slip: 0,
         asks: "POST /do/close-day",
         body: r#"{"branch":1}"#,
         status: "409 Conflict",
@@ -159,6 +176,7 @@ const DAY: [Exchange; 31] = [
     Exchange {
         badge: "tom",
         session: 1,
+        slip: 0,
         asks: "POST /do/balance",
         body: r#"{"account":101}"#,
         status: "403 Forbidden",
@@ -167,6 +185,7 @@ const DAY: [Exchange; 31] = [
     Exchange {
         badge: "tom",
         session: 1,
+        slip: 0,
         asks: "POST /do/post",
         body: r#"{"account":101,"branch":1,"delta":60000,"teller":12}"#,
         status: "403 Forbidden",
@@ -175,6 +194,7 @@ const DAY: [Exchange; 31] = [
     Exchange {
         badge: "tess",
         session: 9,
+        slip: 0,
         asks: "POST /do/balance",
         body: r#"{"account":101}"#,
         status: "403 Forbidden",
@@ -183,6 +203,7 @@ const DAY: [Exchange; 31] = [
     Exchange {
         badge: "tess",
         session: 1,
+        slip: 0,
         asks: "GET /policy",
         body: r#""#,
         status: "403 Forbidden",
@@ -191,6 +212,7 @@ const DAY: [Exchange; 31] = [
     Exchange {
         badge: "tess",
         session: 1,
+        slip: 0,
         asks: "POST /do/nothing",
         body: r#"{"account":101}"#,
         status: "404 Not Found",
@@ -199,6 +221,7 @@ const DAY: [Exchange; 31] = [
     Exchange {
         badge: "tess",
         session: 1,
+        slip: 0,
         asks: "POST /do/balance",
         body: r#"{"account":"101"}"#,
         status: "422 Unprocessable Entity",
@@ -207,6 +230,7 @@ const DAY: [Exchange; 31] = [
     Exchange {
         badge: "carl",
         session: 1,
+        slip: 0,
         asks: "POST /policy/define-set",
         body: r#"{"members":[[1,101,101]],"set":6}"#,
         status: "200 OK",
@@ -215,6 +239,7 @@ const DAY: [Exchange; 31] = [
     Exchange {
         badge: "carl",
         session: 1,
+        slip: 0,
         asks: "POST /policy/certify",
         body: r#"{"procedure":"correct","set":6}"#,
         status: "200 OK",
@@ -223,6 +248,7 @@ const DAY: [Exchange; 31] = [
     Exchange {
         badge: "carl",
         session: 1,
+        slip: 0,
         asks: "POST /policy/grant",
         body: r#"{"limit":0,"procedure":"balance","set":2,"user":9}"#,
         status: "200 OK",
@@ -231,6 +257,7 @@ const DAY: [Exchange; 31] = [
     Exchange {
         badge: "carl",
         session: 1,
+        slip: 0,
         asks: "POST /policy/revoke",
         body: r#"{"procedure":"balance","set":2,"user":9}"#,
         status: "200 OK",
@@ -239,6 +266,25 @@ const DAY: [Exchange; 31] = [
     Exchange {
         badge: "carl",
         session: 1,
+        slip: 0,
+        asks: "POST /policy/grant",
+        body: r#"{"first":0,"last":699,"limit":0,"procedure":"balance","set":2,"user":9}"#,
+        status: "200 OK",
+        reply: Reply::Json(r#"{"done":"grant"}"#),
+    },
+    Exchange {
+        badge: "carl",
+        session: 1,
+        slip: 0,
+        asks: "POST /policy/revoke",
+        body: r#"{"procedure":"balance","set":2,"user":9}"#,
+        status: "200 OK",
+        reply: Reply::Json(r#"{"done":"revoke"}"#),
+    },
+    Exchange {
+        badge: "carl",
+        session: 1,
+        slip: 0,
         asks: "POST /policy/withdraw",
         body: r#"{"procedure":"correct","set":6}"#,
         status: "200 OK",
@@ -247,6 +293,7 @@ const DAY: [Exchange; 31] = [
     Exchange {
         badge: "olga",
         session: 1,
+        slip: 0,
         asks: "POST /policy/enrol",
         body: r#"{"name":"Ann","officer":false,"user":10}"#,
         status: "200 OK",
@@ -255,6 +302,7 @@ const DAY: [Exchange; 31] = [
     Exchange {
         badge: "olga",
         session: 1,
+        slip: 0,
         asks: "POST /policy/appoint",
         body: r#"{"procedure":"balance","user":10}"#,
         status: "200 OK",
@@ -263,6 +311,7 @@ const DAY: [Exchange; 31] = [
     Exchange {
         badge: "olga",
         session: 1,
+        slip: 0,
         asks: "POST /policy/dismiss",
         body: r#"{"procedure":"balance","user":10}"#,
         status: "200 OK",
@@ -271,6 +320,7 @@ const DAY: [Exchange; 31] = [
     Exchange {
         badge: "olga",
         session: 1,
+        slip: 0,
         asks: "POST /policy/suspend",
         body: r#"{"user":10}"#,
         status: "200 OK",
@@ -279,14 +329,52 @@ const DAY: [Exchange; 31] = [
     Exchange {
         badge: "olga",
         session: 1,
+        slip: 0,
         asks: "POST /policy/restore",
         body: r#"{"user":10}"#,
         status: "200 OK",
         reply: Reply::Json(r#"{"done":"restore"}"#),
     },
     Exchange {
+        badge: "tess",
+        session: 1,
+        slip: 5,
+        asks: "POST /do/post",
+        body: r#"{"account":101,"branch":1,"delta":2500,"teller":11}"#,
+        status: "200 OK",
+        reply: Reply::Json(r#"{"balance":35000,"branch":1,"entry":4}"#),
+    },
+    Exchange {
+        badge: "tess",
+        session: 1,
+        slip: 5,
+        asks: "POST /do/post",
+        body: r#"{"account":101,"branch":1,"delta":2500,"teller":11}"#,
+        status: "200 OK",
+        reply: Reply::Json(r#"{"balance":35000,"branch":1,"entry":4}"#),
+    },
+    Exchange {
+        badge: "tess",
+        session: 1,
+        slip: 5,
+        asks: "POST /do/post",
+        body: r#"{"account":101,"branch":1,"delta":2501,"teller":11}"#,
+        status: "409 Conflict",
+        reply: Reply::Json(r#"{"name":"slip","rule":22}"#),
+    },
+    Exchange {
+        badge: "tess",
+        session: 1,
+        slip: 0,
+        asks: "HEAD /do/post",
+        body: r#"{"account":101,"branch":1,"delta":2500,"teller":11}"#,
+        status: "404 Not Found",
+        reply: Reply::Head(r#"{"fault":"M5"}"#),
+    },
+    Exchange {
         badge: "sue",
         session: 1,
+        slip: 0,
         asks: "POST /end",
         body: r#""#,
         status: "200 OK",
@@ -295,6 +383,7 @@ const DAY: [Exchange; 31] = [
     Exchange {
         badge: "sue",
         session: 1,
+        slip: 0,
         asks: "POST /session",
         body: r#""#,
         status: "200 OK",
@@ -321,15 +410,22 @@ impl Exchange {
         let Exchange {
             badge,
             session,
+            slip,
             asks,
             body,
             status: _,
             reply: _,
         } = *self;
         let length = body.len();
-        let message = format!(in rt.alloc();
-            "{asks} HTTP/1.1\r\nHost: bank\r\nBank-Badge: {badge}\r\nBank-Session: {session}\r\nContent-Length: {length}\r\n\r\n{body}"
-        );
+        let message = if slip == 0 {
+            format!(in rt.alloc();
+                "{asks} HTTP/1.1\r\nHost: bank\r\nBank-Badge: {badge}\r\nBank-Session: {session}\r\nContent-Length: {length}\r\n\r\n{body}"
+            )
+        } else {
+            format!(in rt.alloc();
+                "{asks} HTTP/1.1\r\nHost: bank\r\nBank-Badge: {badge}\r\nBank-Session: {session}\r\nBank-Slip: {slip}\r\nContent-Length: {length}\r\n\r\n{body}"
+            )
+        };
         message.expect(rt, "memory").into_bytes()
     }
 
@@ -338,6 +434,11 @@ impl Exchange {
         match self.reply {
             Reply::Json(body) => reply_bytes(rt, self.status, "application/json", body),
             Reply::Text(body) => reply_bytes(rt, self.status, "text/plain", body),
+            Reply::Head(body) => {
+                let mut reply = reply_bytes(rt, self.status, "application/json", body);
+                reply.truncate(reply.len().saturating_sub(body.len()));
+                reply
+            }
         }
     }
 }

@@ -43,6 +43,7 @@ fn suspend_tess<S: Store>(rt: &impl Runtime, bank: &mut Bank<S>) -> Result<bool,
         user: Some(1),
         session: 1,
         release: 0,
+        slip: 0,
     };
     let answer = decide_policy(
         bank,

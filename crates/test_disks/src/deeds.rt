@@ -28,7 +28,7 @@ pub enum Deed<'a> {
     Change(&'a str),
     /// A bank is looked for.
     Find,
-    /// The bank, which is of the first edition, is carried over.
+    /// The bank, which is of an older edition, is carried over.
     Upgrade,
     /// A store takes the bank unseen.
     Open(Act<'a>),

@@ -7,7 +7,7 @@
 mod bank;
 mod deeds;
 mod disks;
-mod first_edition;
+mod older_editions;
 mod report_replies;
 mod streams;
 mod tellings;
@@ -19,10 +19,11 @@ pub use disks::{
     Failers, Failing, Frail, Held, Left, closed_by, failing_files, left_by, let_go, nothing,
     open_forgetful, open_frail, reopened, seen,
 };
-pub use first_edition::first_files;
+pub use older_editions::{first_files, second_files};
 pub use report_replies::{Asked, Ending};
 pub use streams::{
-    CLOSING, COMMANDS, ENDING, Exchange, OPENING, POST, RELEASED, TRANSFER, is_reply, reply, run,
+    CLOSING, COMMANDS, ENDING, Exchange, OPENING, POST, RELEASED, SLIPPED, TRANSFER, is_reply,
+    reply, run,
 };
 pub use tellings::{Tale, told};
 pub use whole_disks::{done_in, tried_in, worked_files};

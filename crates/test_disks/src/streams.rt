@@ -9,6 +9,8 @@ pub type Told = (&'static str, &'static str);
 /// What is asked for, in session 1, and the reply to it.
 #[derive(Clone, Copy, Debug)]
 pub struct Exchange {
+    /// The slip that it bears.
+    pub slip: Option<u32>,
     /// The badge of who asks, the release that he names, the path, and the body.
     pub asked: (&'static str, Option<u32>, &'static str, &'static str),
     /// The reply.
@@ -17,6 +19,7 @@ pub struct Exchange {
 
 /// Tess posts 25.00 to account 101.
 const POSTED: Exchange = Exchange {
+    slip: None,
     asked: (
         "tess",
         None,
@@ -30,6 +33,7 @@ const POSTED: Exchange = Exchange {
 pub const POST: [Exchange; 2] = [
     POSTED,
     Exchange {
+        slip: None,
         asked: ("tess", None, "/do/balance", r#"{"account":101}"#),
         told: ("200 OK", r#"{"balance":52500}"#),
     },
@@ -39,6 +43,7 @@ pub const POST: [Exchange; 2] = [
 pub const WORKED: [Exchange; 2] = [
     POSTED,
     Exchange {
+        slip: None,
         asked: (
             "sue",
             None,
@@ -51,6 +56,7 @@ pub const WORKED: [Exchange; 2] = [
 
 /// A transfer by Tom.
 pub const TRANSFER: [Exchange; 1] = [Exchange {
+    slip: None,
     asked: (
         "tom",
         None,
@@ -69,10 +75,12 @@ const ABOVE: &str = r#"{"account":101,"branch":1,"delta":60000,"teller":12}"#;
 /// That post, the release that Sue gives him for it, the post again, and once more.
 pub const RELEASED: [Exchange; 4] = [
     Exchange {
+        slip: None,
         asked: ("tom", None, "/do/post", ABOVE),
         told: ("403 Forbidden", r#"{"name":"limit","rule":4}"#),
     },
     Exchange {
+        slip: None,
         asked: (
             "sue",
             None,
@@ -82,18 +90,68 @@ pub const RELEASED: [Exchange; 4] = [
         told: ("200 OK", r#"{"beneficiary":8,"release":1}"#),
     },
     Exchange {
+        slip: None,
         asked: ("tom", Some(1), "/do/post", ABOVE),
         told: ("200 OK", r#"{"balance":110000,"branch":1,"entry":1}"#),
     },
     Exchange {
+        slip: None,
         asked: ("tom", Some(1), "/do/post", ABOVE),
         told: ("403 Forbidden", r#"{"name":"release","rule":5}"#),
+    },
+];
+
+/// A post, a transfer, a release and the post that uses it up, and a drawer that is put off, each with a slip of who asks. Slips
+/// of several users have one number.
+pub const SLIPPED: [Exchange; 5] = [
+    Exchange {
+        slip: Some(1),
+        ..POSTED
+    },
+    Exchange {
+        slip: Some(1),
+        asked: (
+            "tom",
+            None,
+            "/do/transfer",
+            r#"{"amount":20000,"branch":1,"source":101,"target":102,"teller":12}"#,
+        ),
+        told: (
+            "200 OK",
+            r#"{"branch":1,"first":2,"second":3,"source":32500,"target":20000}"#,
+        ),
+    },
+    Exchange {
+        slip: Some(1),
+        asked: (
+            "sue",
+            None,
+            "/do/release",
+            r#"{"beneficiary":8,"operation":{"account":101,"branch":1,"delta":60000,"procedure":"post","teller":12}}"#,
+        ),
+        told: ("200 OK", r#"{"beneficiary":8,"release":1}"#),
+    },
+    Exchange {
+        slip: Some(2),
+        asked: ("tom", Some(1), "/do/post", ABOVE),
+        told: ("200 OK", r#"{"balance":92500,"branch":1,"entry":4}"#),
+    },
+    Exchange {
+        slip: Some(2),
+        asked: (
+            "tess",
+            None,
+            "/do/drawer-off",
+            r#"{"branch":1,"counted":42500,"teller":11}"#,
+        ),
+        told: ("200 OK", r#"{"difference":0,"teller":11,"vault":97500}"#),
     },
 ];
 
 /// A drawer is put off, the day can not be closed, the other drawer is put off, the day is closed.
 pub const CLOSING: [Exchange; 4] = [
     Exchange {
+        slip: None,
         asked: (
             "tom",
             None,
@@ -103,10 +161,12 @@ pub const CLOSING: [Exchange; 4] = [
         told: ("200 OK", r#"{"difference":-100,"teller":12,"vault":59900}"#),
     },
     Exchange {
+        slip: None,
         asked: ("sue", None, "/do/close-day", r#"{"branch":1}"#),
         told: ("409 Conflict", r#"{"name":"day","rule":15}"#),
     },
     Exchange {
+        slip: None,
         asked: (
             "tess",
             None,
@@ -116,6 +176,7 @@ pub const CLOSING: [Exchange; 4] = [
         told: ("200 OK", r#"{"difference":0,"teller":11,"vault":99900}"#),
     },
     Exchange {
+        slip: None,
         asked: ("sue", None, "/do/close-day", r#"{"branch":1}"#),
         told: (
             "200 OK",
@@ -130,14 +191,17 @@ const UNKNOWN: Told = ("403 Forbidden", r#"{"name":"identity","rule":1}"#);
 /// Olga suspends Tess, who may then ask for nothing, and restores her.
 pub const COMMANDS: [Exchange; 3] = [
     Exchange {
+        slip: None,
         asked: ("olga", None, "/policy/suspend", r#"{"user":7}"#),
         told: ("200 OK", r#"{"done":"suspend"}"#),
     },
     Exchange {
+        slip: None,
         asked: ("tess", None, "/do/balance", r#"{"account":101}"#),
         told: UNKNOWN,
     },
     Exchange {
+        slip: None,
         asked: ("olga", None, "/policy/restore", r#"{"user":7}"#),
         told: ("200 OK", r#"{"done":"restore"}"#),
     },
@@ -146,10 +210,12 @@ pub const COMMANDS: [Exchange; 3] = [
 /// Tess opens her next session, and asks in the one before it.
 pub const OPENING: [Exchange; 2] = [
     Exchange {
+        slip: None,
         asked: ("tess", None, "/session", ""),
         told: ("200 OK", r#"{"session":2}"#),
     },
     Exchange {
+        slip: None,
         asked: ("tess", None, "/do/balance", r#"{"account":101}"#),
         told: UNKNOWN,
     },
@@ -158,10 +224,12 @@ pub const OPENING: [Exchange; 2] = [
 /// Tess ends her session, and asks in it.
 pub const ENDING: [Exchange; 2] = [
     Exchange {
+        slip: None,
         asked: ("tess", None, "/end", ""),
         told: ("200 OK", r#"{"ended":1}"#),
     },
     Exchange {
+        slip: None,
         asked: ("tess", None, "/do/balance", r#"{"account":101}"#),
         told: UNKNOWN,
     },
@@ -173,16 +241,22 @@ pub const FAILED: Told = ("503 Service Unavailable", r#"{"fault":"F3"}"#);
 /// The reply to each later request.
 pub const STOPPED: Told = ("503 Service Unavailable", r#"{"fault":"F4"}"#);
 
+/// The field of a number with its line end, or nothing where there is none.
+fn field(rt: &impl Runtime, name: &str, number: Option<u32>) -> String {
+    match number {
+        Some(number) => format!(in rt.alloc(); "{name}: {number}\r\n").expect(rt, "memory"),
+        None => String::new(rt.alloc()),
+    }
+}
+
 /// The bytes of a request.
 fn request_of(rt: &impl Runtime, exchange: &Exchange) -> String {
     let (badge, release, path, body) = exchange.asked;
-    let named = match release {
-        Some(number) => format!(in rt.alloc(); "Bank-Release: {number}\r\n").expect(rt, "memory"),
-        None => String::new(rt.alloc()),
-    };
+    let named = field(rt, "Bank-Release", release);
+    let slip = field(rt, "Bank-Slip", exchange.slip);
     let length = body.len();
     let request = format!(in rt.alloc();
-        "POST {path} HTTP/1.1\r\nHost: bank\r\nBank-Badge: {badge}\r\nBank-Session: 1\r\n{named}Content-Length: {length}\r\n\r\n{body}"
+        "POST {path} HTTP/1.1\r\nHost: bank\r\nBank-Badge: {badge}\r\nBank-Session: 1\r\n{named}{slip}Content-Length: {length}\r\n\r\n{body}"
     );
     request.expect(rt, "memory")
 }

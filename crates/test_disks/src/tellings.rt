@@ -8,7 +8,7 @@ use test_counter::Runtime;
 /// What a bank tells.
 #[derive(PartialEq, Eq, Drop)]
 pub struct Tale {
-    /// Of its books and of its policy.
+    /// Of its books, of its policy and of its slips.
     text: String,
     /// What account 101 holds, in cents.
     pub balance: Option<i128>,
@@ -61,6 +61,16 @@ fn tell_policy<S: Store>(rt: &impl Runtime, bank: &mut S, text: &mut String) {
     tell(rt, text, bank.shown(rt.alloc(), 7, 0, 9, 700));
 }
 
+/// Tells how many slips Tess, Tom and Sue have, and the first of them.
+fn tell_slips<S: Store>(rt: &impl Runtime, bank: &mut S, text: &mut String) {
+    for user in [7, 8, 9] {
+        tell(rt, text, bank.slips(rt.alloc(), user));
+        for number in [1, 2] {
+            tell(rt, text, bank.slip(rt.alloc(), user, number));
+        }
+    }
+}
+
 /// What account 101 holds.
 fn balance<S: Store>(rt: &impl Runtime, bank: &mut S) -> Option<i128> {
     let account = bank.account(rt.alloc(), 101).expect(rt, "no fault")?;
@@ -79,6 +89,7 @@ pub fn told<S: Store>(rt: &impl Runtime, bank: &mut S) -> Tale {
     tell_places(rt, bank, &mut text);
     tell_history(rt, bank, &mut text);
     tell_policy(rt, bank, &mut text);
+    tell_slips(rt, bank, &mut text);
     Tale {
         text,
         balance: balance(rt, bank),

@@ -59,12 +59,13 @@ fn check(rt: &impl Runtime, held: Held, states: &[Tale], count: usize, found: &m
 }
 
 /// Serves requests over the bank in a database. Answers how many got their reply, and the files.
-fn served(rt: &impl Runtime, conn: Frail, stream: &[Exchange]) -> (usize, Failers) {
+pub fn served(rt: &impl Runtime, conn: Frail, stream: &[Exchange]) -> (usize, Failers) {
     let (outcome, conn) = done_with(rt, conn, Deed::Open(Act::Serve(stream))).expect(rt, "a bank");
     (count_of(rt, outcome), let_go(conn))
 }
 
-fn count_of(rt: &impl Abort, outcome: Outcome) -> usize {
+/// How many requests got their reply.
+pub fn count_of(rt: &impl Abort, outcome: Outcome) -> usize {
     match outcome {
         Outcome::Served(count) => count,
         _ => panic!(rt; "how many were served"),

@@ -1,5 +1,5 @@
-//! A bank of the first edition that is carried over on a disk which fails at some call. It is there whole in the tables of
-//! the first edition, from which it can be carried over, or in those of the newest.
+//! A bank of an older edition that is carried over on a disk which fails at some call. It is there whole in the tables of
+//! that edition, from which it can be carried over, or in those of the newest.
 
 use crate::tales::told_anew;
 use adopt_sql::AdoptFault;
@@ -7,7 +7,7 @@ use money::Fault;
 use test_counter::{Runtime, listed_bank};
 use test_disks::{
     Deed, Failers, Failing, Frail, Held, Outcome, Tale, done_in, done_with, failing_files,
-    first_files, left_by, let_go, open_frail, told, work,
+    first_files, left_by, let_go, open_frail, second_files, told, work, worked_files,
 };
 
 /// What the worked bank tells of itself in lists.
@@ -34,7 +34,7 @@ fn carried(rt: &impl Runtime, conn: Frail) -> (bool, Failers) {
     (is_carried(rt, outcome), let_go(conn))
 }
 
-/// Whether files hold this bank in the newest edition. Where they do not, they hold it in the first, from which it is
+/// Whether files hold this bank in the newest edition. Where they do not, they hold it in an older one, from which it is
 /// carried over.
 fn is_newest(rt: &impl Runtime, held: &Held, whole: &Tale) -> bool {
     match told_anew(rt, held) {
@@ -67,26 +67,25 @@ fn is_newest_once(rt: &impl Runtime, seen: &mut Seen, held: Held, whole: &Tale) 
     answer
 }
 
-/// How often the first edition was found behind a crash, and how often the newest of which it was told that the disk had
+/// How often the older edition was found behind a crash, and how often the newest of which it was told that the disk had
 /// failed.
 #[derive(Clone, Copy, Debug)]
 struct Found {
-    first: u32,
+    older: u32,
     untold: u32,
 }
 
-/// Carries the bank over on a disk that fails at its first call behind those by which the files are opened, then on one that
+/// Carries the worked bank of these files over on a disk that fails at its first call behind those by which the files are opened, then on one that
 /// fails at its second, and so on until one has not failed. A bank that was told to be carried over is.
-fn carry_at_each_call(rt: &impl Runtime, which: Failing) -> Found {
-    let held = first_files(rt);
+fn carry_at_each_call(rt: &impl Runtime, held: &Held, which: Failing) -> Found {
     let whole = worked_tale(rt);
     let mut seen = Vec::new(rt.alloc());
     let mut found = Found {
-        first: 0,
+        older: 0,
         untold: 0,
     };
     for calls in 0..10_000u64 {
-        let Ok(conn) = open_frail(rt, failing_files(rt, &held, which, calls)) else {
+        let Ok(conn) = open_frail(rt, failing_files(rt, held, which, calls)) else {
             continue;
         };
         let (was_carried, files) = carried(rt, conn);
@@ -94,7 +93,7 @@ fn carry_at_each_call(rt: &impl Runtime, which: Failing) -> Found {
         for it in [left.written, left.synced] {
             let newest = is_newest_once(rt, &mut seen, it, &whole);
             assert!(rt; newest || !was_carried);
-            found.first = found.first.saturating_add(u32::from(!newest));
+            found.older = found.older.saturating_add(u32::from(!newest));
             found.untold = found
                 .untold
                 .saturating_add(u32::from(newest && !was_carried));
@@ -107,14 +106,45 @@ fn carry_at_each_call(rt: &impl Runtime, which: Failing) -> Found {
     panic!(rt; "a disk that has not failed");
 }
 
-#[test]
-fn a_bank_is_carried_over_whole_or_not_as_its_log_fails(rt: HostRuntime) {
-    let found = carry_at_each_call(&rt, Failing::Log);
-    assert!(rt; found.first > 0 && found.untold > 0);
+/// Asks that the worked bank of these files is carried over whole or not, whichever of the two files fails.
+fn carry_over_both(rt: &impl Runtime, held: &Held) {
+    let found = carry_at_each_call(rt, held, Failing::Log);
+    assert!(rt; found.older > 0 && found.untold > 0);
+    let found = carry_at_each_call(rt, held, Failing::Database);
+    assert!(rt; found.older > 0);
 }
 
 #[test]
-fn a_bank_is_carried_over_whole_or_not_as_its_file_fails(rt: HostRuntime) {
-    let found = carry_at_each_call(&rt, Failing::Database);
-    assert!(rt; found.first > 0);
+fn a_bank_of_the_first_edition_is_carried_over_whole_or_not(rt: HostRuntime) {
+    carry_over_both(&rt, &first_files(&rt));
+}
+
+#[test]
+fn a_bank_of_the_second_edition_is_carried_over_whole_or_not(rt: HostRuntime) {
+    carry_over_both(&rt, &second_files(&rt));
+}
+
+/// Has a triple of Tess's count from moment 800 to 900.
+const DURING: &str =
+    "UPDATE grants SET first_at = 800, last_at = 900 WHERE user_no = 7 AND procedure = 11";
+
+/// What files hold whose bank was carried over.
+fn carried_files(rt: &impl Runtime, held: &Held) -> Held {
+    let (outcome, after) = done_in(rt, held, Deed::Upgrade);
+    assert!(rt; is_carried(rt, outcome));
+    after
+}
+
+/// What the bank of these files tells.
+fn tale(rt: &impl Runtime, held: &Held) -> Tale {
+    told_anew(rt, held).expect(rt, "a bank")
+}
+
+#[test]
+fn moments_of_the_second_edition_are_carried_over(rt: HostRuntime) {
+    let (_, second) = done_in(&rt, &second_files(&rt), Deed::Change(DURING));
+    let (_, newest) = done_in(&rt, &worked_files(&rt), Deed::Change(DURING));
+    let told = tale(&rt, &carried_files(&rt, &second));
+    assert!(rt; told == tale(&rt, &newest));
+    assert!(rt; told != worked_tale(&rt));
 }

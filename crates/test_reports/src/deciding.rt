@@ -15,6 +15,7 @@ fn who(user: u32) -> Who {
         user: Some(user),
         session: 1,
         release: 0,
+        slip: 0,
     }
 }
 
@@ -106,6 +107,10 @@ fn reports(rt: &impl Runtime, question: &Question, user: u32, op: Op) {
             }
             Err(fault) => panic!(rt; "{fault}"),
         },
+        Ok(Decision::Repeated(done)) => {
+            let _ = done.into_body();
+            panic!(rt; "a repeat");
+        }
         Ok(Decision::Denied(denial)) => panic!(rt; "{}", denial.rule().name()),
         Err(fault) => panic!(rt; "{fault}"),
     }

@@ -23,6 +23,7 @@ fn balance_is_told<S: Store>(rt: &impl Abort, alloc: Global, bank: &mut Bank<S>)
         user: Some(7),
         session: 1,
         release: 0,
+        slip: 0,
     };
     let op = Op::Balance(Balance { account: 101 });
     match decide(bank, alloc, tess, 700, &op) {
@@ -37,6 +38,10 @@ fn balance_is_told<S: Store>(rt: &impl Abort, alloc: Global, bank: &mut Bank<S>)
             }
             Err(fault) => panic!(rt; "{fault}"),
         },
+        Ok(Decision::Repeated(done)) => {
+            done.into_body();
+            panic!(rt; "a repeat");
+        }
         Ok(Decision::Denied(denial)) => panic!(rt; "{}", denial.rule().name()),
         Err(fault) => panic!(rt; "{fault}"),
     }

@@ -23,6 +23,7 @@ fn who(user: u32, session: u32) -> Who {
         user: Some(user),
         session,
         release: 0,
+        slip: 0,
     }
 }
 
@@ -32,6 +33,10 @@ fn reads_of_denied(rt: &impl Abort, alloc: Global, who: Who, rule: Rule) -> u64 
     let op = Op::Balance(Balance { account: 201 });
     match decide(&mut bank, alloc, who, 700, &op) {
         Ok(Decision::Denied(denial)) => assert!(rt; denial.rule() == rule),
+        Ok(Decision::Repeated(done)) => {
+            done.into_body();
+            panic!(rt; "a repeat");
+        }
         Ok(Decision::Allowed(permit)) => match carry_out(permit) {
             Ok(Reply::Done(done)) => {
                 done.into_body();

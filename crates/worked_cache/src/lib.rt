@@ -1,7 +1,7 @@
 //! Tests alone: what a cache reads of the store below it and what it tells. A store that counts its reads
-//! shows that the second of two equal questions for a balance reads no triples and no relations of it,
-//! and that for one who is denied no rows are read behind the rule, which no contract says; and that a
-//! change of the policy ends what is kept. Nothing here is proved or used by a program.
+//! shows that the second of two equal questions for a balance reads no triples and no relations of it; that
+//! for one who is denied no rows are read behind the rule, and for a repeat two; and that a change of the
+//! policy ends what is kept. Nothing here is proved or used by a program.
 #![tactic(auto)]
 
 #[cfg(test)]
@@ -12,3 +12,5 @@ mod cached_rows;
 mod counting;
 #[cfg(test)]
 mod denied_reads;
+#[cfg(test)]
+mod slip_reads;

@@ -1,8 +1,8 @@
-use bank_books::BranchRecord;
+use bank_books::{BranchRecord, Slip};
 use counter_ops::NewAccount;
 use decide::{
-    Asked, BookRows, Loaded, Op, OpeningRows, OperationRows, PolicyRows, Request, Rule, Who,
-    first_rule,
+    Asked, BookRows, Loaded, Op, OpeningRows, OperationRows, PolicyRows, Request, Rule, SlipRows,
+    Who, first_rule,
 };
 use sample_bank::sample_world;
 use std::alloc::Global;
@@ -16,6 +16,7 @@ fn request(user: u32, session: u32, asked: Asked) -> Request {
             user: Some(user),
             session,
             release: 0,
+            slip: 0,
         },
         moment: 700,
         asked,
@@ -24,7 +25,14 @@ fn request(user: u32, session: u32, asked: Asked) -> Request {
 
 /// The first rule against an operation that this user asks for in his session 1, and that is judged by these rows.
 fn first_against(policy: PolicyRows, books: BookRows, user: u32, op: Op) -> Option<Rule> {
-    let rows = Loaded::Operation(OperationRows { policy, books });
+    let rows = Loaded::Operation(OperationRows {
+        policy,
+        books,
+        slip: SlipRows {
+            found: None,
+            count: 0,
+        },
+    });
     first_rule(&rows, &request(user, 1, Asked::Operation(op)))
 }
 
@@ -56,6 +64,15 @@ fn policy_of(
     }
 }
 
+/// The opening of an account at the first branch.
+fn opening(account: u32) -> Op {
+    Op::NewAccount(NewAccount {
+        account,
+        branch: 1,
+        floor: 0,
+    })
+}
+
 /// The first rule against Sue's opening an account at a branch that has so many.
 fn first_against_opening(
     rt: &impl Abort,
@@ -64,17 +81,59 @@ fn first_against_opening(
     account: u32,
     accounts: u64,
 ) -> Option<Rule> {
-    let op = Op::NewAccount(NewAccount {
-        account,
-        branch: 1,
-        floor: 0,
-    });
+    let op = opening(account);
     let policy = policy_of(rt, alloc, store, 9, &op);
     let there = store.account(alloc, account).expect(rt, "no fault");
     let branch = store.branch(alloc, 1).expect(rt, "no fault");
     let branch = branch.map(|row| BranchRecord { accounts, ..row });
     let books = BookRows::NewAccount(OpeningRows::of(there, branch));
     first_against(policy, books, 9, op)
+}
+
+/// The slip of number 5 of Sue that was taken with the opening of an account.
+fn slip_of_opening(alloc: Global, account: u32) -> Slip {
+    Slip::new(9, 5, opening(account).to_row(), Vec::new(alloc))
+}
+
+/// The first rule against Sue's opening of an account with her slip 5, of which that is found, where she has so many.
+fn first_with_slip(
+    rt: &impl Abort,
+    alloc: Global,
+    account: u32,
+    found: Option<Slip>,
+    count: u64,
+) -> Option<Rule> {
+    let mut store = sample(rt, alloc);
+    let op = opening(account);
+    let policy = policy_of(rt, alloc, &mut store, 9, &op);
+    let there = store.account(alloc, account).expect(rt, "no fault");
+    let branch = store.branch(alloc, 1).expect(rt, "no fault");
+    let rows = Loaded::Operation(OperationRows {
+        policy,
+        books: BookRows::NewAccount(OpeningRows::of(there, branch)),
+        slip: SlipRows { found, count },
+    });
+    let mut asked = request(9, 1, Asked::Operation(op));
+    asked.who.slip = 5;
+    first_rule(&rows, &asked)
+}
+
+/// Account 101 is there, so its opening is denied. The rule on slips comes before that, and that on counts behind it.
+#[test]
+fn slips_are_judged_by_their_rows(rt: HostRuntime) {
+    let alloc = rt.alloc();
+    for (account, taken_with, count, first) in [
+        (103u32, None, 99_999u64, None),
+        (103, None, 100_000, Some(Rule::Full)),
+        (101, None, 100_000, Some(Rule::Taken)),
+        (103, Some(103u32), 100_000, None),
+        (103, Some(104), 1, Some(Rule::Slip)),
+        (101, Some(103), 100_000, Some(Rule::Slip)),
+    ] {
+        let found = taken_with.map(|other| slip_of_opening(alloc, other));
+        let given = first_with_slip(&rt, alloc, account, found, count);
+        assert!(rt; given == first, "{account} at {count}");
+    }
 }
 
 #[test]

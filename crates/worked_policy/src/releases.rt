@@ -6,7 +6,7 @@ use bank_terms::{MAX_RELEASES, Procedure};
 use counter_ops::{Post, Releasable, Release};
 use decide::{
     Asked, BookRows, Loaded, NamedRelease, Op, OperationRows, PolicyRows, ReleaseRows, Request,
-    Rule, Who, first_rule,
+    Rule, SlipRows, Who, first_rule,
 };
 use money::Delta;
 use postings::PostRows;
@@ -69,7 +69,14 @@ fn books_of_post(rt: &impl Abort, alloc: Global) -> BookRows {
 
 /// The first rule against an operation that is judged by these rows.
 fn first_against(policy: PolicyRows, books: BookRows, who: Who, op: Op) -> Option<Rule> {
-    let rows = Loaded::Operation(OperationRows { policy, books });
+    let rows = Loaded::Operation(OperationRows {
+        policy,
+        books,
+        slip: SlipRows {
+            found: None,
+            count: 0,
+        },
+    });
     let request = Request {
         who,
         moment: 700,

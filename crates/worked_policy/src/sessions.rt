@@ -14,6 +14,7 @@ fn tess(session: u32) -> Who {
         user: Some(7),
         session,
         release: 0,
+        slip: 0,
     }
 }
 

@@ -9,6 +9,7 @@ pub(crate) fn user(number: u32) -> Who {
         user: Some(number),
         session: 1,
         release: 0,
+        slip: 0,
     }
 }
 

@@ -15,6 +15,7 @@ pub(crate) const TESS: Who = Who {
     user: Some(7),
     session: 1,
     release: 0,
+    slip: 0,
 };
 
 /// Tom, who holds drawer 12, and posts and transfers up to 500.00 at branch 1, and up to 10.00 anywhere.
@@ -22,6 +23,7 @@ pub(crate) const TOM: Who = Who {
     user: Some(8),
     session: 1,
     release: 0,
+    slip: 0,
 };
 
 /// Sue, who opens accounts and closes the day of branch 1.
@@ -29,6 +31,7 @@ pub(crate) const SUE: Who = Who {
     user: Some(9),
     session: 1,
     release: 0,
+    slip: 0,
 };
 
 /// The moment of requests, where no other is given.
@@ -96,6 +99,7 @@ impl Desk {
                 }
                 Err(fault) => panic!(rt; "{fault}"),
             },
+            Ok(Decision::Repeated(done)) => Ok(done.into_body()),
             Ok(Decision::Denied(denial)) => Err(denial.rule()),
             Err(fault) => panic!(rt; "{fault}"),
         }

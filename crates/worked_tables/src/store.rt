@@ -1,9 +1,9 @@
 //! The store over these tables beside the store in lists: each read answers the same.
 
 use crate::compare::same;
-use bank_books::{Entry, EntryForm, RowWrite};
+use bank_books::{Entry, EntryForm, RowWrite, Slip};
 use bank_policy::{PolicyWrite, Triple};
-use bank_terms::Procedure;
+use bank_terms::{OperationRow, Procedure};
 use money::{Delta, Fault};
 use open_sql::create;
 use sample_bank::sample_world;
@@ -11,7 +11,7 @@ use sqlite::{Alter, Connection, MemStore};
 use std::alloc::Global;
 use std::fmt::Debug;
 use std::process::Abort;
-use store_rows::{BookReads, ListStore, PolicyReads, ReportReads, Stands, Store};
+use store_rows::{BookReads, ListStore, PolicyReads, ReportReads, SlipReads, Stands, Store};
 use store_sql::SqlStore;
 
 /// The sample bank, made in a database with nothing in it.
@@ -93,6 +93,10 @@ fn same_user<S: Store, T: Store>(
     both!(rt, alloc, tables, lists, user(user));
     both!(rt, alloc, tables, lists, triples(user));
     both!(rt, alloc, tables, lists, release(user, 1));
+    both!(rt, alloc, tables, lists, slips(user));
+    for number in [0, 4, 5, 6] {
+        both!(rt, alloc, tables, lists, slip(user, number));
+    }
     for procedure in [Procedure::Post, Procedure::Accounts, Procedure::CloseDay] {
         both!(rt, alloc, tables, lists, triples_of(user, procedure));
         both!(rt, alloc, tables, lists, certifier(user, procedure));
@@ -219,6 +223,49 @@ fn tables_answer_as_lists_do(rt: HostRuntime) {
         write(&rt, alloc, &mut tables, number);
         write(&rt, alloc, &mut lists, number);
         same_answers(&rt, alloc, &mut tables, &mut lists);
+    }
+}
+
+/// Takes this slip of a user with a post to account 101, of which that was replied.
+fn take_slip<S: Store>(
+    rt: &impl Abort,
+    alloc: Global,
+    store: &mut S,
+    (user, number): (u32, u32),
+    reply: &[u8],
+) {
+    let operation = OperationRow {
+        form: Procedure::Post,
+        members: [101, 11, 1, -2_500, 0, 0, 0, 0],
+    };
+    let reply = reply.to_vec(alloc).expect(rt, "memory");
+    let slip = RowWrite::Slip(Slip::new(user, number, operation, reply));
+    let plan = vec![in alloc; slip].expect(rt, "memory");
+    assert!(rt; store.apply(alloc, plan).is_ok());
+}
+
+/// How many slips this user has in tables.
+fn slips_in<S: Store>(rt: &impl Abort, alloc: Global, tables: &mut S, user: u32) -> u64 {
+    tables.slips(alloc, user).expect(rt, "no fault")
+}
+
+/// Slips of two users, with one number of both of them, a reply with no bytes and one with any.
+#[test]
+fn tables_tell_slips_as_lists_do(rt: HostRuntime) {
+    let alloc = rt.alloc();
+    let mut tables = sample_tables(&rt, alloc);
+    let mut lists = sample_lists(&rt, alloc);
+    for (slip, reply) in [
+        ((7, 5), b"{\"balance\":52500}".as_slice()),
+        ((8, 5), b"".as_slice()),
+        ((7, 4), b"\x00\xff'\r\n".as_slice()),
+    ] {
+        take_slip(&rt, alloc, &mut tables, slip, reply);
+        take_slip(&rt, alloc, &mut lists, slip, reply);
+        same_answers(&rt, alloc, &mut tables, &mut lists);
+    }
+    for (user, count) in [(7, 2), (8, 1), (9, 0), (99, 0)] {
+        assert!(rt; slips_in(&rt, alloc, &mut tables, user) == count, "{user}");
     }
 }
 

@@ -3,7 +3,7 @@ use std::alloc::Global;
 use std::process::Abort;
 
 /// The definitions of all tables of a bank's file, and of its indexes.
-const TABLES: [&str; 16] = [
+const TABLES: [&str; 18] = [
     "CREATE TABLE bank (id INTEGER PRIMARY KEY, version INTEGER NOT NULL, policy INTEGER NOT NULL) STRICT",
     "CREATE TABLE users (user_no INTEGER PRIMARY KEY, name TEXT NOT NULL, officer INTEGER NOT NULL, suspended INTEGER NOT NULL, session INTEGER NOT NULL, is_on INTEGER NOT NULL, releases INTEGER NOT NULL) STRICT",
     "CREATE TABLE sets (set_no INTEGER PRIMARY KEY) STRICT",
@@ -20,6 +20,8 @@ const TABLES: [&str; 16] = [
     "CREATE TABLE releases (user_no INTEGER NOT NULL, number INTEGER NOT NULL, giver INTEGER NOT NULL, branch INTEGER NOT NULL, day INTEGER NOT NULL, form INTEGER NOT NULL, member1 INTEGER NOT NULL, member2 INTEGER NOT NULL, member3 INTEGER NOT NULL, member4 INTEGER NOT NULL, member5 INTEGER NOT NULL, member6 INTEGER NOT NULL, member7 INTEGER NOT NULL, member8 INTEGER NOT NULL, used INTEGER NOT NULL, PRIMARY KEY (user_no, number)) STRICT",
     "CREATE INDEX entries_by_undoes ON entries (branch, undoes)",
     "CREATE INDEX tellers_by_branch ON tellers (branch, teller)",
+    "CREATE TABLE slips (user_no INTEGER NOT NULL, slip INTEGER NOT NULL, form INTEGER NOT NULL, member1 INTEGER NOT NULL, member2 INTEGER NOT NULL, member3 INTEGER NOT NULL, member4 INTEGER NOT NULL, member5 INTEGER NOT NULL, member6 INTEGER NOT NULL, member7 INTEGER NOT NULL, member8 INTEGER NOT NULL, reply BLOB NOT NULL, PRIMARY KEY (user_no, slip)) STRICT",
+    "CREATE TABLE slip_counts (user_no INTEGER PRIMARY KEY, slips INTEGER NOT NULL) STRICT",
 ];
 
 /// The tables of a file in memory, inside a transaction.

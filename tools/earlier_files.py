@@ -1,13 +1,15 @@
-"""The banks of the first edition of the tables, as rows/first-files keeps them, and what they are in the second.
+"""The banks of earlier editions of the tables, as rows/first-files and rows/second-files keep them, and what they are in the
+present one.
 
-A file of that folder has rows in the language of rows/ (docs/TESTING.md). A row is a bank: SQL that makes it, and a run whose
-requests the program of the first edition answered so. `refused` has files that are refused instead, and the line for each.
+A file of such a folder has rows in the language of rows/ (docs/TESTING.md). A row is a bank: SQL that makes it, and a run whose
+requests the program of that edition answered so. `refused` has files that are refused instead, and the line for each.
 """
 import os
 import re
 import sqlite3
 import subprocess
 import tempfile
+from typing import NamedTuple
 
 from repository import TOP
 from sample_file import Wrong, copy_bank
@@ -20,21 +22,47 @@ HOLDS = (0, b"books hold\n", b"")
 OTHER = (3, b"", b"file: other version\n")
 NOT_READ = (3, b"", b"file: not read\n")
 
-FOLDER = os.path.join(TOP, "rows", "first-files")
 REFUSED = "refused"
 BANK = "bank"
-# The moments that a triple of the first edition comes to have, and the version that the row of the bank then tells.
+# The version that the row of the bank tells in the present edition, and the moments that a triple of the first comes to have.
+VERSION = 3
 WIDEST = (0, 99_999_999_999)
-VERSION = 2
 REPLY = re.compile(rb"(HTTP/1\.1 \d+ [^\r]*\r\n(?:[^\r]+\r\n)*?Content-Length: )(\d+)(\r\n(?:[^\r]+\r\n)*\r\n)")
 LISTING = b"POLICY LINES "
 TRIPLE = re.compile(rb"^TRIPLE .*$", re.MULTILINE)
 SCHEMA = "SELECT rowid, type, name, tbl_name, sql FROM sqlite_schema ORDER BY rowid"
 
 
-def first_files():
-    """The rows of the folder."""
-    return Suite(FOLDER)
+class Edition(NamedTuple):
+    """An edition: its name, and the table of its triples, which have moments or not."""
+
+    name: str
+    triples: str
+    has_moments: bool
+
+    def suite(self):
+        """The rows of its folder."""
+        return Suite(os.path.join(TOP, "rows", self.name + "-files"))
+
+    def officer_with_a_triple(self):
+        """What makes an officer have a triple."""
+        moments = f", {WIDEST[0]}, {WIDEST[1]}" if self.has_moments else ""
+        return f"INSERT INTO {self.triples} VALUES (1, 1, 2, 0{moments})"
+
+    def replied(self, output):
+        """The replies of its program as those of the present one: in a listing each triple tells its moments."""
+        return output if self.has_moments else widened(output)
+
+    def carried_over(self, rows):
+        """The rows of its tables as those of the present edition. Nobody has a slip."""
+        kept = {name: found for name, found in rows.items() if name != self.triples}
+        kept["bank"] = [(number, VERSION, policy) for number, _, policy in rows["bank"]]
+        moments = () if self.has_moments else WIDEST
+        counts = [(row[0], 0) for row in rows["users"]]
+        return {**kept, "grants": [(*it, *moments) for it in rows[self.triples]], "slips": [], "slip_counts": counts}
+
+
+EDITIONS = (Edition("first", "triples", False), Edition("second", "grants", True))
 
 
 def carried_rows(suite):
@@ -47,7 +75,7 @@ def refused_rows(suite):
     return [row.name for it in suite.subjects if it.name == REFUSED for row in it.rows if row.runs]
 
 
-def make_first_file(suite, name, room):
+def make_earlier_file(suite, name, room):
     """Makes the files of a row in a folder, and returns the path of its bank and its run."""
     row = suite.row(name)
     os.makedirs(room, exist_ok=True)
@@ -58,7 +86,7 @@ def make_first_file(suite, name, room):
 
 
 def widened(output):
-    """The replies of the first edition as those of the second: in a listing each triple tells its moments, too."""
+    """Replies in which each triple of a listing tells the widest moments, too."""
     made, at = [], 0
     while at < len(output):
         head = REPLY.match(output, at)
@@ -104,13 +132,6 @@ class Tables:
                 self.dangling = connection.execute("PRAGMA foreign_key_check").fetchall()
             finally:
                 connection.close()
-
-
-def carried_over(rows):
-    """The rows of the tables of the first edition as those of the second."""
-    kept = {name: found for name, found in rows.items() if name != "triples"}
-    kept["bank"] = [(number, VERSION, policy) for number, _, policy in rows["bank"]]
-    return {**kept, "grants": [(*it, *WIDEST) for it in rows["triples"]]}
 
 
 def difference_of(found, wanted):
