@@ -26,12 +26,20 @@ static unsigned long at, calls;
 static char way;
 static int told = -1;
 
+/* where `only` is not empty, it is the path of a file: its calls alone are counted, and those that open it, read it and ask for
+   its size, too; their number is told as the program ends */
+static const char *only = "";
+static char chosen[1024];
+
 __attribute__((constructor)) static void start(void)
 {
     at = strtoul(getenv("DISK_CALL"), NULL, 10);
     way = getenv("DISK_WAY")[0];
     told = atoi(getenv("DISK_TOLD"));
+    only = getenv("DISK_ONLY");
 }
+
+static int is_counted(int file) { return !*only || (file >= 0 && file < (int)sizeof chosen && chosen[file]); }
 
 static int is_file(int file)
 {
@@ -64,9 +72,27 @@ static int fate(void)
     return way == 'h' ? 2 : 3;
 }
 
+__attribute__((destructor)) static void end(void)
+{
+    if (*only)
+        tell('n', 0, calls, NULL, 0);
+}
+
+ssize_t pread64(int file, void *room, size_t size, off64_t where)
+{
+    return *only && is_counted(file) && fate() == 1 ? -1 : syscall(SYS_pread64, file, room, size, where);
+}
+
+ssize_t pread(int file, void *room, size_t size, off_t where) { return pread64(file, room, size, where); }
+
+int statx(int file, const char *path, int flags, unsigned mask, struct statx *found)
+{
+    return *only && !*path && is_counted(file) && fate() == 1 ? -1 : syscall(SYS_statx, file, path, flags, mask, found);
+}
+
 ssize_t pwrite64(int file, const void *bytes, size_t size, off64_t where)
 {
-    int next = is_file(file) ? fate() : 0;
+    int next = is_file(file) && is_counted(file) ? fate() : 0;
     ssize_t done;
     if (next == 1)
         return -1;
@@ -95,7 +121,7 @@ ssize_t write(int file, const void *bytes, size_t size)
 
 int ftruncate64(int file, off64_t size)
 {
-    int next = fate();
+    int next = is_counted(file) ? fate() : 0;
     if (next == 1)
         return -1;
     if (next == 3)
@@ -110,7 +136,7 @@ int ftruncate(int file, off_t size) { return ftruncate64(file, size); }
 
 static int synced(int file, int call)
 {
-    int next = fate();
+    int next = is_counted(file) ? fate() : 0;
     if (next == 1)
         return -1;
     if (next == 3)
@@ -127,12 +153,14 @@ int fdatasync(int file) { return synced(file, SYS_fdatasync); }
 static int opened(int folder, const char *path, int flags, unsigned mode)
 {
     int is_change = flags & (O_CREAT | O_TRUNC);
-    int next = is_change ? fate() : 0;
+    int next = (*only ? !strcmp(path, only) : is_change) ? fate() : 0;
     if (next == 1)
         return -1;
     if (next == 3)
         kill(getpid(), SIGKILL);
     int file = syscall(SYS_openat, folder, path, flags, mode);
+    if (file >= 0 && file < (int)sizeof chosen)
+        chosen[file] = *only && !strcmp(path, only);
     if (file >= 0 && is_file(file))
         tell(is_change ? 'c' : 'o', file, flags & O_TRUNC ? 1 : 0, path, strlen(path));
     return file;
@@ -156,7 +184,7 @@ OPENS(openat64, (int folder, const char *path, int flags, ...), folder)
 
 int unlinkat(int folder, const char *path, int flags)
 {
-    int next = fate();
+    int next = !*only || !strcmp(path, only) ? fate() : 0;
     if (next == 1)
         return -1;
     if (next == 3)
@@ -208,7 +236,7 @@ class Watched:
             file.write(SHIM)
         subprocess.run(["cc", "-O1", "-w", "-shared", "-fPIC", "-o", self.library, source], check=True)
 
-    def environment(self, call, way, told):
+    def environment(self, call, way, told, only=""):
         """The environment of a run."""
         return {
             "PATH": "/usr/local/bin:/usr/bin:/bin",
@@ -217,19 +245,21 @@ class Watched:
             "DISK_CALL": str(call),
             "DISK_WAY": way,
             "DISK_TOLD": str(told),
+            "DISK_ONLY": only,
         }
 
-    def run(self, words, call=0, way="n"):
+    def run(self, words, call=0, way="n", given=b"", only=""):
         """What a run wrote, on both streams, behind its status. The call of this number is not made as it is asked for: `k` the
-        program is killed in its place, `t` behind half of it, `h` half of it is made, `o` it fails, `f` with all behind it."""
-        how = {"env": self.environment(call, way, -1), "stdin": subprocess.DEVNULL}
+        program is killed in its place, `t` behind half of it, `h` half of it is made, `o` it fails, `f` with all behind it. Of
+        `only`, the path of a file, each call is counted, and no other."""
+        how = {"env": self.environment(call, way, -1, only), "input": given}
         ran = subprocess.run([self.path, *words], capture_output=True, timeout=SECONDS, check=False, **how)
         return ran.returncode, ran.stdout, ran.stderr
 
-    def calls(self, words, told):
-        """What a run wrote, as above, and the calls that it made, which it tells in a file."""
+    def calls(self, words, told, given=b"", only=""):
+        """What a run wrote, as above, and the calls that it made, which it tells in a file. Of `only` their number comes last."""
         with open(told, "w+b") as file:
-            how = {"env": self.environment(0, "n", file.fileno()), "stdin": subprocess.DEVNULL, "pass_fds": [file.fileno()]}
+            how = {"env": self.environment(0, "n", file.fileno(), only), "input": given, "pass_fds": [file.fileno()]}
             ran = subprocess.run([self.path, *words], capture_output=True, timeout=SECONDS, check=False, **how)
             file.seek(0)
             return (ran.returncode, ran.stdout, ran.stderr), calls_in(file.read())

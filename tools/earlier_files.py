@@ -22,6 +22,9 @@ HOLDS = (0, b"books hold\n", b"")
 OTHER = (3, b"", b"file: other version\n")
 NOT_READ = (3, b"", b"file: not read\n")
 
+# The columns of the moments at which something was done.
+MOMENTS = {"entries": 6, "lines": 5}
+
 REFUSED = "refused"
 BANK = "bank"
 # The version that the row of the bank tells in the present edition, and the moments that a triple of the first comes to have.
@@ -132,6 +135,12 @@ class Tables:
                 self.dangling = connection.execute("PRAGMA foreign_key_check").fetchall()
             finally:
                 connection.close()
+
+
+def without_moments(rows):
+    """The rows of tables without the moments of entries and of lines."""
+    kept = {name: sorted(it[:at] + it[at + 1 :] for it in rows[name]) for name, at in MOMENTS.items()}
+    return {**rows, **kept}
 
 
 def difference_of(found, wanted):
