@@ -4,15 +4,15 @@ use Rattle.sqlite_disk.specs.declared.Disk.{Ghosts}
 use Rattle.sqlite_wal.specs.Recovery.{Image}
 use Rattle.clap.specs.Words.{Text, fault_of, subcommand_of}
 use Rattle.clap.specs.declared.error.Error.{Error}
-use Rattle.bank_words.specs.Commands.{IsNamedBy, IsRefusal, bank_app}
-use Rattle.bank_words.specs.Explained.{IsExplained}
-use Rattle.bank_words.specs.declared.words.Action.{Action}
-use Rattle.bank_words.specs.declared.words.Action.TheVariants as action
+use Rattle.cli_words.specs.Commands.{IsNamedBy, IsRefusal, bank_app}
+use Rattle.cli_words.specs.Explained.{IsExplained}
+use Rattle.cli_words.specs.declared.words.Action.{Action}
+use Rattle.cli_words.specs.declared.words.Action.TheVariants as action
 use Rattle.cli_file.specs.Actions.{IsChecked, IsInited, IsListened, IsRun, IsUpgraded}
 use Rattle.cli_file.specs.Telling.{IsEnded, IsSaid}
 use Rattle.cli_file.specs.declared.fault.ActionFault.{ActionFault}
-use Rattle.ends.specs.Lines.{line}
-use Rattle.ends.specs.Streams.{Stream, Streams}
+use Rattle.exit_lines.specs.Lines.{line}
+use Rattle.exit_lines.specs.Streams.{Stream, Streams}
 use Rattle.sample_service.specs.Ends.{IsSampleEnd}
 use Rattle.sample_sql.specs.Stores.{cached_sql_status}
 

@@ -1,11 +1,11 @@
 ghost use Rattle.std.specs.Prelude.{map};
 ghost use Rattle.bank_cli.specs.Acted.{IsActed, IsAnswered};
-ghost use Rattle.ends.specs.Streams.{stream_at, streams_at};
+ghost use Rattle.exit_lines.specs.Streams.{stream_at, streams_at};
 
-use bank_words::{Action, explain, read_words};
 use cli_file::{
     Opener, Progress, check_file, end, init_file, run_file, say_done, serve_file, upgrade_file,
 };
+use cli_words::{Action, explain, read_words};
 use counter_api::Clock;
 use money::Tallied;
 use sample_service::answer_behind_cache;

@@ -7,8 +7,8 @@
 mod act;
 
 use crate::act::answer;
-use bank_words::unread;
 use cli_file::{Machine, Progress};
+use cli_words::unread;
 use counter_clocks::MachineClock;
 use money::Tallied;
 use sqlite::Unknown;

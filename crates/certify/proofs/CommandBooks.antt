@@ -10,12 +10,12 @@ use Rattle.bank_policy.specs.declared.rows.User.{User}
 use Rattle.bank_books.specs.Books.{Books}
 use Rattle.bank_books.specs.Range.{IsUser}
 use Rattle.bank_books.specs.WorldLists.{WorldLists}
-use Rattle.book_growth.proofs.BooksSplit.{books_parts}
-use Rattle.book_growth.proofs.ChangedRows.{HasRow-changed, each_changed}
-use Rattle.book_growth.proofs.Rows.{HasRow-add_row, each_added}
-use Rattle.book_growth.specs.Ledger.{IsOpenLedger}
-use Rattle.policy_ops.specs.declared.policy_op.PolicyOp.{PolicyOp}
-use Rattle.policy_ops.specs.declared.policy_op.PolicyOp.TheVariants as asked
+use Rattle.book_laws.proofs.BooksSplit.{books_parts}
+use Rattle.book_laws.proofs.ChangedRows.{HasRow-changed, each_changed}
+use Rattle.keyed_rows.proofs.Rows.{HasRow-add_row, each_added}
+use Rattle.book_laws.specs.Ledger.{IsOpenLedger}
+use Rattle.policy_commands.specs.declared.policy_op.PolicyOp.{PolicyOp}
+use Rattle.policy_commands.specs.declared.policy_op.PolicyOp.TheVariants as asked
 use Rattle.certify.specs.Commands.{change_of}
 use Rattle.certify.specs.Laws.{CommandKeepsBooks}
 

@@ -6,17 +6,16 @@ use Rattle.std.proofs.lemmas.Bool.{eq-eqb, eqb-true, false≢true}
 use Rattle.bank_terms.specs.Procedure.{number_of, procedures}
 use Rattle.bank_terms.specs.declared.procedure.Procedure.{Procedure}
 use Rattle.bank_terms.specs.declared.procedure.Procedure.TheVariants as procedure
-use Rattle.bank_terms.specs.declared.rule.Rule.TheVariants as rule
 use Rattle.keyed_rows.specs.Ordered.{AreDistinct, HasRow}
 use Rattle.bank_policy.specs.HeldRows.{standing, standing_of, user_row}
 use Rattle.bank_policy.specs.Policy.{PolicyLists}
 use Rattle.bank_policy.specs.PolicyKeys.{user_key}
 use Rattle.bank_policy.specs.declared.rows.Standing.{Standing}
 use Rattle.bank_policy.specs.declared.rows.User.{User}
-use Rattle.book_growth.proofs.Rows.{find-found, find_of_key, none_passes}
-use Rattle.book_growth.proofs.RuleTests.{passed_by, source_of}
-use Rattle.policy_ops.specs.declared.policy_op.PolicyOp.{PolicyOp}
-use Rattle.certify.specs.Commands.{breaks_separation, command_denies, first_against_command, is_of_officers, is_out_of_place, is_unknown}
+use Rattle.keyed_rows.proofs.Rows.{find-found, find_of_key, none_passes}
+use Rattle.rule_tests.proofs.RuleTests.{passed_by, source_of}
+use Rattle.policy_commands.specs.declared.policy_op.PolicyOp.{PolicyOp}
+use Rattle.certify.specs.Commands.{breaks_separation, first_against_command, is_of_officers, is_out_of_place, is_unknown}
 use Rattle.certify.specs.declared.command_rows.CommandRows.{CommandRows}
 
 -- no rule denies the command
@@ -29,11 +28,11 @@ pub record IsPassed (rows : CommandRows) (by : ℕ) (command : PolicyOp) : Type 
 
 pub passed : (rows : CommandRows) (by : ℕ) (command : PolicyOp) → first_against_command rows by command ≡ None → IsPassed rows by command
 passed rows by command none =
-    let first = passed_by (command_denies rule.Officer rows by command) rule.Officer _ none in
-    let second = passed_by (command_denies rule.Certifier rows by command) rule.Certifier _ first.1 in
-    let third = passed_by (command_denies rule.Separation rows by command) rule.Separation _ second.1 in
-    let fourth = passed_by (command_denies rule.PolicyUnknown rows by command) rule.PolicyUnknown _ third.1 in
-    let fifth = passed_by (command_denies rule.PolicyState rows by command) rule.PolicyState _ fourth.1 in
+    let first = passed_by (is_of_officers command && not rows.officer) _ _ none in
+    let second = passed_by (not (is_of_officers command) && not rows.certifies) _ _ first.1 in
+    let third = passed_by (breaks_separation rows command) _ _ second.1 in
+    let fourth = passed_by (is_unknown rows command) _ _ third.1 in
+    let fifth = passed_by (is_out_of_place rows by command) _ _ fourth.1 in
     record { officer = first.0; certifier = second.0; separation = third.0; known = fourth.0; state = fifth.0 }
 
 pub not_false : (b : Bool) → not b ≡ false → b ≡ true

@@ -5,7 +5,7 @@ use Rattle.std.proofs.lemmas.List.Filters.{sum_by-filter_both}
 use Rattle.keyed_rows.proofs.DistinctKeys.{apart-from_AreDistinct}
 use Rattle.keyed_rows.specs.Ordered.{AreDistinct}
 use Rattle.bank_policy.proofs.RowsTell.{from_filter}
-use Rattle.book_growth.proofs.Rows.{none_of_key}
+use Rattle.keyed_rows.proofs.Rows.{none_of_key}
 
 -- the first row has no key of a row behind it
 first_apart : {X : Type 0} (key : X → ℕ) (x : X) (xs : List X) (y : X) → AreDistinct (map key (x ∷ xs)) → Contains xs y → key x ≢ key y

@@ -17,11 +17,11 @@ use Rattle.bank_policy.specs.declared.rows.Certifier.{Certifier}
 use Rattle.bank_policy.specs.declared.rows.Relation.{Relation}
 use Rattle.bank_policy.specs.declared.rows.Triple.{Triple}
 use Rattle.bank_policy.specs.declared.rows.User.{User}
-use Rattle.book_growth.proofs.ChangedRows.{each_changed}
+use Rattle.book_laws.proofs.ChangedRows.{each_changed}
 use Rattle.policy_check.specs.Separation.{Certifies, HasCertified, Holds, IsCertifier, IsOfficer, MayExecute, Separated}
 use Rattle.policy_check.specs.Soundness.{IsPolicySound, IsUser}
-use Rattle.policy_ops.specs.declared.policy_op.Enrolment.{Enrolment}
-use Rattle.policy_ops.specs.declared.policy_op.PolicyOp.TheVariants as asked
+use Rattle.policy_commands.specs.declared.policy_op.Enrolment.{Enrolment}
+use Rattle.policy_commands.specs.declared.policy_op.PolicyOp.TheVariants as asked
 use Rattle.certify.proofs.CommandRules.{IsPassed, not_false, not_officer, one_procedure, passed, user_missing}
 use Rattle.certify.proofs.SomeRows.{any_added, any_filter, any_of, any_weaker, each_of, none_passes, some_of, some_passes}
 use Rattle.certify.specs.CommandRows.{command_rows, executes, has_certified, is_certifier}

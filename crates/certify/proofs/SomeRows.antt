@@ -7,7 +7,7 @@ use Rattle.std.proofs.lemmas.List.Elements.{All-contains, Contains-get_or}
 use Rattle.std.proofs.lemmas.List.Folds.{Any-from_list_any, list_any-from_Any}
 use Rattle.keyed_rows.specs.Ordered.{add_row}
 use Rattle.bank_policy.proofs.RowsTell.{from_filter}
-use Rattle.book_growth.proofs.Rows.{Contains-add_row_cases, each_added}
+use Rattle.keyed_rows.proofs.Rows.{Contains-add_row_cases, each_added}
 
 pub each_of : {X : Type 0} (P : X → Type 0) (xs : List X) → All P xs → (x : X) → Contains xs x → P x
 each_of P xs all x there = All-contains P xs x all there

@@ -21,14 +21,14 @@ use Rattle.bank_policy.specs.declared.rows.Certifier.{Certifier}
 use Rattle.bank_policy.specs.declared.rows.Relation.{Relation}
 use Rattle.bank_policy.specs.declared.rows.Triple.{Triple}
 use Rattle.bank_policy.specs.declared.rows.User.{User}
-use Rattle.book_growth.proofs.ChangedRows.{HasRow-changed, each_changed, map-changed}
-use Rattle.book_growth.proofs.Rows.{AreDistinct-add_row, Contains-add_row, HasRow-add_row}
-use Rattle.book_growth.proofs.RuleTests.{one_fits}
+use Rattle.book_laws.proofs.ChangedRows.{HasRow-changed, each_changed, map-changed}
+use Rattle.keyed_rows.proofs.Rows.{AreDistinct-add_row, Contains-add_row, HasRow-add_row}
+use Rattle.rule_tests.proofs.RuleTests.{one_fits}
 use Rattle.policy_check.proofs.GroupOrder.{number_of-small}
 use Rattle.policy_check.specs.Soundness.{AreUsersSound, HasFewOfEachProcedure, HasFewOfEachUser, IsNumber, IsPolicySound, IsRelated, IsSet, IsSetSound, IsSpan, IsUser, IsUserSound}
-use Rattle.policy_ops.specs.Ranges.{IsEnrolment, IsTriple}
-use Rattle.policy_ops.specs.declared.policy_op.Enrolment.{Enrolment}
-use Rattle.policy_ops.specs.declared.policy_op.PolicyOp.TheVariants as asked
+use Rattle.policy_commands.specs.Ranges.{IsEnrolment, IsTriple}
+use Rattle.policy_commands.specs.declared.policy_op.Enrolment.{Enrolment}
+use Rattle.policy_commands.specs.declared.policy_op.PolicyOp.TheVariants as asked
 use Rattle.certify.proofs.CommandRules.{IsPassed, not_false, not_true, one_procedure, passed, user_missing, user_there}
 use Rattle.certify.proofs.SomeRows.{all_added, all_of, any_of, each_of, none_passes, some_passes}
 use Rattle.certify.proofs.SoundTables.{certifier_of_key, certifiers_fewer, certifiers_still, counted, few_more, relation_of_key, relations_fewer, relations_still, triple_of_key, triples_fewer, triples_still}

@@ -15,8 +15,8 @@ use Rattle.bank_policy.specs.declared.rows.Certifier.{Certifier}
 use Rattle.bank_policy.specs.declared.rows.Relation.{Relation}
 use Rattle.bank_policy.specs.declared.rows.Triple.{Triple}
 use Rattle.bank_policy.specs.declared.rows.User.{User}
-use Rattle.book_growth.proofs.Rows.{count_named, count_other}
-use Rattle.book_growth.proofs.RuleTests.{one_fits}
+use Rattle.keyed_rows.proofs.Rows.{count_named, count_other}
+use Rattle.rule_tests.proofs.RuleTests.{one_fits}
 use Rattle.policy_check.specs.Soundness.{AreCertifiersSound, AreRelationsSound, AreTriplesSound, HasFewOfEachProcedure, HasFewOfEachUser, IsNumber, IsRelated, IsSet, IsSpan, IsUser}
 use Rattle.certify.proofs.RemovedRows.{AreDistinct-filter, count-filter}
 use Rattle.certify.proofs.SomeRows.{all_of, any_still, each_of}

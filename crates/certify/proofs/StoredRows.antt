@@ -13,7 +13,7 @@ use Rattle.bank_policy.specs.declared.rows.Triple.{Triple}
 use Rattle.bank_terms.specs.Procedure.{number_of, procedures}
 use Rattle.bank_terms.specs.declared.procedure.Procedure.{Procedure}
 use Rattle.bank_terms.specs.declared.procedure.Procedure.TheVariants as procedure
-use Rattle.policy_ops.specs.declared.policy_op.PolicyOp.TheVariants as asked
+use Rattle.policy_commands.specs.declared.policy_op.PolicyOp.TheVariants as asked
 use Rattle.certify.specs.CommandRows.{certifies_any, command_rows, executes, has_certified, has_relation, has_set, has_triple, is_certifier, is_officer, of_certifier, of_officer}
 use Rattle.certify.specs.StoredRows.{appoint_rows, certify_rows, grant_rows, has_one_by, is_among, is_held_on, revoke_rows, withdraw_rows}
 use Rattle.certify.specs.declared.command_rows.CommandRows.{CommandRows}

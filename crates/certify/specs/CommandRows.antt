@@ -6,8 +6,8 @@ use Rattle.bank_terms.specs.Procedure.{number_of}
 use Rattle.bank_terms.specs.declared.procedure.Procedure.{Procedure}
 use Rattle.bank_policy.specs.HeldRows.{is_relation_of, is_triple_of, standing}
 use Rattle.bank_policy.specs.Policy.{PolicyLists}
-use Rattle.policy_ops.specs.declared.policy_op.PolicyOp.{PolicyOp}
-use Rattle.policy_ops.specs.declared.policy_op.PolicyOp.TheVariants as asked
+use Rattle.policy_commands.specs.declared.policy_op.PolicyOp.{PolicyOp}
+use Rattle.policy_commands.specs.declared.policy_op.PolicyOp.TheVariants as asked
 use Rattle.certify.specs.declared.command_rows.CommandRows.{CommandRows}
 
 -- ---- what the policy says of who asks, and of whom a command names

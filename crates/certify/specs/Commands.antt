@@ -2,7 +2,6 @@
 -- by those alone who may certify it, and these may not execute it.
 use Rattle.std.specs.Prelude.{ℕ, ◌==◌, ◌&&◌, ◌||◌, Bool, true, false, not, nat_le, is_none, List, [], ◌∷◌, Option}
 use Rattle.std.specs.Option.{option_map_or}
-use Rattle.std.specs.List.{find}
 use Rattle.bank_terms.specs.Limits.{max_relations, max_sets, max_triples}
 use Rattle.bank_terms.specs.declared.rule.Rule.{Rule}
 use Rattle.bank_terms.specs.declared.rule.Rule.TheVariants as rule
@@ -12,8 +11,9 @@ use Rattle.bank_books.specs.Effects.{applied, in_full}
 use Rattle.bank_books.specs.WorldLists.{WorldLists}
 use Rattle.bank_books.specs.declared.row_write.RowWrite.{RowWrite}
 use Rattle.bank_books.specs.declared.row_write.RowWrite.TheVariants as write
-use Rattle.policy_ops.specs.declared.policy_op.PolicyOp.{PolicyOp}
-use Rattle.policy_ops.specs.declared.policy_op.PolicyOp.TheVariants as asked
+use Rattle.policy_commands.specs.declared.policy_op.PolicyOp.{PolicyOp}
+use Rattle.policy_commands.specs.declared.policy_op.PolicyOp.TheVariants as asked
+use Rattle.rule_tests.specs.Denial.{first_denial}
 use Rattle.certify.specs.declared.command_rows.CommandRows.{CommandRows}
 
 -- an officer asks for it; for the others a certifier of the procedure does, and for a set a certifier of any
@@ -76,22 +76,19 @@ is_out_of_place rows by (asked.Enrol e) = rows.is_there
 is_out_of_place rows by (asked.Suspend k) = is_suspended rows || k.user == by
 is_out_of_place rows by (asked.Restore k) = not (is_suspended rows)
 
--- the rule denies the command of this user
-abbrev pub command_denies : Rule → CommandRows → ℕ → PolicyOp → Bool
-command_denies rule.Officer rows by command = is_of_officers command && not rows.officer
-command_denies rule.Certifier rows by command = not (is_of_officers command) && not rows.certifies
-command_denies rule.Separation rows by command = breaks_separation rows command
-command_denies rule.PolicyUnknown rows by command = is_unknown rows command
-command_denies rule.PolicyState rows by command = is_out_of_place rows by command
-command_denies _ rows by command = false
-
--- the rules that a command is judged by, in their order
-abbrev pub rules_of_command : List Rule
-rules_of_command = rule.Officer ∷ rule.Certifier ∷ rule.Separation ∷ rule.PolicyUnknown ∷ rule.PolicyState ∷ []
+-- the rules that the command of this user is judged by, in their order, each with whether it denies
+abbrev pub command_tests : CommandRows → ℕ → PolicyOp → List (Rule × Bool)
+command_tests rows by command =
+    (rule.Officer, is_of_officers command && not rows.officer)
+    ∷ (rule.Certifier, not (is_of_officers command) && not rows.certifies)
+    ∷ (rule.Separation, breaks_separation rows command)
+    ∷ (rule.PolicyUnknown, is_unknown rows command)
+    ∷ (rule.PolicyState, is_out_of_place rows by command)
+    ∷ []
 
 -- the first of them that denies
 abbrev pub first_against_command : CommandRows → ℕ → PolicyOp → Option Rule
-first_against_command rows by command = find (λ r. command_denies r rows by command) rules_of_command
+first_against_command rows by command = first_denial (command_tests rows by command)
 
 -- The change of the policy. A relation stands by who asks; a user who is taken in has no session yet, and one who is restored needs a new one.
 abbrev pub change_of : PolicyOp → ℕ → PolicyWrite

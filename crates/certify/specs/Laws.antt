@@ -6,8 +6,8 @@ use Rattle.bank_books.specs.Range.{IsUser}
 use Rattle.bank_books.specs.WorldLists.{WorldLists}
 use Rattle.policy_check.specs.Separation.{Separated}
 use Rattle.policy_check.specs.Soundness.{IsPolicySound}
-use Rattle.policy_ops.specs.Ranges.{IsPolicyOp}
-use Rattle.policy_ops.specs.declared.policy_op.PolicyOp.{PolicyOp}
+use Rattle.policy_commands.specs.Ranges.{IsPolicyOp}
+use Rattle.policy_commands.specs.declared.policy_op.PolicyOp.{PolicyOp}
 use Rattle.certify.specs.CommandRows.{command_rows}
 use Rattle.certify.specs.Commands.{commanded, first_against_command}
 

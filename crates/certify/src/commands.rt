@@ -6,7 +6,8 @@ use bank_books::{Plan, RowWrite};
 use bank_policy::{PolicyWrite, Relation, Suspension, User};
 use bank_terms::{MAX_RELATIONS, MAX_SETS, MAX_TRIPLES, Rule};
 use money::Fault;
-use policy_ops::{Enrolment, PolicyOp};
+use policy_commands::{Enrolment, PolicyOp};
+use rule_tests::first_denial;
 use std::alloc::Global;
 
 /// What carries out a command of this user, or the first rule that denies it. Only memory keeps it from
@@ -76,22 +77,13 @@ pub fn rule_against_command(rows: &CommandRows, by: u32, command: &PolicyOp) -> 
     ensures { result ≡ first_against_command rows.now by command.now }
 {
     let is_of_officers = is_of_officers(command);
-    if is_of_officers && !rows.officer {
-        return Some(Rule::Officer);
-    }
-    if !is_of_officers && !rows.certifies {
-        return Some(Rule::Certifier);
-    }
-    if breaks_separation(rows, command) {
-        return Some(Rule::Separation);
-    }
-    if is_unknown(rows, command) {
-        return Some(Rule::PolicyUnknown);
-    }
-    if is_out_of_place(rows, by, command) {
-        return Some(Rule::PolicyState);
-    }
-    None
+    first_denial(&[
+        (Rule::Officer, is_of_officers && !rows.officer),
+        (Rule::Certifier, !is_of_officers && !rows.certifies),
+        (Rule::Separation, breaks_separation(rows, command)),
+        (Rule::PolicyUnknown, is_unknown(rows, command)),
+        (Rule::PolicyState, is_out_of_place(rows, by, command)),
+    ])
 }
 
 /// Whether an officer asks for it, and not a certifier.

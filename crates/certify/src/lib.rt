@@ -2,7 +2,7 @@
 //! answers the first of the rules officer, certifier, separation, policy unknown and policy state that
 //! denies, or none. `plan_policy` answers that rule, or exactly the change. `laws` says that a policy which
 //! is sound and separates stays so after what no rule denies, and that books which hold still hold.
-//! `decide` judges identity and loads the rows.
+//! `decide` judges identity, and `command_reads` loads the rows.
 #![tactic(auto)]
 
 mod command_rows;

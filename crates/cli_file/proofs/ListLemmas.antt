@@ -2,9 +2,9 @@
 use Rattle.std.proofs.Common.{◌≡◌, ◌∙◌, sym, inl, inr, ℕ, List}
 use Rattle.std.specs.Prelude.{◌⊎◌, Result, Ok, Err}
 use Rattle.bank_books.specs.WorldLists.{WorldLists}
-use Rattle.opening_lists.specs.Opening.{opening}
-use Rattle.opening_lists.specs.declared.list_fault.ListFault.{ListFault}
-use Rattle.opening_lists.specs.declared.list_fault.ListFault.TheVariants as of_list
+use Rattle.list_opening.specs.Opening.{opening}
+use Rattle.list_opening.specs.declared.list_fault.ListFault.{ListFault}
+use Rattle.list_opening.specs.declared.list_fault.ListFault.TheVariants as of_list
 
 -- where they state a World
 pub told_world : (texts : List (List ℕ)) (r : Result WorldLists ListFault) (w : WorldLists) → (r ≡ opening texts) ⊎ (r ≡ Err of_list.Memory)

@@ -5,8 +5,8 @@ use Rattle.sqlite_wal.specs.Recovery.{Image}
 use Rattle.sqlite.specs.declared.FileStore.{FileStore}
 use Rattle.sqlite.specs.Held.{Held}
 use Rattle.bank_books.specs.WorldLists.{WorldLists}
-use Rattle.ends.specs.Streams.{Stream, Streams}
-use Rattle.opening_lists.specs.Badges.{Badges, user_of}
+use Rattle.exit_lines.specs.Streams.{Stream, Streams}
+use Rattle.list_opening.specs.Badges.{Badges, user_of}
 use Rattle.cli_file.specs.Checking.{IsCheckedIn}
 use Rattle.cli_file.specs.Faults.{IsOfFile, IsUnopened}
 use Rattle.cli_file.specs.Listening.{IsListenedIn}

@@ -2,18 +2,18 @@
 use Rattle.std.specs.Prelude.{◌≡◌, ℕ, Bool, List, true, false, ⊤}
 use Rattle.money.specs.declared.fault.Fault.{Fault}
 use Rattle.money.specs.declared.fault.Fault.TheVariants as store
-use Rattle.messages.specs.declared.serving.ServeFault.{ServeFault}
-use Rattle.messages.specs.declared.serving.ServeFault.TheVariants as serving
+use Rattle.http_messages.specs.declared.serving.ServeFault.{ServeFault}
+use Rattle.http_messages.specs.declared.serving.ServeFault.TheVariants as serving
 use Rattle.counter_connections.specs.declared.fault.PortFault.{PortFault}
 use Rattle.counter_connections.specs.declared.fault.PortFault.TheVariants as port
-use Rattle.open_sql.specs.declared.open_fault.OpenFault.{OpenFault}
-use Rattle.open_sql.specs.declared.open_fault.OpenFault.TheVariants as making
-use Rattle.adopt_sql.specs.declared.adopt_fault.AdoptFault.{AdoptFault}
-use Rattle.adopt_sql.specs.declared.adopt_fault.AdoptFault.TheVariants as adopting
+use Rattle.sql_create.specs.declared.open_fault.OpenFault.{OpenFault}
+use Rattle.sql_create.specs.declared.open_fault.OpenFault.TheVariants as making
+use Rattle.sql_adopt.specs.declared.adopt_fault.AdoptFault.{AdoptFault}
+use Rattle.sql_adopt.specs.declared.adopt_fault.AdoptFault.TheVariants as adopting
 use Rattle.list_records.specs.declared.fault.RecordFault.{RecordFault}
 use Rattle.list_records.specs.declared.fault.RecordFault.TheVariants as of_record
-use Rattle.opening_lists.specs.declared.list_fault.ListFault.{ListFault}
-use Rattle.opening_lists.specs.declared.list_fault.ListFault.TheVariants as of_list
+use Rattle.list_opening.specs.declared.list_fault.ListFault.{ListFault}
+use Rattle.list_opening.specs.declared.list_fault.ListFault.TheVariants as of_list
 use Rattle.cli_file.specs.declared.fault.ActionFault.{ActionFault}
 use Rattle.cli_file.specs.declared.fault.ActionFault.TheVariants as fault
 

@@ -10,18 +10,19 @@ use Rattle.sqlite.specs.Files.{file_state, over_files}
 use Rattle.sqlite.specs.Held.{Held}
 use Rattle.sqlite.specs.State.{HasCleanDisk, KeepsCommit, Survives}
 use Rattle.bank_books.specs.WorldLists.{WorldLists}
-use Rattle.bank_schema.specs.Held.{AreOfWorld, HoldsSheets, HoldsSheetsIn}
-use Rattle.bank_schema.specs.Readable.{AreReadable}
-use Rattle.bank_schema.specs.Schema.{newest}
-use Rattle.bank_schema.specs.declared.edition.Edition.{Edition}
-use Rattle.kept_rows.specs.Sheets.{Sheets}
-use Rattle.open_sql.specs.Blank.{no_schema}
-use Rattle.open_sql.specs.Made.{IsBank, IsBeforehand, IsKeptAs, IsRefusal}
-use Rattle.open_sql.specs.declared.open_fault.OpenFault.{OpenFault}
-use Rattle.adopt_sql.specs.Adopted.{Adopts, IsBankFile, IsLeft, IsOfAnother}
-use Rattle.adopt_sql.specs.Older.{IsNewestFile, IsOlderFile}
-use Rattle.adopt_sql.specs.Refused.{HoldsSoundBank, HoldsSoundBankIn, IsNamedBy, IsOfOther, IsOfStore, IsRefused, IsRefusedIn}
-use Rattle.adopt_sql.specs.declared.adopt_fault.AdoptFault.{AdoptFault}
+use Rattle.sql_schema.specs.Held.{AreOfWorld, HoldsSheets, HoldsSheetsIn}
+use Rattle.sql_schema.specs.Readable.{AreReadable}
+use Rattle.sql_schema.specs.Schema.{newest}
+use Rattle.sql_schema.specs.declared.edition.Edition.{Edition}
+use Rattle.sql_schema.specs.Steps.{LeavesNone}
+use Rattle.book_kept.specs.Sheets.{Sheets}
+use Rattle.sql_create.specs.Blank.{no_schema}
+use Rattle.sql_create.specs.Made.{IsBank, IsBeforehand, IsKeptAs, IsRefusal}
+use Rattle.sql_create.specs.declared.open_fault.OpenFault.{OpenFault}
+use Rattle.sql_adopt.specs.Adopted.{Adopts, IsBankFile, IsLeft, IsOfAnother}
+use Rattle.sql_adopt.specs.Older.{IsNewestFile, IsOlderFile}
+use Rattle.sql_adopt.specs.Refused.{HoldsSoundBank, HoldsSoundBankIn, IsNamedBy, IsOfOther, IsOfStore, IsRefused, IsRefusedIn}
+use Rattle.sql_adopt.specs.declared.adopt_fault.AdoptFault.{AdoptFault}
 use Rattle.store_rows.specs.Status.{Status}
 use Rattle.store_sql.specs.Bank.{sql_status}
 use Rattle.store_sql.specs.declared.sql_store.SqlStore.{SqlStore}
@@ -50,7 +51,7 @@ module _ {D : Type 0} {g : Ghosts D} where
     pub adopts : HasCleanDisk (file_state store.conn) → IsBankFile (file_state opened) → Adopts (file_state opened) (file_state store.conn)
     pub unchanged : HasCleanDisk (file_state store.conn) → IsBankFile (file_state opened) → IsLeft (file_state opened) (file_state store.conn)
     pub other : HasCleanDisk (file_state store.conn) → IsOfAnother newest (file_state opened) → ⊥
-    pub survives : Survives (file_state opened) (file_state store.conn) (λ _. ⊥)
+    pub survives : LeavesNone (file_state opened) (file_state store.conn)
     pub begins : IsNewStore store
 
   -- Where they were those of a bank, this is the first fault of it, and nothing was changed. One of an earlier edition is told as of another
@@ -64,7 +65,7 @@ module _ {D : Type 0} {g : Ghosts D} where
     pub other : HasCleanDisk (file_state left) → IsOfAnother newest (file_state opened) → IsOfOther why
     pub unchanged : HasCleanDisk (file_state left) → IsBankFile (file_state opened) → IsLeft (file_state opened) (file_state left)
     pub idle : left.in_transaction ≡ false
-    pub survives : Survives (file_state opened) (file_state left) (λ _. ⊥)
+    pub survives : LeavesNone (file_state opened) (file_state left)
 
   -- Where the tables of the file were those of a bank in an edition before the newest, as its row says, they held a World whose books hold
   -- and whose policy is sound and separated, and those of the newest edition hold it now. A crash leaves the one or the other, whole.
@@ -85,7 +86,7 @@ module _ {D : Type 0} {g : Ghosts D} where
     pub named : HasCleanDisk (file_state left) → (e : Edition) → IsOlderFile e (file_state opened) → (s : Sheets) → HoldsSheetsIn e (file_state opened).now.trees s → AreReadable s → IsNamedBy s why
     pub other : HasCleanDisk (file_state left) → IsNewestFile (file_state opened) → IsOfOther why
     pub unchanged : HasCleanDisk (file_state left) → (e : Edition) → IsOlderFile e (file_state opened) → IsLeft (file_state opened) (file_state left)
-    pub untouched : (IsOfStore why → ⊥) → Survives (file_state opened) (file_state left) (λ _. ⊥)
+    pub untouched : (IsOfStore why → ⊥) → LeavesNone (file_state opened) (file_state left)
     pub idle : left.in_transaction ≡ false
     pub crash : Survives (file_state opened) (file_state left) (λ trees. HasCleanDisk (file_state left) → (e : Edition) → IsOlderFile e (file_state opened) → IsCarriedOver e (file_state opened) trees)
 

@@ -6,7 +6,7 @@ use Rattle.sqlite.specs.declared.FileStore.{FileStore}
 use Rattle.sqlite.specs.Held.{Held}
 use Rattle.counter_connections.specs.Port.{IsPortServedBehindCache}
 use Rattle.counter_connections.specs.declared.fault.PortFault.{PortFault}
-use Rattle.ends.specs.Streams.{Stream}
+use Rattle.exit_lines.specs.Streams.{Stream}
 use Rattle.cli_file.specs.Faults.{fault_of_port}
 use Rattle.cli_file.specs.Files.{BankStore, IsClosed, IsFound, IsNotClosed, IsNotFound, file_status}
 use Rattle.cli_file.specs.declared.fault.ActionFault.{ActionFault}

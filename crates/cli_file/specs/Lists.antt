@@ -2,9 +2,9 @@
 use Rattle.std.specs.Prelude.{◌≡◌, ◌⊎◌, ℕ, List, Result, Ok, Err}
 use Rattle.bank_books.specs.WorldLists.{WorldLists}
 use Rattle.list_records.specs.declared.fault.RecordFault.{RecordFault}
-use Rattle.opening_lists.specs.Badges.{Badges, badges_of}
-use Rattle.opening_lists.specs.Opening.{opening}
-use Rattle.opening_lists.specs.declared.list_fault.ListFault.{ListFault}
+use Rattle.list_opening.specs.Badges.{Badges, badges_of}
+use Rattle.list_opening.specs.Opening.{opening}
+use Rattle.list_opening.specs.declared.list_fault.ListFault.{ListFault}
 use Rattle.cli_file.specs.Faults.{IsOfBadges, IsOfFile, fault_of_lists}
 use Rattle.cli_file.specs.declared.fault.ActionFault.{ActionFault}
 

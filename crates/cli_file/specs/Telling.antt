@@ -1,8 +1,8 @@
 -- How an action is told, and the status.
 use Rattle.std.specs.Prelude.{◌≡◌, ◌⊎◌, ℕ, List, Result, Ok, Err, true, false}
-use Rattle.messages.specs.declared.serving.ServeFault.TheVariants.{Write}
-use Rattle.ends.specs.Ends.{IsFailed, IsShown}
-use Rattle.ends.specs.Streams.{Stream}
+use Rattle.http_messages.specs.declared.serving.ServeFault.TheVariants.{Write}
+use Rattle.exit_lines.specs.Ends.{IsFailed, IsShown}
+use Rattle.exit_lines.specs.Streams.{Stream}
 use Rattle.cli_file.specs.Faults.{is_refusal}
 use Rattle.cli_file.specs.declared.fault.ActionFault.{ActionFault}
 

@@ -1,4 +1,4 @@
-ghost use Rattle.ends.specs.Streams.{stream_at, streams_at};
+ghost use Rattle.exit_lines.specs.Streams.{stream_at, streams_at};
 ghost use Rattle.cli_file.specs.Actions.{IsChecked, IsInited, IsListened, IsRun, IsUpgraded};
 
 use crate::checking::check_in;

@@ -1,14 +1,14 @@
 ghost use Rattle.std.specs.Prelude.{◌≡◌};
 ghost use Rattle.cli_file.specs.Faults.{IsOfBadges, IsOfFile, fault_of_adopting, fault_of_lists, fault_of_making, fault_of_port, fault_of_serving, fault_of_store, is_refusal};
 
-use adopt_sql::AdoptFault;
 use book_check::BooksFault;
 use counter_connections::PortFault;
-use messages::ServeFault;
+use http_messages::ServeFault;
+use list_opening::{ListFault, RecordFault};
 use money::Fault;
-use open_sql::OpenFault;
-use opening_lists::{ListFault, RecordFault};
 use policy_check::PolicyFault;
+use sql_adopt::AdoptFault;
+use sql_create::OpenFault;
 use sqlite::{Error, ErrorCode};
 use thiserror::Error;
 

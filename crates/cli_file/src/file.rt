@@ -2,9 +2,9 @@ ghost use Rattle.std.specs.Prelude.{◌≡◌, false, MatchResult};
 ghost use Rattle.cli_file.specs.Files.{IsCarried, IsClosed, IsFound, IsMade, IsNotCarried, IsNotClosed, IsNotFound, IsNotMade};
 
 use crate::fault::ActionFault;
-use adopt_sql::adopt;
 use bank_books::World;
-use open_sql::create;
+use sql_adopt::adopt;
+use sql_create::create;
 use sql_upgrade::upgrade;
 use sqlite::{Connection, FileStore, Files};
 use sqlite_disk::Disk;

@@ -1,12 +1,12 @@
 use counter_api::Gate;
-use opening_lists::Badges;
+use list_opening::Badges;
 
 /// The gate that knows the users of a list of badges.
 #[derive(Clone, Copy)]
 pub struct BadgeGate<'a>(pub &'a Badges);
 
 impl<'a> Gate for BadgeGate<'a> {
-    ghost use Rattle.opening_lists.specs.Badges.{user_of};
+    ghost use Rattle.list_opening.specs.Badges.{user_of};
 
     ghost users = { λ gate badge. user_of gate.0.now badge };
 

@@ -1,5 +1,5 @@
 ghost use Rattle.std.specs.Prelude.{◌≡◌, false};
-ghost use Rattle.ends.specs.Streams.{stream_at};
+ghost use Rattle.exit_lines.specs.Streams.{stream_at};
 ghost use Rattle.cli_file.specs.Listening.{IsListenedIn, end_of_port};
 
 use crate::fault::ActionFault;

@@ -4,7 +4,7 @@ ghost use Rattle.cli_file.specs.Lists.{AreBadgesRead, IsOpeningRead};
 
 use crate::fault::ActionFault;
 use bank_books::World;
-use opening_lists::{Badges, read_badges, read_lists};
+use list_opening::{Badges, read_badges, read_lists};
 use std::alloc::Global;
 use std::io::{ErrorKind, Read};
 use std::{fs, io};

@@ -1,5 +1,5 @@
 ghost use Rattle.std.specs.Prelude.{◌≡◌, false};
-ghost use Rattle.ends.specs.Streams.{streams_at};
+ghost use Rattle.exit_lines.specs.Streams.{streams_at};
 ghost use Rattle.cli_file.specs.Serving.{IsServedIn, end_of};
 
 use crate::fault::ActionFault;

@@ -1,8 +1,8 @@
-ghost use Rattle.ends.specs.Streams.{stream_at};
+ghost use Rattle.exit_lines.specs.Streams.{stream_at};
 ghost use Rattle.cli_file.specs.Telling.{IsEnded, IsFaultTold, IsSaid};
 
 use crate::fault::ActionFault;
-use ends::{DONE, FAILED, ServeFault, fail, show};
+use exit_lines::{DONE, FAILED, ServeFault, fail, show};
 use money::Tallied;
 use std::io;
 use std::io::Write;

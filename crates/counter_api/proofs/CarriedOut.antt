@@ -8,19 +8,19 @@ use Rattle.money.specs.declared.fault.Fault.TheVariants.{Memory}
 use Rattle.bank_books.specs.WorldLists.{WorldLists}
 use Rattle.store_rows.specs.Status.{Answers, Keeps, Refuses, StaysWhole, Status, Tells, mark_of}
 use Rattle.decide.specs.Permit.{CarriesOut, ChangesNothing, IsDenialOf, IsLeave, IsPermitOf, IsReplyOf, IsSettled, Makes}
-use Rattle.bank_run.specs.LastWord.{finds_room}
-use Rattle.bank_run.specs.Requests.{effect, executes, first, repeated, reply_text, verdict}
-use Rattle.bank_run.specs.Run.{if_allowed, is_accepted, reply, step, told, told_again, unless_repeated}
+use Rattle.bank_meaning.specs.LastWord.{finds_room}
+use Rattle.bank_meaning.specs.Requests.{effect, executes, first, repeated, reply_text, verdict}
+use Rattle.bank_meaning.specs.Run.{if_allowed, is_accepted, reply, step, told, told_again, unless_repeated}
 use Rattle.decide.specs.declared.permit.Denial.{Denial}
 use Rattle.decide.specs.declared.permit.Permit.{Permit}
 use Rattle.decide.specs.declared.permit.Reply.{Reply}
 use Rattle.decide.specs.declared.permit.Reply.TheVariants as answer
-use Rattle.op_plans.specs.Judged.{IsReported}
-use Rattle.op_plans.specs.declared.prepared.Ready.{Ready}
-use Rattle.op_plans.specs.declared.prepared.Ready.TheVariants as ready
+use Rattle.op_prepare.specs.Judged.{IsReported}
+use Rattle.op_prepare.specs.declared.prepared.Ready.{Ready}
+use Rattle.op_prepare.specs.declared.prepared.Ready.TheVariants as ready
 use Rattle.reports.specs.declared.contents.Contents.{Contents}
-use Rattle.bank_run.specs.Meaning.{Verdict, json}
-use Rattle.bank_run.specs.declared.request.Request.{Request}
+use Rattle.bank_meaning.specs.Meaning.{Verdict, json}
+use Rattle.bank_meaning.specs.declared.request.Request.{Request}
 use Rattle.decide.specs.OneRequest.{IsToldInJson, LeavesBoth, Moves, Replies, Settles}
 use Rattle.counter_api.specs.CarriedOut.{IsCarriedOut, IsResponded}
 use Rattle.counter_api.specs.Response.{ResponseParts, done_parts}

@@ -1,9 +1,9 @@
 -- From the exits of the loop over a counter to those of `serve` over its bank.
 use Rattle.std.proofs.Common.{◌≡◌, ℕ, List, Option, Result, refl, ap, subst, ◌∙◌}
-use Rattle.messages.specs.Exit.{IsExit, Point}
-use Rattle.messages.specs.Parts.{MessageParts}
-use Rattle.messages.specs.declared.serving.ServeFault.{ServeFault}
-use Rattle.messages.specs.declared.serving.Served.{Served}
+use Rattle.http_messages.specs.Exit.{IsExit, Point}
+use Rattle.http_messages.specs.Parts.{MessageParts}
+use Rattle.http_messages.specs.declared.serving.ServeFault.{ServeFault}
+use Rattle.http_messages.specs.declared.serving.Served.{Served}
 use Rattle.store_rows.specs.Status.{Status}
 use Rattle.counter_api.specs.Answers.{CounterAnswers, CounterBreaks, IsBroken}
 use Rattle.counter_api.specs.Exit.{IsServed}

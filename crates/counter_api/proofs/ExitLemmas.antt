@@ -1,11 +1,11 @@
 -- From the exits of the loop over an engine to those of `serve` over a bank.
 use Rattle.std.proofs.Common.{◌≡◌, ℕ, inl, inr, List, [], ◌∷◌, ◌++◌, drop, map, take, take-append-drop, Option, Result, Ok, Err, refl, sym, ap, subst, ◌∙◌, append-nil, append_assoc}
-use Rattle.messages.specs.Exit.{AnswersAll, IsExit, Point, Reads, StopsInReply}
-use Rattle.messages.specs.Parts.{MessageParts}
-use Rattle.messages.specs.Whole.{WholeMessage, message_parts}
-use Rattle.messages.specs.declared.serving.ServeFault.{ServeFault}
-use Rattle.messages.specs.declared.serving.ServeFault.TheVariants.{Cut, Memory, Read, Report, Write}
-use Rattle.messages.specs.declared.serving.Served.{Served}
+use Rattle.http_messages.specs.Exit.{AnswersAll, IsExit, Point, Reads, StopsInReply}
+use Rattle.http_messages.specs.Parts.{MessageParts}
+use Rattle.http_messages.specs.Whole.{WholeMessage, message_parts}
+use Rattle.http_messages.specs.declared.serving.ServeFault.{ServeFault}
+use Rattle.http_messages.specs.declared.serving.ServeFault.TheVariants.{Cut, Memory, Read, Report, Write}
+use Rattle.http_messages.specs.declared.serving.Served.{Served}
 use Rattle.reports.specs.Report.{BeginsWith}
 use Rattle.store_rows.specs.Status.{Status, Tells}
 use Rattle.counter_api.specs.Answers.{IsBroken}

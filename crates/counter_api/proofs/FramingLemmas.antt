@@ -1,9 +1,9 @@
 -- The bytes of a reply from its status, the type of its content and its body.
 use Rattle.std.proofs.Common.{◌≡◌, ℕ, List, Option, Result, OnErr, ap, subst, ◌∙◌}
 use Rattle.money.specs.Counted.{AppendsBeginning}
-use Rattle.heads.specs.Framing.{asks_head, closes}
-use Rattle.messages.specs.Parts.{MessageParts}
-use Rattle.messages.specs.Reply.{reply_bytes}
+use Rattle.http_heads.specs.Framing.{asks_head, closes}
+use Rattle.http_messages.specs.Parts.{MessageParts}
+use Rattle.http_messages.specs.Reply.{reply_bytes}
 use Rattle.counter_api.specs.Response.{ResponseParts}
 use Rattle.counter_api.specs.Run.{framed}
 

@@ -2,15 +2,15 @@
 use Rattle.std.proofs.Common.{◌≡◌, ◌⊎◌, ℕ, inl, inr, List, [], Option, Some, None, Result, Ok, Err, IfOk, IsNone, IsOkAnd, IsOkUnless, IsSome, refl, sym, ap, subst, ◌∙◌}
 use Rattle.bank_terms.specs.declared.rule.Rule.{Rule}
 use Rattle.bank_books.specs.WorldLists.{WorldLists}
-use Rattle.heads.specs.declared.fault.MessageFault.{MessageFault}
+use Rattle.http_heads.specs.declared.fault.MessageFault.{MessageFault}
 use Rattle.money.specs.declared.fault.Fault.{Fault}
 use Rattle.money.specs.declared.fault.Fault.TheVariants.{Memory}
-use Rattle.messages.specs.Parts.{MessageParts}
+use Rattle.http_messages.specs.Parts.{MessageParts}
 use Rattle.store_rows.specs.Status.{Answers, Keeps, Status, Tells, after_mark, mark_of}
-use Rattle.bank_run.specs.Meaning.{ReplyText}
-use Rattle.bank_run.specs.Run.{reply, step, world_after}
-use Rattle.bank_run.specs.Sums.{IsProper}
-use Rattle.bank_run.specs.declared.request.Request.{Request}
+use Rattle.bank_meaning.specs.Meaning.{ReplyText}
+use Rattle.bank_meaning.specs.Run.{reply, step, world_after}
+use Rattle.bank_meaning.specs.Sums.{IsProper}
+use Rattle.bank_meaning.specs.declared.request.Request.{Request}
 use Rattle.decide.specs.OneRequest.{LeavesBoth, Settles}
 use Rattle.requests.specs.Request.{IsReport, request_of}
 use Rattle.reports.specs.Report.{BeginsWith}

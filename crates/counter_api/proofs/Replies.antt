@@ -3,9 +3,9 @@ use Rattle.std.proofs.Common.{◌≡◌, ℕ, Bool, true, false, inl, inr, arith
 use Rattle.std.specs.List.{concat}
 use Rattle.http.specs.StatusCode.{code_digits}
 use Rattle.money.specs.Counted.{CountsFailure}
-use Rattle.heads.specs.Framing.{asks_head, closes}
-use Rattle.messages.specs.Parts.{MessageParts}
-use Rattle.messages.specs.Reply.{connection_field, head_bytes, phrase_of, reply_bytes}
+use Rattle.http_heads.specs.Framing.{asks_head, closes}
+use Rattle.http_messages.specs.Parts.{MessageParts}
+use Rattle.http_messages.specs.Reply.{connection_field, head_bytes, phrase_of, reply_bytes}
 use Rattle.store_rows.specs.Status.{Keeps, RoseBy, Status}
 use Rattle.reports.specs.Report.{BeginsWith}
 use Rattle.reports.proofs.StatusLemmas.{keeps_still}

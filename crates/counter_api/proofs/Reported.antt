@@ -5,14 +5,14 @@ use Rattle.bank_terms.specs.declared.rule.Rule.{Rule}
 use Rattle.bank_books.specs.WorldLists.{WorldLists}
 use Rattle.money.specs.declared.fault.Fault.{Fault}
 use Rattle.money.specs.declared.fault.Fault.TheVariants.{Stopped}
-use Rattle.messages.specs.Parts.{MessageParts}
+use Rattle.http_messages.specs.Parts.{MessageParts}
 use Rattle.store_rows.specs.Status.{Keeps, Status, Tells}
-use Rattle.bank_run.specs.LastWord.{finds_room}
-use Rattle.bank_run.specs.Meaning.{ReplyText, plain}
-use Rattle.bank_run.specs.Requests.{effect, first, repeated, reply_text, verdict}
-use Rattle.bank_run.specs.Run.{if_allowed, reply, step, told, told_again, unless_repeated}
-use Rattle.bank_run.specs.declared.request.Request.{Request}
-use Rattle.op_plans.specs.Judged.{IsReported}
+use Rattle.bank_meaning.specs.LastWord.{finds_room}
+use Rattle.bank_meaning.specs.Meaning.{ReplyText, plain}
+use Rattle.bank_meaning.specs.Requests.{effect, first, repeated, reply_text, verdict}
+use Rattle.bank_meaning.specs.Run.{if_allowed, reply, step, told, told_again, unless_repeated}
+use Rattle.bank_meaning.specs.declared.request.Request.{Request}
+use Rattle.op_prepare.specs.Judged.{IsReported}
 use Rattle.reports.specs.Report.{BeginsWith, IsCounted, text_of}
 use Rattle.reports.specs.declared.contents.Contents.{Contents}
 use Rattle.reports.proofs.StatusLemmas.{keeps_then}

@@ -3,14 +3,14 @@ use Rattle.std.proofs.Common.{◌≡◌, ◌⊎◌, ℕ, ◌+◌, ◌≤◌, ◌
 use Rattle.std.proofs.lemmas.List.Elements.{All-cons, All-nil}
 use Rattle.money.specs.declared.fault.Fault.{Fault}
 use Rattle.bank_books.specs.WorldLists.{WorldLists}
-use Rattle.heads.specs.declared.fault.MessageFault.{MessageFault}
+use Rattle.http_heads.specs.declared.fault.MessageFault.{MessageFault}
 use Rattle.store_rows.specs.Status.{RoseBy, Status, counts, counts_at_most}
-use Rattle.bank_run.specs.LastWord.{finds_room, heard}
-use Rattle.bank_run.specs.Run.{Marked, accepted, is_accepted, world_after}
-use Rattle.bank_run.specs.Sums.{AreProper, IsProper}
-use Rattle.bank_run.proofs.LastWord.{last_word}
-use Rattle.bank_run.proofs.RunSums.{sums_always_agree}
-use Rattle.bank_run.specs.declared.request.Request.{Request}
+use Rattle.bank_meaning.specs.LastWord.{finds_room, heard}
+use Rattle.bank_meaning.specs.Run.{Marked, accepted, is_accepted, world_after}
+use Rattle.bank_meaning.specs.Sums.{AreProper, IsProper}
+use Rattle.bank_meaning.proofs.LastWord.{last_word}
+use Rattle.bank_meaning.proofs.RunSums.{sums_always_agree}
+use Rattle.bank_meaning.specs.declared.request.Request.{Request}
 use Rattle.counter_api.specs.Response.{ResponseParts}
 use Rattle.counter_api.specs.Run.{AreOrderly, FindsRoom, IsHandled, IsPending, IsRun, MarkedMessage, after_message, failed_after, faults_of, framed, marked, marks_of, pending_after, requests_of, stated_by, stopped_after}
 

@@ -1,7 +1,7 @@
 -- What a counter's answer to a message says.
 use Rattle.std.specs.Prelude.{◌≡◌, ℕ, List, Option, Some, None, IsOkAnd}
 use Rattle.money.specs.declared.fault.Fault.{Fault}
-use Rattle.messages.specs.Parts.{MessageParts}
+use Rattle.http_messages.specs.Parts.{MessageParts}
 use Rattle.reports.specs.Report.{BeginsWith}
 use Rattle.store_rows.specs.Status.{Keeps, RoseBy, Status, Tells}
 use Rattle.requests.specs.Request.{IsReport, request_of}

@@ -6,11 +6,11 @@ use Rattle.money.specs.declared.fault.Fault.{Fault}
 use Rattle.money.specs.declared.fault.Fault.TheVariants.{Memory}
 use Rattle.money.specs.declared.tallied.Tallied.{Tallied}
 use Rattle.bank_terms.specs.declared.rule.Rule.{Rule}
-use Rattle.messages.specs.Parts.{MessageParts}
+use Rattle.http_messages.specs.Parts.{MessageParts}
 use Rattle.store_rows.specs.Status.{Answers, Keeps, RoseBy, StaysWhole, Status, Tells, mark_of}
-use Rattle.bank_run.specs.Meaning.{ReplyText, json}
-use Rattle.bank_run.specs.Run.{reply}
-use Rattle.bank_run.specs.declared.request.Request.{Request}
+use Rattle.bank_meaning.specs.Meaning.{ReplyText, json}
+use Rattle.bank_meaning.specs.Run.{reply}
+use Rattle.bank_meaning.specs.declared.request.Request.{Request}
 use Rattle.decide.specs.OneRequest.{LeavesBoth, Moves, Replies, Settles}
 use Rattle.reports.specs.Report.{BeginsWith}
 use Rattle.requests.specs.Request.{IsReport}

@@ -1,15 +1,15 @@
 -- How a call of `serve` ends: what was read, what was written, and what became of the bank, by its exit.
 use Rattle.std.specs.Prelude.{◌≡◌, ◌⊎◌, ℕ, ◌+◌, ◌≤◌, List, [], ◌∷◌, ◌++◌, length, map, Option, Result, Ok, Err}
 use Rattle.std.specs.Io.KnownBytes.{Appends, Consumes, IsAtEnd}
-use Rattle.messages.specs.Blank.{AreLineEnds}
-use Rattle.messages.specs.Exit.{Ends, GoesOn, StopsWithin}
-use Rattle.messages.specs.Next.{IsPartial}
-use Rattle.messages.specs.Received.{max_message_len}
-use Rattle.messages.specs.Refusal.{IsRefusal}
-use Rattle.messages.specs.Whole.{Splits, WholeMessage, message_parts}
-use Rattle.messages.specs.declared.serving.ServeFault.{ServeFault}
-use Rattle.messages.specs.declared.serving.ServeFault.TheVariants.{Cut, Memory, Read, Report, Write}
-use Rattle.messages.specs.declared.serving.Served.{Served}
+use Rattle.http_messages.specs.Blank.{AreLineEnds}
+use Rattle.http_messages.specs.Exit.{Ends, GoesOn, StopsWithin}
+use Rattle.http_messages.specs.Next.{IsPartial}
+use Rattle.http_messages.specs.Received.{max_message_len}
+use Rattle.http_messages.specs.Refusal.{IsRefusal}
+use Rattle.http_messages.specs.Whole.{Splits, WholeMessage, message_parts}
+use Rattle.http_messages.specs.declared.serving.ServeFault.{ServeFault}
+use Rattle.http_messages.specs.declared.serving.ServeFault.TheVariants.{Cut, Memory, Read, Report, Write}
+use Rattle.http_messages.specs.declared.serving.Served.{Served}
 use Rattle.store_rows.specs.Status.{Status, Tells}
 use Rattle.reports.specs.Report.{BeginsWith}
 use Rattle.counter_api.specs.Answers.{IsBroken}

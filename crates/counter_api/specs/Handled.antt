@@ -2,7 +2,7 @@
 use Rattle.std.specs.Prelude.{◌≡◌, ℕ, List, Option, Some, None, Result, Ok, Err, IsOkAnd}
 use Rattle.std.specs.Io.KnownBytes.{Appends}
 use Rattle.money.specs.declared.fault.Fault.{Fault}
-use Rattle.messages.specs.Parts.{MessageParts}
+use Rattle.http_messages.specs.Parts.{MessageParts}
 use Rattle.store_rows.specs.Status.{Keeps, RoseBy, Status, Tells}
 use Rattle.reports.specs.Report.{BeginsWith}
 use Rattle.requests.specs.Request.{IsReport, request_of}

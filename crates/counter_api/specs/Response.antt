@@ -2,11 +2,11 @@
 use Rattle.std.specs.Prelude.{ℕ, List, if◌then◌else◌}
 use Rattle.bank_terms.specs.Rule.{is_forbidden}
 use Rattle.bank_terms.specs.declared.rule.Rule.{Rule}
-use Rattle.bank_run.specs.Denial.{denial_text}
-use Rattle.bank_run.specs.Meaning.{ReplyText, content_type_of}
-use Rattle.bank_run.specs.declared.reply_kind.ReplyKind.TheVariants as kind
-use Rattle.heads.specs.Fault as message
-use Rattle.heads.specs.declared.fault.MessageFault.{MessageFault}
+use Rattle.bank_meaning.specs.Denial.{denial_text}
+use Rattle.bank_meaning.specs.Meaning.{ReplyText, content_type_of}
+use Rattle.bank_meaning.specs.declared.reply_kind.ReplyKind.TheVariants as kind
+use Rattle.http_heads.specs.Fault as message
+use Rattle.http_heads.specs.declared.fault.MessageFault.{MessageFault}
 use Rattle.money.specs.declared.fault.Fault.{Fault}
 use Rattle.counter_api.specs.Fault.{fault_text}
 use Rattle.counter_api.specs.declared.response.Body.{Body}

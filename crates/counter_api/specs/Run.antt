@@ -4,16 +4,16 @@ use Rattle.money.specs.declared.fault.Fault.{Fault}
 use Rattle.money.specs.declared.fault.Fault.TheVariants.{Memory, Stopped}
 use Rattle.bank_terms.specs.declared.rule.Rule.{Rule}
 use Rattle.bank_books.specs.WorldLists.{WorldLists}
-use Rattle.heads.specs.Framing.{asks_head, closes}
-use Rattle.heads.specs.declared.fault.MessageFault.{MessageFault}
-use Rattle.messages.specs.Parts.{MessageParts}
-use Rattle.messages.specs.Reply.{reply_bytes}
+use Rattle.http_heads.specs.Framing.{asks_head, closes}
+use Rattle.http_heads.specs.declared.fault.MessageFault.{MessageFault}
+use Rattle.http_messages.specs.Parts.{MessageParts}
+use Rattle.http_messages.specs.Reply.{reply_bytes}
 use Rattle.store_rows.specs.Status.{Answers, RoseBy, StaysWhole, Status, Tells, counts, counts_at_most, failures_after, stops}
-use Rattle.bank_run.specs.LastWord.{HasLastWord, finds_room, heard}
-use Rattle.bank_run.specs.Meaning.{ReplyText}
-use Rattle.bank_run.specs.Run.{Marked, accepted, is_accepted, reply, step, world_after}
-use Rattle.bank_run.specs.Sums.{AreProper, IsProper, PassesChecks, SumsAgree}
-use Rattle.bank_run.specs.declared.request.Request.{Request}
+use Rattle.bank_meaning.specs.LastWord.{HasLastWord, finds_room, heard}
+use Rattle.bank_meaning.specs.Meaning.{ReplyText}
+use Rattle.bank_meaning.specs.Run.{Marked, accepted, is_accepted, reply, step, world_after}
+use Rattle.bank_meaning.specs.Sums.{AreProper, IsProper, PassesChecks, SumsAgree}
+use Rattle.bank_meaning.specs.declared.request.Request.{Request}
 use Rattle.requests.specs.Request.{request_of}
 use Rattle.counter_api.specs.Response.{ResponseParts, denied_parts, done_parts, faulted_parts, refused_parts}
 

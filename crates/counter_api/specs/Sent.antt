@@ -3,10 +3,10 @@ use Rattle.std.specs.Prelude.{◌≡◌, ℕ, List, Option, Some, None, ⊤}
 use Rattle.std.specs.Io.KnownBytes.{Appends}
 use Rattle.money.specs.declared.fault.Fault.{Fault}
 use Rattle.money.specs.declared.tallied.Tallied.{Tallied}
-use Rattle.messages.specs.Failures.{CountsNone, CountsOne}
-use Rattle.messages.specs.Parts.{MessageParts}
+use Rattle.http_messages.specs.Failures.{CountsNone, CountsOne}
+use Rattle.http_messages.specs.Parts.{MessageParts}
 use Rattle.store_rows.specs.Status.{Keeps, RoseBy, Status, Tells}
-use Rattle.bank_run.specs.Meaning.{plain}
+use Rattle.bank_meaning.specs.Meaning.{plain}
 use Rattle.reports.specs.Report.{BeginsWith, IsCounted, text_of}
 use Rattle.reports.specs.declared.contents.Contents.{Contents}
 use Rattle.counter_api.specs.Response.{done_parts}

@@ -2,23 +2,22 @@ ghost use Rattle.std.specs.Prelude.{◌≡◌, ◌≤◌, OnErr, OnOk};
 ghost use Rattle.bank_terms.specs.Limits.{max_moment};
 ghost use Rattle.std.specs.Io.KnownBytes.{Appends};
 ghost use Rattle.money.specs.Counted.{AppendsBeginning, stream_of};
-ghost use Rattle.bank_run.specs.Sums.{IsProper};
-ghost use Rattle.messages.specs.Failures.{CountsByCall};
+ghost use Rattle.bank_meaning.specs.Sums.{IsProper};
+ghost use Rattle.http_messages.specs.Failures.{CountsByCall};
 ghost use Rattle.counter_api.specs.CarriedOut.{IsCarried, IsCarriedOut, IsResponded, KeepsWriter};
 ghost use Rattle.counter_api.specs.Handled.{IsDone, as_outcome};
 ghost use Rattle.counter_api.specs.Run.{IsResponse, framed};
 
-use crate::clock::Clock;
 use crate::response::Response;
 use crate::sent::{Sent, streamed};
+use counter_clocks::Clock;
 use decide::{
     Asked, Decision, Listed, Op, PolicyOp, Reply, Request, Rule, Who, begin, carry_out, decide,
     decide_policy, end, list_policy,
 };
-use messages::{AnswerFault, Engine, Message};
+use http_messages::{AnswerFault, Engine, Message};
 use money::{Fault, Tallied, WriteStopped};
-use requests::{Gate, stated_request};
-use routes::Routes;
+use requests::{Gate, Routes, stated_request};
 use std::alloc::Global;
 use std::io::Write;
 use store_rows::{Bank, Store};

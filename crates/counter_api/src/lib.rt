@@ -4,13 +4,12 @@
 //! changed nothing. It gives `most` replies at most, and says which calls of the streams failed.
 #![tactic(auto)]
 
-mod clock;
 mod counter;
 mod response;
 mod sent;
 mod service;
 
-pub use clock::Clock;
-pub use messages::{ServeFault, Served};
+pub use counter_clocks::Clock;
+pub use http_messages::{ServeFault, Served};
 pub use requests::Gate;
 pub use service::serve;

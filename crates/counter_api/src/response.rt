@@ -1,11 +1,11 @@
 ghost use Rattle.std.specs.Prelude.{◌≡◌, IfOk};
 ghost use Rattle.counter_api.specs.Fault.{fault_text};
-ghost use Rattle.bank_run.specs.Meaning.{json};
+ghost use Rattle.bank_meaning.specs.Meaning.{json};
 ghost use Rattle.counter_api.specs.Response.{body_bytes, done_parts, denied_parts, refused_parts, faulted_parts};
 
 use decide::{ReplyKind, Rule, denial_text};
-use heads::MessageFault;
 use http::StatusCode;
+use http_heads::MessageFault;
 use money::Fault;
 use std::alloc::{AllocError, Global};
 use std::marker::Model;
@@ -41,7 +41,7 @@ pub(crate) struct Response {
 
 impl Model for Response {
     ghost use Rattle.counter_api.specs.Response.{ResponseParts, body_bytes};
-    ghost use Rattle.bank_run.specs.Meaning.{content_type_of};
+    ghost use Rattle.bank_meaning.specs.Meaning.{content_type_of};
 
     ghost Value = { ResponseParts };
 

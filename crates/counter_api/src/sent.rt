@@ -3,7 +3,7 @@ ghost use Rattle.money.specs.Counted.{stream_of};
 ghost use Rattle.counter_api.specs.Sent.{CountsBreak, CountsBySent, IsStreamed};
 
 use http::StatusCode;
-use messages::Message;
+use http_messages::Message;
 use money::{Fault, Tallied};
 use reports::{Report, ReportFault};
 use std::io::Write;

@@ -1,14 +1,13 @@
 ghost use Rattle.std.specs.Prelude.{◌≡◌, ◌≤◌, IfOk, Err};
 ghost use Rattle.money.specs.Counted.{stream_of};
-ghost use Rattle.messages.specs.Failures.{CountsByExit};
+ghost use Rattle.http_messages.specs.Failures.{CountsByExit};
 ghost use Rattle.counter_api.specs.Exit.{IsServed};
 
-use crate::clock::Clock;
 use crate::counter::Counter;
-use messages::{ServeFault, Served, serve_messages};
+use counter_clocks::Clock;
+use http_messages::{ServeFault, Served, serve_messages};
 use money::Tallied;
-use requests::Gate;
-use routes::Routes;
+use requests::{Gate, Routes};
 use std::alloc::Global;
 use std::io::{Read, Write};
 use store_rows::{Bank, Store};

@@ -1,6 +1,6 @@
 -- A clock that stands.
 use Rattle.std.specs.Prelude.{◌≡◌, ℕ}
-use Rattle.counter_clocks.specs.declared.clock.Fixed.{Fixed}
+use Rattle.counter_clocks.specs.declared.fixed.Fixed.{Fixed}
 
 abbrev pub standing_at : ℕ → Fixed
 standing_at moment = record { moment = moment }

@@ -1,19 +1,14 @@
-use crate::moment::Moment;
-use counter_api::Clock;
+ghost use Rattle.std.specs.Prelude.{ℕ, ◌≤◌};
+ghost use Rattle.bank_terms.specs.Limits.{max_moment};
 
-/// A clock that stands still.
-#[derive(Clone, Copy, Debug, PartialEq, Eq)]
-pub struct Fixed {
-    /// The moment that it gives each time.
-    pub moment: Moment,
-}
+/// Where the moments of messages come from.
+pub trait Clock {
+    /// Which moment it may give next, and what it is then.
+    ghost may_give: { Self → ℕ → Self → Type 0 };
 
-impl Clock for Fixed {
-    ghost use Rattle.counter_clocks.specs.Standing.{gives_its_own};
-
-    ghost may_give = { gives_its_own };
-
-    fn moment(&mut self) -> u64 {
-        self.moment.seconds()
-    }
+    /// The moment of the message that is answered next, in seconds, 0 to 99,999,999,999. It takes
+    /// no memory.
+    fn moment(&mut self) -> u64
+        ensures in_range { result ≤ max_moment }
+        ensures given { may_give self.old result self.new };
 }

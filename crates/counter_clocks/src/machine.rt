@@ -2,8 +2,8 @@ ghost use Rattle.std.specs.Prelude.{◌≡◌, option_map};
 ghost use Rattle.std.specs.Duration.{as_nanos};
 ghost use Rattle.counter_clocks.specs.Running.{moment_behind};
 
+use crate::clock::Clock;
 use crate::moment::Moment;
-use counter_api::Clock;
 use std::time;
 use std::time::Duration;
 

@@ -1,8 +1,8 @@
 -- Connections, one more after those before.
 use Rattle.std.proofs.Common.{◌≡◌, ◌+◌, ◌-◌, ◌<◌, ◌≤◌, ◌∙◌, ◌++◌, ◌∷◌, [], ℕ, List, None, Option, Result, Ok, Err, IfOk, ap, add_assoc, arith, max, refl, subst, sym}
 use Rattle.counter_connections.specs.Connections.{AreServed, At, IsConnection, begun, counted, counted_by}
-use Rattle.messages.specs.declared.serving.ServeFault.{ServeFault}
-use Rattle.messages.specs.declared.serving.Served.{Served}
+use Rattle.http_messages.specs.declared.serving.ServeFault.{ServeFault}
+use Rattle.http_messages.specs.declared.serving.Served.{Served}
 use Rattle.store_rows.specs.Status.{Status}
 
 pub counted_more : (exits : List (Result Served ServeFault)) (exit : Result Served ServeFault)

@@ -5,11 +5,11 @@ use Rattle.std.specs.Io.Buffered.{writer_buffer, writer_contents, writer_inner}
 use Rattle.std.specs.Io.KnownBytes.{append_known}
 use Rattle.std.specs.declared.io.BufWriter.{BufWriter}
 use Rattle.counter_service.specs.Serving.{FailuresByExit}
-use Rattle.ends.specs.Streams.{Streams, streams_at}
-use Rattle.messages.specs.Failures.{CountsByExit}
-use Rattle.messages.specs.declared.serving.ServeFault.{ServeFault}
-use Rattle.messages.specs.declared.serving.ServeFault.TheVariants.{Cut, Memory, Read, Report, Write}
-use Rattle.messages.specs.declared.serving.Served.{Served}
+use Rattle.exit_lines.specs.Streams.{Streams, streams_at}
+use Rattle.http_messages.specs.Failures.{CountsByExit}
+use Rattle.http_messages.specs.declared.serving.ServeFault.{ServeFault}
+use Rattle.http_messages.specs.declared.serving.ServeFault.TheVariants.{Cut, Memory, Read, Report, Write}
+use Rattle.http_messages.specs.declared.serving.Served.{Served}
 use Rattle.money.specs.Counted.{failure_count, stream_of}
 use Rattle.money.specs.declared.tallied.Tallied.{Tallied}
 use Rattle.counter_connections.specs.Connections.{begun}

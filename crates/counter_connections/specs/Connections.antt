@@ -2,9 +2,9 @@
 use Rattle.std.specs.Prelude.{◌≡◌, ℕ, ◌+◌, ◌-◌, ◌<◌, max, List, [], ◌∷◌, Option, None, Result, Ok, Err, MatchResult}
 use Rattle.counter_api.specs.Exit.{IsServed}
 use Rattle.counter_service.specs.Serving.{FailuresByExit}
-use Rattle.ends.specs.Streams.{Streams}
-use Rattle.messages.specs.declared.serving.ServeFault.{ServeFault}
-use Rattle.messages.specs.declared.serving.Served.{Served}
+use Rattle.exit_lines.specs.Streams.{Streams}
+use Rattle.http_messages.specs.declared.serving.ServeFault.{ServeFault}
+use Rattle.http_messages.specs.declared.serving.Served.{Served}
 use Rattle.money.specs.Counted.{counted_once_more}
 use Rattle.store_rows.specs.Status.{Status}
 

@@ -1,9 +1,9 @@
 -- A port of the machine, served over any store.
 use Rattle.std.specs.Prelude.{◌≡◌, ◌⊎◌, ℕ, List, [], ◌∷◌, codes, decimal, Option, Result, Err}
 use Rattle.std.specs.List.{concat}
-use Rattle.cached.specs.Standing.{below, cached_status, remembered}
-use Rattle.cached.specs.declared.cached.Cached.{Cached}
-use Rattle.ends.specs.Streams.{GetsAll, GetsBeginning, Stream}
+use Rattle.store_cached.specs.Standing.{below, cached_status, remembered}
+use Rattle.store_cached.specs.declared.cached.Cached.{Cached}
+use Rattle.exit_lines.specs.Streams.{GetsAll, GetsBeginning, Stream}
 use Rattle.store_rows.specs.Status.{Status}
 use Rattle.counter_connections.specs.Connections.{AreAllServed, At}
 use Rattle.counter_connections.specs.declared.fault.PortFault.{PortFault}

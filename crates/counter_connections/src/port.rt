@@ -1,11 +1,10 @@
 ghost use Rattle.money.specs.Counted.{Sends};
-ghost use Rattle.ends.specs.Streams.{stream_at};
+ghost use Rattle.exit_lines.specs.Streams.{stream_at};
 ghost use Rattle.counter_connections.specs.Port.{IsPortServed, IsPortServedBehindCache, listening_line};
 
 use crate::connections::serve_connections;
 use crate::fault::PortFault;
 use crate::listener::CountedListener;
-use cached::Cached;
 use counter_api::{Clock, Gate};
 use itoa::Buffer;
 use money::{Tallied, WriteStopped, write_parts};
@@ -13,6 +12,7 @@ use std::alloc::Global;
 use std::io::Write;
 use std::net::{Ipv4Addr, Net, TcpListener, TcpStream};
 use std::time;
+use store_cached::Cached;
 use store_rows::{Bank, Store};
 
 /// Serves connections at a port of 127.0.0.1, once a line on `output` has said that it is had, until so many messages are

@@ -12,4 +12,5 @@ pub mod Releasable
 pub mod Release
 pub mod Rows
 pub mod Statement
+pub mod Touched
 pub mod Transfer

@@ -1,7 +1,8 @@
-//! The operations that a counter asks of the bank, as data: `Op` with its thirteen forms, and `Releasable`
-//! with the five that a release may be for. `Op::procedure` is the procedure of the form. `Op::to_row` is
-//! the row of an operation, and `Op::from_row` the one operation, with its members in their ranges, whose
-//! row it is, or none. What an operation touches is in `touched`, and what it means in `bank_run`.
+//! The operations that a counter asks of the bank, as data: `Op` with its thirteen forms, `Releasable` with
+//! the five that a release may be for, and the `Procedure` of each. `Op::to_row` and `Op::from_row` are an
+//! operation as a row of numbers and back. `touches` lists exactly its items, and `amount` is what the limit
+//! of a triple is compared with, in cents: both of the operation alone, whatever the books hold. What an
+//! operation means is in `bank_meaning`.
 #![tactic(auto)]
 
 mod accounts;
@@ -11,6 +12,7 @@ mod correct;
 mod drawer_off;
 mod drawer_on;
 mod from_row;
+mod item_list;
 mod move_cash;
 mod new_account;
 mod op;
@@ -23,6 +25,7 @@ mod row_numbers;
 mod row_places;
 mod statement;
 mod to_row;
+mod touched;
 mod transfer;
 
 pub use accounts::Accounts;
@@ -31,6 +34,7 @@ pub use close_day::CloseDay;
 pub use correct::Correct;
 pub use drawer_off::DrawerOff;
 pub use drawer_on::DrawerOn;
+pub use item_list::ItemList;
 pub use move_cash::MoveCash;
 pub use new_account::NewAccount;
 pub use op::Op;
@@ -39,4 +43,5 @@ pub use proof::Proof;
 pub use releasable::Releasable;
 pub use release::Release;
 pub use statement::Statement;
+pub use touched::{amount, touches};
 pub use transfer::Transfer;

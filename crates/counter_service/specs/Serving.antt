@@ -1,14 +1,14 @@
 -- What serving a stream over a store comes to, and what it leaves of the store.
 use Rattle.std.specs.Prelude.{◌≡◌, ◌⊎◌, [], ℕ, List, Option, Result, Ok, Err}
-use Rattle.cached.specs.Standing.{below, cached_status, remembered}
-use Rattle.cached.specs.declared.cached.Cached.{Cached}
+use Rattle.store_cached.specs.Standing.{below, cached_status, remembered}
+use Rattle.store_cached.specs.declared.cached.Cached.{Cached}
 use Rattle.counter_api.specs.Exit.{IsServed}
 use Rattle.counter_clocks.specs.Standing.{gives_its_own, standing_at}
-use Rattle.counter_clocks.specs.declared.clock.Fixed.{Fixed}
-use Rattle.ends.specs.Streams.{FailsNever, FailsOnce, Streams}
-use Rattle.messages.specs.declared.serving.ServeFault.{ServeFault}
-use Rattle.messages.specs.declared.serving.ServeFault.TheVariants.{Cut, Memory, Read, Report, Write}
-use Rattle.messages.specs.declared.serving.Served.{Served}
+use Rattle.counter_clocks.specs.declared.fixed.Fixed.{Fixed}
+use Rattle.exit_lines.specs.Streams.{FailsNever, FailsOnce, Streams}
+use Rattle.http_messages.specs.declared.serving.ServeFault.{ServeFault}
+use Rattle.http_messages.specs.declared.serving.ServeFault.TheVariants.{Cut, Memory, Read, Report, Write}
+use Rattle.http_messages.specs.declared.serving.Served.{Served}
 use Rattle.store_rows.specs.Status.{Status}
 
 -- how many messages are answered on one stream at most

@@ -1,13 +1,13 @@
 ghost use Rattle.std.specs.Prelude.{◌≡◌, ◌≤◌, IfOk, Err};
 ghost use Rattle.counter_service.specs.Serving.{IsServedBehindCache, IsServedOver, most_messages};
-ghost use Rattle.ends.specs.Streams.{streams_at};
+ghost use Rattle.exit_lines.specs.Streams.{streams_at};
 
-use cached::Cached;
 use counter_api::{Gate, ServeFault, Served, serve};
 use counter_clocks::{Fixed, Moment};
 use money::Tallied;
 use std::alloc::Global;
 use std::io::{Read, Write};
+use store_cached::Cached;
 use store_rows::{Bank, Store};
 
 /// The most messages that are answered on one stream.

@@ -2,9 +2,9 @@
 use Rattle.std.proofs.Common.{◌≡◌, None, inl, inr, refl, subst, ◌⊎◌, sym}
 use Rattle.bank_books.specs.WorldLists.{WorldLists}
 use Rattle.store_rows.specs.Status.{Status}
-use Rattle.bank_run.specs.Requests.{executes, verdict}
-use Rattle.op_plans.specs.declared.prepared.Prepared.{Prepared}
-use Rattle.op_plans.specs.declared.prepared.Ready.TheVariants as ready
+use Rattle.bank_meaning.specs.Requests.{executes, verdict}
+use Rattle.op_prepare.specs.declared.prepared.Prepared.{Prepared}
+use Rattle.op_prepare.specs.declared.prepared.Ready.TheVariants as ready
 use Rattle.reports.specs.declared.contents.Contents.{Contents}
 use Rattle.reports.proofs.StatusLemmas.{keeps_still}
 use Rattle.decide.specs.Permit.{CarriesOut, IsApplied, IsLeave, IsSettled, Makes}

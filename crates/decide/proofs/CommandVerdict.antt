@@ -9,11 +9,11 @@ use Rattle.bank_books.specs.WorldLists.{WorldLists}
 use Rattle.certify.specs.CommandRows.{command_rows}
 use Rattle.certify.specs.Commands.{first_against_command}
 use Rattle.certify.specs.declared.command_rows.CommandRows.{CommandRows}
-use Rattle.policy_ops.specs.declared.policy_op.PolicyOp.{PolicyOp}
-use Rattle.bank_run.specs.PolicyRules.{asker, is_identified}
-use Rattle.bank_run.specs.Requests.{commands, first}
-use Rattle.bank_run.specs.Sessions.{standing_of_asker}
-use Rattle.bank_run.specs.declared.who.Who.{Who}
+use Rattle.policy_commands.specs.declared.policy_op.PolicyOp.{PolicyOp}
+use Rattle.bank_meaning.specs.PolicyRules.{asker, is_identified}
+use Rattle.bank_meaning.specs.Requests.{commands, first}
+use Rattle.bank_meaning.specs.Sessions.{standing_of_asker}
+use Rattle.bank_meaning.specs.declared.who.Who.{Who}
 
 of_known : (w : WorldLists) (who : Who) (command : PolicyOp) → is_identified (standing_of_asker who w) who.session ≡ true
     → first w (commands command who) ≡ first_against_command (command_rows w.policy (asker who) command) (asker who) command

@@ -8,13 +8,13 @@ use Rattle.bank_policy.specs.HeldRows.{standing}
 use Rattle.bank_policy.specs.declared.rows.Standing.{Standing}
 use Rattle.bank_books.specs.WorldLists.{WorldLists}
 use Rattle.store_rows.specs.Status.{Reads, Status}
-use Rattle.bank_run.specs.Requests.{ends_session, first, opens_session, verdict}
-use Rattle.bank_run.specs.Sessions.{first_against_ending, first_against_opening}
-use Rattle.bank_run.specs.declared.request.Request.{Request}
-use Rattle.bank_run.specs.declared.who.Who.{Who}
-use Rattle.op_plans.specs.Judged.{CountsFault, DeniesOrCounts, IsJudged}
-use Rattle.op_plans.specs.declared.prepared.Prepared.{Prepared}
-use Rattle.op_plans.proofs.CountedDenials.{none_denies}
+use Rattle.bank_meaning.specs.Requests.{ends_session, first, opens_session, verdict}
+use Rattle.bank_meaning.specs.Sessions.{first_against_ending, first_against_opening}
+use Rattle.bank_meaning.specs.declared.request.Request.{Request}
+use Rattle.bank_meaning.specs.declared.who.Who.{Who}
+use Rattle.op_prepare.specs.Judged.{CountsFault, DeniesOrCounts, IsJudged}
+use Rattle.op_prepare.specs.declared.prepared.Prepared.{Prepared}
+use Rattle.op_prepare.proofs.CountedDenials.{none_denies}
 use Rattle.decide.specs.Judged.{IsCarriedOut}
 
 -- what holds holds of a fault

@@ -4,7 +4,7 @@ use Rattle.serde_json.specs.Written.{compact_text}
 use Rattle.serde_json.proofs.OnLiterals.{serde_json_on_literals}
 use Rattle.bank_terms.specs.declared.rule.Rule.{Rule}
 use Rattle.bank_terms.specs.declared.rule.Rule.TheVariants.{Identity, NotCertified, NoTriple, Limit, Release, Unknown, Branch, Drawer, SecondPerson, Entry, Floor, Cash, Range, Taken, Day, Full, Officer, Certifier, Separation, PolicyUnknown, PolicyState, Slip}
-use Rattle.bank_run.specs.Denial.{denial_data, denial_text}
+use Rattle.bank_meaning.specs.Denial.{denial_data, denial_text}
 
 pub denial_text_is : (r : Rule) → compact_text (denial_data r) ≡ denial_text r
 unfolding serde_json_on_literals denial_text

@@ -10,23 +10,24 @@ use Rattle.bank_policy.specs.HeldRows.{HeldTriple}
 use Rattle.bank_policy.specs.Tests.{holds, is_held, is_held_for}
 use Rattle.counter_ops.specs.declared.op.Op.{Op}
 use Rattle.counter_ops.specs.declared.op.Op.TheVariants as op
-use Rattle.touched.specs.Touched.{amount}
+use Rattle.counter_ops.specs.Touched.{amount}
 use Rattle.reports.specs.declared.contents.Contents.{Contents}
 use Rattle.bank_books.specs.Effects.{applied}
 use Rattle.bank_books.specs.WorldLists.{WorldLists}
 use Rattle.bank_books.specs.declared.row_write.RowWrite.{RowWrite}
 use Rattle.bank_books.specs.declared.signature.Signature.{Signature}
-use Rattle.bank_run.specs.Executions.{books_meaning, execution_verdict, signature_of}
-use Rattle.op_plans.specs.Judged.{IsPrepared, IsReported}
-use Rattle.bank_run.specs.Meaning.{by_books}
-use Rattle.bank_run.specs.Operations.{is_report, meaning_of}
-use Rattle.bank_run.specs.PolicyRules.{asker, first_of_policy, grounds, leave_by_policy, leave_of, policy_denies, rules_of_policy, used_by}
-use Rattle.bank_run.specs.declared.execution.Execution.{Execution}
-use Rattle.bank_run.specs.declared.leave.Leave.{Leave}
-use Rattle.bank_run.specs.declared.leave.Leave.TheVariants as leave
-use Rattle.op_plans.specs.declared.prepared.Prepared.{Prepared}
-use Rattle.bank_run.proofs.FirstRule.{none}
-use Rattle.bank_run.proofs.PolicyLemmas.{books_decide, leave_given}
+use Rattle.rule_tests.proofs.RuleTests.{no_denial}
+use Rattle.bank_meaning.specs.Executions.{books_meaning, execution_verdict, signature_of}
+use Rattle.op_prepare.specs.Judged.{IsPrepared, IsReported}
+use Rattle.bank_meaning.specs.Meaning.{by_books}
+use Rattle.bank_meaning.specs.Operations.{is_report, meaning_of}
+use Rattle.bank_meaning.specs.PolicyRules.{asker, first_of_policy, grounds, leave_by_policy, leave_of, policy_tests, used_by}
+use Rattle.bank_meaning.specs.declared.execution.Execution.{Execution}
+use Rattle.bank_meaning.specs.declared.leave.Leave.{Leave}
+use Rattle.bank_meaning.specs.declared.leave.Leave.TheVariants as leave
+use Rattle.op_prepare.specs.declared.prepared.Prepared.{Prepared}
+use Rattle.bank_meaning.proofs.FirstRule.{none}
+use Rattle.bank_meaning.proofs.PolicyLemmas.{books_decide, leave_given}
 
 -- where the policy gives leave, what the books say is all that is said
 pub denied_by_books : (w : WorldLists) (x : Execution) (l : Leave) (r : Rule) → leave_by_policy (grounds w x) ≡ Ok l → (by_books (books_meaning w x)).first ≡ Some r → (execution_verdict x w).first ≡ Some r
@@ -77,7 +78,7 @@ held_for_none (r ∷ rs) items = ap (λ b. b || is_held_for rs items 0) (ap (λ 
 
 by_triple : (w : WorldLists) (x : Execution) → is_report x.op ≡ true → first_of_policy (grounds w x) ≡ None → leave_of (grounds w x) ≡ leave.Triple
 by_triple w x report passes =
-    let held : is_held (grounds w x).held (grounds w x).items ≡ true = not-false _ (none (λ r. policy_denies r (grounds w x)) rules_of_policy rule.NoTriple (inr (inr (inl refl))) passes) in
+    let held : is_held (grounds w x).held (grounds w x).items ≡ true = not-false _ (no_denial (policy_tests (grounds w x)) rule.NoTriple passes) in
     ap (λ b. if b then leave.Triple else leave.Release x.who.release)
     (ap (is_held_for (grounds w x).held (grounds w x).items) (no_amount x.op report) ∙ held_for_none (grounds w x).held (grounds w x).items ∙ held)
 

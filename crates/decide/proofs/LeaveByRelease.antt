@@ -6,14 +6,14 @@ use Rattle.bank_terms.specs.declared.rule.Rule.{Rule}
 use Rattle.bank_terms.specs.declared.rule.Rule.TheVariants as rule
 use Rattle.bank_books.specs.WorldLists.{WorldLists}
 use Rattle.counter_ops.specs.Rows.{row_of}
-use Rattle.touched.specs.Touched.{amount, touched}
-use Rattle.bank_run.specs.NamedRelease.{ReleaseGrounds, counts, release_grounds}
-use Rattle.bank_run.specs.PolicyRules.{asker, grounds, is_released, leave_by_policy, leave_sought}
-use Rattle.bank_run.specs.declared.execution.Execution.{Execution}
-use Rattle.bank_run.specs.declared.leave.Leave.TheVariants as leave
+use Rattle.counter_ops.specs.Touched.{amount, touched}
+use Rattle.bank_meaning.specs.NamedRelease.{ReleaseGrounds, counts, release_grounds}
+use Rattle.bank_meaning.specs.PolicyRules.{asker, grounds, is_released, leave_by_policy, leave_sought}
+use Rattle.bank_meaning.specs.declared.execution.Execution.{Execution}
+use Rattle.bank_meaning.specs.declared.leave.Leave.TheVariants as leave
 use Rattle.decide.specs.NamedRelease.{grounds_of, is_released_by}
 use Rattle.decide.specs.declared.named_release.NamedRelease.{NamedRelease}
-use Rattle.bank_run.proofs.PolicyLemmas.{if_counts, leave_joined, sought_is_named}
+use Rattle.bank_meaning.proofs.PolicyLemmas.{if_counts, leave_joined, sought_is_named}
 
 -- what is looked up by the user and the number is the release that is named
 told : (w : WorldLists) (x : Execution) (user number : ℕ) (named : Option NamedRelease) → x.who.user ≡ Some user → leave_sought (grounds w x) ≡ Ok (leave.Release number)

@@ -8,21 +8,21 @@ use Rattle.bank_policy.specs.Tests.{current, is_certified, is_held}
 use Rattle.bank_terms.specs.declared.rule.Rule.{Rule}
 use Rattle.bank_books.specs.WorldLists.{WorldLists}
 use Rattle.counter_ops.specs.Rows.{row_of}
-use Rattle.touched.specs.Touched.{amount, touched}
-use Rattle.bank_run.specs.Executions.{signature_of}
+use Rattle.counter_ops.specs.Touched.{amount, touched}
+use Rattle.bank_meaning.specs.Executions.{signature_of}
 use Rattle.decide.specs.Loaded.{IsLoadedFor, loaded_grounds}
 use Rattle.decide.specs.NamedRelease.{grounds_of}
-use Rattle.bank_run.specs.Meaning.{by_books}
-use Rattle.bank_run.specs.Operations.{meaning_of}
-use Rattle.bank_run.specs.NamedRelease.{ReleaseGrounds}
-use Rattle.bank_run.specs.PolicyRules.{Grounds, asker, first_of_policy, grounds, is_identified, is_in_limit, is_released, leave_by_triples}
-use Rattle.bank_run.specs.declared.leave.Leave.{Leave}
-use Rattle.bank_run.specs.declared.leave.Leave.TheVariants as leave
+use Rattle.bank_meaning.specs.Meaning.{by_books}
+use Rattle.bank_meaning.specs.Operations.{meaning_of}
+use Rattle.bank_meaning.specs.NamedRelease.{ReleaseGrounds}
+use Rattle.bank_meaning.specs.PolicyRules.{Grounds, asker, first_of_policy, grounds, is_identified, is_in_limit, is_released, leave_by_triples}
+use Rattle.bank_meaning.specs.declared.leave.Leave.{Leave}
+use Rattle.bank_meaning.specs.declared.leave.Leave.TheVariants as leave
 use Rattle.bank_terms.specs.declared.rule.Rule.TheVariants as rule
-use Rattle.bank_run.specs.Executions.{execution_verdict}
-use Rattle.bank_run.specs.declared.execution.Execution.{Execution}
+use Rattle.bank_meaning.specs.Executions.{execution_verdict}
+use Rattle.bank_meaning.specs.declared.execution.Execution.{Execution}
 use Rattle.decide.specs.declared.by_rows.OperationRows.{OperationRows}
-use Rattle.bank_run.proofs.PolicyLemmas.{books_decide, policy_decides}
+use Rattle.bank_meaning.proofs.PolicyLemmas.{books_decide, policy_decides}
 
 -- what is judged, of these parts
 abbrev grounds_with : Execution → Option Standing → List CertifiedSet → List HeldTriple → Option ReleaseGrounds → Grounds

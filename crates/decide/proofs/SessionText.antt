@@ -2,7 +2,7 @@
 use Rattle.std.proofs.Common.{◌≡◌, ℕ, append_assoc}
 use Rattle.serde_json.specs.Written.{compact_text}
 use Rattle.serde_json.proofs.OnLiterals.{serde_json_on_literals}
-use Rattle.bank_run.specs.Sessions.{ending_data, ending_text, opening_data, opening_text}
+use Rattle.bank_meaning.specs.Sessions.{ending_data, ending_text, opening_data, opening_text}
 
 pub opening_text_is : (number : ℕ) → compact_text (opening_data number) ≡ opening_text number
 unfolding serde_json_on_literals opening_text

@@ -22,26 +22,26 @@ use Rattle.counter_ops.specs.Op.{procedure_of}
 use Rattle.counter_ops.specs.Rows.{row_of}
 use Rattle.counter_ops.specs.declared.op.Op.{Op}
 use Rattle.counter_ops.specs.declared.op.Op.TheVariants as op
-use Rattle.row_reads.specs.BookReads.{slip}
-use Rattle.bank_run.specs.Executions.{execution_meaning, execution_verdict, rules_of_executions, signature_of}
-use Rattle.bank_run.specs.Meaning.{by_books}
-use Rattle.bank_run.specs.NamedRelease.{is_same_operation}
-use Rattle.bank_run.specs.Operations.{is_report, meaning_of}
-use Rattle.bank_run.specs.PolicyRules.{asker, grounds, is_identified, leave_by_policy}
-use Rattle.bank_run.specs.Repeats.{BearsSlipOf}
-use Rattle.bank_run.specs.Requests.{effect, executes, first, repeated}
-use Rattle.bank_run.specs.Run.{denied_by, unless_repeated}
-use Rattle.bank_run.specs.Slips.{has_no_room, is_of_another, kept_reply, slip_grounds, slip_named, slip_of}
-use Rattle.bank_run.specs.declared.execution.Execution.{Execution}
-use Rattle.bank_run.specs.declared.leave.Leave.{Leave}
-use Rattle.bank_run.proofs.KeptReplies.{denied, differs, repeats}
-use Rattle.bank_run.proofs.PolicyLemmas.{books_decide, leave_given}
-use Rattle.bank_run.proofs.SlipFirst.{slip_passes}
-use Rattle.bank_run.proofs.SlipSteps.{by_slip, first_by, no_repeat, not_another}
-use Rattle.op_plans.specs.Judged.{IsPrepared, IsReady, ReportsOnly}
-use Rattle.op_plans.specs.declared.prepared.Prepared.{Prepared}
-use Rattle.op_plans.specs.declared.prepared.Ready.{Ready}
-use Rattle.op_plans.specs.declared.prepared.Ready.TheVariants as ready
+use Rattle.world_reads.specs.BookReads.{slip}
+use Rattle.bank_meaning.specs.Executions.{execution_meaning, execution_verdict, rules_of_executions, signature_of}
+use Rattle.bank_meaning.specs.Meaning.{by_books}
+use Rattle.bank_meaning.specs.NamedRelease.{is_same_operation}
+use Rattle.bank_meaning.specs.Operations.{is_report, meaning_of}
+use Rattle.bank_meaning.specs.PolicyRules.{asker, grounds, is_identified, leave_by_policy}
+use Rattle.bank_meaning.specs.Repeats.{BearsSlipOf}
+use Rattle.bank_meaning.specs.Requests.{effect, executes, first, repeated}
+use Rattle.bank_meaning.specs.Run.{denied_by, unless_repeated}
+use Rattle.bank_meaning.specs.Slips.{has_no_room, is_of_another, kept_reply, slip_grounds, slip_named, slip_of}
+use Rattle.bank_meaning.specs.declared.execution.Execution.{Execution}
+use Rattle.bank_meaning.specs.declared.leave.Leave.{Leave}
+use Rattle.bank_meaning.proofs.KeptReplies.{denied, differs, repeats}
+use Rattle.bank_meaning.proofs.PolicyLemmas.{books_decide, leave_given}
+use Rattle.bank_meaning.proofs.SlipFirst.{slip_passes}
+use Rattle.bank_meaning.proofs.SlipSteps.{by_slip, first_by, no_repeat, not_another}
+use Rattle.op_prepare.specs.Judged.{IsPrepared, IsReady, ReportsOnly}
+use Rattle.op_prepare.specs.declared.prepared.Prepared.{Prepared}
+use Rattle.op_prepare.specs.declared.prepared.Ready.{Ready}
+use Rattle.op_prepare.specs.declared.prepared.Ready.TheVariants as ready
 use Rattle.decide.specs.Permit.{IsReadyFor}
 use Rattle.decide.specs.Slips.{IsDenied, IsJudgedWithSlip, IsMade, IsOfFound, or_full}
 use Rattle.decide.specs.declared.slips.Judgement.{Judgement}

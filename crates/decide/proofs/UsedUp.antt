@@ -10,8 +10,8 @@ use Rattle.bank_books.specs.WorldLists.{WorldLists}
 use Rattle.bank_books.specs.declared.row_write.RowWrite.{RowWrite}
 use Rattle.bank_books.specs.declared.row_write.RowWrite.TheVariants as write
 use Rattle.bank_books.proofs.Plans.{applied-append}
-use Rattle.bank_run.specs.PolicyRules.{used_by}
-use Rattle.bank_run.specs.declared.leave.Leave.TheVariants as leave
+use Rattle.bank_meaning.specs.PolicyRules.{used_by}
+use Rattle.bank_meaning.specs.declared.leave.Leave.TheVariants as leave
 
 or_false : (b : Bool) → (b || false) ≡ b
 or_false true = refl

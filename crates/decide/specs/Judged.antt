@@ -6,7 +6,7 @@ use Rattle.bank_books.specs.Version.{changes_policy}
 use Rattle.bank_books.specs.declared.row_write.RowWrite.{RowWrite}
 use Rattle.money.specs.declared.fault.Fault.{Fault}
 use Rattle.store_rows.specs.Status.{Status, mark_of}
-use Rattle.op_plans.specs.declared.prepared.Prepared.{Prepared}
+use Rattle.op_prepare.specs.declared.prepared.Prepared.{Prepared}
 use Rattle.decide.specs.Permit.{IsApplied}
 
 -- what is changed for it; nothing where a rule denies

@@ -4,9 +4,9 @@ use Rattle.std.specs.Borrow.{MutBor}
 use Rattle.bank_terms.specs.declared.rule.Rule.TheVariants as rule
 use Rattle.bank_books.specs.WorldLists.{WorldLists}
 use Rattle.store_rows.specs.declared.bank.Bank.{Bank}
-use Rattle.bank_run.specs.Requests.{first, verdict}
-use Rattle.bank_run.specs.declared.request.Request.{Request}
-use Rattle.op_plans.specs.Judged.{IsReported}
+use Rattle.bank_meaning.specs.Requests.{first, verdict}
+use Rattle.bank_meaning.specs.declared.request.Request.{Request}
+use Rattle.op_prepare.specs.Judged.{IsReported}
 use Rattle.decide.specs.declared.listing.Listed.{Listed}
 use Rattle.decide.specs.declared.listing.Listed.TheVariants as listed
 

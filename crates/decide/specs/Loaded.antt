@@ -5,25 +5,25 @@ use Rattle.bank_policy.specs.Tests.{current}
 use Rattle.bank_books.specs.WorldLists.{WorldLists}
 use Rattle.counter_ops.specs.Op.{procedure_of}
 use Rattle.counter_ops.specs.Rows.{row_of}
-use Rattle.touched.specs.Touched.{amount, touched}
-use Rattle.bank_run.specs.NamedRelease.{release_grounds}
+use Rattle.counter_ops.specs.Touched.{amount, touched}
+use Rattle.bank_meaning.specs.NamedRelease.{release_grounds}
 use Rattle.certify.specs.CommandRows.{command_rows}
-use Rattle.policy_ops.specs.declared.policy_op.PolicyOp.{PolicyOp}
-use Rattle.bank_run.specs.PolicyRules.{Grounds, asker}
-use Rattle.bank_run.specs.Sessions.{standing_of_asker}
-use Rattle.bank_run.specs.Slips.{slip_grounds}
-use Rattle.bank_run.specs.declared.execution.Execution.{Execution}
-use Rattle.op_plans.specs.BookRows.{book_rows}
+use Rattle.policy_commands.specs.declared.policy_op.PolicyOp.{PolicyOp}
+use Rattle.bank_meaning.specs.PolicyRules.{Grounds, asker}
+use Rattle.bank_meaning.specs.Sessions.{standing_of_asker}
+use Rattle.bank_meaning.specs.Slips.{slip_grounds}
+use Rattle.bank_meaning.specs.declared.execution.Execution.{Execution}
+use Rattle.op_prepare.specs.BookRows.{book_rows}
 use Rattle.decide.specs.NamedRelease.{grounds_of}
 use Rattle.decide.specs.declared.by_rows.CommandGrounds.{CommandGrounds}
 use Rattle.decide.specs.declared.by_rows.Loaded.{Loaded}
 use Rattle.decide.specs.declared.by_rows.Loaded.TheVariants as loaded
 use Rattle.decide.specs.declared.by_rows.OperationRows.{OperationRows}
 use Rattle.decide.specs.declared.by_rows.PolicyRows.{PolicyRows}
-use Rattle.bank_run.specs.declared.request.Asked.{Asked}
-use Rattle.bank_run.specs.declared.request.Asked.TheVariants as asked
-use Rattle.bank_run.specs.declared.request.Request.{Request}
-use Rattle.bank_run.specs.declared.who.Who.{Who}
+use Rattle.bank_meaning.specs.declared.request.Asked.{Asked}
+use Rattle.bank_meaning.specs.declared.request.Asked.TheVariants as asked
+use Rattle.bank_meaning.specs.declared.request.Request.{Request}
+use Rattle.bank_meaning.specs.declared.who.Who.{Who}
 
 -- these rows are those of a World by which an operation is judged
 pub record IsLoadedFor (w : WorldLists) (x : Execution) (l : OperationRows) : Type 0 where

@@ -2,11 +2,11 @@
 use Rattle.std.specs.Prelude.{ℕ, Bool, Option, false, option_map}
 use Rattle.std.specs.Option.{option_map_or}
 use Rattle.counter_ops.specs.Rows.{row_of}
-use Rattle.touched.specs.Touched.{amount, touched}
+use Rattle.counter_ops.specs.Touched.{amount, touched}
 use Rattle.bank_policy.specs.Tests.{current}
-use Rattle.bank_run.specs.NamedRelease.{ReleaseGrounds, counts}
-use Rattle.bank_run.specs.PolicyRules.{asker}
-use Rattle.bank_run.specs.declared.execution.Execution.{Execution}
+use Rattle.bank_meaning.specs.NamedRelease.{ReleaseGrounds, counts}
+use Rattle.bank_meaning.specs.PolicyRules.{asker}
+use Rattle.bank_meaning.specs.declared.execution.Execution.{Execution}
 use Rattle.decide.specs.declared.named_release.NamedRelease.{NamedRelease}
 
 -- what it is judged by at a moment

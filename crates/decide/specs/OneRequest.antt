@@ -6,9 +6,9 @@ use Rattle.bank_terms.specs.Limits.{max_version}
 use Rattle.bank_terms.specs.declared.rule.Rule.{Rule}
 use Rattle.bank_books.specs.WorldLists.{WorldLists}
 use Rattle.store_rows.specs.Status.{Status, Tells, after_mark}
-use Rattle.bank_run.specs.Meaning.{ReplyText, json}
-use Rattle.bank_run.specs.Run.{reply, step}
-use Rattle.bank_run.specs.declared.request.Request.{Request}
+use Rattle.bank_meaning.specs.Meaning.{ReplyText, json}
+use Rattle.bank_meaning.specs.Run.{reply, step}
+use Rattle.bank_meaning.specs.declared.request.Request.{Request}
 
 module _ (old new : Status) (r : Request) where
   -- of each World that the store stood for, it stands for the World after the request; where a fault is answered, for the same

@@ -6,14 +6,14 @@ use Rattle.bank_terms.specs.declared.rule.Rule.TheVariants as rule
 use Rattle.bank_books.specs.SlipRow.{SlipRow}
 use Rattle.bank_books.specs.WorldLists.{WorldLists}
 use Rattle.counter_ops.specs.Rows.{row_of}
-use Rattle.row_reads.specs.BookReads.{slip}
+use Rattle.world_reads.specs.BookReads.{slip}
 use Rattle.store_rows.specs.Status.{Status, Tells}
-use Rattle.bank_run.specs.NamedRelease.{is_same_operation}
-use Rattle.bank_run.specs.Requests.{executes, first, repeated, verdict}
-use Rattle.bank_run.specs.Run.{denied_by}
-use Rattle.bank_run.specs.declared.execution.Execution.{Execution}
-use Rattle.op_plans.specs.Judged.{CountsFault}
-use Rattle.op_plans.specs.declared.prepared.Ready.{Ready}
+use Rattle.bank_meaning.specs.NamedRelease.{is_same_operation}
+use Rattle.bank_meaning.specs.Requests.{executes, first, repeated, verdict}
+use Rattle.bank_meaning.specs.Run.{denied_by}
+use Rattle.bank_meaning.specs.declared.execution.Execution.{Execution}
+use Rattle.op_prepare.specs.Judged.{CountsFault}
+use Rattle.op_prepare.specs.declared.prepared.Ready.{Ready}
 use Rattle.decide.specs.Permit.{IsReadyFor, Makes}
 use Rattle.decide.specs.declared.slips.Judgement.{Judgement}
 use Rattle.decide.specs.declared.slips.Judgement.TheVariants as judgement

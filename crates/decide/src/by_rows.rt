@@ -2,13 +2,13 @@ ghost use Rattle.std.specs.Prelude.{◌≡◌, ◌==◌, ◌&&◌, not, false, n
 ghost use Rattle.std.specs.Option.{option_map_or};
 ghost use Rattle.bank_terms.specs.Limits.{max_slips};
 ghost use Rattle.counter_ops.specs.Rows.{row_of};
-ghost use Rattle.bank_run.specs.Executions.{execution_verdict};
-ghost use Rattle.bank_run.specs.NamedRelease.{is_same_operation};
-ghost use Rattle.bank_run.specs.Slips.{slip_named};
+ghost use Rattle.bank_meaning.specs.Executions.{execution_verdict};
+ghost use Rattle.bank_meaning.specs.NamedRelease.{is_same_operation};
+ghost use Rattle.bank_meaning.specs.Slips.{slip_named};
 ghost use Rattle.bank_books.specs.WorldLists.{WorldLists};
 ghost use Rattle.decide.specs.Loaded.{IsLoaded, IsLoadedFor, loaded_grounds};
-ghost use Rattle.bank_run.specs.PolicyRules.{first_of_policy};
-ghost use Rattle.bank_run.specs.Requests.{executes, first};
+ghost use Rattle.bank_meaning.specs.PolicyRules.{first_of_policy};
+ghost use Rattle.bank_meaning.specs.Requests.{executes, first};
 
 use crate::commands::rule_against_asked;
 use crate::listing::rule_against_listing;
@@ -16,12 +16,12 @@ use crate::named_release::{NamedRelease, is_released, is_same_operation};
 use crate::policy_rules::{is_certified_for, is_identified, leave_by_triples};
 use crate::sessions::{rule_against_ending, rule_against_opening};
 use bank_books::Slip;
+use bank_meaning::{Asked, Execution, Leave, Request};
 use bank_policy::{CertifiedRow, HeldRow, Standing};
-use bank_run::{Asked, Execution, Leave, Request};
 use bank_terms::{MAX_SLIPS, Rule};
 use certify::CommandRows;
-use op_plans::{BookRows, first_of_books};
-use touched::{amount, touches};
+use counter_ops::{amount, touches};
+use op_prepare::{BookRows, first_of_books};
 
 /// The rows of the policy by which an operation is judged.
 #[derive(Drop)]

@@ -3,7 +3,7 @@ ghost use Rattle.decide.specs.Judged.{IsCarriedOut};
 use crate::permit::apply_plan;
 use bank_terms::Rule;
 use money::Fault;
-use op_plans::Prepared;
+use op_prepare::Prepared;
 use std::alloc::Global;
 use store_rows::Store;
 

@@ -1,20 +1,20 @@
-ghost use Rattle.std.specs.Prelude.{◌≡◌, IfOk, IsSome, false, true};
+ghost use Rattle.std.specs.Prelude.{◌≡◌, IfOk, IsSome, false};
 ghost use Rattle.bank_books.specs.Effects.{applied};
 ghost use Rattle.bank_books.specs.Version.{changes_policy};
 ghost use Rattle.bank_books.specs.WorldLists.{WorldLists};
 ghost use Rattle.counter_ops.specs.Operations.{IsOp};
 ghost use Rattle.store_rows.specs.Status.{Reads};
-ghost use Rattle.op_plans.specs.Judged.{DeniesOrCounts, IsReady, LeavesPolicyReady, ReportsOnly};
-ghost use Rattle.bank_run.specs.Operations.{is_report};
-ghost use Rattle.bank_run.specs.PolicyRules.{used_by};
-ghost use Rattle.bank_run.specs.Executions.{execution_verdict};
+ghost use Rattle.op_prepare.specs.Judged.{DeniesOrCounts, IsReady, LeavesPolicyReady, ReportsOnly};
+ghost use Rattle.bank_meaning.specs.Operations.{is_report};
+ghost use Rattle.bank_meaning.specs.PolicyRules.{used_by};
+ghost use Rattle.bank_meaning.specs.Executions.{execution_verdict};
 
 use crate::policy_rules::policy_leave;
 use bank_books::{Plan, ReleaseKey, RowWrite};
-use bank_run::{Execution, Leave};
+use bank_meaning::{Execution, Leave};
 use bank_terms::Rule;
 use money::Fault;
-use op_plans::{Prepared, Ready, prepare_by_books};
+use op_prepare::{Prepared, Ready, prepare_by_books};
 use std::alloc::{AllocError, Global};
 use store_rows::{BookReads, PolicyReads, ReportReads};
 

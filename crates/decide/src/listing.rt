@@ -4,18 +4,20 @@ ghost use Rattle.std.specs.Prelude.{◌≡◌, IfErr, IfOk, IsNone, IsOkAnd, IsS
 ghost use Rattle.std.specs.Borrow.{sem, RestsIfErr};
 ghost use Rattle.store_rows.specs.contracts.bank.Bank.{the_row};
 ghost use Rattle.store_rows.specs.Status.{Keeps, Reads, Refuses, Tells, mark_of};
-ghost use Rattle.bank_run.specs.Listing.{first_against_listing};
-ghost use Rattle.bank_run.specs.Requests.{first, lists, verdict};
-ghost use Rattle.op_plans.specs.Judged.{DeniesOrCounts, IsCountedFor};
+ghost use Rattle.bank_meaning.specs.Listing.{first_against_listing, is_officer_row};
+ghost use Rattle.bank_meaning.specs.Requests.{first, lists, verdict};
+ghost use Rattle.op_prepare.specs.Judged.{DeniesOrCounts, IsCountedFor};
 ghost use Rattle.decide.specs.Listed.{IsListed, IsListedToStranger, listed_bank};
 
 use crate::permit::Denial;
-use crate::policy_rules::{is_identified, standing_of};
+use crate::policy_rules::is_identified;
+use bank_meaning::Who;
 use bank_policy::Standing;
-use bank_run::Who;
 use bank_terms::Rule;
+use command_reads::standing_of;
 use money::Fault;
 use reports::{Contents, Listing, Report, counted};
+use rule_tests::first_denial;
 use std::alloc::Global;
 use store_rows::{Bank, PolicyReads, ReportReads, Store};
 
@@ -77,14 +79,17 @@ fn prepare_listing<S: PolicyReads + ReportReads>(
 pub(crate) fn rule_against_listing(standing: Option<Standing>, session: u32) -> Option<Rule>
     ensures { result ≡ first_against_listing standing session }
 {
+    first_denial(&[
+        (Rule::Identity, !is_identified(standing, session)),
+        (Rule::Officer, !is_officer(standing)),
+    ])
+}
+
+fn is_officer(standing: Option<Standing>) -> bool
+    ensures { result ≡ is_officer_row standing }
+{
     match standing {
-        Some(row) if is_identified(standing, session) => {
-            if row.officer {
-                None
-            } else {
-                Some(Rule::Officer)
-            }
-        }
-        _ => Some(Rule::Identity),
+        Some(row) => row.officer,
+        None => false,
     }
 }

@@ -3,18 +3,18 @@
 ghost use Rattle.std.specs.Prelude.{◌≡◌, ℕ, option_map};
 ghost use Rattle.bank_policy.specs.Tests.{current, is_held_for};
 ghost use Rattle.store_rows.specs.Status.{ReadsRow};
-ghost use Rattle.bank_run.specs.NamedRelease.{counts, is_active, is_giver_for, is_of_today, is_same_operation, release_grounds, release_grounds_of};
+ghost use Rattle.bank_meaning.specs.NamedRelease.{counts, is_active, is_giver_for, is_of_today, is_same_operation, release_grounds, release_grounds_of};
 ghost use Rattle.decide.specs.NamedRelease.{grounds_of, is_released_by};
 
-use crate::policy_rules::standing_of;
 use bank_books::Release;
+use bank_meaning::Execution;
 use bank_policy::{HeldRow, Standing, best_limit};
-use bank_run::Execution;
 use bank_terms::{Cdi, OperationRow, Procedure};
+use command_reads::standing_of;
+use counter_ops::{amount, touches};
 use money::Fault;
 use std::alloc::Global;
 use store_rows::{BookReads, PolicyReads};
-use touched::{amount, touches};
 
 /// All that a release is judged by, where it is there.
 #[derive(Drop)]

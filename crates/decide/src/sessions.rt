@@ -4,19 +4,20 @@ ghost use Rattle.std.specs.Prelude.{◌≡◌, ◌+◌, None, Some, Ok, Err, IfE
 ghost use Rattle.serde_json.specs.View.{view};
 ghost use Rattle.bank_terms.specs.declared.rule.Rule.TheVariants.{Identity};
 ghost use Rattle.store_rows.specs.Status.{Answers, Reads, Refuses, StaysWhole, mark_of};
-ghost use Rattle.bank_run.specs.Requests.{ends_session, first, opens_session, verdict};
-ghost use Rattle.bank_run.specs.Sessions.{ending_data, ending_text, first_against_ending, first_against_opening, latest, opening_data, opening_text};
-ghost use Rattle.op_plans.specs.Judged.{DeniesOrCounts, IsJudged};
+ghost use Rattle.bank_meaning.specs.Requests.{ends_session, first, opens_session, verdict};
+ghost use Rattle.bank_meaning.specs.Sessions.{ending_data, ending_text, first_against_ending, first_against_opening, latest, opening_data, opening_text};
+ghost use Rattle.op_prepare.specs.Judged.{DeniesOrCounts, IsJudged};
 ghost use Rattle.decide.specs.OneRequest.{IsToldInJson, LeavesBoth, Moves, Replies, Settles};
 
 use crate::carried_out::carry_out_prepared;
-use crate::policy_rules::{is_identified, standing_of};
+use crate::policy_rules::is_identified;
 use bank_books::RowWrite;
+use bank_meaning::Who;
 use bank_policy::{Session, Standing};
-use bank_run::Who;
 use bank_terms::{MAX_KEY, Rule};
+use command_reads::standing_of;
 use money::Fault;
-use op_plans::{Prepared, compact};
+use op_prepare::{Prepared, compact};
 use serde_json::{Value, json};
 use std::alloc::{AllocError, Global};
 use store_rows::{Bank, PolicyReads, Store};

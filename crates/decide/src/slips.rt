@@ -1,33 +1,33 @@
 //! An operation with its slip: whether it repeats one that was made, and what its slip adds to its plan.
 
 ghost use Rattle.std.specs.Prelude.{◌≡◌, ◌≢◌, ◌++◌, ◌∷◌, [], IfErr, IfOk, IsSome, None, Some, true};
-ghost use Rattle.bank_books.specs.Records.{slip_count};
 ghost use Rattle.bank_books.specs.declared.row_write.RowWrite.TheVariants as write;
 ghost use Rattle.bank_policy.specs.HeldRows.{standing};
 ghost use Rattle.bank_terms.specs.Procedure.{takes_slip};
 ghost use Rattle.counter_ops.specs.Op.{procedure_of};
 ghost use Rattle.counter_ops.specs.Operations.{IsOp};
 ghost use Rattle.counter_ops.specs.Rows.{row_of};
-ghost use Rattle.row_reads.specs.BookReads.{slip};
+ghost use Rattle.world_reads.specs.BookReads.{slip};
 ghost use Rattle.store_rows.specs.Status.{Reads, ReadsRow};
-ghost use Rattle.bank_run.specs.Executions.{execution_verdict};
-ghost use Rattle.bank_run.specs.NamedRelease.{is_same_operation};
-ghost use Rattle.bank_run.specs.Operations.{is_report};
-ghost use Rattle.bank_run.specs.PolicyRules.{is_identified};
-ghost use Rattle.bank_run.specs.Requests.{executes};
-ghost use Rattle.bank_run.specs.Run.{denied_by};
-ghost use Rattle.bank_run.specs.Slips.{slip_named};
-ghost use Rattle.op_plans.specs.Judged.{DeniesOrCounts};
+ghost use Rattle.bank_meaning.specs.Executions.{execution_verdict};
+ghost use Rattle.bank_meaning.specs.NamedRelease.{is_same_operation};
+ghost use Rattle.bank_meaning.specs.Operations.{is_report};
+ghost use Rattle.bank_meaning.specs.PolicyRules.{is_identified};
+ghost use Rattle.bank_meaning.specs.Requests.{executes};
+ghost use Rattle.bank_meaning.specs.Run.{denied_by};
+ghost use Rattle.bank_meaning.specs.Slips.{slip_named};
+ghost use Rattle.op_prepare.specs.Judged.{DeniesOrCounts};
 ghost use Rattle.decide.specs.Slips.{DeniesNewOrCounts, IsJudgedWithSlip, IsOfFound, JudgesReportsOnly, or_full};
 
 use crate::judge::prepare;
 use crate::named_release::is_same_operation;
-use crate::policy_rules::{is_identified, policy_leave, standing_of};
+use crate::policy_rules::{is_identified, policy_leave};
 use bank_books::{Plan, RowWrite, Slip};
-use bank_run::Execution;
+use bank_meaning::Execution;
 use bank_terms::{MAX_SLIPS, OperationRow, Rule};
+use command_reads::standing_of;
 use money::Fault;
-use op_plans::{Prepared, Ready, first_of_books, load_book_rows};
+use op_prepare::{Prepared, Ready, first_of_books, load_book_rows};
 use std::alloc::{AllocError, Global};
 use store_rows::{BookReads, PolicyReads, ReportReads, SlipReads};
 

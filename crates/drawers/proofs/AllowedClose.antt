@@ -15,14 +15,14 @@ use Rattle.bank_books.specs.WorldLists.{WorldLists}
 use Rattle.bank_books.specs.declared.row_write.RowWrite.TheVariants as write
 use Rattle.bank_books.specs.declared.rows.Branch.{Branch}
 use Rattle.bank_books.specs.declared.rows.Proof.{Proof}
-use Rattle.row_reads.specs.BookReads.{roster}
-use Rattle.row_rules.specs.BranchParts.{ledger_of}
-use Rattle.book_growth.specs.Moves.{with_proof}
-use Rattle.book_growth.specs.Next.{IsNextProof}
-use Rattle.book_growth.proofs.BooksSplit.{books_parts}
-use Rattle.book_growth.proofs.DayProved.{proof_and_day_keep_books}
-use Rattle.book_growth.proofs.Rows.{found_by_key, found_row}
-use Rattle.book_growth.proofs.RuleTests.{one_fits, passed_by, source_of}
+use Rattle.world_reads.specs.BookReads.{roster}
+use Rattle.rule_tests.specs.BranchParts.{ledger_of}
+use Rattle.book_laws.specs.Moves.{with_proof}
+use Rattle.book_laws.specs.Next.{IsNextProof}
+use Rattle.book_laws.proofs.BooksSplit.{books_parts}
+use Rattle.book_laws.proofs.DayProved.{proof_and_day_keep_books}
+use Rattle.keyed_rows.proofs.Rows.{found_by_key, found_row}
+use Rattle.rule_tests.proofs.RuleTests.{one_fits, passed_by, source_of}
 use Rattle.drawers.specs.CloseDay.{close_day_changes, close_day_effect, closing_rows, day_proof, first_against_close_day, is_in_range, is_unknown}
 use Rattle.drawers.specs.Laws.{CloseDayKeepsBooks}
 use Rattle.drawers.specs.declared.close_day.ClosingRows.{ClosingRows}

@@ -23,17 +23,17 @@ use Rattle.bank_books.specs.declared.rows.Branch.{Branch}
 use Rattle.bank_books.specs.declared.rows.CashLine.{CashLine}
 use Rattle.bank_books.specs.declared.rows.Teller.{Teller}
 use Rattle.bank_books.specs.declared.signature.Signature.{Signature}
-use Rattle.book_growth.specs.Limits.{AreWithinLimits}
-use Rattle.book_growth.specs.Moves.{to_drawers}
-use Rattle.book_growth.specs.Next.{lined}
-use Rattle.book_growth.proofs.BooksSplit.{books_parts}
-use Rattle.book_growth.proofs.Rows.{found_row}
-use Rattle.book_growth.proofs.RuleTests.{cents_from, passed_by, source_of}
-use Rattle.row_rules.specs.BranchParts.{cash_book_of}
-use Rattle.row_rules.specs.Rules.{cash_book_is_full, teller_is_of}
-use Rattle.row_rules.specs.Signed.{IsSigned}
-use Rattle.row_rules.specs.declared.cash_book.CashBook.{CashBook}
-use Rattle.row_rules.proofs.FoundRows.{cash_from, for_found}
+use Rattle.book_laws.specs.Limits.{AreWithinLimits}
+use Rattle.book_laws.specs.Moves.{to_drawers}
+use Rattle.book_laws.specs.Next.{lined}
+use Rattle.book_laws.proofs.BooksSplit.{books_parts}
+use Rattle.keyed_rows.proofs.Rows.{found_row}
+use Rattle.rule_tests.proofs.RuleTests.{cents_from, passed_by, source_of}
+use Rattle.rule_tests.specs.BranchParts.{cash_book_of}
+use Rattle.rule_tests.specs.Rules.{cash_book_is_full, teller_is_of}
+use Rattle.rule_tests.specs.Signed.{IsSigned}
+use Rattle.rule_tests.specs.declared.cash_book.CashBook.{CashBook}
+use Rattle.rule_tests.proofs.FoundRows.{cash_from, for_found}
 use Rattle.drawers.specs.Laws.{MoveCashKeepsBooks}
 use Rattle.drawers.specs.MoveCash.{first_against_move, from_source, into_target, is_in_range, is_missing, is_unknown, is_vault, may_move, move_changes, move_effect, move_rows, place_covers, source_line, target_line, teller_at}
 use Rattle.drawers.specs.declared.move_cash.MoveRows.{MoveRows}

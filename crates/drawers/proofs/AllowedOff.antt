@@ -21,16 +21,16 @@ use Rattle.bank_books.specs.declared.row_write.RowWrite.TheVariants as write
 use Rattle.bank_books.specs.declared.rows.CashLine.{CashLine}
 use Rattle.bank_books.specs.declared.rows.Teller.{Teller}
 use Rattle.bank_books.specs.declared.signature.Signature.{Signature}
-use Rattle.book_growth.specs.Limits.{AreWithinLimits}
-use Rattle.book_growth.specs.Moves.{HasCashRoom, HasDrawerRoom, HasRoomForLines, to_place}
-use Rattle.book_growth.specs.Next.{lined}
-use Rattle.book_growth.proofs.BooksSplit.{books_parts}
-use Rattle.book_growth.proofs.LinesOfBranch.{lines_of_branch_keep_books}
-use Rattle.book_growth.proofs.Rows.{found_row}
-use Rattle.book_growth.proofs.RuleTests.{cents_from, passed_by}
-use Rattle.row_rules.specs.Rules.{cash_book_is_full, drawer_is_held_by, teller_is_of}
-use Rattle.row_rules.specs.Signed.{IsSigned}
-use Rattle.row_rules.proofs.FoundRows.{for_found}
+use Rattle.book_laws.specs.Limits.{AreWithinLimits}
+use Rattle.book_laws.specs.Moves.{HasCashRoom, HasDrawerRoom, HasRoomForLines, to_place}
+use Rattle.book_laws.specs.Next.{lined}
+use Rattle.book_laws.proofs.BooksSplit.{books_parts}
+use Rattle.book_laws.proofs.LinesOfBranch.{lines_of_branch_keep_books}
+use Rattle.keyed_rows.proofs.Rows.{found_row}
+use Rattle.rule_tests.proofs.RuleTests.{cents_from, passed_by}
+use Rattle.rule_tests.specs.Rules.{cash_book_is_full, drawer_is_held_by, teller_is_of}
+use Rattle.rule_tests.specs.Signed.{IsSigned}
+use Rattle.rule_tests.proofs.FoundRows.{for_found}
 use Rattle.drawers.specs.DrawerOff.{difference, difference_line, drawer_off_changes, drawer_off_effect, emptied_line, first_against_drawer_off, is_in_range, returned_line}
 use Rattle.drawers.specs.DrawerRows.{drawer_rows, is_unknown}
 use Rattle.drawers.specs.Laws.{DrawerOffKeepsBooks}

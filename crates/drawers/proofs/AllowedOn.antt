@@ -19,14 +19,14 @@ use Rattle.bank_books.specs.WorldLists.{WorldLists}
 use Rattle.bank_books.specs.declared.row_write.RowWrite.TheVariants as write
 use Rattle.bank_books.specs.declared.rows.CashLine.{CashLine}
 use Rattle.bank_books.specs.declared.signature.Signature.{Signature}
-use Rattle.book_growth.specs.Moves.{to_drawers}
-use Rattle.book_growth.specs.Next.{lined}
-use Rattle.book_growth.proofs.BooksSplit.{books_parts}
-use Rattle.book_growth.proofs.Rows.{found_row}
-use Rattle.book_growth.proofs.RuleTests.{cents_from, passed_by}
-use Rattle.row_rules.specs.Rules.{cash_book_is_full, drawer_is_held, teller_is_of, vault_covers}
-use Rattle.row_rules.specs.Signed.{IsSigned}
-use Rattle.row_rules.proofs.FoundRows.{cash_from, for_found}
+use Rattle.book_laws.specs.Moves.{to_drawers}
+use Rattle.book_laws.specs.Next.{lined}
+use Rattle.book_laws.proofs.BooksSplit.{books_parts}
+use Rattle.keyed_rows.proofs.Rows.{found_row}
+use Rattle.rule_tests.proofs.RuleTests.{cents_from, passed_by}
+use Rattle.rule_tests.specs.Rules.{cash_book_is_full, drawer_is_held, teller_is_of, vault_covers}
+use Rattle.rule_tests.specs.Signed.{IsSigned}
+use Rattle.rule_tests.proofs.FoundRows.{cash_from, for_found}
 use Rattle.drawers.specs.Laws.{DrawerOnKeepsBooks}
 use Rattle.drawers.specs.DrawerOn.{drawer_on_changes, drawer_on_effect, first_against_drawer_on, from_vault, given_line, into_drawer, is_in_range, taken_line}
 use Rattle.drawers.specs.DrawerRows.{drawer_rows, is_unknown}

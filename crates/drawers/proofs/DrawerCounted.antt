@@ -6,11 +6,11 @@ use Rattle.std.proofs.lemmas.Bool.{and_parts, true≢false}
 use Rattle.money.specs.Range.{IsCents}
 use Rattle.bank_books.specs.declared.records.TellerRecord.{TellerRecord}
 use Rattle.counter_ops.specs.declared.drawer_off.DrawerOff.{DrawerOff}
-use Rattle.row_rules.specs.declared.cash_book.CashBook.{CashBook}
+use Rattle.rule_tests.proofs.RuleTests.{cents_from}
+use Rattle.rule_tests.specs.declared.cash_book.CashBook.{CashBook}
 use Rattle.drawers.specs.DrawerOff.{book_in_range, difference, is_in_range}
 use Rattle.drawers.specs.DrawerRows.{is_unknown}
 use Rattle.drawers.specs.declared.drawer_rows.DrawerRows.{DrawerRows}
-use Rattle.drawers.proofs.CentsTest.{cents_from}
 
 of_both : (teller : Option TellerRecord) (book : Option CashBook) (form : DrawerOff) → is_none teller || is_none book ≡ false
     → option_map_or (λ t. option_map_or (λ b. book_in_range b t form) book true) teller true ≡ true → IfSome teller (λ t. IsCents (difference form t))

@@ -10,10 +10,10 @@ use Rattle.bank_books.specs.Records.{branch_record, branch_record_of, teller_rec
 use Rattle.bank_books.specs.WorldLists.{WorldLists}
 use Rattle.bank_books.specs.declared.rows.Branch.{Branch}
 use Rattle.bank_books.specs.declared.rows.Teller.{Teller}
-use Rattle.book_growth.proofs.Rows.{found_row}
-use Rattle.book_growth.proofs.RuleTests.{source_of}
-use Rattle.row_rules.specs.BranchParts.{cash_book_of}
-use Rattle.row_rules.specs.declared.cash_book.CashBook.{CashBook}
+use Rattle.keyed_rows.proofs.Rows.{found_row}
+use Rattle.rule_tests.proofs.RuleTests.{source_of}
+use Rattle.rule_tests.specs.BranchParts.{cash_book_of}
+use Rattle.rule_tests.specs.declared.cash_book.CashBook.{CashBook}
 use Rattle.drawers.specs.DrawerRows.{drawer_rows, is_unknown}
 use Rattle.drawers.specs.declared.drawer_rows.DrawerRows.{DrawerRows}
 

@@ -2,9 +2,7 @@ pub mod AllowedClose
 pub mod AllowedMove
 pub mod AllowedOff
 pub mod AllowedOn
-mod CentsTest
 mod DrawerCounted
 pub mod DrawerThere
 pub mod PlacedLines
 mod PlacesMoved
-mod RuleTests

@@ -19,14 +19,14 @@ use Rattle.bank_books.specs.WorldLists.{WorldLists}
 use Rattle.bank_books.specs.declared.rows.Branch.{Branch}
 use Rattle.bank_books.specs.declared.rows.CashLine.{CashLine}
 use Rattle.bank_books.specs.declared.rows.Teller.{Teller}
-use Rattle.book_growth.specs.CashGap.{gap_share}
-use Rattle.book_growth.specs.Ledger.{IsLineSound}
-use Rattle.book_growth.specs.Limits.{AreWithinLimits}
-use Rattle.book_growth.specs.Moves.{HasRoomForLines, to_drawers, to_place}
-use Rattle.book_growth.specs.Next.{AreNextLines, lined}
-use Rattle.book_growth.proofs.BooksSplit.{books_parts}
-use Rattle.book_growth.proofs.LinesOfBranch.{lines_of_branch_keep_books}
-use Rattle.book_growth.proofs.Rows.{count_named, found_row}
+use Rattle.book_laws.specs.CashGap.{gap_share}
+use Rattle.book_laws.specs.Ledger.{IsLineSound}
+use Rattle.book_laws.specs.Limits.{AreWithinLimits}
+use Rattle.book_laws.specs.Moves.{HasRoomForLines, to_drawers, to_place}
+use Rattle.book_laws.specs.Next.{AreNextLines, lined}
+use Rattle.book_laws.proofs.BooksSplit.{books_parts}
+use Rattle.book_laws.proofs.LinesOfBranch.{lines_of_branch_keep_books}
+use Rattle.keyed_rows.proofs.Rows.{count_named, found_row}
 
 -- ---- one after another
 

@@ -5,10 +5,10 @@ use Rattle.std.proofs.lemmas.Bool.{and_parts, or_parts, true≢false}
 use Rattle.money.specs.Range.{IsCents}
 use Rattle.bank_books.specs.declared.records.TellerRecord.{TellerRecord}
 use Rattle.counter_ops.specs.declared.move_cash.MoveCash.{MoveCash}
-use Rattle.row_rules.specs.Rules.{drawer_in_range, vault_in_range}
+use Rattle.rule_tests.proofs.RuleTests.{cents_from}
+use Rattle.rule_tests.specs.Rules.{drawer_in_range, vault_in_range}
 use Rattle.drawers.specs.MoveCash.{from_source, into_target, is_in_range, is_missing, is_unknown, is_vault, place_cash, place_in_range}
 use Rattle.drawers.specs.declared.move_cash.MoveRows.{MoveRows}
-use Rattle.drawers.proofs.CentsTest.{cents_from}
 
 by_form : (vaulted : Bool) (row : Option TellerRecord) (vault : Option ℤ) (added : ℤ) → not vaulted && is_none row ≡ false → vaulted && is_none vault ≡ false
     → (if vaulted then vault_in_range vault added else drawer_in_range row added) ≡ true

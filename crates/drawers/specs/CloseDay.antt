@@ -1,7 +1,7 @@
 -- The day of a branch that is closed: the rows that it is judged on, the rules of the books against it, its effect, and what it leaves.
 use Rattle.std.specs.Prelude.{ℤ, ◌+◌, ◌||◌, ◌&&◌, Bool, true, false, not, nat_le, int_lt, pos, is_none, is_some, List, [], ◌∷◌, Option, option_map, option_and_then}
 use Rattle.std.specs.Option.{option_map_or}
-use Rattle.std.specs.List.{find, list_any}
+use Rattle.std.specs.List.{list_any}
 use Rattle.money.specs.Range.{is_cents}
 use Rattle.bank_terms.specs.Limits.{max_day, max_key}
 use Rattle.bank_terms.specs.declared.rule.Rule.{Rule}
@@ -13,9 +13,10 @@ use Rattle.bank_books.specs.WorldLists.{WorldLists}
 use Rattle.bank_books.specs.declared.row_write.RowWrite.{RowWrite}
 use Rattle.bank_books.specs.declared.row_write.RowWrite.TheVariants as write
 use Rattle.bank_books.specs.declared.rows.Proof.{Proof}
-use Rattle.row_reads.specs.BookReads.{roster}
-use Rattle.row_rules.specs.BranchParts.{ledger_of}
-use Rattle.row_rules.specs.declared.ledger.Ledger.{Ledger}
+use Rattle.world_reads.specs.BookReads.{roster}
+use Rattle.rule_tests.specs.BranchParts.{ledger_of}
+use Rattle.rule_tests.specs.Denial.{first_denial}
+use Rattle.rule_tests.specs.declared.ledger.Ledger.{Ledger}
 use Rattle.drawers.specs.declared.close_day.Closed.{Closed}
 use Rattle.drawers.specs.declared.close_day.ClosingRows.{ClosingRows}
 
@@ -37,21 +38,18 @@ is_in_range rows =
     option_map_or (λ ledger. is_cents ledger.balance && nat_le ledger.entries max_key) rows.ledger true
     && option_map_or (λ cash. is_cents cash && not (int_lt cash (pos 0))) rows.vault true
 
--- the rule denies it: no drawer of the branch is held at the end of its day
-abbrev pub close_day_denies : Rule → ClosingRows → Bool
-close_day_denies rule.Unknown rows = is_unknown rows
-close_day_denies rule.Range rows = not (is_in_range rows)
-close_day_denies rule.Day rows = rows.holds_a_drawer
-close_day_denies rule.Full rows = option_map_or (λ ledger. nat_le max_day ledger.day) rows.ledger false
-close_day_denies _ rows = false
-
--- the rules of the books that it is judged by, in their order
-abbrev pub rules_of_close_day : List Rule
-rules_of_close_day = rule.Unknown ∷ rule.Range ∷ rule.Day ∷ rule.Full ∷ []
+-- the rules of the books that it is judged by, in their order, each with whether it denies: no drawer of the branch is held at the end of its day
+abbrev pub close_day_tests : ClosingRows → List (Rule × Bool)
+close_day_tests rows =
+    (rule.Unknown, is_unknown rows)
+    ∷ (rule.Range, not (is_in_range rows))
+    ∷ (rule.Day, rows.holds_a_drawer)
+    ∷ (rule.Full, option_map_or (λ ledger. nat_le max_day ledger.day) rows.ledger false)
+    ∷ []
 
 -- the first of them that denies
 abbrev pub first_against_close_day : ClosingRows → Option Rule
-first_against_close_day rows = find (λ r. close_day_denies r rows) rules_of_close_day
+first_against_close_day rows = first_denial (close_day_tests rows)
 
 -- the proof of the day that ends
 abbrev pub day_proof : Ledger → ℤ → CloseDay → Proof

@@ -1,7 +1,6 @@
 -- A drawer that is counted and put off: the rules of the books against it, its effect, and what it leaves.
-use Rattle.std.specs.Prelude.{ℤ, neg_ℤ, ◌+◌, ◌+ℤ◌, ◌&&◌, Bool, true, false, not, List, [], ◌∷◌, Option, option_map, option_and_then}
+use Rattle.std.specs.Prelude.{ℤ, neg_ℤ, ◌+◌, ◌+ℤ◌, ◌&&◌, Bool, true, not, List, [], ◌∷◌, Option, option_map, option_and_then}
 use Rattle.std.specs.Option.{option_map_or}
-use Rattle.std.specs.List.{find}
 use Rattle.money.specs.Range.{is_cents}
 use Rattle.bank_terms.specs.declared.rule.Rule.{Rule}
 use Rattle.bank_terms.specs.declared.rule.Rule.TheVariants as rule
@@ -14,8 +13,9 @@ use Rattle.bank_books.specs.declared.row_write.RowWrite.TheVariants as write
 use Rattle.bank_books.specs.declared.signature.Signature.{Signature}
 use Rattle.bank_books.specs.declared.rows.CashLine.{CashLine}
 use Rattle.bank_books.specs.declared.rows.LineForm.TheVariants as line
-use Rattle.row_rules.specs.Rules.{cash_book_is_full, drawer_is_held_by, teller_is_of, vault_in_range}
-use Rattle.row_rules.specs.declared.cash_book.CashBook.{CashBook}
+use Rattle.rule_tests.specs.Denial.{first_denial}
+use Rattle.rule_tests.specs.Rules.{cash_book_is_full, drawer_is_held_by, teller_is_of, vault_in_range}
+use Rattle.rule_tests.specs.declared.cash_book.CashBook.{CashBook}
 use Rattle.drawers.specs.DrawerRows.{drawer_rows, is_unknown}
 use Rattle.drawers.specs.declared.drawer_off.PutOff.{PutOff}
 use Rattle.drawers.specs.declared.drawer_rows.DrawerRows.{DrawerRows}
@@ -34,22 +34,19 @@ is_in_range rows form =
     vault_in_range rows.vault form.counted
     && option_map_or (λ teller. option_map_or (λ book. book_in_range book teller form) rows.cash_book true) rows.teller true
 
--- the rule denies it: who puts a drawer off holds it
-abbrev pub drawer_off_denies : Rule → DrawerRows → DrawerOff → Signature → Bool
-drawer_off_denies rule.Unknown rows form by = is_unknown rows
-drawer_off_denies rule.Branch rows form by = not (teller_is_of rows.teller form.branch)
-drawer_off_denies rule.Drawer rows form by = not (drawer_is_held_by rows.teller by.user)
-drawer_off_denies rule.Range rows form by = not (is_in_range rows form)
-drawer_off_denies rule.Full rows form by = cash_book_is_full rows.cash_book 3
-drawer_off_denies _ rows form by = false
-
--- the rules of the books that it is judged by, in their order
-abbrev pub rules_of_drawer_off : List Rule
-rules_of_drawer_off = rule.Unknown ∷ rule.Branch ∷ rule.Drawer ∷ rule.Range ∷ rule.Full ∷ []
+-- the rules of the books that it is judged by, in their order, each with whether it denies: who puts a drawer off holds it
+abbrev pub drawer_off_tests : DrawerRows → DrawerOff → Signature → List (Rule × Bool)
+drawer_off_tests rows form by =
+    (rule.Unknown, is_unknown rows)
+    ∷ (rule.Branch, not (teller_is_of rows.teller form.branch))
+    ∷ (rule.Drawer, not (drawer_is_held_by rows.teller by.user))
+    ∷ (rule.Range, not (is_in_range rows form))
+    ∷ (rule.Full, cash_book_is_full rows.cash_book 3)
+    ∷ []
 
 -- the first of them that denies
 abbrev pub first_against_drawer_off : DrawerRows → DrawerOff → Signature → Option Rule
-first_against_drawer_off rows form by = find (λ r. drawer_off_denies r rows form by) rules_of_drawer_off
+first_against_drawer_off rows form by = first_denial (drawer_off_tests rows form by)
 
 -- the line of the difference, zero too: with it the drawer holds what was counted
 abbrev pub difference_line : CashBook → TellerRecord → DrawerOff → Signature → CashLine

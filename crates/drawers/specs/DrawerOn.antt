@@ -1,7 +1,6 @@
 -- A drawer that is put on: the rules of the books against it, its effect, and what it leaves.
-use Rattle.std.specs.Prelude.{ℤ, pos, neg_ℤ, ◌+◌, ◌+ℤ◌, ◌&&◌, Bool, false, not, List, [], ◌∷◌, Option, option_map, option_and_then}
+use Rattle.std.specs.Prelude.{ℤ, pos, neg_ℤ, ◌+◌, ◌+ℤ◌, ◌&&◌, Bool, not, List, [], ◌∷◌, Option, option_map, option_and_then}
 use Rattle.std.specs.Option.{option_map_or}
-use Rattle.std.specs.List.{find}
 use Rattle.bank_terms.specs.declared.rule.Rule.{Rule}
 use Rattle.bank_terms.specs.declared.rule.Rule.TheVariants as rule
 use Rattle.counter_ops.specs.declared.drawer_on.DrawerOn.{DrawerOn}
@@ -13,8 +12,9 @@ use Rattle.bank_books.specs.declared.row_write.RowWrite.TheVariants as write
 use Rattle.bank_books.specs.declared.signature.Signature.{Signature}
 use Rattle.bank_books.specs.declared.rows.CashLine.{CashLine}
 use Rattle.bank_books.specs.declared.rows.LineForm.TheVariants as line
-use Rattle.row_rules.specs.Rules.{cash_book_is_full, drawer_in_range, drawer_is_held, drawers_in_range, teller_is_of, vault_covers, vault_in_range}
-use Rattle.row_rules.specs.declared.cash_book.CashBook.{CashBook}
+use Rattle.rule_tests.specs.Denial.{first_denial}
+use Rattle.rule_tests.specs.Rules.{cash_book_is_full, drawer_in_range, drawer_is_held, drawers_in_range, teller_is_of, vault_covers, vault_in_range}
+use Rattle.rule_tests.specs.declared.cash_book.CashBook.{CashBook}
 use Rattle.drawers.specs.DrawerRows.{drawer_rows, is_unknown}
 use Rattle.drawers.specs.declared.drawer_on.PutOn.{PutOn}
 use Rattle.drawers.specs.declared.drawer_rows.DrawerRows.{DrawerRows}
@@ -32,23 +32,20 @@ abbrev pub is_in_range : DrawerRows → DrawerOn → Bool
 is_in_range rows form =
     vault_in_range rows.vault (from_vault form) && drawer_in_range rows.teller (into_drawer form) && drawers_in_range rows.cash_book (into_drawer form)
 
--- the rule denies it: a drawer that is put on is held by nobody
-abbrev pub drawer_on_denies : Rule → DrawerRows → DrawerOn → Bool
-drawer_on_denies rule.Unknown rows form = is_unknown rows
-drawer_on_denies rule.Branch rows form = not (teller_is_of rows.teller form.branch)
-drawer_on_denies rule.Drawer rows form = drawer_is_held rows.teller
-drawer_on_denies rule.Cash rows form = not (vault_covers rows.vault (from_vault form))
-drawer_on_denies rule.Range rows form = not (is_in_range rows form)
-drawer_on_denies rule.Full rows form = cash_book_is_full rows.cash_book 2
-drawer_on_denies _ rows form = false
-
--- the rules of the books that it is judged by, in their order
-abbrev pub rules_of_drawer_on : List Rule
-rules_of_drawer_on = rule.Unknown ∷ rule.Branch ∷ rule.Drawer ∷ rule.Cash ∷ rule.Range ∷ rule.Full ∷ []
+-- the rules of the books that it is judged by, in their order, each with whether it denies: a drawer that is put on is held by nobody
+abbrev pub drawer_on_tests : DrawerRows → DrawerOn → List (Rule × Bool)
+drawer_on_tests rows form =
+    (rule.Unknown, is_unknown rows)
+    ∷ (rule.Branch, not (teller_is_of rows.teller form.branch))
+    ∷ (rule.Drawer, drawer_is_held rows.teller)
+    ∷ (rule.Cash, not (vault_covers rows.vault (from_vault form)))
+    ∷ (rule.Range, not (is_in_range rows form))
+    ∷ (rule.Full, cash_book_is_full rows.cash_book 2)
+    ∷ []
 
 -- the first of them that denies
 abbrev pub first_against_drawer_on : DrawerRows → DrawerOn → Option Rule
-first_against_drawer_on rows form = find (λ r. drawer_on_denies r rows form) rules_of_drawer_on
+first_against_drawer_on rows form = first_denial (drawer_on_tests rows form)
 
 -- the line at the vault
 abbrev pub given_line : CashBook → DrawerOn → Signature → CashLine

@@ -2,7 +2,7 @@
 use Rattle.std.specs.Prelude.{ℕ, ◌||◌, Bool, is_none, option_map}
 use Rattle.bank_books.specs.Records.{branch_record, teller_record}
 use Rattle.bank_books.specs.WorldLists.{WorldLists}
-use Rattle.row_rules.specs.BranchParts.{cash_book_of}
+use Rattle.rule_tests.specs.BranchParts.{cash_book_of}
 use Rattle.drawers.specs.declared.drawer_rows.DrawerRows.{DrawerRows}
 
 -- in a World, of a teller and a branch

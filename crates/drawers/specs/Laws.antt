@@ -12,7 +12,7 @@ use Rattle.counter_ops.specs.declared.close_day.CloseDay.{CloseDay}
 use Rattle.counter_ops.specs.declared.drawer_off.DrawerOff.{DrawerOff}
 use Rattle.counter_ops.specs.declared.drawer_on.DrawerOn.{DrawerOn}
 use Rattle.counter_ops.specs.declared.move_cash.MoveCash.{MoveCash}
-use Rattle.row_rules.specs.Signed.{IsSigned}
+use Rattle.rule_tests.specs.Signed.{IsSigned}
 use Rattle.drawers.specs.CloseDay.{close_day_effect, closing_rows, first_against_close_day}
 use Rattle.drawers.specs.DrawerOff.{drawer_off_effect, first_against_drawer_off}
 use Rattle.drawers.specs.DrawerOn.{drawer_on_effect, first_against_drawer_on}

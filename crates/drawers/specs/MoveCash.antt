@@ -1,8 +1,7 @@
 -- Cash that is moved between two places of a branch: the rows that it is judged on, the rules of the books against it, its effect, and what it leaves. A
 -- place is a teller's drawer, or the vault, whose number is 0.
-use Rattle.std.specs.Prelude.{ℕ, ℤ, pos, neg_ℤ, ◌+◌, ◌+ℤ◌, ◌==◌, ◌||◌, ◌&&◌, Bool, false, not, is_none, List, [], ◌∷◌, Option, None, option_map, option_and_then, if◌then◌else◌}
+use Rattle.std.specs.Prelude.{ℕ, ℤ, pos, neg_ℤ, ◌+◌, ◌+ℤ◌, ◌==◌, ◌||◌, ◌&&◌, Bool, not, is_none, List, [], ◌∷◌, Option, None, option_map, option_and_then, if◌then◌else◌}
 use Rattle.std.specs.Option.{option_map_or}
-use Rattle.std.specs.List.{find}
 use Rattle.bank_terms.specs.declared.rule.Rule.{Rule}
 use Rattle.bank_terms.specs.declared.rule.Rule.TheVariants as rule
 use Rattle.counter_ops.specs.declared.move_cash.MoveCash.{MoveCash}
@@ -15,9 +14,10 @@ use Rattle.bank_books.specs.declared.row_write.RowWrite.TheVariants as write
 use Rattle.bank_books.specs.declared.signature.Signature.{Signature}
 use Rattle.bank_books.specs.declared.rows.CashLine.{CashLine}
 use Rattle.bank_books.specs.declared.rows.LineForm.TheVariants as line
-use Rattle.row_rules.specs.BranchParts.{cash_book_of}
-use Rattle.row_rules.specs.Rules.{cash_book_is_full, drawer_covers, drawer_in_range, drawer_is_free, drawer_is_held_by, drawers_in_range, teller_is_of, vault_covers, vault_in_range}
-use Rattle.row_rules.specs.declared.cash_book.CashBook.{CashBook}
+use Rattle.rule_tests.specs.BranchParts.{cash_book_of}
+use Rattle.rule_tests.specs.Denial.{first_denial}
+use Rattle.rule_tests.specs.Rules.{cash_book_is_full, drawer_covers, drawer_in_range, drawer_is_free, drawer_is_held_by, drawers_in_range, teller_is_of, vault_covers, vault_in_range}
+use Rattle.rule_tests.specs.declared.cash_book.CashBook.{CashBook}
 use Rattle.drawers.specs.declared.move_cash.MoveRows.{MoveRows}
 use Rattle.drawers.specs.declared.move_cash.Moved.{Moved}
 
@@ -79,23 +79,20 @@ is_in_range rows move =
     && place_in_range move.target rows.target rows.vault (into_target move)
     && drawers_in_range rows.cash_book (into_drawers move)
 
--- the rule denies the move by this user
-abbrev pub move_denies : Rule → MoveRows → MoveCash → Signature → Bool
-move_denies rule.Unknown rows move by = is_unknown rows move
-move_denies rule.Branch rows move by = not (teller_is_of rows.source move.branch && teller_is_of rows.target move.branch)
-move_denies rule.Drawer rows move by = not (may_move rows move by.user)
-move_denies rule.Cash rows move by = not (place_covers move.source rows.source rows.vault (from_source move))
-move_denies rule.Range rows move by = not (is_in_range rows move)
-move_denies rule.Full rows move by = cash_book_is_full rows.cash_book 2
-move_denies _ rows move by = false
-
--- the rules of the books that it is judged by, in their order
-abbrev pub rules_of_move : List Rule
-rules_of_move = rule.Unknown ∷ rule.Branch ∷ rule.Drawer ∷ rule.Cash ∷ rule.Range ∷ rule.Full ∷ []
+-- the rules of the books that the move by this user is judged by, in their order, each with whether it denies
+abbrev pub move_tests : MoveRows → MoveCash → Signature → List (Rule × Bool)
+move_tests rows move by =
+    (rule.Unknown, is_unknown rows move)
+    ∷ (rule.Branch, not (teller_is_of rows.source move.branch && teller_is_of rows.target move.branch))
+    ∷ (rule.Drawer, not (may_move rows move by.user))
+    ∷ (rule.Cash, not (place_covers move.source rows.source rows.vault (from_source move)))
+    ∷ (rule.Range, not (is_in_range rows move))
+    ∷ (rule.Full, cash_book_is_full rows.cash_book 2)
+    ∷ []
 
 -- the first of them that denies
 abbrev pub first_against_move : MoveRows → MoveCash → Signature → Option Rule
-first_against_move rows move by = find (λ r. move_denies r rows move by) rules_of_move
+first_against_move rows move by = first_denial (move_tests rows move by)
 
 -- the line at the place that gives
 abbrev pub source_line : CashBook → MoveCash → Signature → CashLine

@@ -4,7 +4,7 @@ ghost use Rattle.std.specs.Prelude.{◌≡◌, ◌+ℤ◌, pos, neg_ℤ};
 ghost use Rattle.money.specs.Range.{IsCents, is_cents};
 
 use money::Cents;
-use row_rules::{cents_after, cents_between, cents_of};
+use rule_tests::{cents_after, cents_between, cents_of};
 
 /// Whether a number of the books is an amount of money.
 pub(crate) fn is_amount(number: i128) -> bool

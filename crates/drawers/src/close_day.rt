@@ -3,8 +3,8 @@ ghost use Rattle.std.specs.List.{list_any};
 ghost use Rattle.std.specs.Option.{option_map_or};
 ghost use Rattle.bank_terms.specs.Limits.{max_day, max_key};
 ghost use Rattle.money.specs.Range.{IsCents, is_cents};
-ghost use Rattle.row_rules.specs.BranchParts.{ledger_of};
-ghost use Rattle.row_rules.specs.Planned.{IsPlanned};
+ghost use Rattle.rule_tests.specs.BranchParts.{ledger_of};
+ghost use Rattle.rule_tests.specs.Planned.{IsPlanned};
 ghost use Rattle.drawers.specs.CloseDay.{close_day_changes, closed, closed_of, first_against_close_day, is_in_range, is_unknown};
 
 use crate::amounts::{amount_of, is_amount};
@@ -12,7 +12,7 @@ use bank_books::{BranchDay, BranchRecord, Plan, Proof, RowWrite, TellerRecord};
 use bank_terms::{MAX_DAY, MAX_KEY, Rule};
 use counter_ops::CloseDay;
 use money::{Cents, Fault};
-use row_rules::{Ledger, Planned};
+use rule_tests::{Ledger, Planned, first_denial};
 use std::alloc::Global;
 
 /// The rows that the closing of a day is judged on, as far as they are there.
@@ -93,19 +93,12 @@ pub fn rule_against_close_day(rows: &ClosingRows) -> Option<Rule>
     ensures day { IsNone result → IfSome rows.now.ledger (λ ledger. ledger.day < max_day) }
     ensures cash { IsNone result → IfSome rows.now.vault (λ cash. IsCents cash) }
 {
-    if is_unknown(rows) {
-        return Some(Rule::Unknown);
-    }
-    if !is_in_range(rows) {
-        return Some(Rule::Range);
-    }
-    if rows.holds_a_drawer {
-        return Some(Rule::Day);
-    }
-    if is_on_last_day(rows) {
-        return Some(Rule::Full);
-    }
-    None
+    first_denial(&[
+        (Rule::Unknown, is_unknown(rows)),
+        (Rule::Range, !is_in_range(rows)),
+        (Rule::Day, rows.holds_a_drawer),
+        (Rule::Full, is_on_last_day(rows)),
+    ])
 }
 
 fn is_unknown(rows: &ClosingRows) -> bool

@@ -1,7 +1,7 @@
 ghost use Rattle.std.specs.Prelude.{◌≡◌, ◌+◌, ◌≤◌, ◌+ℤ◌, [], ◌∷◌, IfOk, IfSome, IsNone, IsOkUnless, Ok, Err};
 ghost use Rattle.bank_terms.specs.Limits.{max_key};
 ghost use Rattle.money.specs.Range.{IsCents};
-ghost use Rattle.row_rules.specs.Planned.{IsPlanned};
+ghost use Rattle.rule_tests.specs.Planned.{IsPlanned};
 ghost use Rattle.drawers.specs.DrawerOff.{book_in_range, difference, drawer_off_changes, emptied_line, first_against_drawer_off, is_in_range, put_off_of, returned_line};
 
 use crate::amounts::{is_between, negated, sum_of};
@@ -10,9 +10,9 @@ use bank_books::{CashLine, LineForm, Plan, RowWrite, Signature, TellerRecord};
 use bank_terms::Rule;
 use counter_ops::DrawerOff;
 use money::{Cents, Fault};
-use row_rules::{
+use rule_tests::{
     CashBook, Planned, cash_book_is_full, cents_between, differences_in_range, drawer_is_held_by,
-    teller_is_of, vault_in_range,
+    first_denial, teller_is_of, vault_in_range,
 };
 use std::alloc::Global;
 
@@ -62,22 +62,13 @@ pub fn rule_against_drawer_off(rows: &DrawerRows, form: &DrawerOff, by: Signatur
     ensures vault { IsNone result → IfSome rows.now.vault (λ vault. IsCents (vault +ℤ form.now.counted)) }
     ensures room { IsNone result → IfSome rows.now.cash_book (λ book. book.lines + 3 ≤ max_key) }
 {
-    if rows.is_unknown() {
-        return Some(Rule::Unknown);
-    }
-    if !teller_is_of(rows.teller, form.branch) {
-        return Some(Rule::Branch);
-    }
-    if !drawer_is_held_by(rows.teller, by.user) {
-        return Some(Rule::Drawer);
-    }
-    if !is_in_range(rows, form) {
-        return Some(Rule::Range);
-    }
-    if cash_book_is_full(rows.cash_book, 3) {
-        return Some(Rule::Full);
-    }
-    None
+    first_denial(&[
+        (Rule::Unknown, rows.is_unknown()),
+        (Rule::Branch, !teller_is_of(rows.teller, form.branch)),
+        (Rule::Drawer, !drawer_is_held_by(rows.teller, by.user)),
+        (Rule::Range, !is_in_range(rows, form)),
+        (Rule::Full, cash_book_is_full(rows.cash_book, 3)),
+    ])
 }
 
 fn is_in_range(rows: &DrawerRows, form: &DrawerOff) -> bool

@@ -1,7 +1,8 @@
 ghost use Rattle.std.specs.Prelude.{◌≡◌, ◌+◌, ◌≤◌, ◌+ℤ◌, [], ◌∷◌, IfOk, IfSome, IsNone, IsOkUnless, Ok, Err};
 ghost use Rattle.bank_terms.specs.Limits.{max_key};
 ghost use Rattle.money.specs.Range.{IsCents};
-ghost use Rattle.row_rules.specs.Planned.{IsPlanned};
+ghost use Rattle.rule_tests.specs.Planned.{IsPlanned};
+ghost use Rattle.rule_tests.specs.Rules.{vault_covers};
 ghost use Rattle.drawers.specs.DrawerOn.{drawer_on_changes, first_against_drawer_on, from_vault, given_line, into_drawer, is_in_range, put_on, put_on_of, taken_line};
 
 use crate::amounts::{less_by, more_by, sum_of};
@@ -10,9 +11,9 @@ use bank_books::{CashLine, LineForm, Plan, RowWrite, Signature, TellerRecord};
 use bank_terms::Rule;
 use counter_ops::DrawerOn;
 use money::{Cents, Fault};
-use row_rules::{
+use rule_tests::{
     CashBook, Planned, cash_book_is_full, drawer_in_range, drawer_is_held, drawers_in_range,
-    teller_is_of, vault_covers, vault_in_range,
+    first_denial, teller_is_of, vault_covers, vault_in_range,
 };
 use std::alloc::Global;
 
@@ -57,25 +58,21 @@ pub fn rule_against_drawer_on(rows: &DrawerRows, form: &DrawerOn) -> Option<Rule
     ensures vault { IsNone result → IfSome rows.now.vault (λ vault. IsCents (vault +ℤ from_vault form.now)) }
     ensures room { IsNone result → IfSome rows.now.cash_book (λ book. book.lines + 2 ≤ max_key) }
 {
-    if rows.is_unknown() {
-        return Some(Rule::Unknown);
-    }
-    if !teller_is_of(rows.teller, form.branch) {
-        return Some(Rule::Branch);
-    }
-    if drawer_is_held(rows.teller) {
-        return Some(Rule::Drawer);
-    }
-    if !vault_covers(rows.vault, -i64::from(form.cash)) {
-        return Some(Rule::Cash);
-    }
-    if !is_in_range(rows, form) {
-        return Some(Rule::Range);
-    }
-    if cash_book_is_full(rows.cash_book, 2) {
-        return Some(Rule::Full);
-    }
-    None
+    first_denial(&[
+        (Rule::Unknown, rows.is_unknown()),
+        (Rule::Branch, !teller_is_of(rows.teller, form.branch)),
+        (Rule::Drawer, drawer_is_held(rows.teller)),
+        (Rule::Cash, !is_covered(rows, form)),
+        (Rule::Range, !is_in_range(rows, form)),
+        (Rule::Full, cash_book_is_full(rows.cash_book, 2)),
+    ])
+}
+
+/// Whether the vault has the cash that goes into the drawer.
+fn is_covered(rows: &DrawerRows, form: &DrawerOn) -> bool
+    ensures { result ≡ vault_covers rows.now.vault (from_vault form.now) }
+{
+    vault_covers(rows.vault, -i64::from(form.cash))
 }
 
 fn is_in_range(rows: &DrawerRows, form: &DrawerOn) -> bool

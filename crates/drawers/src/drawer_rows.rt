@@ -1,9 +1,9 @@
 ghost use Rattle.std.specs.Prelude.{◌≡◌, option_map};
-ghost use Rattle.row_rules.specs.BranchParts.{cash_book_of};
+ghost use Rattle.rule_tests.specs.BranchParts.{cash_book_of};
 ghost use Rattle.drawers.specs.DrawerRows.{is_unknown};
 
 use bank_books::{BranchRecord, TellerRecord};
-use row_rules::CashBook;
+use rule_tests::CashBook;
 
 /// The rows that a drawer which is put on or off is judged on, as far as they are there.
 #[derive(Clone, Copy, Debug, PartialEq, Eq)]

@@ -2,7 +2,7 @@
 //! touch. `rule_against_drawer_on` and its like answer the first rule of the books that denies, or none.
 //! `plan_drawer_on`, `plan_drawer_off`, `plan_move` and `plan_close_day` answer that rule, or exactly the
 //! changes and what they leave. `laws` says that books which hold still hold after what no rule denies.
-//! `op_plans` loads the rows.
+//! `op_prepare` loads the rows.
 #![tactic(auto)]
 
 mod amounts;

@@ -1,9 +1,9 @@
 ghost use Rattle.std.specs.Prelude.{◌≡◌, ◌+◌, ◌≤◌, ◌+ℤ◌, ◌||◌, ◌&&◌, [], ◌∷◌, None, option_map, if◌then◌else◌, IfOk, IfSome, IsNone, IsSomeAnd, IsOkUnless, Ok, Err};
 ghost use Rattle.bank_terms.specs.Limits.{max_key};
 ghost use Rattle.money.specs.Range.{IsCents};
-ghost use Rattle.row_rules.specs.BranchParts.{cash_book_of};
-ghost use Rattle.row_rules.specs.Planned.{IsPlanned};
-ghost use Rattle.row_rules.specs.Rules.{teller_is_of};
+ghost use Rattle.rule_tests.specs.BranchParts.{cash_book_of};
+ghost use Rattle.rule_tests.specs.Planned.{IsPlanned};
+ghost use Rattle.rule_tests.specs.Rules.{teller_is_of};
 ghost use Rattle.drawers.specs.MoveCash.{first_against_move, from_source, into_drawers, into_target, is_in_range, is_missing, is_unknown, is_vault, may_move, move_changes, moved, moved_of, place_cash, place_covers, place_in_range, source_line, target_line};
 
 use crate::amounts::{less_by, more_by, sum_of};
@@ -11,9 +11,9 @@ use bank_books::{BranchRecord, CashLine, LineForm, Plan, RowWrite, Signature, Te
 use bank_terms::Rule;
 use counter_ops::MoveCash;
 use money::{Cents, Fault};
-use row_rules::{
+use rule_tests::{
     CashBook, Planned, cash_book_is_full, drawer_covers, drawer_in_range, drawer_is_free,
-    drawer_is_held_by, drawers_in_range, teller_is_of, vault_covers, vault_in_range,
+    drawer_is_held_by, drawers_in_range, first_denial, teller_is_of, vault_covers, vault_in_range,
 };
 use std::alloc::Global;
 
@@ -100,26 +100,14 @@ pub fn rule_against_move_cash(rows: &MoveRows, move_cash: &MoveCash, by: Signatu
     ensures target { IsNone result → IsSomeAnd (place_cash move_cash.now.target rows.now.target rows.now.vault) (λ cash. IsCents (cash +ℤ into_target move_cash.now)) }
     ensures room { IsNone result → IfSome rows.now.cash_book (λ book. book.lines + 2 ≤ max_key) }
 {
-    if is_unknown(rows, move_cash) {
-        return Some(Rule::Unknown);
-    }
-    if !is_of_branch(rows, move_cash.branch) {
-        return Some(Rule::Branch);
-    }
-    if !may_move(rows, move_cash, by.user) {
-        return Some(Rule::Drawer);
-    }
-    let amount = i64::from(move_cash.amount);
-    if !place_covers(move_cash.source, rows.source, rows.vault, -amount) {
-        return Some(Rule::Cash);
-    }
-    if !is_in_range(rows, move_cash) {
-        return Some(Rule::Range);
-    }
-    if cash_book_is_full(rows.cash_book, 2) {
-        return Some(Rule::Full);
-    }
-    None
+    first_denial(&[
+        (Rule::Unknown, is_unknown(rows, move_cash)),
+        (Rule::Branch, !is_of_branch(rows, move_cash.branch)),
+        (Rule::Drawer, !may_move(rows, move_cash, by.user)),
+        (Rule::Cash, !is_covered(rows, move_cash)),
+        (Rule::Range, !is_in_range(rows, move_cash)),
+        (Rule::Full, cash_book_is_full(rows.cash_book, 2)),
+    ])
 }
 
 fn is_vault(place: u32) -> bool
@@ -194,6 +182,14 @@ fn place_covers(place: u32, row: Option<TellerRecord>, vault: Option<i128>, adde
     }
 }
 
+/// Whether the place that gives has what it gives.
+fn is_covered(rows: &MoveRows, move_cash: &MoveCash) -> bool
+    ensures { result ≡ place_covers move_cash.now.source rows.now.source rows.now.vault (from_source move_cash.now) }
+{
+    let taken = from_source(move_cash);
+    place_covers(move_cash.source, rows.source, rows.vault, taken)
+}
+
 /// Whether it is an amount of money.
 fn place_in_range(place: u32, row: Option<TellerRecord>, vault: Option<i128>, added: i64) -> bool
     ensures { result ≡ place_in_range place row vault added }
@@ -205,20 +201,33 @@ fn place_in_range(place: u32, row: Option<TellerRecord>, vault: Option<i128>, ad
     }
 }
 
+/// What it adds to the place that gives.
+fn from_source(move_cash: &MoveCash) -> i64
+    ensures { result ≡ from_source move_cash.now }
+{
+    -i64::from(move_cash.amount)
+}
+
+/// What it adds to the place that takes.
+fn into_target(move_cash: &MoveCash) -> i64
+    ensures { result ≡ into_target move_cash.now }
+{
+    i64::from(move_cash.amount)
+}
+
 /// What it adds to the cash of all drawers together: nothing, where it goes from drawer to drawer.
 fn into_drawers(move_cash: &MoveCash) -> i64
     ensures { result ≡ into_drawers move_cash.now }
 {
-    let amount = i64::from(move_cash.amount);
     let taken = if is_vault(move_cash.target) {
         0
     } else {
-        amount
+        into_target(move_cash)
     };
     let given = if is_vault(move_cash.source) {
         0
     } else {
-        -amount
+        from_source(move_cash)
     };
     taken + given
 }
@@ -226,14 +235,11 @@ fn into_drawers(move_cash: &MoveCash) -> i64
 fn is_in_range(rows: &MoveRows, move_cash: &MoveCash) -> bool
     ensures { result ≡ is_in_range rows.now move_cash.now }
 {
-    let amount = i64::from(move_cash.amount);
-    if !place_in_range(move_cash.source, rows.source, rows.vault, -amount) {
-        return false;
-    }
-    if !place_in_range(move_cash.target, rows.target, rows.vault, amount) {
-        return false;
-    }
-    drawers_in_range(rows.cash_book, into_drawers(move_cash))
+    let taken = from_source(move_cash);
+    let given = into_target(move_cash);
+    place_in_range(move_cash.source, rows.source, rows.vault, taken)
+        && place_in_range(move_cash.target, rows.target, rows.vault, given)
+        && drawers_in_range(rows.cash_book, into_drawers(move_cash))
 }
 
 /// The two lines of a move that no rule denies.
@@ -293,10 +299,9 @@ fn left_by(move_cash: &MoveCash, source: i128, target: i128) -> Moved
     requires target { IsCents (target +ℤ into_target move_cash.now) }
     ensures { result ≡ moved move_cash.now source target }
 {
-    let amount = i64::from(move_cash.amount);
     Moved {
         moved: move_cash.amount,
-        source: sum_of(source, -amount),
-        target: sum_of(target, amount),
+        source: sum_of(source, from_source(move_cash)),
+        target: sum_of(target, into_target(move_cash)),
     }
 }

@@ -5,5 +5,6 @@ pub mod GroupCounts
 pub mod LookUps
 pub mod MadeRows
 pub mod Places
+pub mod Rows
 pub mod RowsBetween
 pub mod TotalLemmas

@@ -3,10 +3,10 @@ use Rattle.std.proofs.Common.{◌≡◌, ◌+◌, ℤ, ◌+ℤ◌, true, false, 
 use Rattle.std.proofs.lemmas.Bool.{ltb-false}
 use Rattle.bank_terms.specs.Limits.{max_key}
 use Rattle.bank_books.specs.declared.records.AccountRecord.{AccountRecord}
-use Rattle.book_growth.specs.Limits.{IsAccountWithin}
-use Rattle.book_growth.specs.Moves.{account_entered}
-use Rattle.book_growth.proofs.RuleTests.{at_least, cents_from}
-use Rattle.row_rules.specs.Rules.{account_in_range, account_is_full, account_keeps_floor}
+use Rattle.book_laws.specs.Limits.{IsAccountWithin}
+use Rattle.book_laws.specs.Moves.{account_entered}
+use Rattle.rule_tests.proofs.RuleTests.{at_least, cents_from}
+use Rattle.rule_tests.specs.Rules.{account_in_range, account_is_full, account_keeps_floor}
 
 -- with so much added it passes
 pub record HasAccountRoom (account : AccountRecord) (added : ℤ) : Type 0 where

@@ -14,11 +14,11 @@ use Rattle.bank_books.specs.declared.rows.CashLine.{CashLine}
 use Rattle.bank_books.specs.declared.rows.Entry.{Entry}
 use Rattle.bank_books.specs.declared.rows.Teller.{Teller}
 use Rattle.bank_books.specs.declared.signature.Signature.{Signature}
-use Rattle.book_growth.proofs.RuleTests.{passed_by, source_of}
+use Rattle.rule_tests.proofs.RuleTests.{passed_by, source_of}
 use Rattle.counter_ops.specs.declared.correct.Correct.{Correct}
-use Rattle.row_reads.specs.BookReads.{undone}
-use Rattle.row_rules.specs.BranchParts.{cash_book_of, ledger_of}
-use Rattle.row_rules.specs.Rules.{drawer_is_held_by, teller_is_of}
+use Rattle.world_reads.specs.BookReads.{undone}
+use Rattle.rule_tests.specs.BranchParts.{cash_book_of, ledger_of}
+use Rattle.rule_tests.specs.Rules.{drawer_is_held_by, teller_is_of}
 use Rattle.postings.specs.declared.correct.CorrectRows.{CorrectRows}
 use Rattle.postings.specs.Correct.{are_above_floors, correct_changes, correct_rows, entry_named, first_against_correct, has_cash, has_entry, is_by_maker, is_correctable, is_full, is_in_range, is_of_post, is_unknown, partner_of, undoing_entry, undoing_leg, undoing_legs, undoing_line, undoing_other, undoing_post}
 

@@ -15,13 +15,13 @@ use Rattle.bank_books.specs.declared.rows.CashLine.{CashLine}
 use Rattle.bank_books.specs.declared.rows.Entry.{Entry}
 use Rattle.bank_books.specs.declared.rows.Teller.{Teller}
 use Rattle.bank_books.specs.declared.signature.Signature.{Signature}
-use Rattle.book_growth.specs.Next.{IsNextEntry}
-use Rattle.book_growth.proofs.Rows.{found_row}
-use Rattle.book_growth.proofs.RuleTests.{none_named, passed_by, source_of}
+use Rattle.book_laws.specs.Next.{IsNextEntry}
+use Rattle.keyed_rows.proofs.Rows.{found_row}
+use Rattle.rule_tests.proofs.RuleTests.{none_named, passed_by, source_of}
 use Rattle.counter_ops.specs.declared.post.Post.{Post}
-use Rattle.row_rules.specs.BranchParts.{cash_book_of, ledger_of}
-use Rattle.row_rules.specs.Rules.{account_keeps_floor, drawer_covers, drawer_is_held_by, teller_is_of}
-use Rattle.row_rules.specs.Signed.{IsSigned}
+use Rattle.rule_tests.specs.BranchParts.{cash_book_of, ledger_of}
+use Rattle.rule_tests.specs.Rules.{account_keeps_floor, drawer_covers, drawer_is_held_by, teller_is_of}
+use Rattle.rule_tests.specs.Signed.{IsSigned}
 use Rattle.postings.specs.declared.post.PostRows.{PostRows}
 use Rattle.postings.specs.Laws.{PostKeepsBooks}
 use Rattle.postings.specs.Post.{first_against_post, is_full, is_in_range, is_unknown, post_changes, post_entry, post_line, post_rows}

@@ -14,11 +14,11 @@ use Rattle.bank_books.specs.declared.rows.Entry.{Entry}
 use Rattle.bank_books.specs.declared.rows.EntryForm.TheVariants as entry
 use Rattle.bank_books.specs.declared.rows.Teller.{Teller}
 use Rattle.bank_books.specs.declared.signature.Signature.{Signature}
-use Rattle.book_growth.proofs.RuleTests.{none_named, passed_by, source_of}
+use Rattle.rule_tests.proofs.RuleTests.{none_named, passed_by, source_of}
 use Rattle.counter_ops.specs.Transfer.{IsTransfer}
 use Rattle.counter_ops.specs.declared.transfer.Transfer.{Transfer}
-use Rattle.row_rules.specs.BranchParts.{ledger_of}
-use Rattle.row_rules.specs.Rules.{drawer_is_held_by, teller_is_of}
+use Rattle.rule_tests.specs.BranchParts.{ledger_of}
+use Rattle.rule_tests.specs.Rules.{drawer_is_held_by, teller_is_of}
 use Rattle.postings.specs.declared.transfer.TransferRows.{TransferRows}
 use Rattle.postings.specs.Laws.{TransferKeepsBooks}
 use Rattle.postings.specs.Transfer.{are_above_floors, are_in_range, first_against_transfer, first_leg, is_full, is_unknown, second_leg, transfer_changes, transfer_rows}

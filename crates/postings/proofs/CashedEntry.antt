@@ -18,21 +18,21 @@ use Rattle.bank_books.specs.declared.rows.Account.{Account}
 use Rattle.bank_books.specs.declared.rows.CashLine.{CashLine}
 use Rattle.bank_books.specs.declared.rows.Entry.{Entry}
 use Rattle.bank_books.specs.declared.rows.LineForm.TheVariants as line
-use Rattle.book_growth.specs.Ledger.{NamesEntries}
-use Rattle.book_growth.specs.Limits.{IsAccountWithin, IsCashWithin, IsHistoryWithin}
-use Rattle.book_growth.specs.Moves.{HasRoomFor, HasRoomForLine, account_entered, branch_lined}
-use Rattle.book_growth.specs.Next.{IsNextEntry, IsNextLine}
-use Rattle.book_growth.proofs.BooksSplit.{books_parts}
-use Rattle.book_growth.proofs.EntryBooks.{entry_keeps_books}
-use Rattle.book_growth.proofs.LineAdded.{line_keeps_books}
-use Rattle.book_growth.proofs.Rows.{found_row}
-use Rattle.book_growth.proofs.RuleTests.{cents_from}
+use Rattle.book_laws.specs.Ledger.{NamesEntries}
+use Rattle.book_laws.specs.Limits.{IsAccountWithin, IsCashWithin, IsHistoryWithin}
+use Rattle.book_laws.specs.Moves.{HasRoomFor, HasRoomForLine, account_entered, branch_lined}
+use Rattle.book_laws.specs.Next.{IsNextEntry, IsNextLine}
+use Rattle.book_laws.proofs.BooksSplit.{books_parts}
+use Rattle.book_laws.proofs.EntryBooks.{entry_keeps_books}
+use Rattle.book_laws.proofs.LineAdded.{line_keeps_books}
+use Rattle.keyed_rows.proofs.Rows.{found_row}
+use Rattle.rule_tests.proofs.RuleTests.{cents_from}
 use Rattle.counter_ops.specs.Ranges.{IsCash, IsKey}
 use Rattle.money.specs.Range.{IsCents}
-use Rattle.row_rules.specs.BranchParts.{cash_book_of, ledger_of}
-use Rattle.row_rules.specs.Rules.{cash_book_is_full, cash_entries_in_range, drawer_covers, drawer_in_range, drawers_in_range, ledger_in_range, ledger_is_full, teller_in_range}
-use Rattle.row_rules.specs.declared.cash_book.CashBook.{CashBook}
-use Rattle.row_rules.proofs.FoundRows.{cash_from, for_found}
+use Rattle.rule_tests.specs.BranchParts.{cash_book_of, ledger_of}
+use Rattle.rule_tests.specs.Rules.{cash_book_is_full, cash_entries_in_range, drawer_covers, drawer_in_range, drawers_in_range, ledger_in_range, ledger_is_full, teller_in_range}
+use Rattle.rule_tests.specs.declared.cash_book.CashBook.{CashBook}
+use Rattle.rule_tests.proofs.FoundRows.{cash_from, for_found}
 use Rattle.postings.proofs.AccountRoom.{HasAccountRoom, account_within}
 use Rattle.postings.proofs.Counter.{IsCounter, line_is_sound}
 

@@ -12,16 +12,16 @@ use Rattle.bank_books.specs.WorldLists.{WorldLists}
 use Rattle.bank_books.specs.declared.rows.Entry.{Entry}
 use Rattle.bank_books.specs.declared.rows.EntryForm.TheVariants as form
 use Rattle.bank_books.specs.declared.signature.Signature.{Signature}
-use Rattle.book_growth.specs.Next.{IsNextEntry}
-use Rattle.book_growth.proofs.BooksSplit.{books_parts}
-use Rattle.book_growth.proofs.Rows.{find-found, found_row}
-use Rattle.book_growth.proofs.RuleTests.{none_named}
+use Rattle.book_laws.specs.Next.{IsNextEntry}
+use Rattle.book_laws.proofs.BooksSplit.{books_parts}
+use Rattle.keyed_rows.proofs.Rows.{find-found, found_row}
+use Rattle.rule_tests.proofs.RuleTests.{none_named}
 use Rattle.counter_ops.specs.Correct.{IsCorrect}
 use Rattle.counter_ops.specs.Ranges.{IsKey, IsKeyOrZero}
 use Rattle.counter_ops.specs.declared.correct.Correct.{Correct}
-use Rattle.row_reads.specs.BookReads.{entry, is_entry}
-use Rattle.row_rules.specs.Rules.{cash_book_is_full, drawer_covers, ledger_is_full}
-use Rattle.row_rules.specs.Signed.{IsSigned}
+use Rattle.world_reads.specs.BookReads.{entry, is_entry}
+use Rattle.rule_tests.specs.Rules.{cash_book_is_full, drawer_covers, ledger_is_full}
+use Rattle.rule_tests.specs.Signed.{IsSigned}
 use Rattle.postings.specs.Correct.{correct_effect, correct_rows, is_of_post, post_in_range, undoing}
 use Rattle.postings.specs.Laws.{CorrectKeepsBooks}
 use Rattle.postings.specs.declared.correct.CorrectRows.{CorrectRows}

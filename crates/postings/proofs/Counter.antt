@@ -10,11 +10,11 @@ use Rattle.bank_books.specs.declared.rows.CashLine.{CashLine}
 use Rattle.bank_books.specs.declared.rows.Entry.{Entry}
 use Rattle.bank_books.specs.declared.rows.Teller.{Teller}
 use Rattle.bank_books.specs.declared.signature.Signature.{Signature}
-use Rattle.book_growth.specs.Ledger.{IsEntrySound, IsLineSound}
-use Rattle.book_growth.proofs.BooksSplit.{books_parts}
-use Rattle.book_growth.proofs.Rows.{found_row}
+use Rattle.book_laws.specs.Ledger.{IsEntrySound, IsLineSound}
+use Rattle.book_laws.proofs.BooksSplit.{books_parts}
+use Rattle.keyed_rows.proofs.Rows.{found_row}
 use Rattle.counter_ops.specs.Ranges.{IsKeyOrZero}
-use Rattle.row_rules.specs.Signed.{IsSigned}
+use Rattle.rule_tests.specs.Signed.{IsSigned}
 
 -- the teller is there, his branch is, and he is of it
 pub record IsCounter (w : WorldLists) (branch teller : ℕ) : Type 0 where

@@ -16,17 +16,17 @@ use Rattle.bank_books.specs.declared.rows.Account.{Account}
 use Rattle.bank_books.specs.declared.rows.Entry.{Entry}
 use Rattle.bank_books.specs.declared.rows.EntryForm.{EntryForm}
 use Rattle.bank_books.specs.declared.signature.Signature.{Signature}
-use Rattle.book_growth.specs.Limits.{IsAccountWithin}
-use Rattle.book_growth.specs.Moves.{AreLegs, HasRoomForOppositeLegs, account_entered}
-use Rattle.book_growth.specs.Next.{IsNextEntry}
-use Rattle.book_growth.proofs.LegsBooks.{opposite_legs_keep_books}
-use Rattle.book_growth.proofs.Rows.{count_named, count_other, found_row}
+use Rattle.book_laws.specs.Limits.{IsAccountWithin}
+use Rattle.book_laws.specs.Moves.{AreLegs, HasRoomForOppositeLegs, account_entered}
+use Rattle.book_laws.specs.Next.{IsNextEntry}
+use Rattle.book_laws.proofs.LegsBooks.{opposite_legs_keep_books}
+use Rattle.keyed_rows.proofs.Rows.{count_named, count_other, found_row}
 use Rattle.counter_ops.specs.Ranges.{IsKeyOrZero}
-use Rattle.row_rules.specs.BranchParts.{ledger_of}
-use Rattle.row_rules.specs.Rules.{ledger_is_full}
-use Rattle.row_rules.specs.Signed.{IsSigned}
-use Rattle.row_rules.specs.declared.ledger.Ledger.{Ledger}
-use Rattle.row_rules.proofs.FoundRows.{for_found}
+use Rattle.rule_tests.specs.BranchParts.{ledger_of}
+use Rattle.rule_tests.specs.Rules.{ledger_is_full}
+use Rattle.rule_tests.specs.Signed.{IsSigned}
+use Rattle.rule_tests.specs.declared.ledger.Ledger.{Ledger}
+use Rattle.rule_tests.proofs.FoundRows.{for_found}
 use Rattle.postings.proofs.AccountRoom.{HasAccountRoom, account_within}
 use Rattle.postings.proofs.Counter.{IsCounter, entry_is_sound}
 

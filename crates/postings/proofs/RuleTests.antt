@@ -1,32 +1,18 @@
--- What the tests of a rule tell: which rule is the first that denies, and what is known where none does.
-use Rattle.std.proofs.Common.{◌≡◌, ◌+◌, ◌+ℤ◌, ◌<◌, ℕ, ℤ, arith, cond, false, refl, sym, true, None, Option, Some}
+-- What the tests of a rule tell where it does not deny.
+use Rattle.std.proofs.Common.{◌≡◌, ◌+◌, ◌+ℤ◌, ◌<◌, ℕ, ℤ, arith, cond, false, sym, true, None, Option, Some}
 use Rattle.std.specs.Prelude.{Bool, IfSome, nat_lt}
 use Rattle.std.proofs.lemmas.Bool.{ltb-false, true≢false}
 use Rattle.bank_terms.specs.Limits.{max_key}
 use Rattle.money.specs.Range.{IsCents}
 use Rattle.bank_books.specs.declared.records.AccountRecord.{AccountRecord}
-use Rattle.book_growth.proofs.RuleTests.{cents_from}
-use Rattle.row_rules.specs.Rules.{account_in_range, account_is_full, cash_book_is_full, ledger_is_full}
-use Rattle.row_rules.specs.declared.cash_book.CashBook.{CashBook}
-use Rattle.row_rules.specs.declared.ledger.Ledger.{Ledger}
-
--- a rule that does not deny is passed over
-pub passes : {R : Type 0} (b : Bool) (r : R) (x rest : Option R) → b ≡ false → x ≡ rest → x ≡ cond b (Some r) rest
-passes true r x rest is same = absurd (true≢false is)
-passes false r x rest is same = same
-
--- one that denies is the first
-pub denies : {R : Type 0} (b : Bool) (r : R) (rest : Option R) → b ≡ true → Some r ≡ cond b (Some r) rest
-denies true r rest is = refl
-denies false r rest is = absurd (true≢false (sym is))
+use Rattle.rule_tests.proofs.RuleTests.{cents_from}
+use Rattle.rule_tests.specs.Rules.{account_in_range, account_is_full, cash_book_is_full, ledger_is_full}
+use Rattle.rule_tests.specs.declared.cash_book.CashBook.{CashBook}
+use Rattle.rule_tests.specs.declared.ledger.Ledger.{Ledger}
 
 pub of_then : (b x y : Bool) → b ≡ true → cond b x y ≡ false → x ≡ false
 of_then true x y is fails = fails
 of_then false x y is fails = absurd (true≢false (sym is))
-
-pub of_else : (b x y : Bool) → b ≡ false → cond b x y ≡ false → y ≡ false
-of_else true x y is fails = absurd (true≢false is)
-of_else false x y is fails = fails
 
 one_left : (n : ℕ) → nat_lt max_key (n + 1) ≡ false → n < max_key
 one_left n room = omega (arith, ltb-false max_key (n + 1) room)

@@ -2,7 +2,6 @@
 -- another of the opposite delta, that of a post with its cash, and the leg of a transfer together with the other leg.
 use Rattle.std.specs.Prelude.{ℕ, ℤ, neg_ℤ, ◌+◌, ◌+ℤ◌, ◌==◌, ◌||◌, ◌&&◌, Bool, true, false, not, is_none, List, [], ◌∷◌, Option, Some, None, option_map, option_and_then, if◌then◌else◌}
 use Rattle.std.specs.Option.{option_map_or}
-use Rattle.std.specs.List.{find}
 use Rattle.std.specs.Ordering.{int_eq}
 use Rattle.bank_terms.specs.declared.rule.Rule.{Rule}
 use Rattle.bank_terms.specs.declared.rule.Rule.TheVariants as rule
@@ -19,11 +18,12 @@ use Rattle.bank_books.specs.declared.rows.Entry.{Entry}
 use Rattle.bank_books.specs.declared.rows.EntryForm.{EntryForm}
 use Rattle.bank_books.specs.declared.rows.EntryForm.TheVariants as form
 use Rattle.bank_books.specs.declared.rows.LineForm.TheVariants as line
-use Rattle.row_reads.specs.BookReads.{entry, undone}
-use Rattle.row_rules.specs.BranchParts.{cash_book_of, ledger_of}
-use Rattle.row_rules.specs.Rules.{account_in_range, account_is_full, account_keeps_floor, cash_book_is_full, cash_entries_in_range, drawer_covers, drawer_in_range, drawer_is_held_by, drawers_in_range, ledger_in_range, ledger_is_full, teller_in_range, teller_is_of}
-use Rattle.row_rules.specs.declared.cash_book.CashBook.{CashBook}
-use Rattle.row_rules.specs.declared.ledger.Ledger.{Ledger}
+use Rattle.world_reads.specs.BookReads.{entry, undone}
+use Rattle.rule_tests.specs.BranchParts.{cash_book_of, ledger_of}
+use Rattle.rule_tests.specs.Denial.{first_denial}
+use Rattle.rule_tests.specs.Rules.{account_in_range, account_is_full, account_keeps_floor, cash_book_is_full, cash_entries_in_range, drawer_covers, drawer_in_range, drawer_is_held_by, drawers_in_range, ledger_in_range, ledger_is_full, teller_in_range, teller_is_of}
+use Rattle.rule_tests.specs.declared.cash_book.CashBook.{CashBook}
+use Rattle.rule_tests.specs.declared.ledger.Ledger.{Ledger}
 use Rattle.postings.specs.declared.correct.CorrectRows.{CorrectRows}
 use Rattle.postings.specs.declared.correct.Corrected.{Corrected}
 use Rattle.postings.specs.declared.correct.Corrected.TheVariants as corrected
@@ -119,27 +119,23 @@ is_full rows correct =
     || account_is_full rows.other
     || (if is_of_post correct then (ledger_is_full rows.ledger 1 || cash_book_is_full rows.cash_book 1) else ledger_is_full rows.ledger 2)
 
--- the rule denies the correction of this user
-abbrev pub correct_denies : Rule → CorrectRows → Correct → Signature → Bool
-correct_denies rule.Unknown rows correct by = is_unknown rows correct
-correct_denies rule.Branch rows correct by = not (teller_is_of rows.teller correct.branch)
-correct_denies rule.Drawer rows correct by = not (drawer_is_held_by rows.teller by.user)
-correct_denies rule.SecondPerson rows correct by = is_by_maker rows by.user
-correct_denies rule.Entry rows correct by = not (has_entry rows correct)
-correct_denies rule.Floor rows correct by = not (are_above_floors rows correct)
-correct_denies rule.Cash rows correct by = not (has_cash rows correct)
-correct_denies rule.Range rows correct by = not (is_in_range rows correct)
-correct_denies rule.Full rows correct by = is_full rows correct
-correct_denies _ rows correct by = false
-
--- the rules of the books that a correction is judged by, in their order
-abbrev pub rules_of_correct : List Rule
-rules_of_correct =
-    rule.Unknown ∷ rule.Branch ∷ rule.Drawer ∷ rule.SecondPerson ∷ rule.Entry ∷ rule.Floor ∷ rule.Cash ∷ rule.Range ∷ rule.Full ∷ []
+-- the rules of the books that the correction of this user is judged by, in their order, each with whether it denies
+abbrev pub correct_tests : CorrectRows → Correct → Signature → List (Rule × Bool)
+correct_tests rows correct by =
+    (rule.Unknown, is_unknown rows correct)
+    ∷ (rule.Branch, not (teller_is_of rows.teller correct.branch))
+    ∷ (rule.Drawer, not (drawer_is_held_by rows.teller by.user))
+    ∷ (rule.SecondPerson, is_by_maker rows by.user)
+    ∷ (rule.Entry, not (has_entry rows correct))
+    ∷ (rule.Floor, not (are_above_floors rows correct))
+    ∷ (rule.Cash, not (has_cash rows correct))
+    ∷ (rule.Range, not (is_in_range rows correct))
+    ∷ (rule.Full, is_full rows correct)
+    ∷ []
 
 -- the first of them that denies
 abbrev pub first_against_correct : CorrectRows → Correct → Signature → Option Rule
-first_against_correct rows correct by = find (λ r. correct_denies r rows correct by) rules_of_correct
+first_against_correct rows correct by = first_denial (correct_tests rows correct by)
 
 -- the entry that undoes a post, at the teller whom the correction names
 abbrev pub undoing_entry : AccountRecord → Ledger → Correct → Signature → Entry

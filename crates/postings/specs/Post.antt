@@ -1,7 +1,6 @@
 -- A post: the rows that it is judged on, the rules of the books against it, its effect, and what it leaves.
-use Rattle.std.specs.Prelude.{◌+◌, ◌+ℤ◌, ◌||◌, ◌&&◌, Bool, false, not, is_none, List, [], ◌∷◌, Option, option_map, option_and_then}
+use Rattle.std.specs.Prelude.{◌+◌, ◌+ℤ◌, ◌||◌, ◌&&◌, Bool, not, is_none, List, [], ◌∷◌, Option, option_map, option_and_then}
 use Rattle.std.specs.Option.{option_map_or}
-use Rattle.std.specs.List.{find}
 use Rattle.bank_terms.specs.declared.rule.Rule.{Rule}
 use Rattle.bank_terms.specs.declared.rule.Rule.TheVariants as rule
 use Rattle.counter_ops.specs.declared.post.Post.{Post}
@@ -16,10 +15,11 @@ use Rattle.bank_books.specs.declared.rows.CashLine.{CashLine}
 use Rattle.bank_books.specs.declared.rows.Entry.{Entry}
 use Rattle.bank_books.specs.declared.rows.EntryForm.TheVariants as entry
 use Rattle.bank_books.specs.declared.rows.LineForm.TheVariants as line
-use Rattle.row_rules.specs.BranchParts.{cash_book_of, ledger_of}
-use Rattle.row_rules.specs.Rules.{account_in_range, account_is_full, account_keeps_floor, cash_book_is_full, cash_entries_in_range, drawer_covers, drawer_in_range, drawer_is_held_by, drawers_in_range, ledger_in_range, ledger_is_full, teller_in_range, teller_is_of}
-use Rattle.row_rules.specs.declared.cash_book.CashBook.{CashBook}
-use Rattle.row_rules.specs.declared.ledger.Ledger.{Ledger}
+use Rattle.rule_tests.specs.BranchParts.{cash_book_of, ledger_of}
+use Rattle.rule_tests.specs.Denial.{first_denial}
+use Rattle.rule_tests.specs.Rules.{account_in_range, account_is_full, account_keeps_floor, cash_book_is_full, cash_entries_in_range, drawer_covers, drawer_in_range, drawer_is_held_by, drawers_in_range, ledger_in_range, ledger_is_full, teller_in_range, teller_is_of}
+use Rattle.rule_tests.specs.declared.cash_book.CashBook.{CashBook}
+use Rattle.rule_tests.specs.declared.ledger.Ledger.{Ledger}
 use Rattle.postings.specs.declared.post.PostRows.{PostRows}
 use Rattle.postings.specs.declared.post.Posted.{Posted}
 
@@ -50,24 +50,21 @@ is_in_range rows post =
 abbrev pub is_full : PostRows → Bool
 is_full rows = ledger_is_full rows.ledger 1 || account_is_full rows.account || cash_book_is_full rows.cash_book 1
 
--- the rule denies the post of this user
-abbrev pub post_denies : Rule → PostRows → Post → Signature → Bool
-post_denies rule.Unknown rows post by = is_unknown rows
-post_denies rule.Branch rows post by = not (teller_is_of rows.teller post.branch)
-post_denies rule.Drawer rows post by = not (drawer_is_held_by rows.teller by.user)
-post_denies rule.Floor rows post by = not (account_keeps_floor rows.account post.delta)
-post_denies rule.Cash rows post by = not (drawer_covers rows.teller post.delta)
-post_denies rule.Range rows post by = not (is_in_range rows post)
-post_denies rule.Full rows post by = is_full rows
-post_denies _ rows post by = false
-
--- the rules of the books that a post is judged by, in their order
-abbrev pub rules_of_post : List Rule
-rules_of_post = rule.Unknown ∷ rule.Branch ∷ rule.Drawer ∷ rule.Floor ∷ rule.Cash ∷ rule.Range ∷ rule.Full ∷ []
+-- the rules of the books that the post of this user is judged by, in their order, each with whether it denies
+abbrev pub post_tests : PostRows → Post → Signature → List (Rule × Bool)
+post_tests rows post by =
+    (rule.Unknown, is_unknown rows)
+    ∷ (rule.Branch, not (teller_is_of rows.teller post.branch))
+    ∷ (rule.Drawer, not (drawer_is_held_by rows.teller by.user))
+    ∷ (rule.Floor, not (account_keeps_floor rows.account post.delta))
+    ∷ (rule.Cash, not (drawer_covers rows.teller post.delta))
+    ∷ (rule.Range, not (is_in_range rows post))
+    ∷ (rule.Full, is_full rows)
+    ∷ []
 
 -- the first of them that denies
 abbrev pub first_against_post : PostRows → Post → Signature → Option Rule
-first_against_post rows post by = find (λ r. post_denies r rows post by) rules_of_post
+first_against_post rows post by = first_denial (post_tests rows post by)
 
 -- The entry that a post adds to the history of its teller's branch: one record for each transaction, as TPC Benchmark A
 -- has it. It bears the next number there and the account's next turn.

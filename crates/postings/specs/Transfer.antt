@@ -1,7 +1,6 @@
 -- A transfer: the rows that it is judged on, the rules of the books against it, its effect, and what it leaves.
-use Rattle.std.specs.Prelude.{ℤ, pos, neg_ℤ, ◌+◌, ◌+ℤ◌, ◌||◌, ◌&&◌, Bool, false, not, is_none, List, [], ◌∷◌, Option, option_map, option_and_then}
+use Rattle.std.specs.Prelude.{ℤ, pos, neg_ℤ, ◌+◌, ◌+ℤ◌, ◌||◌, ◌&&◌, Bool, not, is_none, List, [], ◌∷◌, Option, option_map, option_and_then}
 use Rattle.std.specs.Option.{option_map_or}
-use Rattle.std.specs.List.{find}
 use Rattle.bank_terms.specs.declared.rule.Rule.{Rule}
 use Rattle.bank_terms.specs.declared.rule.Rule.TheVariants as rule
 use Rattle.counter_ops.specs.declared.transfer.Transfer.{Transfer}
@@ -14,9 +13,10 @@ use Rattle.bank_books.specs.declared.row_write.RowWrite.TheVariants as write
 use Rattle.bank_books.specs.declared.signature.Signature.{Signature}
 use Rattle.bank_books.specs.declared.rows.Entry.{Entry}
 use Rattle.bank_books.specs.declared.rows.EntryForm.TheVariants as entry
-use Rattle.row_rules.specs.BranchParts.{ledger_of}
-use Rattle.row_rules.specs.Rules.{account_in_range, account_is_full, account_keeps_floor, drawer_is_held_by, ledger_is_full, teller_is_of}
-use Rattle.row_rules.specs.declared.ledger.Ledger.{Ledger}
+use Rattle.rule_tests.specs.BranchParts.{ledger_of}
+use Rattle.rule_tests.specs.Denial.{first_denial}
+use Rattle.rule_tests.specs.Rules.{account_in_range, account_is_full, account_keeps_floor, drawer_is_held_by, ledger_is_full, teller_is_of}
+use Rattle.rule_tests.specs.declared.ledger.Ledger.{Ledger}
 use Rattle.postings.specs.declared.transfer.TransferRows.{TransferRows}
 use Rattle.postings.specs.declared.transfer.Transferred.{Transferred}
 
@@ -53,23 +53,20 @@ are_in_range rows transfer = account_in_range rows.source (taken transfer) && ac
 abbrev pub is_full : TransferRows → Bool
 is_full rows = ledger_is_full rows.ledger 2 || account_is_full rows.source || account_is_full rows.target
 
--- the rule denies the transfer of this user
-abbrev pub transfer_denies : Rule → TransferRows → Transfer → Signature → Bool
-transfer_denies rule.Unknown rows transfer by = is_unknown rows
-transfer_denies rule.Branch rows transfer by = not (teller_is_of rows.teller transfer.branch)
-transfer_denies rule.Drawer rows transfer by = not (drawer_is_held_by rows.teller by.user)
-transfer_denies rule.Floor rows transfer by = not (are_above_floors rows transfer)
-transfer_denies rule.Range rows transfer by = not (are_in_range rows transfer)
-transfer_denies rule.Full rows transfer by = is_full rows
-transfer_denies _ rows transfer by = false
-
--- the rules of the books that a transfer is judged by, in their order
-abbrev pub rules_of_transfer : List Rule
-rules_of_transfer = rule.Unknown ∷ rule.Branch ∷ rule.Drawer ∷ rule.Floor ∷ rule.Range ∷ rule.Full ∷ []
+-- the rules of the books that the transfer of this user is judged by, in their order, each with whether it denies
+abbrev pub transfer_tests : TransferRows → Transfer → Signature → List (Rule × Bool)
+transfer_tests rows transfer by =
+    (rule.Unknown, is_unknown rows)
+    ∷ (rule.Branch, not (teller_is_of rows.teller transfer.branch))
+    ∷ (rule.Drawer, not (drawer_is_held_by rows.teller by.user))
+    ∷ (rule.Floor, not (are_above_floors rows transfer))
+    ∷ (rule.Range, not (are_in_range rows transfer))
+    ∷ (rule.Full, is_full rows)
+    ∷ []
 
 -- the first of them that denies
 abbrev pub first_against_transfer : TransferRows → Transfer → Signature → Option Rule
-first_against_transfer rows transfer by = find (λ r. transfer_denies r rows transfer by) rules_of_transfer
+first_against_transfer rows transfer by = first_denial (transfer_tests rows transfer by)
 
 -- the entry at the account that gives
 abbrev pub first_leg : AccountRecord → Ledger → Transfer → Signature → Entry

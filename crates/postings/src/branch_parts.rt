@@ -1,8 +1,8 @@
 ghost use Rattle.std.specs.Prelude.{◌≡◌, option_map};
-ghost use Rattle.row_rules.specs.BranchParts.{cash_book_of, ledger_of};
+ghost use Rattle.rule_tests.specs.BranchParts.{cash_book_of, ledger_of};
 
 use bank_books::BranchRecord;
-use row_rules::{CashBook, Ledger};
+use rule_tests::{CashBook, Ledger};
 
 /// The history and the cash book of a branch, where it is there.
 pub(crate) fn branch_parts(branch: Option<BranchRecord>) -> (Option<Ledger>, Option<CashBook>)

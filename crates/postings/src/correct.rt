@@ -1,8 +1,8 @@
 ghost use Rattle.std.specs.Prelude.{◌≡◌, [], ◌∷◌, ◌+◌, ◌<◌, ◌+ℤ◌, true, false, option_map, IfOk, IfSome, IsNone, IsSome, IsOkUnless, Ok, Err};
 ghost use Rattle.money.specs.Range.{IsCents};
 ghost use Rattle.bank_terms.specs.Limits.{max_key};
-ghost use Rattle.row_rules.specs.BranchParts.{cash_book_of, ledger_of};
-ghost use Rattle.row_rules.specs.Planned.{IsPlanned};
+ghost use Rattle.rule_tests.specs.BranchParts.{cash_book_of, ledger_of};
+ghost use Rattle.rule_tests.specs.Planned.{IsPlanned};
 ghost use Rattle.postings.specs.Correct.{are_above_floors, correct_changes, corrected_of, first_against_correct, has_cash, has_entry, is_by_maker, is_correctable, is_full, is_in_range, is_of_post, is_unknown, other_is_as_named, post_in_range, post_undone, transfer_undone, undoing, undoing_entry, undoing_leg, undoing_line, undoing_other};
 
 use crate::branch_parts::branch_parts;
@@ -15,10 +15,10 @@ use bank_books::{
 use bank_terms::Rule;
 use counter_ops::Correct;
 use money::Fault;
-use row_rules::{
+use rule_tests::{
     CashBook, Ledger, Planned, account_in_range, account_is_full, account_keeps_floor,
     cash_book_is_full, cash_entries_in_range, drawer_covers, drawer_in_range, drawer_is_held_by,
-    drawers_in_range, ledger_in_range, ledger_is_full, teller_in_range, teller_is_of,
+    drawers_in_range, first_denial, ledger_in_range, ledger_is_full, teller_in_range, teller_is_of,
 };
 use std::alloc::Global;
 
@@ -179,34 +179,17 @@ pub fn rule_against_correct(rows: &CorrectRows, correct: &Correct, by: Signature
     ensures lines { IsNone result → is_of_post correct.now ≡ true → IfSome rows.now.cash_book (λ book. book.lines < max_key) }
     ensures two { IsNone result → is_of_post correct.now ≡ false → IfSome rows.now.ledger (λ ledger. ledger.entries + 1 < max_key) }
 {
-    if is_unknown(rows, correct) {
-        return Some(Rule::Unknown);
-    }
-    if !teller_is_of(rows.teller, correct.branch) {
-        return Some(Rule::Branch);
-    }
-    if !drawer_is_held_by(rows.teller, by.user) {
-        return Some(Rule::Drawer);
-    }
-    if is_by_maker(rows, by.user) {
-        return Some(Rule::SecondPerson);
-    }
-    if !has_entry(rows, correct) {
-        return Some(Rule::Entry);
-    }
-    if !are_above_floors(rows, correct) {
-        return Some(Rule::Floor);
-    }
-    if !has_cash(rows, correct) {
-        return Some(Rule::Cash);
-    }
-    if !is_in_range(rows, correct) {
-        return Some(Rule::Range);
-    }
-    if is_full(rows, correct) {
-        return Some(Rule::Full);
-    }
-    None
+    first_denial(&[
+        (Rule::Unknown, is_unknown(rows, correct)),
+        (Rule::Branch, !teller_is_of(rows.teller, correct.branch)),
+        (Rule::Drawer, !drawer_is_held_by(rows.teller, by.user)),
+        (Rule::SecondPerson, is_by_maker(rows, by.user)),
+        (Rule::Entry, !has_entry(rows, correct)),
+        (Rule::Floor, !are_above_floors(rows, correct)),
+        (Rule::Cash, !has_cash(rows, correct)),
+        (Rule::Range, !is_in_range(rows, correct)),
+        (Rule::Full, is_full(rows, correct)),
+    ])
 }
 
 fn is_of_post(correct: &Correct) -> bool

@@ -2,7 +2,7 @@
 //! like answer the first rule of the books that denies, or none, without memory. `plan_post`,
 //! `plan_transfer` and `plan_correct` answer that rule, or exactly the changes and what they leave; only
 //! memory keeps them from it. `laws` says that books which hold still hold after what no rule denies.
-//! `op_plans` loads the rows.
+//! `op_prepare` loads the rows.
 #![tactic(auto)]
 
 mod branch_parts;

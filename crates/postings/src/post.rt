@@ -1,8 +1,9 @@
 ghost use Rattle.std.specs.Prelude.{◌≡◌, ◌<◌, ◌+ℤ◌, false, option_map, IfOk, IfSome, IsNone, IsOkUnless, Ok, Err};
 ghost use Rattle.money.specs.Range.{IsCents};
 ghost use Rattle.bank_terms.specs.Limits.{max_key};
-ghost use Rattle.row_rules.specs.BranchParts.{cash_book_of, ledger_of};
-ghost use Rattle.row_rules.specs.Planned.{IsPlanned};
+ghost use Rattle.rule_tests.specs.BranchParts.{cash_book_of, ledger_of};
+ghost use Rattle.rule_tests.specs.Planned.{IsPlanned};
+ghost use Rattle.rule_tests.specs.Rules.{account_keeps_floor, drawer_covers};
 ghost use Rattle.postings.specs.Post.{is_full, is_in_range, is_unknown, first_against_post, post_changes, post_entry, post_line, posted_of};
 
 use crate::branch_parts::branch_parts;
@@ -13,11 +14,11 @@ use bank_books::{
 use bank_terms::Rule;
 use counter_ops::Post;
 use money::{Cents, Fault};
-use row_rules::{
+use rule_tests::{
     CashBook, Ledger, Planned, account_in_range, account_is_full, account_keeps_floor,
     cash_book_is_full, cash_entries_in_range, cents_after, drawer_covers, drawer_in_range,
-    drawer_is_held_by, drawers_in_range, ledger_in_range, ledger_is_full, teller_in_range,
-    teller_is_of,
+    drawer_is_held_by, drawers_in_range, first_denial, ledger_in_range, ledger_is_full,
+    teller_in_range, teller_is_of,
 };
 use std::alloc::Global;
 
@@ -154,28 +155,15 @@ pub fn rule_against_post(rows: &PostRows, post: &Post, by: Signature) -> Option<
     ensures entries { IsNone result → IfSome rows.now.ledger (λ ledger. ledger.entries < max_key) }
     ensures lines { IsNone result → IfSome rows.now.cash_book (λ book. book.lines < max_key) }
 {
-    if is_unknown(rows) {
-        return Some(Rule::Unknown);
-    }
-    if !teller_is_of(rows.teller, post.branch) {
-        return Some(Rule::Branch);
-    }
-    if !drawer_is_held_by(rows.teller, by.user) {
-        return Some(Rule::Drawer);
-    }
-    if !account_keeps_floor(rows.account, post.delta.get()) {
-        return Some(Rule::Floor);
-    }
-    if !drawer_covers(rows.teller, post.delta.get()) {
-        return Some(Rule::Cash);
-    }
-    if !is_in_range(rows, post) {
-        return Some(Rule::Range);
-    }
-    if is_full(rows) {
-        return Some(Rule::Full);
-    }
-    None
+    first_denial(&[
+        (Rule::Unknown, is_unknown(rows)),
+        (Rule::Branch, !teller_is_of(rows.teller, post.branch)),
+        (Rule::Drawer, !drawer_is_held_by(rows.teller, by.user)),
+        (Rule::Floor, !keeps_floor(rows, post)),
+        (Rule::Cash, !has_cash(rows, post)),
+        (Rule::Range, !is_in_range(rows, post)),
+        (Rule::Full, is_full(rows)),
+    ])
 }
 
 fn is_unknown(rows: &PostRows) -> bool
@@ -185,6 +173,18 @@ fn is_unknown(rows: &PostRows) -> bool
         || rows.teller.is_none()
         || rows.ledger.is_none()
         || rows.cash_book.is_none()
+}
+
+fn keeps_floor(rows: &PostRows, post: &Post) -> bool
+    ensures { result ≡ account_keeps_floor rows.now.account post.now.delta }
+{
+    account_keeps_floor(rows.account, post.delta.get())
+}
+
+fn has_cash(rows: &PostRows, post: &Post) -> bool
+    ensures { result ≡ drawer_covers rows.now.teller post.now.delta }
+{
+    drawer_covers(rows.teller, post.delta.get())
 }
 
 fn is_in_range(rows: &PostRows, post: &Post) -> bool

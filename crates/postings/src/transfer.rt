@@ -1,8 +1,8 @@
 ghost use Rattle.std.specs.Prelude.{◌≡◌, ◌+◌, ◌<◌, ◌≤◌, ◌+ℤ◌, false, option_map, IfOk, IfSome, IsNone, IsOkUnless, Ok, Err};
 ghost use Rattle.money.specs.Range.{IsCents};
 ghost use Rattle.bank_terms.specs.Limits.{max_key, max_transfer};
-ghost use Rattle.row_rules.specs.BranchParts.{ledger_of};
-ghost use Rattle.row_rules.specs.Planned.{IsPlanned};
+ghost use Rattle.rule_tests.specs.BranchParts.{ledger_of};
+ghost use Rattle.rule_tests.specs.Planned.{IsPlanned};
 ghost use Rattle.postings.specs.Transfer.{are_above_floors, are_in_range, first_against_transfer, first_leg, given, is_full, is_unknown, second_leg, taken, transfer_changes, transferred_of};
 
 use bank_books::{
@@ -11,9 +11,9 @@ use bank_books::{
 use bank_terms::Rule;
 use counter_ops::Transfer;
 use money::{Cents, Delta, Fault};
-use row_rules::{
+use rule_tests::{
     Ledger, Planned, account_in_range, account_is_full, account_keeps_floor, cents_after,
-    drawer_is_held_by, ledger_is_full, teller_is_of,
+    drawer_is_held_by, first_denial, ledger_is_full, teller_is_of,
 };
 use std::alloc::Global;
 
@@ -192,25 +192,14 @@ pub fn rule_against_transfer(
     ensures second_turns { IsNone result → IfSome rows.now.target (λ account. account.turns < max_key) }
     ensures entries { IsNone result → IfSome rows.now.ledger (λ ledger. ledger.entries + 1 < max_key) }
 {
-    if is_unknown(rows) {
-        return Some(Rule::Unknown);
-    }
-    if !teller_is_of(rows.teller, transfer.branch) {
-        return Some(Rule::Branch);
-    }
-    if !drawer_is_held_by(rows.teller, by.user) {
-        return Some(Rule::Drawer);
-    }
-    if !are_above_floors(rows, transfer) {
-        return Some(Rule::Floor);
-    }
-    if !are_in_range(rows, transfer) {
-        return Some(Rule::Range);
-    }
-    if is_full(rows) {
-        return Some(Rule::Full);
-    }
-    None
+    first_denial(&[
+        (Rule::Unknown, is_unknown(rows)),
+        (Rule::Branch, !teller_is_of(rows.teller, transfer.branch)),
+        (Rule::Drawer, !drawer_is_held_by(rows.teller, by.user)),
+        (Rule::Floor, !are_above_floors(rows, transfer)),
+        (Rule::Range, !are_in_range(rows, transfer)),
+        (Rule::Full, is_full(rows)),
+    ])
 }
 
 fn is_unknown(rows: &TransferRows) -> bool

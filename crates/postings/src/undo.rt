@@ -8,7 +8,7 @@ ghost use Rattle.postings.specs.Correct.{undoing, undoing_entry, undoing_leg, un
 use bank_books::{AccountRecord, CashLine, Entry, EntryForm, LineForm, Signature};
 use counter_ops::Correct;
 use money::{Cents, Delta};
-use row_rules::{CashBook, Ledger};
+use rule_tests::{CashBook, Ledger};
 
 /// What a correction adds to the account of the entry that it undoes.
 fn undoing_delta(correct: &Correct) -> Delta

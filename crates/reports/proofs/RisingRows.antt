@@ -2,7 +2,7 @@
 use Rattle.std.proofs.Common.{ℕ, ◌+◌, ◌<◌, ◌≤◌, List, [], ◌∷◌, Bool, true, false, cond, length, All, arith}
 use Rattle.std.specs.List.{filter}
 use Rattle.std.proofs.lemmas.List.Elements.{All-filter, All-head, All-tail, All-weaker}
-use Rattle.row_reads.proofs.Rising.{Rises}
+use Rattle.world_reads.proofs.Rising.{Rises}
 
 -- the keys of some of them rise, too
 pub rises_filter : {X : Type 0} (key : X → ℕ) (p : X → Bool) (xs : List X) → Rises key xs → Rises key (filter p xs)

@@ -3,8 +3,8 @@ use Rattle.std.specs.Prelude.{ℕ, ◌+◌, ◌+ℤ◌, ◌<◌, ◌^◌, FitsSi
 use Rattle.std.specs.Int.{w128}
 use Rattle.bank_books.specs.WorldLists.{WorldLists}
 use Rattle.bank_books.specs.declared.records.TellerRecord.{TellerRecord}
-use Rattle.row_reads.specs.BookReads.{entry_at, next_teller}
-use Rattle.row_reads.specs.PolicyListing.{next_policy}
+use Rattle.world_reads.specs.BookReads.{entry_at, next_teller}
+use Rattle.world_reads.specs.PolicyListing.{next_policy}
 use Rattle.report_lines.specs.Texts.{HasLine}
 use Rattle.reports.specs.Lines.{AllFrom}
 use Rattle.reports.specs.Listing.{next_listed}

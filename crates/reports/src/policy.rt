@@ -8,9 +8,9 @@ ghost use Rattle.reports.specs.Step.{IsNext};
 use crate::listing::{Listed, Listing};
 use money::Fault;
 use report_lines::policy_line;
-use row_reads::PolicyKey;
 use std::alloc::Global;
 use store_rows::ReportReads;
+use world_reads::PolicyKey;
 
 /// The line of the next row of the policy. No line has room for a name that is too long.
 pub(crate) fn next_row<S: ReportReads>(

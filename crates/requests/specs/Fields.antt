@@ -8,10 +8,10 @@ use Rattle.std.specs.Int.{is_in_range}
 use Rattle.std.specs.List.{list_all}
 use Rattle.std.specs.Str.{all_ascii_digits}
 use Rattle.std.specs.Str.Parse.{digits_value}
-use Rattle.bank_run.specs.declared.who.Who.{Who}
-use Rattle.heads.specs.declared.fault.MessageFault.{MessageFault}
-use Rattle.heads.specs.declared.fault.MessageFault.TheVariants.{BadContent}
-use Rattle.heads.specs.Fields.{values_named}
+use Rattle.bank_meaning.specs.declared.who.Who.{Who}
+use Rattle.http_heads.specs.declared.fault.MessageFault.{MessageFault}
+use Rattle.http_heads.specs.declared.fault.MessageFault.TheVariants.{BadContent}
+use Rattle.http_heads.specs.Fields.{values_named}
 
 -- a badge: 1 to 64 bytes, each of them visible ASCII
 unfoldable pub is_badge : List ℕ → Bool

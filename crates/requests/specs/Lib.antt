@@ -1,2 +1,4 @@
 pub mod Fields
 pub mod Request
+pub mod RouterRows
+pub mod Routes

@@ -3,20 +3,20 @@ use Rattle.std.specs.Prelude.{ℕ, ◌≡◌, true, List, Option, Some, None, Re
 use Rattle.std.specs.Option.{option_map_or}
 use Rattle.bank_terms.specs.declared.procedure.Procedure.{Procedure}
 use Rattle.bodies.specs.Operation.{stated_op}
-use Rattle.command_bodies.specs.Command.{stated_command}
-use Rattle.policy_ops.specs.declared.command.Command.{Command}
-use Rattle.bank_run.specs.Operations.{is_report}
-use Rattle.bank_run.specs.declared.request.Asked.{Asked}
-use Rattle.bank_run.specs.declared.request.Asked.TheVariants as asked
-use Rattle.bank_run.specs.declared.request.Request.{Request}
-use Rattle.bank_run.specs.declared.who.Who.{Who}
-use Rattle.heads.specs.declared.fault.MessageFault.{MessageFault}
-use Rattle.heads.specs.declared.fault.MessageFault.TheVariants.{BadContent, NoSuchRoute}
-use Rattle.messages.specs.Parts.{MessageParts}
+use Rattle.bodies.specs.Command.{stated_command}
+use Rattle.policy_commands.specs.declared.command.Command.{Command}
+use Rattle.bank_meaning.specs.Operations.{is_report}
+use Rattle.bank_meaning.specs.declared.request.Asked.{Asked}
+use Rattle.bank_meaning.specs.declared.request.Asked.TheVariants as asked
+use Rattle.bank_meaning.specs.declared.request.Request.{Request}
+use Rattle.bank_meaning.specs.declared.who.Who.{Who}
+use Rattle.http_heads.specs.declared.fault.MessageFault.{MessageFault}
+use Rattle.http_heads.specs.declared.fault.MessageFault.TheVariants.{BadContent, NoSuchRoute}
+use Rattle.http_messages.specs.Parts.{MessageParts}
 use Rattle.requests.specs.Fields.{who_by_badge, who_of, who_of_operation}
-use Rattle.routes.specs.Routes.{asked_route}
-use Rattle.routes.specs.declared.routes.Route.{Route}
-use Rattle.routes.specs.declared.routes.Route.TheVariants as route
+use Rattle.requests.specs.Routes.{asked_route}
+use Rattle.requests.specs.declared.routes.Route.{Route}
+use Rattle.requests.specs.declared.routes.Route.TheVariants as route
 
 -- the operation that the body states, asked at the moment by who it is
 abbrev pub asked_by : Procedure → ℕ → List ℕ → Result Who MessageFault → Result Request MessageFault

@@ -2,14 +2,14 @@ ghost use Rattle.std.specs.Prelude.{◌≡◌, ◌≤◌, IfOk, IfSome, if◌the
 ghost use Rattle.bank_terms.specs.Limits.{max_key};
 ghost use Rattle.std.specs.Int.{is_in_range};
 ghost use Rattle.std.specs.Str.Parse.{digits_value};
-ghost use Rattle.heads.specs.Found.{IsFound};
+ghost use Rattle.http_heads.specs.Found.{IsFound};
 ghost use Rattle.requests.specs.Fields.{is_badge, is_number, number_of, slip_for, user_of, who_by_badge, who_of, who_of_operation};
 
 use crate::gate::Gate;
-use bank_run::Who;
+use bank_meaning::Who;
 use bank_terms::{MAX_KEY, Procedure};
-use heads::{Found, MessageFault};
-use messages::Message;
+use http_heads::{Found, MessageFault};
+use http_messages::Message;
 use std::str;
 
 /// The most bytes of a badge.

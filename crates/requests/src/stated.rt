@@ -1,21 +1,20 @@
 ghost use Rattle.std.specs.Prelude.{◌≡◌, ◌≤◌, IfOk, IsOkUnless};
 ghost use Rattle.bank_terms.specs.Limits.{max_moment};
 ghost use Rattle.money.specs.declared.fault.Fault.TheVariants.{Memory};
-ghost use Rattle.bank_run.specs.Sums.{IsProper};
+ghost use Rattle.bank_meaning.specs.Sums.{IsProper};
 ghost use Rattle.requests.specs.Fields.{who_of, who_of_operation};
 ghost use Rattle.requests.specs.Request.{asked_by, commanded_by, request_of, session_by};
 
 use crate::fields::{who_by_badge, who_of, who_of_operation};
 use crate::gate::Gate;
-use bank_run::{Asked, Request, Who};
+use crate::routes::{Route, Routes};
+use bank_meaning::{Asked, Request, Who};
 use bank_terms::Procedure;
-use bodies::read_op;
-use command_bodies::read_command;
-use heads::MessageFault;
-use messages::Message;
+use bodies::{read_command, read_op};
+use http_heads::MessageFault;
+use http_messages::Message;
 use money::Fault;
-use policy_ops::Command;
-use routes::{Route, Routes};
+use policy_commands::Command;
 use std::alloc::Global;
 
 /// The request that a message states at a moment, or its fault.

@@ -1,13 +1,13 @@
 -- Stores of the sample bank's opening books.
 use Rattle.std.proofs.Common.{◌≡◌, ◌∙◌, [], ℕ, Option, Some, None, Result, arith, inl, inr, subst, sym}
 use Rattle.bank_books.specs.WorldLists.{WorldLists}
-use Rattle.bank_run.specs.Sums.{PassesChecks}
-use Rattle.cached.specs.Fresh.{AreFresh}
-use Rattle.cached.specs.Standing.{below, cached_status, remembered}
-use Rattle.cached.specs.declared.cached.Cached.{Cached}
-use Rattle.ends.specs.Streams.{Streams}
-use Rattle.messages.specs.declared.serving.ServeFault.{ServeFault}
-use Rattle.messages.specs.declared.serving.Served.{Served}
+use Rattle.bank_meaning.specs.Sums.{PassesChecks}
+use Rattle.store_cached.specs.Fresh.{AreFresh}
+use Rattle.store_cached.specs.Standing.{below, cached_status, remembered}
+use Rattle.store_cached.specs.declared.cached.Cached.{Cached}
+use Rattle.exit_lines.specs.Streams.{Streams}
+use Rattle.http_messages.specs.declared.serving.ServeFault.{ServeFault}
+use Rattle.http_messages.specs.declared.serving.Served.{Served}
 use Rattle.sample_bank.specs.Opening.{sample_opening}
 use Rattle.sample_service.specs.Serving.{IsOpening, IsSampleServed, IsSampleServedBehindCache}
 use Rattle.store_rows.specs.ListStore.{list_status}

@@ -1,9 +1,9 @@
 -- How serving the sample bank ends: what standard error got, and the status.
 use Rattle.std.specs.Prelude.{ℕ, Option, Result}
-use Rattle.messages.specs.declared.serving.ServeFault.{ServeFault}
-use Rattle.messages.specs.declared.serving.Served.{Served}
-use Rattle.ends.specs.Ends.{IsTold}
-use Rattle.ends.specs.Streams.{Stream, Streams}
+use Rattle.http_messages.specs.declared.serving.ServeFault.{ServeFault}
+use Rattle.http_messages.specs.declared.serving.Served.{Served}
+use Rattle.exit_lines.specs.Ends.{IsTold}
+use Rattle.exit_lines.specs.Streams.{Stream, Streams}
 use Rattle.sample_service.specs.Serving.{IsSampleServed}
 use Rattle.store_rows.specs.Status.{Status}
 

@@ -1,12 +1,12 @@
 -- What serving a stream over the sample bank comes to, in any store.
 use Rattle.std.specs.Prelude.{◌≡◌, ℕ, Option, Some, None, Result, Err}
 use Rattle.bank_books.specs.WorldLists.{WorldLists}
-use Rattle.bank_run.specs.Sums.{PassesChecks}
+use Rattle.bank_meaning.specs.Sums.{PassesChecks}
 use Rattle.counter_service.specs.Serving.{IsServedBehindCache, IsServedOver}
-use Rattle.ends.specs.Streams.{Streams}
-use Rattle.messages.specs.declared.serving.ServeFault.{ServeFault}
-use Rattle.messages.specs.declared.serving.ServeFault.TheVariants.{Memory}
-use Rattle.messages.specs.declared.serving.Served.{Served}
+use Rattle.exit_lines.specs.Streams.{Streams}
+use Rattle.http_messages.specs.declared.serving.ServeFault.{ServeFault}
+use Rattle.http_messages.specs.declared.serving.ServeFault.TheVariants.{Memory}
+use Rattle.http_messages.specs.declared.serving.Served.{Served}
 use Rattle.sample_bank.specs.Badges.{badge_user}
 use Rattle.sample_bank.specs.Opening.{sample_opening}
 use Rattle.store_rows.specs.Status.{Status}

@@ -1,6 +1,6 @@
 -- What the stores of the sample stand for.
-use Rattle.cached.specs.Standing.{cached_status}
-use Rattle.cached.specs.declared.cached.Cached.{Cached}
+use Rattle.store_cached.specs.Standing.{cached_status}
+use Rattle.store_cached.specs.declared.cached.Cached.{Cached}
 use Rattle.store_rows.specs.ListStore.{list_status}
 use Rattle.store_rows.specs.Status.{Status}
 use Rattle.store_rows.specs.declared.list_store.ListStore.{ListStore}

@@ -1,12 +1,12 @@
 ghost use Rattle.std.specs.Prelude.{IfOk};
-ghost use Rattle.cached.specs.Standing.{cached_status};
-ghost use Rattle.ends.specs.Streams.{stream_at, streams_at};
+ghost use Rattle.store_cached.specs.Standing.{cached_status};
+ghost use Rattle.exit_lines.specs.Streams.{stream_at, streams_at};
 ghost use Rattle.sample_service.specs.Ends.{IsSampleEnd};
 ghost use Rattle.sample_service.specs.Serving.{IsOpening};
 
 use crate::service::{serve_sample, serve_sample_behind_cache};
 use counter_service::Moment;
-use ends::tell_end;
+use exit_lines::tell_end;
 use money::Tallied;
 use std::alloc::{AllocError, Global};
 use std::io::{Read, Write};

@@ -1,7 +1,7 @@
 ghost use Rattle.std.specs.Prelude.{◌≡◌, ◌≤◌, IfOk, Err};
 ghost use Rattle.counter_service.specs.Serving.{most_messages};
 ghost use Rattle.sample_service.specs.Serving.{IsOpening, IsSampleServed, IsSampleServedBehindCache};
-ghost use Rattle.ends.specs.Streams.{streams_at};
+ghost use Rattle.exit_lines.specs.Streams.{streams_at};
 
 use crate::badges::SampleBadges;
 use counter_service::{Moment, ServeFault, Served, serve_behind_cache, serve_stream};

@@ -1,10 +1,10 @@
 ghost use Rattle.std.specs.Prelude.{IfOk, OnOk};
-ghost use Rattle.bank_run.specs.Sums.{PassesChecks};
+ghost use Rattle.bank_meaning.specs.Sums.{PassesChecks};
 ghost use Rattle.store_rows.specs.ListStore.{list_status};
 ghost use Rattle.sample_service.specs.Serving.{IsOpening};
 
 use bank_books::World;
-use bank_run::laws::world_is_in_order;
+use bank_meaning::laws::world_is_in_order;
 use book_check::check_books;
 use book_sums::Kept;
 use policy_check::check_policy;

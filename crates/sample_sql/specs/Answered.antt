@@ -1,6 +1,6 @@
 -- What serving the sample bank in a store of one's choice comes to.
 use Rattle.std.specs.Prelude.{ℕ}
-use Rattle.ends.specs.Streams.{Stream, Streams}
+use Rattle.exit_lines.specs.Streams.{Stream, Streams}
 use Rattle.sample_service.specs.Ends.{IsSampleEnd}
 use Rattle.sample_service.specs.Stores.{cached_list_status}
 use Rattle.sample_sql.specs.Stores.{memory_status}

@@ -1,6 +1,6 @@
 -- What the sample's stores over SQL stand for.
-use Rattle.cached.specs.Standing.{cached_status}
-use Rattle.cached.specs.declared.cached.Cached.{Cached}
+use Rattle.store_cached.specs.Standing.{cached_status}
+use Rattle.store_cached.specs.declared.cached.Cached.{Cached}
 use Rattle.sqlite.specs.Held.{state}
 use Rattle.sqlite.specs.Steps.{over_memory}
 use Rattle.sqlite_trees.specs.declared.memory.MemStore.{MemStore}

@@ -1,4 +1,4 @@
-ghost use Rattle.ends.specs.Streams.{stream_at, streams_at};
+ghost use Rattle.exit_lines.specs.Streams.{stream_at, streams_at};
 ghost use Rattle.sample_sql.specs.Answered.{IsAnswered};
 
 use crate::stores::sql_sample;

@@ -2,9 +2,9 @@ ghost use Rattle.std.specs.Prelude.{IfOk};
 ghost use Rattle.sample_service.specs.Serving.{IsOpening};
 ghost use Rattle.sample_sql.specs.Stores.{memory_status};
 
-use bank_run::laws::world_is_in_order;
-use open_sql::create;
+use bank_meaning::laws::world_is_in_order;
 use sample_bank::sample_world;
+use sql_create::create;
 use sqlite::{Connection, MemStore};
 use std::alloc::{AllocError, Global};
 use store_sql::SqlStore;

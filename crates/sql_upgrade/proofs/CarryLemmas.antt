@@ -5,11 +5,12 @@ use Rattle.sqlite.specs.State.{HasCleanDisk, IsRolledBack, KeepsCommit, State, S
 use Rattle.sqlite.specs.Tree.{Trees}
 use Rattle.sqlite.proofs.StateLemmas.{survives_then}
 use Rattle.bank_books.specs.WorldLists.{WorldLists}
-use Rattle.bank_schema.specs.Held.{AreOfWorld, HoldsBank}
-use Rattle.bank_schema.specs.declared.edition.Edition.{Edition}
-use Rattle.bank_schema.proofs.StepLemmas.{early}
-use Rattle.adopt_sql.specs.Adopted.{Finds, IsBankFileIn, IsLeft}
-use Rattle.adopt_sql.specs.Older.{IsOlderFile}
+use Rattle.sql_schema.specs.Held.{AreOfWorld, HoldsBank}
+use Rattle.sql_schema.specs.declared.edition.Edition.{Edition}
+use Rattle.sql_schema.proofs.StepLemmas.{early}
+use Rattle.sql_schema.specs.Steps.{LeavesNone}
+use Rattle.sql_adopt.specs.Adopted.{Finds, IsBankFileIn, IsLeft}
+use Rattle.sql_adopt.specs.Older.{IsOlderFile}
 use Rattle.sql_upgrade.specs.Carried.{Carries, IsCarriedOver, IsOf}
 
 -- after a read that changed nothing
@@ -27,7 +28,7 @@ left_then old mid new first second = record {
 }
 
 -- what commits nothing may leave anything more
-pub survives_more : (old new : State) (Commits : Trees → Type 0) → Survives old new (λ _. ⊥) → Survives old new Commits
+pub survives_more : (old new : State) (Commits : Trees → Type 0) → LeavesNone old new → Survives old new Commits
 survives_more old new Commits s = record {
   clean = s.clean;
   shield = s.shield;
@@ -51,7 +52,7 @@ pub handed : {X : Type 0} {E : Type 0} (r : Result X E) (P : Type 0) → P → O
 handed (Ok x) P p = tt
 handed (Err e) P p = p
 
-module _ (edition : Edition) (old mid new : State) (w : WorldLists) (read : Survives old mid (λ _. ⊥)) (found : HasCleanDisk mid → (e : Edition) → IsOlderFile e old → (edition ≡ e) × Finds e old.now w)
+module _ (edition : Edition) (old mid new : State) (w : WorldLists) (read : LeavesNone old mid) (found : HasCleanDisk mid → (e : Edition) → IsOlderFile e old → (edition ≡ e) × Finds e old.now w)
     (left : HasCleanDisk mid → (e : Edition) → IsOlderFile e old → IsLeft old mid) (written : Survives mid new (λ trees. IsOf edition mid → AreOfWorld w trees)) where
   -- the file is in the edition in which it was read
   pub is_of : HasCleanDisk mid → (e : Edition) → IsOlderFile e old → IsOf edition mid

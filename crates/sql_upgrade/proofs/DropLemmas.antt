@@ -13,10 +13,10 @@ use Rattle.sqlite.specs.Table.{Table}
 use Rattle.sqlite.proofs.Callers.{IsPlain, command_of, runs_as, statement_of}
 use Rattle.sqlite_schema.specs.declared.schema.Keys.TheVariants.{Enforced}
 use Rattle.sqlite_tied.specs.Compute.{everything}
-use Rattle.bank_schema.specs.declared.edition.Edition.{Edition}
-use Rattle.bank_schema.specs.declared.edition.Edition.TheVariants.{First, Second, Third}
+use Rattle.sql_schema.specs.declared.edition.Edition.{Edition}
+use Rattle.sql_schema.specs.declared.edition.Edition.TheVariants.{First, Second, Third}
 use Rattle.sql_upgrade.specs.Left.{HasSchema, left, triples_text}
-use Rattle.bank_schema.specs.Schema.{accounts_table, bank_table, branches_table, certifiers_table, entries_table, lines_table, members_table, proofs_table, relations_table, releases_table, sets_table, tellers_table, triples_table_of, users_table}
+use Rattle.sql_schema.specs.Schema.{accounts_table, bank_table, branches_table, certifiers_table, entries_table, lines_table, members_table, proofs_table, relations_table, releases_table, sets_table, tellers_table, triples_table_of, users_table}
 
 -- Where the schema is this, the text is one command that takes this table away, no key of another table acts on its rows, and then the
 -- schema is that.

@@ -1,9 +1,9 @@
 -- What is left of a file of which nothing, or all, was taken away.
 use Rattle.std.proofs.Common.{◌≡◌, ◌≢◌, refl}
-use Rattle.bank_schema.specs.Schema.{newest, schema_of}
-use Rattle.bank_schema.specs.declared.edition.Edition.{Edition}
-use Rattle.bank_schema.specs.declared.edition.Edition.TheVariants.{First, Second, Third}
-use Rattle.open_sql.specs.Blank.{no_schema}
+use Rattle.sql_schema.specs.Schema.{newest, schema_of}
+use Rattle.sql_schema.specs.declared.edition.Edition.{Edition}
+use Rattle.sql_schema.specs.declared.edition.Edition.TheVariants.{First, Second, Third}
+use Rattle.sql_create.specs.Blank.{no_schema}
 use Rattle.sql_upgrade.specs.Left.{left}
 
 -- before the newest edition there are no tables but these

@@ -2,11 +2,12 @@
 use Rattle.std.proofs.Common.{ℕ, List, [], Ok, Err, Result, IsErr, IsTrue, OnOk}
 use Rattle.sqlite.specs.Effect.{Database}
 use Rattle.sqlite.specs.Schema.{Schema}
-use Rattle.sqlite.specs.State.{Executes, HasCleanDisk, KeepsCommit, State, Survives}
+use Rattle.sqlite.specs.State.{Executes, HasCleanDisk, KeepsCommit, State}
 use Rattle.sqlite.specs.Table.{Table}
-use Rattle.bank_schema.proofs.StepLemmas.{early, kept_then, none_ok, ok_weaker}
-use Rattle.open_sql.specs.Goes.{Goes}
-use Rattle.open_sql.proofs.GoesLemmas.{Ran}
+use Rattle.sql_schema.proofs.StepLemmas.{early, kept_then, none_ok, ok_weaker}
+use Rattle.sql_schema.specs.Steps.{LeavesNone}
+use Rattle.sql_create.specs.Goes.{Goes}
+use Rattle.sql_create.proofs.GoesLemmas.{Ran}
 use Rattle.sql_upgrade.specs.Left.{HasSchema}
 use Rattle.sql_upgrade.specs.Proceeds.{Proceeds}
 use Rattle.sql_upgrade.proofs.DropLemmas.{IsRemoval, removes}
@@ -16,7 +17,7 @@ abbrev pub ProceededBy : State → State → (Database → Type 0) → (Database
 ProceededBy old new From To =
     HasCleanDisk new → IsTrue old.in_transaction → (IsTrue old.is_open → From old.now) → (IsTrue old.is_open × IsTrue new.in_transaction × To new.now) × KeepsCommit old new
 
-module _ (old mid new : State) (From Via To : Database → Type 0) (first : ProceededBy old mid From Via) (over : Survives mid new (λ _. ⊥)) where
+module _ (old mid new : State) (From Via To : Database → Type 0) (first : ProceededBy old mid From Via) (over : LeavesNone mid new) where
   -- another after it
   pub proceeds_then : {X E : Type 0} (result : Result X E) → Proceeds mid new Via To result → Proceeds old new From To result
   proceeds_then result second clean inside from =

@@ -3,10 +3,10 @@ use Rattle.std.specs.Prelude.{◌≡◌, IsTrue}
 use Rattle.sqlite.specs.State.{State}
 use Rattle.sqlite.specs.Tree.{Trees}
 use Rattle.bank_books.specs.WorldLists.{WorldLists}
-use Rattle.bank_schema.specs.Held.{AreOfWorld, HoldsBank}
-use Rattle.bank_schema.specs.Schema.{schema_of}
-use Rattle.bank_schema.specs.declared.edition.Edition.{Edition}
-use Rattle.adopt_sql.specs.Adopted.{Finds}
+use Rattle.sql_schema.specs.Held.{AreOfWorld, HoldsBank}
+use Rattle.sql_schema.specs.Schema.{schema_of}
+use Rattle.sql_schema.specs.declared.edition.Edition.{Edition}
+use Rattle.sql_adopt.specs.Adopted.{Finds}
 
 -- The tables of an older edition held a World whose books hold and whose policy is sound, and no other. Those of the newest hold it now, and
 -- a crash leaves it in them alone.

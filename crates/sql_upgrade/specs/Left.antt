@@ -2,9 +2,9 @@
 use Rattle.std.specs.Prelude.{◌≡◌, ◌++◌, ℕ, List, [], codes, drop, take}
 use Rattle.sqlite.specs.Effect.{Database}
 use Rattle.sqlite.specs.Schema.{Schema}
-use Rattle.bank_schema.specs.Schema.{last_indexes_of, schema_of}
-use Rattle.bank_schema.specs.declared.edition.Edition.{Edition}
-use Rattle.bank_schema.specs.declared.edition.Edition.TheVariants.{First, Second, Third}
+use Rattle.sql_schema.specs.Schema.{last_indexes_of, schema_of}
+use Rattle.sql_schema.specs.declared.edition.Edition.{Edition}
+use Rattle.sql_schema.specs.declared.edition.Edition.TheVariants.{First, Second, Third}
 
 -- The first so many tables, and the first so many of the indexes of their keys. Of the two indexes for look-ups, where the edition has them,
 -- so many are gone.

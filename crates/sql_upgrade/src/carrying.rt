@@ -4,20 +4,21 @@ ghost use Rattle.std.specs.Prelude.{◌≡◌, ◌≢◌, false, IsTrue, OnErr, 
 ghost use Rattle.sqlite.specs.Held.{state};
 ghost use Rattle.sqlite.specs.State.{HasCleanDisk, Survives};
 ghost use Rattle.bank_books.specs.Records.{kept_of};
-ghost use Rattle.kept_rows.specs.Keepable.{IsKeepable};
-ghost use Rattle.bank_schema.specs.Held.{AreOfWorld, HoldsBank, HoldsWorld};
-ghost use Rattle.bank_schema.specs.Schema.{newest, schema_of};
-ghost use Rattle.adopt_sql.specs.Adopted.{IsLeft};
+ghost use Rattle.book_kept.specs.Keepable.{IsKeepable};
+ghost use Rattle.sql_schema.specs.Held.{AreOfWorld, HoldsBank, HoldsWorld};
+ghost use Rattle.sql_schema.specs.Schema.{newest, schema_of};
+ghost use Rattle.sql_schema.specs.Steps.{LeavesNone};
+ghost use Rattle.sql_adopt.specs.Adopted.{IsLeft};
 ghost use Rattle.sql_upgrade.specs.Carried.{IsOf};
 ghost use Rattle.sql_upgrade.specs.Left.{HasSchema};
 ghost use Rattle.sql_upgrade.specs.Proceeds.{Proceeds};
 
 use crate::dropping::drop_tables;
 use bank_books::World;
-use bank_schema::{Edition, commit};
 use book_sums::Kept;
 use money::Fault;
-use open_sql::write_bank;
+use sql_create::write_bank;
+use sql_schema::{Edition, commit};
 use sqlite::{Alter, Connection, Transaction};
 use std::alloc::Global;
 
@@ -34,7 +35,7 @@ fn rewrite_bank<S: Alter>(
     requires keepable { IsKeepable world.now }
     ensures same_reference { tx.new.conn.ghost_name ≡ tx.old.conn.ghost_name }
     ensures proceeds { Proceeds (state S.Store tx.old.conn.now) (state S.Store tx.new.conn.now) (HasSchema (schema_of edition)) (λ db. HoldsWorld db world.now) result }
-    ensures survives { Survives (state S.Store tx.old.conn.now) (state S.Store tx.new.conn.now) (λ _. ⊥) }
+    ensures survives { LeavesNone (state S.Store tx.old.conn.now) (state S.Store tx.new.conn.now) }
 {
     drop_tables(tx, edition)?;
     write_bank(alloc, tx, world, kept)

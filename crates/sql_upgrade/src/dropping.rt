@@ -3,21 +3,21 @@
 
 ghost use Rattle.std.specs.Prelude.{◌≡◌};
 ghost use Rattle.sqlite.specs.Held.{state};
-ghost use Rattle.sqlite.specs.State.{Survives};
-ghost use Rattle.bank_schema.specs.declared.edition.Edition.{Edition as TheEdition};
+ghost use Rattle.sql_schema.specs.declared.edition.Edition.{Edition as TheEdition};
+ghost use Rattle.sql_schema.specs.Steps.{LeavesNone};
 ghost use Rattle.sql_upgrade.specs.Left.{HasSchema, left, triples_text};
 ghost use Rattle.sql_upgrade.specs.Proceeds.{Proceeds};
 
-use bank_schema::Edition;
 use money::Fault;
-use open_sql::define;
+use sql_create::define;
+use sql_schema::Edition;
 use sqlite::{Alter, Transaction};
 
 /// Takes away the tables of lines, proofs and releases.
 fn drop_history<S: Alter>(tx: &mut Transaction<'_, S>) -> Result<(), Fault>
     ensures same_reference { tx.new.conn.ghost_name ≡ tx.old.conn.ghost_name }
     ensures proceeds { (e : TheEdition) → Proceeds (state S.Store tx.old.conn.now) (state S.Store tx.new.conn.now) (HasSchema (left e 14 9 0)) (HasSchema (left e 11 6 0)) result }
-    ensures survives { Survives (state S.Store tx.old.conn.now) (state S.Store tx.new.conn.now) (λ _. ⊥) }
+    ensures survives { LeavesNone (state S.Store tx.old.conn.now) (state S.Store tx.new.conn.now) }
 {
     define(tx, "DROP TABLE releases")?;
     define(tx, "DROP TABLE proofs")?;
@@ -28,7 +28,7 @@ fn drop_history<S: Alter>(tx: &mut Transaction<'_, S>) -> Result<(), Fault>
 fn drop_books<S: Alter>(tx: &mut Transaction<'_, S>) -> Result<(), Fault>
     ensures same_reference { tx.new.conn.ghost_name ≡ tx.old.conn.ghost_name }
     ensures proceeds { (e : TheEdition) → Proceeds (state S.Store tx.old.conn.now) (state S.Store tx.new.conn.now) (HasSchema (left e 11 6 0)) (HasSchema (left e 7 4 2)) result }
-    ensures survives { Survives (state S.Store tx.old.conn.now) (state S.Store tx.new.conn.now) (λ _. ⊥) }
+    ensures survives { LeavesNone (state S.Store tx.old.conn.now) (state S.Store tx.new.conn.now) }
 {
     define(tx, "DROP TABLE entries")?;
     define(tx, "DROP TABLE accounts")?;
@@ -52,7 +52,7 @@ fn triples_text(edition: Edition) -> &'static str
 fn drop_rights<S: Alter>(tx: &mut Transaction<'_, S>, edition: Edition) -> Result<(), Fault>
     ensures same_reference { tx.new.conn.ghost_name ≡ tx.old.conn.ghost_name }
     ensures proceeds { Proceeds (state S.Store tx.old.conn.now) (state S.Store tx.new.conn.now) (HasSchema (left edition 7 4 2)) (HasSchema (left edition 4 1 2)) result }
-    ensures survives { Survives (state S.Store tx.old.conn.now) (state S.Store tx.new.conn.now) (λ _. ⊥) }
+    ensures survives { LeavesNone (state S.Store tx.old.conn.now) (state S.Store tx.new.conn.now) }
 {
     define(tx, "DROP TABLE certifiers")?;
     define(tx, triples_text(edition))?;
@@ -63,7 +63,7 @@ fn drop_rights<S: Alter>(tx: &mut Transaction<'_, S>, edition: Edition) -> Resul
 fn drop_bank_and_sets<S: Alter>(tx: &mut Transaction<'_, S>) -> Result<(), Fault>
     ensures same_reference { tx.new.conn.ghost_name ≡ tx.old.conn.ghost_name }
     ensures proceeds { (e : TheEdition) → Proceeds (state S.Store tx.old.conn.now) (state S.Store tx.new.conn.now) (HasSchema (left e 4 1 2)) (HasSchema (left e 0 0 2)) result }
-    ensures survives { Survives (state S.Store tx.old.conn.now) (state S.Store tx.new.conn.now) (λ _. ⊥) }
+    ensures survives { LeavesNone (state S.Store tx.old.conn.now) (state S.Store tx.new.conn.now) }
 {
     define(tx, "DROP TABLE members")?;
     define(tx, "DROP TABLE sets")?;
@@ -78,7 +78,7 @@ pub(crate) fn drop_tables<S: Alter>(
 ) -> Result<(), Fault>
     ensures same_reference { tx.new.conn.ghost_name ≡ tx.old.conn.ghost_name }
     ensures proceeds { Proceeds (state S.Store tx.old.conn.now) (state S.Store tx.new.conn.now) (HasSchema (left edition 14 9 0)) (HasSchema (left edition 0 0 2)) result }
-    ensures survives { Survives (state S.Store tx.old.conn.now) (state S.Store tx.new.conn.now) (λ _. ⊥) }
+    ensures survives { LeavesNone (state S.Store tx.old.conn.now) (state S.Store tx.new.conn.now) }
 {
     drop_history(tx)?;
     drop_books(tx)?;

@@ -1,17 +1,18 @@
 ghost use Rattle.std.specs.Prelude.{◌≡◌, false, IfErr, IfOk, IsErrAnd, MatchResult, OnErr, OnOk};
 ghost use Rattle.sqlite.specs.Held.{state};
 ghost use Rattle.sqlite.specs.State.{HasCleanDisk, Survives};
-ghost use Rattle.bank_schema.specs.Held.{HoldsSheetsIn};
-ghost use Rattle.bank_schema.specs.Readable.{AreReadable};
-ghost use Rattle.bank_schema.specs.declared.edition.Edition.{Edition as TheEdition};
-ghost use Rattle.kept_rows.specs.Sheets.{Sheets};
-ghost use Rattle.adopt_sql.specs.Adopted.{IsLeft};
-ghost use Rattle.adopt_sql.specs.Older.{IsNewestFile, IsOlderFile};
-ghost use Rattle.adopt_sql.specs.Refused.{HoldsSoundBankIn, IsNamedBy, IsOfOther, IsOfStore, IsRefusedIn};
+ghost use Rattle.sql_schema.specs.Held.{HoldsSheetsIn};
+ghost use Rattle.sql_schema.specs.Readable.{AreReadable};
+ghost use Rattle.sql_schema.specs.declared.edition.Edition.{Edition as TheEdition};
+ghost use Rattle.sql_schema.specs.Steps.{LeavesNone};
+ghost use Rattle.book_kept.specs.Sheets.{Sheets};
+ghost use Rattle.sql_adopt.specs.Adopted.{IsLeft};
+ghost use Rattle.sql_adopt.specs.Older.{IsNewestFile, IsOlderFile};
+ghost use Rattle.sql_adopt.specs.Refused.{HoldsSoundBankIn, IsNamedBy, IsOfOther, IsOfStore, IsRefusedIn};
 ghost use Rattle.sql_upgrade.specs.Carried.{Carries, IsCarriedOver};
 
 use crate::carrying::carry_bank;
-use adopt_sql::{AdoptFault, read_older_bank};
+use sql_adopt::{AdoptFault, read_older_bank};
 use sqlite::{Alter, Connection};
 use std::alloc::Global;
 use store_sql::SqlStore;
@@ -27,7 +28,7 @@ fn upgrade_bank<S: Alter>(alloc: Global, conn: &mut Connection<S>) -> Result<(),
     ensures sound { HasCleanDisk (state S.Store conn.new) → (e : TheEdition) → IsOlderFile e (state S.Store conn.old) → HoldsSoundBankIn e (state S.Store conn.old).now → IfErr result IsOfStore }
     ensures named { HasCleanDisk (state S.Store conn.new) → (e : TheEdition) → IsOlderFile e (state S.Store conn.old) → (s : Sheets) → HoldsSheetsIn e (state S.Store conn.old).now.trees s → AreReadable s → IfErr result (IsNamedBy s) }
     ensures unchanged { HasCleanDisk (state S.Store conn.new) → (e : TheEdition) → IsOlderFile e (state S.Store conn.old) → OnErr result (IsLeft (state S.Store conn.old) (state S.Store conn.new)) }
-    ensures untouched { IfErr result (λ fault. (IsOfStore fault → ⊥) → Survives (state S.Store conn.old) (state S.Store conn.new) (λ _. ⊥)) }
+    ensures untouched { IfErr result (λ fault. (IsOfStore fault → ⊥) → LeavesNone (state S.Store conn.old) (state S.Store conn.new)) }
     ensures crash { Survives (state S.Store conn.old) (state S.Store conn.new) (λ trees. HasCleanDisk (state S.Store conn.new) → (e : TheEdition) → IsOlderFile e (state S.Store conn.old) → IsCarriedOver e (state S.Store conn.old) trees) }
 {
     let older = read_older_bank(alloc, conn)?;
@@ -56,7 +57,7 @@ pub fn upgrade<S: Alter>(
     ensures named { IfErr result (λ x. HasCleanDisk (state S.Store x.1) → (e : TheEdition) → IsOlderFile e (state S.Store conn) → (s : Sheets) → HoldsSheetsIn e (state S.Store conn).now.trees s → AreReadable s → IsNamedBy s x.0) }
     ensures other { MatchResult result (λ store. HasCleanDisk (state S.Store store.conn) → IsNewestFile (state S.Store conn) → ⊥) (λ x. HasCleanDisk (state S.Store x.1) → IsNewestFile (state S.Store conn) → IsOfOther x.0) }
     ensures unchanged { IfErr result (λ x. HasCleanDisk (state S.Store x.1) → (e : TheEdition) → IsOlderFile e (state S.Store conn) → IsLeft (state S.Store conn) (state S.Store x.1)) }
-    ensures untouched { IfErr result (λ x. (IsOfStore x.0 → ⊥) → Survives (state S.Store conn) (state S.Store x.1) (λ _. ⊥)) }
+    ensures untouched { IfErr result (λ x. (IsOfStore x.0 → ⊥) → LeavesNone (state S.Store conn) (state S.Store x.1)) }
     ensures mode { IfErr result (λ x. x.1.in_transaction ≡ false) }
     ensures crash { MatchResult result (λ store. Survives (state S.Store conn) (state S.Store store.conn) (λ trees. HasCleanDisk (state S.Store store.conn) → (e : TheEdition) → IsOlderFile e (state S.Store conn) → IsCarriedOver e (state S.Store conn) trees)) (λ x. Survives (state S.Store conn) (state S.Store x.1) (λ trees. HasCleanDisk (state S.Store x.1) → (e : TheEdition) → IsOlderFile e (state S.Store conn) → IsCarriedOver e (state S.Store conn) trees)) }
 {

@@ -4,9 +4,9 @@ ghost use Rattle.bank_books.specs.Records.{account_record, branch_record, teller
 ghost use Rattle.bank_books.specs.Version.{has_version_for};
 ghost use Rattle.bank_books.specs.WorldLists.{WorldLists};
 ghost use Rattle.bank_policy.specs.HeldRows.{relations_of, triples_of};
-ghost use Rattle.row_reads.specs.BookReads.{drawer, entries_of, entry, entry_at, next_shown, next_teller, release, roster, shown, undone, vault};
-ghost use Rattle.row_reads.specs.PolicyListing.{next_policy, policy_rows};
-ghost use Rattle.row_reads.specs.PolicyReads.{is_certifier, is_set, set_count, triple_count, user_record};
+ghost use Rattle.world_reads.specs.BookReads.{drawer, entries_of, entry, entry_at, next_shown, next_teller, release, roster, shown, undone, vault};
+ghost use Rattle.world_reads.specs.PolicyListing.{next_policy, policy_rows};
+ghost use Rattle.world_reads.specs.PolicyReads.{is_certifier, is_set, set_count, triple_count, user_record};
 ghost use Rattle.store_rows.specs.ListStore.{ReadsList, list_status};
 ghost use Rattle.store_rows.specs.Status.{Changes, Refuses, Tells, count_after, mark_of};
 
@@ -18,12 +18,12 @@ use bank_books::{
 use bank_policy::{CertifiedRow, HeldRow, relations_of, triples_of};
 use bank_terms::Procedure;
 use money::Fault;
-use row_reads::{
+use std::alloc::{AllocError, Global};
+use world_reads::{
     DrawerRecord, PolicyKey, PolicyRow, UserRecord, drawer, entries_of, entry, entry_at,
     is_certifier, is_set, next_policy, next_shown, next_teller, policy_rows, release, roster,
     set_count, shown, slip, slip_count, triple_count, undone, user_record, vault,
 };
-use std::alloc::{AllocError, Global};
 
 /// The plain store: a World in lists, of which every number is computed anew at each call. Only
 /// memory keeps it from an answer, and the greatest version from a change of the policy. It is never

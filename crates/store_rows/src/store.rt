@@ -3,9 +3,9 @@ ghost use Rattle.bank_books.specs.Records.{account_record, branch_record, slip_c
 ghost use Rattle.bank_books.specs.Effects.{applied};
 ghost use Rattle.bank_books.specs.Version.{has_version_for};
 ghost use Rattle.bank_policy.specs.HeldRows.{relations_of, triples_of};
-ghost use Rattle.row_reads.specs.BookReads.{drawer, entries_of, entry, entry_at, next_shown, next_teller, release, roster, shown, slip, undone, vault};
-ghost use Rattle.row_reads.specs.PolicyListing.{next_policy, policy_rows};
-ghost use Rattle.row_reads.specs.PolicyReads.{is_certifier, is_set, set_count, triple_count, user_record};
+ghost use Rattle.world_reads.specs.BookReads.{drawer, entries_of, entry, entry_at, next_shown, next_teller, release, roster, shown, slip, undone, vault};
+ghost use Rattle.world_reads.specs.PolicyListing.{next_policy, policy_rows};
+ghost use Rattle.world_reads.specs.PolicyReads.{is_certifier, is_set, set_count, triple_count, user_record};
 ghost use Rattle.store_rows.specs.Status.{Changes, ReadsRow, Refuses, Status, Tells, count_after, mark_of};
 
 use bank_books::{
@@ -14,8 +14,8 @@ use bank_books::{
 use bank_policy::{CertifiedRow, HeldRow};
 use bank_terms::Procedure;
 use money::Fault;
-use row_reads::{DrawerRecord, PolicyKey, PolicyRow, UserRecord};
 use std::alloc::Global;
+use world_reads::{DrawerRecord, PolicyKey, PolicyRow, UserRecord};
 
 /// What stands for a World, as long as it answers.
 pub trait Stands {

@@ -25,14 +25,14 @@ use Rattle.bank_books.specs.declared.rows.LineForm.TheVariants as line
 use Rattle.bank_books.specs.declared.rows.Proof.{Proof}
 use Rattle.bank_books.specs.declared.rows.Release.{Release}
 use Rattle.bank_books.specs.SlipRow.{SlipRow}
-use Rattle.kept_rows.specs.declared.records.KeptTeller.{KeptTeller}
-use Rattle.kept_rows.specs.declared.records.KeptUser.{KeptUser}
-use Rattle.kept_rows.specs.declared.records.MemberRow.{MemberRow}
-use Rattle.kept_rows.specs.declared.records.SlipCount.{SlipCount}
-use Rattle.bank_schema.specs.Cells.{ReleaseFits, SlipFits, TripleFitsIn, account_cells, branch_cells, certifier_cells, entry_cells, line_cells, member_cells, proof_cells, relation_cells, release_cells, set_cells, slip_cells, slip_count_cells, teller_cells, triple_cells, triple_cells_in, user_cells}
-use Rattle.bank_schema.specs.declared.edition.Edition.{Edition}
-use Rattle.bank_schema.specs.declared.edition.Edition.TheVariants.{First, Second, Third}
-use Rattle.bank_schema.specs.Numbers.{entry_form_number, kind_number, line_form_number, truth_cell}
+use Rattle.book_kept.specs.declared.records.KeptTeller.{KeptTeller}
+use Rattle.book_kept.specs.declared.records.KeptUser.{KeptUser}
+use Rattle.book_kept.specs.declared.records.MemberRow.{MemberRow}
+use Rattle.book_kept.specs.declared.records.SlipCount.{SlipCount}
+use Rattle.sql_schema.specs.Cells.{ReleaseFits, SlipFits, TripleFitsIn, account_cells, branch_cells, certifier_cells, entry_cells, line_cells, member_cells, proof_cells, relation_cells, release_cells, set_cells, slip_cells, slip_count_cells, teller_cells, triple_cells, triple_cells_in, user_cells}
+use Rattle.sql_schema.specs.declared.edition.Edition.{Edition}
+use Rattle.sql_schema.specs.declared.edition.Edition.TheVariants.{First, Second, Third}
+use Rattle.sql_schema.specs.Numbers.{entry_form_number, kind_number, line_form_number, truth_cell}
 
 -- ---- single cells
 

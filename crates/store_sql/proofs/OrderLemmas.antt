@@ -10,9 +10,9 @@ use Rattle.sqlite_trees.specs.Tree.{IsAscending}
 use Rattle.sqlite_keyed.proofs.SortLemmas.{sorted_unique}
 use Rattle.sqlite.specs.Order.{Row}
 use Rattle.keyed_rows.specs.Ordered.{AreDistinct}
-use Rattle.book_growth.proofs.Rows.{Contains-head, Contains-tail}
-use Rattle.kept_rows.specs.Keepable.{IsOrdered}
-use Rattle.bank_schema.specs.HeldRows.{HoldsRows}
+use Rattle.keyed_rows.proofs.Rows.{Contains-head, Contains-tail}
+use Rattle.book_kept.specs.Keepable.{IsOrdered}
+use Rattle.sql_schema.specs.HeldRows.{HoldsRows}
 
 not_less : (m n : ℕ) → m ≤ n → is_lt (nat_cmp n m) ≡ false
 not_less m n h = grind (arith, nat_tests)

@@ -6,15 +6,15 @@ use Rattle.bank_policy.specs.PolicyKeys.{certifier_key, relation_key, triple_key
 use Rattle.bank_books.specs.Keys.{line_key, proof_key, release_key, slip_key}
 use Rattle.bank_books.specs.SlipRow.{SlipRow}
 use Rattle.bank_books.specs.WorldLists.{WorldLists}
-use Rattle.kept_rows.specs.Sheets.{Sheets, account_no, branch_no, entry_no, member_no, sheets_of, slip_no, teller_no, user_no}
-use Rattle.kept_rows.proofs.SheetsTell.{sheets_tell_world}
-use Rattle.bank_schema.specs.Cells.{AnyRow, EntryFits, LineFits, MemberFits, ProofFits, RelationFits, ReleaseFits, SlipFits, TripleFitsIn, account_cells, branch_cells, certifier_cells, entry_cells, line_cells, member_cells, proof_cells, relation_cells, release_cells, set_cells, slip_cells, slip_count_cells, teller_cells, triple_cells_in, user_cells}
-use Rattle.bank_schema.specs.Held.{AreOfWorld, AreOfWorldIn, HoldsSheetsIn, HoldsSlipCountsIn, HoldsSlipsIn, set_no, without_slips}
-use Rattle.bank_schema.specs.declared.edition.Edition.{Edition}
-use Rattle.bank_schema.specs.declared.edition.Edition.TheVariants.{First, Second, Third}
-use Rattle.bank_schema.specs.Held.Sheet.{accounts as in_accounts, bank as in_bank, branches as in_branches, certifiers as in_certifiers, entries as in_entries, lines as in_lines, members as in_members, proofs as in_proofs, relations as in_relations, releases as in_releases, sets as in_sets, slip_counts as in_slip_counts, slips as in_slips, tellers as in_tellers, triples as in_triples, users as in_users}
-use Rattle.bank_schema.specs.HeldRows.{all_but_rowid, all_of_it}
-use Rattle.bank_schema.specs.Schema.{newest}
+use Rattle.book_kept.specs.Sheets.{Sheets, account_no, branch_no, entry_no, member_no, sheets_of, slip_no, teller_no, user_no}
+use Rattle.book_kept.proofs.SheetsTell.{sheets_tell_world}
+use Rattle.sql_schema.specs.Cells.{AnyRow, EntryFits, LineFits, MemberFits, ProofFits, RelationFits, ReleaseFits, SlipFits, TripleFitsIn, account_cells, branch_cells, certifier_cells, entry_cells, line_cells, member_cells, proof_cells, relation_cells, release_cells, set_cells, slip_cells, slip_count_cells, teller_cells, triple_cells_in, user_cells}
+use Rattle.sql_schema.specs.Held.{AreOfWorld, AreOfWorldIn, HoldsSheetsIn, HoldsSlipCountsIn, HoldsSlipsIn, set_no, without_slips}
+use Rattle.sql_schema.specs.declared.edition.Edition.{Edition}
+use Rattle.sql_schema.specs.declared.edition.Edition.TheVariants.{First, Second, Third}
+use Rattle.sql_schema.specs.Held.Sheet.{accounts as in_accounts, bank as in_bank, branches as in_branches, certifiers as in_certifiers, entries as in_entries, lines as in_lines, members as in_members, proofs as in_proofs, relations as in_relations, releases as in_releases, sets as in_sets, slip_counts as in_slip_counts, slips as in_slips, tellers as in_tellers, triples as in_triples, users as in_users}
+use Rattle.sql_schema.specs.HeldRows.{all_but_rowid, all_of_it}
+use Rattle.sql_schema.specs.Schema.{newest}
 use Rattle.store_sql.proofs.CellLemmas as cells
 use Rattle.store_sql.proofs.OrderLemmas.{one_list}
 

@@ -4,7 +4,7 @@ use Rattle.sqlite.specs.State.{HasCleanDisk, State}
 use Rattle.sqlite.specs.Tree.{Trees}
 use Rattle.bank_books.specs.WorldLists.{WorldLists}
 use Rattle.store_rows.specs.Status.{Status}
-use Rattle.bank_schema.specs.Held.{AreOfWorld, HoldsBank}
+use Rattle.sql_schema.specs.Held.{AreOfWorld, HoldsBank}
 
 -- as long as it answers, its tables hold this World
 abbrev pub Holds : State → Bool → WorldLists → Type 0

@@ -4,23 +4,23 @@ ghost use Rattle.sqlite.specs.State.{HasCleanDisk, Survives};
 ghost use Rattle.bank_books.specs.Effects.{applied};
 ghost use Rattle.bank_books.specs.Version.{has_version_for};
 ghost use Rattle.bank_books.specs.WorldLists.{WorldLists};
-ghost use Rattle.bank_schema.specs.Held.{AreOfWorld, HoldsBank};
-ghost use Rattle.bank_schema.specs.Steps.{Moves, StaysOpen};
+ghost use Rattle.sql_schema.specs.Held.{AreOfWorld, HoldsBank};
+ghost use Rattle.sql_schema.specs.Steps.{LeavesNone, Moves, WasOpen};
 
 use bank_books::RowWrite;
-use bank_schema::commit;
-use book_tables::version_of;
 use money::Fault;
+use sql_books::version_of;
+use sql_schema::commit;
+use sql_writes::write_plan;
 use sqlite::{Alter, Connection, Transaction};
 use std::alloc::Global;
-use table_plans::write_plan;
 
 /// Reads something, which shows that the connection is open.
 fn look<S: Alter>(tx: &mut Transaction<'_, S>) -> Result<(), Fault>
     ensures same_reference { tx.new.conn.ghost_name ≡ tx.old.conn.ghost_name }
     ensures moves { Moves (state S.Store tx.old.conn.now) (state S.Store tx.new.conn.now) (λ w. w) result }
-    ensures open { StaysOpen (state S.Store tx.old.conn.now) (state S.Store tx.new.conn.now) result }
-    ensures survives { Survives (state S.Store tx.old.conn.now) (state S.Store tx.new.conn.now) (λ _. ⊥) }
+    ensures open { WasOpen (state S.Store tx.old.conn.now) (state S.Store tx.new.conn.now) result }
+    ensures survives { LeavesNone (state S.Store tx.old.conn.now) (state S.Store tx.new.conn.now) }
 {
     match version_of(tx) {
         Ok(_) => Ok(()),

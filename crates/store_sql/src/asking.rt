@@ -1,11 +1,11 @@
 ghost use Rattle.std.specs.Prelude.{◌≡◌, false};
 ghost use Rattle.sqlite.specs.Held.{state};
-ghost use Rattle.table_questions.specs.Reads.{ReadsBank};
+ghost use Rattle.sql_schema.specs.Reads.{ReadsBank};
 
 use money::Fault;
+use sql_schema::Question;
 use sqlite::{Alter, Connection};
 use std::alloc::Global;
-use table_questions::Question;
 
 /// Asks the question in a transaction of its own, which is rolled back.
 pub(crate) fn ask<S: Alter, Q: Question>(

@@ -1,13 +1,13 @@
 use crate::sql_store::SqlStore;
 use bank_books::{AccountRecord, BranchRecord, Entry, TellerRecord};
 use money::Fault;
-use row_reads::DrawerRecord;
+use sql_reads::{
+    AccountRow, BranchRow, DrawerRow, EntryRow, IsUndone, Roster, TellerRow, VaultCash,
+};
 use sqlite::Alter;
 use std::alloc::Global;
 use store_rows::BookReads;
-use table_questions::{
-    AccountRow, BranchRow, DrawerRow, EntryRow, IsUndone, Roster, TellerRow, VaultCash,
-};
+use world_reads::DrawerRecord;
 
 impl<S: Alter> BookReads for SqlStore<S> {
     fn account(&mut self, alloc: Global, account: u32) -> Result<Option<AccountRecord>, Fault> {

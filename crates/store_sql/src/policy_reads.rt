@@ -3,14 +3,14 @@ use bank_books::Release;
 use bank_policy::{CertifiedRow, HeldRow};
 use bank_terms::Procedure;
 use money::Fault;
-use row_reads::UserRecord;
-use sqlite::Alter;
-use std::alloc::Global;
-use store_rows::PolicyReads;
-use table_questions::{
+use sql_reads::{
     HasSet, IsCertifier, PolicyVersion, RelationsOf, ReleaseRow, SetCount, TripleCount, TriplesFor,
     UserRow,
 };
+use sqlite::Alter;
+use std::alloc::Global;
+use store_rows::PolicyReads;
+use world_reads::UserRecord;
 
 impl<S: Alter> PolicyReads for SqlStore<S> {
     fn user(&mut self, alloc: Global, user: u32) -> Result<Option<UserRecord>, Fault> {

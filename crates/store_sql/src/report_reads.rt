@@ -1,11 +1,12 @@
 use crate::sql_store::SqlStore;
 use bank_books::{AccountRecord, EntryRecord, TellerRecord};
 use money::Fault;
-use row_reads::{PolicyKey, PolicyRow};
+use sql_listing::{NextPolicy, PolicyRows};
+use sql_reads::{EntriesOf, EntryAt, NextShown, NextTeller, Shown};
 use sqlite::Alter;
 use std::alloc::Global;
 use store_rows::ReportReads;
-use table_questions::{EntriesOf, EntryAt, NextPolicy, NextShown, NextTeller, PolicyRows, Shown};
+use world_reads::{PolicyKey, PolicyRow};
 
 impl<S: Alter> ReportReads for SqlStore<S> {
     fn entries_of(

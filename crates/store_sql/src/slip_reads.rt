@@ -1,10 +1,10 @@
 use crate::sql_store::SqlStore;
 use bank_books::Slip;
 use money::Fault;
+use sql_reads::{SlipOf, SlipsOf};
 use sqlite::Alter;
 use std::alloc::Global;
 use store_rows::SlipReads;
-use table_questions::{SlipOf, SlipsOf};
 
 impl<S: Alter> SlipReads for SqlStore<S> {
     fn slip(&mut self, alloc: Global, user: u32, number: u32) -> Result<Option<Slip>, Fault> {

@@ -10,10 +10,10 @@ use crate::applying::apply_plan;
 use crate::asking::ask;
 use bank_books::{Plan, RowWrite};
 use money::Fault;
+use sql_schema::Question;
 use sqlite::{Alter, Connection};
 use std::alloc::Global;
 use store_rows::{Stands, Store};
-use table_questions::Question;
 
 /// The bank in a SQL database. After a fault of the disk it is stopped, and answers nothing any more.
 #[derive(Drop)]

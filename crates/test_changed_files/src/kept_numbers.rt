@@ -1,8 +1,8 @@
 //! Each number that is kept beside a row, wrong once.
 
 use crate::refusals::{refused, refused_for};
-use adopt_sql::AdoptFault;
 use book_check::BooksFault;
+use sql_adopt::AdoptFault;
 
 /// The balances of the branch's tellers do not give its own.
 const TELLERS: AdoptFault = AdoptFault::Books(BooksFault::ConditionB { branch: 1 });

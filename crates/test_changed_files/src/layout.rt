@@ -1,9 +1,9 @@
 //! Files that hold no bank, or a bank in other tables, and which fault is told first.
 
 use crate::refusals::{judged, refused, refused_for};
-use adopt_sql::AdoptFault;
 use book_check::BooksFault;
 use policy_check::PolicyFault;
+use sql_adopt::AdoptFault;
 use test_disks::nothing;
 
 #[test]

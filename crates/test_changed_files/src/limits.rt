@@ -1,8 +1,8 @@
 //! Rows of the books that are out of their limits, or name one that is not there.
 
 use crate::refusals::{TAKEN, refused_behind, refused_for};
-use adopt_sql::AdoptFault;
 use book_check::BooksFault;
+use sql_adopt::AdoptFault;
 
 const RANGE: AdoptFault = AdoptFault::Books(BooksFault::Range);
 

@@ -1,10 +1,10 @@
 //! Policies that dangle, in which an officer holds something, or in which one may execute what he certifies.
 
 use crate::refusals::{refused, refused_for};
-use adopt_sql::AdoptFault;
 use bank_terms::Procedure;
 use book_check::BooksFault;
 use policy_check::PolicyFault;
+use sql_adopt::AdoptFault;
 
 const DANGLING: AdoptFault = AdoptFault::Policy(PolicyFault::Dangling);
 

@@ -1,6 +1,6 @@
 //! The refusals of the worked bank, each after a change of its tables.
 
-use adopt_sql::AdoptFault;
+use sql_adopt::AdoptFault;
 use test_counter::Runtime;
 use test_disks::{Deed, Held, Outcome, closed_by, done_in, reopened, worked_files};
 

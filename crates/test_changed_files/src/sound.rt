@@ -1,8 +1,8 @@
 //! Banks that are adopted, and what they answer then.
 
 use crate::refusals::{TAKEN, changed, judged, untouched};
-use adopt_sql::AdoptFault;
 use money::Fault;
+use sql_adopt::AdoptFault;
 use test_counter::Runtime;
 use test_disks::{Act, Deed, Exchange, Held, Outcome, Tale, done_in, tried_in, worked_files};
 

@@ -4,7 +4,7 @@ use crate::streams::{Exchange, FAILED, STOPPED, WORKED, is_reply, reply};
 use bank_terms::MAX_VERSION;
 use decide::{PolicyOp, Who, decide_policy};
 use money::Fault;
-use policy_ops::UserKey;
+use policy_commands::UserKey;
 use store_rows::{Bank, Store};
 use test_counter::Runtime;
 

@@ -2,7 +2,7 @@
 
 use crate::deeds::{Act, Deed, Outcome, done_with};
 use crate::disks::{Held, closed_by, nothing, reopened};
-use adopt_sql::AdoptFault;
+use sql_adopt::AdoptFault;
 use test_counter::Runtime;
 
 /// Does this with files that do not fail, and answers what came of it, and what they hold when they are closed. They are

@@ -1,8 +1,8 @@
 //! A bank that is made on a disk that fails at some call, and one that is looked for there.
 
 use crate::tales::{tale_of, told_anew};
-use adopt_sql::AdoptFault;
 use money::Fault;
+use sql_adopt::AdoptFault;
 use std::process::Abort;
 use test_counter::Runtime;
 use test_disks::{

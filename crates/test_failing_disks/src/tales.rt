@@ -1,6 +1,6 @@
 //! What the banks in files tell.
 
-use adopt_sql::AdoptFault;
+use sql_adopt::AdoptFault;
 use test_counter::Runtime;
 use test_disks::{Act, Deed, Held, Outcome, Tale, done_with, let_go, reopened};
 

@@ -2,8 +2,8 @@
 //! that edition, from which it can be carried over, or in those of the newest.
 
 use crate::tales::told_anew;
-use adopt_sql::AdoptFault;
 use money::Fault;
+use sql_adopt::AdoptFault;
 use test_counter::{Runtime, listed_bank};
 use test_disks::{
     Deed, Failers, Failing, Frail, Held, Outcome, Tale, done_in, done_with, failing_files,

@@ -3,7 +3,7 @@
 ghost use Rattle.std.specs.Prelude.{◌<◌};
 
 use crate::sample_lists::OPENING;
-use opening_lists::{ListFault, ListName, read_lists};
+use list_opening::{ListFault, ListName, read_lists};
 use std::alloc::Global;
 use std::process::Abort;
 

@@ -1,6 +1,6 @@
 //! Lists of badges.
 
-use opening_lists::{RecordFault, read_badges};
+use list_opening::{RecordFault, read_badges};
 use std::test::Fail;
 
 #[test]

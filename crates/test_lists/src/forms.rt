@@ -5,7 +5,7 @@ ghost use Rattle.std.specs.Prelude.{◌<◌};
 use crate::sample_lists::{BRANCHES, OPENING};
 use bank_books::World;
 use bank_policy::{Kind, Member};
-use opening_lists::{ListFault, ListName, read_lists};
+use list_opening::{ListFault, ListName, read_lists};
 use std::alloc::Global;
 use std::test::Fail;
 

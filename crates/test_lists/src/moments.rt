@@ -2,7 +2,7 @@
 
 use crate::sample_lists::OPENING;
 use bank_policy::{Procedure, Triple};
-use opening_lists::{ListFault, ListName, read_lists};
+use list_opening::{ListFault, ListName, read_lists};
 use std::alloc::Global;
 use std::test::Fail;
 

@@ -1,7 +1,7 @@
 //! The sample's lists state the sample bank as it is opened, before anyone had a session.
 
 use crate::sample_lists::{BADGES, OPENING};
-use opening_lists::{read_badges, read_lists};
+use list_opening::{read_badges, read_lists};
 use sample_bank::{badge_user, opened_world};
 use std::test::Fail;
 

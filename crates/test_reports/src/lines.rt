@@ -8,10 +8,10 @@ use report_lines::{
     Line, Total, account_line, accounts_heading, entry_line, policy_heading, policy_line,
     proof_heading, statement_heading, teller_line, total_line,
 };
-use row_reads::PolicyRow;
 use std::process::Abort;
 use store_rows::{BookReads, ListStore, ReportReads};
 use test_counter::Runtime;
+use world_reads::PolicyRow;
 
 /// Adds a line to a text.
 fn add(rt: &impl Abort, text: &mut Vec<u8>, line: &Line) {

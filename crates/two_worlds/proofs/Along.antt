@@ -19,25 +19,26 @@ use Rattle.bank_terms.specs.declared.rule.Rule.TheVariants as rule
 use Rattle.bank_books.specs.Effects.{written}
 use Rattle.bank_books.specs.WorldLists.{WorldLists}
 use Rattle.bank_books.specs.declared.row_write.RowWrite.TheVariants as write
-use Rattle.book_growth.proofs.ChangedRows.{changed_same}
+use Rattle.book_laws.proofs.ChangedRows.{changed_same}
 use Rattle.counter_ops.specs.Op.{procedure_of}
 use Rattle.counter_ops.specs.Operations.{IsOp}
 use Rattle.counter_ops.specs.declared.op.Op.{Op}
 use Rattle.counter_ops.specs.declared.op.Op.TheVariants as op
-use Rattle.row_reads.specs.PolicyReads.{user_record_of}
-use Rattle.touched.specs.Touched.{amount, touched}
-use Rattle.bank_run.specs.Meaning.{json}
-use Rattle.bank_run.specs.PolicyRules.{asker}
-use Rattle.bank_run.specs.Requests.{denies, effect, executes, first, repeated, reply_text, rules}
-use Rattle.bank_run.specs.Run.{if_allowed, reply, step, told, told_again, unless_repeated}
-use Rattle.bank_run.specs.Sessions.{ending_denies, ending_text, latest, opening_denies, opening_text, session_of, standing_of_asker}
-use Rattle.bank_run.specs.Sums.{IsProper, PassesChecks}
-use Rattle.bank_run.specs.declared.execution.Execution.{Execution}
-use Rattle.bank_run.specs.declared.request.Asked.{Asked}
-use Rattle.bank_run.specs.declared.request.Asked.TheVariants as asked
-use Rattle.bank_run.specs.declared.request.Request.{Request}
-use Rattle.bank_run.specs.declared.who.Who.{Who}
-use Rattle.bank_run.proofs.RunSums.{sums_always_agree}
+use Rattle.world_reads.specs.PolicyReads.{user_record_of}
+use Rattle.counter_ops.specs.Touched.{amount, touched}
+use Rattle.rule_tests.specs.Denial.{is_denial}
+use Rattle.bank_meaning.specs.Meaning.{json}
+use Rattle.bank_meaning.specs.PolicyRules.{asker}
+use Rattle.bank_meaning.specs.Requests.{denies, effect, executes, first, repeated, reply_text, rules}
+use Rattle.bank_meaning.specs.Run.{if_allowed, reply, step, told, told_again, unless_repeated}
+use Rattle.bank_meaning.specs.Sessions.{ending_tests, ending_text, latest, opening_tests, opening_text, session_of, standing_of_asker}
+use Rattle.bank_meaning.specs.Sums.{IsProper, PassesChecks}
+use Rattle.bank_meaning.specs.declared.execution.Execution.{Execution}
+use Rattle.bank_meaning.specs.declared.request.Asked.{Asked}
+use Rattle.bank_meaning.specs.declared.request.Asked.TheVariants as asked
+use Rattle.bank_meaning.specs.declared.request.Request.{Request}
+use Rattle.bank_meaning.specs.declared.who.Who.{Who}
+use Rattle.bank_meaning.proofs.RunSums.{sums_always_agree}
 use Rattle.two_worlds.specs.Agree.{Agree, AgreeByForm, AgreeOnPolicy, AgreeOnSlip, releases_given}
 use Rattle.two_worlds.specs.Along.{AgreeOn, IsAgreed, IsOutside, TwoWorldsAlong, is_of_triples}
 use Rattle.two_worlds.specs.Laws.{is_blind}
@@ -215,7 +216,7 @@ outside_alike w v user x agree named outside =
 
 opening_alike : (w v : WorldLists) (user : ℕ) (who : Who) (moment : ℕ) → standing_of_asker who w ≡ standing_of_asker who v → IsAlike w v user (record { who = who; moment = moment; asked = asked.Opening })
 opening_alike w v user who moment same =
-    let denied = λ (o : Option Standing). find (λ r. opening_denies r o) rules in
+    let denied = λ (o : Option Standing). find (λ r. is_denial r (opening_tests o)) rules in
     let session = λ (o : Option Standing). session_of who (latest o + 1) true in
     let here = standing_of_asker who w in
     let there = standing_of_asker who v in
@@ -231,7 +232,7 @@ opening_alike w v user who moment same =
 
 ending_alike : (w v : WorldLists) (user : ℕ) (who : Who) (moment : ℕ) → standing_of_asker who w ≡ standing_of_asker who v → IsAlike w v user (record { who = who; moment = moment; asked = asked.Ending })
 ending_alike w v user who moment same =
-    let denied = λ (o : Option Standing). find (λ r. ending_denies r o who.session) rules in
+    let denied = λ (o : Option Standing). find (λ r. is_denial r (ending_tests o who.session)) rules in
     let session = λ (o : Option Standing). session_of who (latest o) false in
     let here = standing_of_asker who w in
     let there = standing_of_asker who v in

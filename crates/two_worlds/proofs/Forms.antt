@@ -12,7 +12,7 @@ use Rattle.bank_books.specs.declared.row_write.RowWrite.{RowWrite}
 use Rattle.bank_books.specs.declared.row_write.RowWrite.TheVariants as write
 use Rattle.bank_books.specs.declared.rows.Entry.{Entry}
 use Rattle.bank_books.specs.declared.signature.Signature.{Signature}
-use Rattle.book_growth.proofs.Rows.{find-found}
+use Rattle.keyed_rows.proofs.Rows.{find-found}
 use Rattle.counter_ops.specs.Releasable.{branch_of}
 use Rattle.counter_ops.specs.declared.close_day.CloseDay.{CloseDay}
 use Rattle.counter_ops.specs.declared.correct.Correct.{Correct}
@@ -31,12 +31,12 @@ use Rattle.drawers.specs.MoveCash.{move_changes, move_rows, teller_at}
 use Rattle.postings.specs.Correct.{correct_changes, correct_rows, entry_named, other_account, partner_of}
 use Rattle.postings.specs.Post.{post_changes, post_rows}
 use Rattle.postings.specs.Transfer.{transfer_changes, transfer_rows}
-use Rattle.row_reads.specs.BookReads.{entry, is_entry, roster, undoes_entry, undone}
-use Rattle.row_rules.specs.BranchParts.{cash_book_of, ledger_of}
-use Rattle.touched.specs.Touched.{account_item, branch_item, drawer_item, history_item, teller_item, touched_at, touched_by_books, touched_by_correct, touched_by_drawer, touched_by_move_cash, touched_by_post, touched_by_releasable, touched_by_transfer, vault_item}
-use Rattle.bank_run.specs.NewAccount.{opened, opening_rows}
-use Rattle.bank_run.specs.Operations.{meaning_of}
-use Rattle.bank_run.specs.Release.{release_changes, release_rows}
+use Rattle.world_reads.specs.BookReads.{entry, is_entry, roster, undoes_entry, undone}
+use Rattle.rule_tests.specs.BranchParts.{cash_book_of, ledger_of}
+use Rattle.counter_ops.specs.Touched.{account_item, branch_item, drawer_item, history_item, teller_item, touched_at, touched_by_books, touched_by_correct, touched_by_drawer, touched_by_move_cash, touched_by_post, touched_by_releasable, touched_by_transfer, vault_item}
+use Rattle.bank_meaning.specs.NewAccount.{opened, opening_rows}
+use Rattle.bank_meaning.specs.Operations.{meaning_of}
+use Rattle.bank_meaning.specs.Release.{release_changes, release_rows}
 use Rattle.two_worlds.specs.View.{view_of}
 use Rattle.two_worlds.proofs.DrawerSum.{book_in, book_seen}
 use Rattle.two_worlds.proofs.Places.{at_counter, branch_there, branch_touched, other_there, place_there, source_there, target_there, vault_there}

@@ -25,13 +25,13 @@ use Rattle.counter_ops.specs.declared.op.Op.{Op}
 use Rattle.counter_ops.specs.declared.op.Op.TheVariants as op
 use Rattle.counter_ops.specs.declared.releasable.Releasable.{Releasable}
 use Rattle.counter_ops.specs.declared.releasable.Releasable.TheVariants as releasable
-use Rattle.book_growth.proofs.Rows.{find-found}
-use Rattle.row_reads.specs.BookReads.{is_release, release}
-use Rattle.touched.specs.Touched.{amount, branch_item, touched}
-use Rattle.bank_run.specs.NamedRelease.{counts, is_active, is_giver_for, is_of_today, is_same_operation, release_grounds_of}
-use Rattle.bank_run.specs.PolicyRules.{asker, grounds, is_identified, is_released, leave_of, policy_denies}
-use Rattle.bank_run.specs.declared.execution.Execution.{Execution}
-use Rattle.bank_run.specs.declared.leave.Leave.TheVariants as leave
+use Rattle.keyed_rows.proofs.Rows.{find-found}
+use Rattle.world_reads.specs.BookReads.{is_release, release}
+use Rattle.counter_ops.specs.Touched.{amount, branch_item, touched}
+use Rattle.bank_meaning.specs.NamedRelease.{counts, is_active, is_giver_for, is_of_today, is_same_operation, release_grounds_of}
+use Rattle.bank_meaning.specs.PolicyRules.{asker, grounds, is_identified, is_released, leave_of, policy_denies}
+use Rattle.bank_meaning.specs.declared.execution.Execution.{Execution}
+use Rattle.bank_meaning.specs.declared.leave.Leave.TheVariants as leave
 use Rattle.two_worlds.specs.Agree.{AgreeOnGiver, AgreeOnPolicy, AgreeOnRelease}
 use Rattle.two_worlds.specs.Laws.{is_blind}
 use Rattle.two_worlds.proofs.Forms.{same_day}

@@ -12,16 +12,16 @@ use Rattle.bank_books.specs.WorldLists.{WorldLists}
 use Rattle.bank_books.specs.declared.row_write.RowWrite.{RowWrite}
 use Rattle.bank_books.specs.declared.row_write.RowWrite.TheVariants as write
 use Rattle.bank_books.specs.declared.rows.Release.{Release}
-use Rattle.book_growth.proofs.ChangedRows.{changed_same, count-changed}
-use Rattle.book_growth.proofs.LastRow.{or_else}
-use Rattle.book_growth.proofs.Rows.{count-add_row, found_row}
-use Rattle.row_reads.specs.BookReads.{is_release, release}
-use Rattle.row_reads.specs.PolicyReads.{user_record_of}
-use Rattle.bank_run.specs.declared.leave.Leave.{Leave}
-use Rattle.bank_run.specs.declared.leave.Leave.TheVariants as leave
+use Rattle.book_laws.proofs.ChangedRows.{changed_same, count-changed}
+use Rattle.book_laws.proofs.LastRow.{or_else}
+use Rattle.keyed_rows.proofs.Rows.{count-add_row, found_row}
+use Rattle.world_reads.specs.BookReads.{is_release, release}
+use Rattle.world_reads.specs.PolicyReads.{user_record_of}
+use Rattle.bank_meaning.specs.declared.leave.Leave.{Leave}
+use Rattle.bank_meaning.specs.declared.leave.Leave.TheVariants as leave
 use Rattle.two_worlds.specs.Agree.{releases_given}
-use Rattle.bank_run.specs.Order.{AreBooksInOrder, IsInOrder}
-use Rattle.bank_run.proofs.KeptOrder.{in_order_written}
+use Rattle.bank_meaning.specs.Order.{AreBooksInOrder, IsInOrder}
+use Rattle.bank_meaning.proofs.KeptOrder.{in_order_written}
 use Rattle.two_worlds.proofs.Grown.{find_added, find_made}
 use Rattle.two_worlds.proofs.Within.{AreWithin, IsWithin, still_within}
 

@@ -26,10 +26,10 @@ use Rattle.bank_books.specs.declared.rows.Account.{Account}
 use Rattle.bank_books.specs.declared.rows.Branch.{Branch}
 use Rattle.bank_books.specs.declared.rows.Entry.{Entry}
 use Rattle.bank_books.specs.declared.rows.Teller.{Teller}
-use Rattle.bank_run.proofs.LastWordRows.{same_rows}
-use Rattle.bank_run.specs.Proof.{proof_text}
-use Rattle.bank_run.specs.Sums.{PassesChecks}
-use Rattle.book_growth.proofs.Rows.{Contains-head, Contains-map, Contains-tail, find-found, find_of_key, found_row, map-map}
+use Rattle.bank_meaning.proofs.LastWordRows.{same_rows}
+use Rattle.bank_meaning.specs.Proof.{proof_text}
+use Rattle.bank_meaning.specs.Sums.{PassesChecks}
+use Rattle.keyed_rows.proofs.Rows.{Contains-head, Contains-map, Contains-tail, find-found, find_of_key, found_row, map-map}
 use Rattle.certify.proofs.RemovedRows.{AreDistinct-filter}
 use Rattle.report_lines.specs.Texts.{account_line, entry_line, teller_line, total_line}
 use Rattle.reports.proofs.Listed.{accounts_list_shown, statement_lists_turns}
@@ -37,8 +37,8 @@ use Rattle.reports.proofs.Roster.{proof_lists_roster}
 use Rattle.reports.specs.Laws.{totals}
 use Rattle.reports.specs.Listing.{all_lines, heading, listed_lines, numbers_of, proof_of, total_of}
 use Rattle.reports.specs.declared.listing.Listing.TheVariants as listing
-use Rattle.row_reads.specs.BookReads.{accounts_triples, entry_at, is_account_after, is_account_of, is_entry_at, roster, shown, there}
-use Rattle.touched.specs.Touched.{account_item, branch_item, history_item, touched_by_books, vault_item}
+use Rattle.world_reads.specs.BookReads.{accounts_triples, entry_at, is_account_after, is_account_of, is_entry_at, roster, shown, there}
+use Rattle.counter_ops.specs.Touched.{account_item, branch_item, history_item, touched_by_books, vault_item}
 use Rattle.two_worlds.specs.View.{RosterLine, View, roster_line_of, roster_of, view_of}
 use Rattle.two_worlds.proofs.DrawerSum.{drawers_of}
 use Rattle.two_worlds.proofs.Forms.{same_account}

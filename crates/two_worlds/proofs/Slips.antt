@@ -15,19 +15,19 @@ use Rattle.bank_books.specs.SlipRow.{SlipRow}
 use Rattle.bank_books.specs.WorldLists.{WorldLists}
 use Rattle.bank_books.specs.declared.row_write.RowWrite.{RowWrite}
 use Rattle.bank_books.specs.declared.row_write.RowWrite.TheVariants as write
-use Rattle.book_growth.proofs.LastRow.{or_else}
-use Rattle.book_growth.proofs.Rows.{count-add_row}
-use Rattle.row_reads.specs.BookReads.{is_slip, slip}
-use Rattle.bank_run.specs.Executions.{execution_meaning}
-use Rattle.bank_run.specs.Meaning.{ReplyText}
-use Rattle.bank_run.specs.PolicyRules.{asker, grounds, is_identified, used_by}
-use Rattle.bank_run.specs.Requests.{effect, executes, first, repeated, reply_text}
-use Rattle.bank_run.specs.Run.{if_allowed, step, told, told_again, unless_repeated}
-use Rattle.bank_run.specs.Slips.{SlipGrounds, has_no_room, is_of_another, kept_reply, slip_grounds, slip_named, slip_of, taken_by}
-use Rattle.bank_run.specs.declared.execution.Execution.{Execution}
-use Rattle.bank_run.specs.declared.leave.Leave.{Leave}
-use Rattle.bank_run.specs.declared.leave.Leave.TheVariants as leave
-use Rattle.bank_run.proofs.KeptReplies.{plain_slips}
+use Rattle.book_laws.proofs.LastRow.{or_else}
+use Rattle.keyed_rows.proofs.Rows.{count-add_row}
+use Rattle.world_reads.specs.BookReads.{is_slip, slip}
+use Rattle.bank_meaning.specs.Executions.{execution_meaning}
+use Rattle.bank_meaning.specs.Meaning.{ReplyText}
+use Rattle.bank_meaning.specs.PolicyRules.{asker, grounds, is_identified, used_by}
+use Rattle.bank_meaning.specs.Requests.{effect, executes, first, repeated, reply_text}
+use Rattle.bank_meaning.specs.Run.{if_allowed, step, told, told_again, unless_repeated}
+use Rattle.bank_meaning.specs.Slips.{SlipGrounds, has_no_room, is_of_another, kept_reply, slip_grounds, slip_named, slip_of, taken_by}
+use Rattle.bank_meaning.specs.declared.execution.Execution.{Execution}
+use Rattle.bank_meaning.specs.declared.leave.Leave.{Leave}
+use Rattle.bank_meaning.specs.declared.leave.Leave.TheVariants as leave
+use Rattle.bank_meaning.proofs.KeptReplies.{plain_slips}
 use Rattle.two_worlds.specs.Agree.{AgreeOnPolicy, AgreeOnSlip, AgreeOnSlipCount}
 use Rattle.two_worlds.proofs.Grown.{find_added, or_none}
 use Rattle.two_worlds.proofs.Policy.{standing_same}

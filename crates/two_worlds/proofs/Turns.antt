@@ -6,17 +6,17 @@ use Rattle.std.proofs.lemmas.List.FromFn.{get_or-range_with_len, length-range_wi
 use Rattle.std.proofs.lemmas.List.Kept.{IsNonDecreasingBy-filter}
 use Rattle.std.proofs.lemmas.List.Sums.{length-filter, sum_by-cons}
 use Rattle.bank_policy.proofs.RowsTell.{from_filter, in_filter}
-use Rattle.bank_run.proofs.LastWordRows.{same_rows}
+use Rattle.bank_meaning.proofs.LastWordRows.{same_rows}
 use Rattle.bank_books.specs.Balances.{turn_count}
 use Rattle.bank_books.specs.Conditions.{home_of}
 use Rattle.bank_books.specs.Keys.{entry_key}
 use Rattle.bank_books.specs.WorldLists.{WorldLists}
 use Rattle.bank_books.specs.declared.rows.Entry.{Entry}
-use Rattle.book_growth.proofs.Rows.{Contains-cons_cases, Contains-tail, count_some, find-found}
+use Rattle.keyed_rows.proofs.Rows.{Contains-cons_cases, Contains-tail, count_some, find-found}
 use Rattle.certify.proofs.RemovedRows.{AreDistinct-filter}
-use Rattle.row_reads.specs.BookReads.{is_entry_at}
-use Rattle.touched.specs.Touched.{account_item}
-use Rattle.bank_run.specs.Sums.{PassesChecks}
+use Rattle.world_reads.specs.BookReads.{is_entry_at}
+use Rattle.counter_ops.specs.Touched.{account_item}
+use Rattle.bank_meaning.specs.Sums.{PassesChecks}
 use Rattle.two_worlds.specs.View.{nothing, view_of}
 use Rattle.two_worlds.specs.Views.{ViewsGoByTurn, by_turn}
 use Rattle.two_worlds.proofs.Grown.{find_passing}

@@ -26,35 +26,35 @@ use Rattle.bank_books.specs.declared.row_write.RowWrite.{RowWrite}
 use Rattle.bank_books.specs.declared.row_write.RowWrite.TheVariants as write
 use Rattle.bank_books.specs.declared.rows.Release.{Release}
 use Rattle.bank_books.specs.declared.signature.Signature.{Signature}
-use Rattle.book_growth.proofs.RuleTests.{passed_by}
-use Rattle.book_growth.proofs.Rows.{find-found}
+use Rattle.rule_tests.proofs.RuleTests.{passed_by}
+use Rattle.keyed_rows.proofs.Rows.{find-found}
 use Rattle.counter_ops.specs.Operations.{IsOp}
 use Rattle.counter_ops.specs.Ranges.{IsKey}
 use Rattle.counter_ops.specs.declared.op.Op.{Op}
 use Rattle.counter_ops.specs.declared.op.Op.TheVariants as op
-use Rattle.row_reads.specs.BookReads.{is_account_of, is_release, release}
-use Rattle.touched.specs.Touched.{account_item, touched}
-use Rattle.bank_run.specs.Executions.{execution_meaning, is_of_policy, signature_of}
-use Rattle.bank_run.specs.LastWord as Said
-use Rattle.bank_run.specs.Meaning.{Meaning, ReplyText, rules_behind_policy, by_books}
-use Rattle.bank_run.specs.NamedRelease.{counts, release_grounds_of}
-use Rattle.bank_run.specs.Operations.{meaning_of}
-use Rattle.bank_run.specs.PolicyRules.{asker, grounds, is_identified, is_in_limit, is_released, leave_of, used_by}
-use Rattle.bank_run.specs.Order.{IsInOrder}
-use Rattle.bank_run.specs.Requests.{denies, effect, executes, first, repeated, reply_text, rules}
-use Rattle.bank_run.specs.Run.{if_allowed, step, told, told_again, unless_repeated}
-use Rattle.bank_run.specs.Slips.{kept_reply, slip_grounds, slip_named, slip_of, taken_by}
-use Rattle.bank_run.specs.Sums.{PassesChecks}
-use Rattle.bank_run.specs.declared.execution.Execution.{Execution}
-use Rattle.bank_run.specs.declared.leave.Leave.{Leave}
-use Rattle.bank_run.specs.declared.leave.Leave.TheVariants as leave
-use Rattle.bank_run.specs.declared.request.Asked.{Asked}
-use Rattle.bank_run.specs.declared.request.Asked.TheVariants as asked
-use Rattle.bank_run.proofs.AllowedRequest.{allowed_by_books}
-use Rattle.bank_run.proofs.FirstRule.{none_denies}
-use Rattle.bank_run.proofs.KeptOrder.{in_order_all_written}
-use Rattle.bank_run.proofs.LastWord.{last_word}
-use Rattle.bank_run.proofs.LastWordKept.{IsPolicyKept, kept_itself, operation_kept}
+use Rattle.world_reads.specs.BookReads.{is_account_of, is_release, release}
+use Rattle.counter_ops.specs.Touched.{account_item, touched}
+use Rattle.bank_meaning.specs.Executions.{execution_meaning, is_of_policy, signature_of}
+use Rattle.bank_meaning.specs.LastWord as Said
+use Rattle.bank_meaning.specs.Meaning.{Meaning, ReplyText, rules_behind_policy, by_books}
+use Rattle.bank_meaning.specs.NamedRelease.{counts, release_grounds_of}
+use Rattle.bank_meaning.specs.Operations.{meaning_of}
+use Rattle.bank_meaning.specs.PolicyRules.{asker, grounds, is_identified, is_in_limit, is_released, leave_of, used_by}
+use Rattle.bank_meaning.specs.Order.{IsInOrder}
+use Rattle.bank_meaning.specs.Requests.{denies, effect, executes, first, repeated, reply_text, rules}
+use Rattle.bank_meaning.specs.Run.{if_allowed, step, told, told_again, unless_repeated}
+use Rattle.bank_meaning.specs.Slips.{kept_reply, slip_grounds, slip_named, slip_of, taken_by}
+use Rattle.bank_meaning.specs.Sums.{PassesChecks}
+use Rattle.bank_meaning.specs.declared.execution.Execution.{Execution}
+use Rattle.bank_meaning.specs.declared.leave.Leave.{Leave}
+use Rattle.bank_meaning.specs.declared.leave.Leave.TheVariants as leave
+use Rattle.bank_meaning.specs.declared.request.Asked.{Asked}
+use Rattle.bank_meaning.specs.declared.request.Asked.TheVariants as asked
+use Rattle.bank_meaning.proofs.AllowedRequest.{allowed_by_books}
+use Rattle.bank_meaning.proofs.FirstRule.{none_denies}
+use Rattle.bank_meaning.proofs.KeptOrder.{in_order_all_written}
+use Rattle.bank_meaning.proofs.LastWord.{last_word}
+use Rattle.bank_meaning.proofs.LastWordKept.{IsPolicyKept, kept_itself, operation_kept}
 use Rattle.two_worlds.specs.Agree.{AgreeOnGiver, Agree, AgreeByForm, AgreeOnPolicy, AgreeOnSlip, AgreeOnSlipCount, releases_given}
 use Rattle.two_worlds.specs.Laws.{AgreeingAnswerAlike, BlindlyDenied, IsNotGiven, IsOtherRelease, OnlyOperationsChangeItems, OthersAreLeftAlone, TwoWorlds, Undisturbed, is_blind, is_operation}
 use Rattle.two_worlds.specs.View.{view_at, view_of}

@@ -20,12 +20,12 @@ use Rattle.bank_books.specs.declared.rows.Branch.{Branch}
 use Rattle.bank_books.specs.declared.rows.CashLine.{CashLine}
 use Rattle.bank_books.specs.declared.rows.Entry.{Entry}
 use Rattle.bank_books.specs.declared.rows.Teller.{Teller}
-use Rattle.book_growth.proofs.LastRow.{or_else}
-use Rattle.book_growth.proofs.Rows.{Contains-head, Contains-tail, found_row}
-use Rattle.row_reads.specs.BookReads.{is_teller_of}
-use Rattle.touched.specs.Touched.{account_item, branch_item, drawer_item, history_item, teller_item, vault_item}
-use Rattle.bank_run.proofs.KeptOrder.{in_order_written}
-use Rattle.bank_run.specs.Order.{IsInOrder}
+use Rattle.book_laws.proofs.LastRow.{or_else}
+use Rattle.keyed_rows.proofs.Rows.{Contains-head, Contains-tail, found_row}
+use Rattle.world_reads.specs.BookReads.{is_teller_of}
+use Rattle.counter_ops.specs.Touched.{account_item, branch_item, drawer_item, history_item, teller_item, vault_item}
+use Rattle.bank_meaning.proofs.KeptOrder.{in_order_written}
+use Rattle.bank_meaning.specs.Order.{IsInOrder}
 use Rattle.two_worlds.specs.View.{RosterLine, roster_line_of, view_at, view_of}
 use Rattle.two_worlds.proofs.Grown.{filter-add_row, grown, or_none}
 use Rattle.two_worlds.proofs.Seen.{holder_passing}

@@ -22,11 +22,11 @@ use Rattle.bank_books.specs.declared.rows.Branch.{Branch}
 use Rattle.bank_books.specs.declared.rows.CashLine.{CashLine}
 use Rattle.bank_books.specs.declared.rows.Entry.{Entry}
 use Rattle.bank_books.specs.declared.rows.Teller.{Teller}
-use Rattle.book_growth.proofs.LastRow.{or_else}
-use Rattle.book_growth.proofs.LineAdded.{share_moves}
-use Rattle.book_growth.proofs.Rows.{Contains-head, Contains-tail, above, count-add_row, total-add_row}
-use Rattle.row_reads.specs.BookReads.{is_teller_of}
-use Rattle.bank_run.specs.Order.{AreBooksInOrder}
+use Rattle.book_laws.proofs.LastRow.{or_else}
+use Rattle.book_laws.proofs.LineAdded.{share_moves}
+use Rattle.keyed_rows.proofs.Rows.{Contains-head, Contains-tail, above, count-add_row, total-add_row}
+use Rattle.world_reads.specs.BookReads.{is_teller_of}
+use Rattle.bank_meaning.specs.Order.{AreBooksInOrder}
 use Rattle.two_worlds.specs.View.{RosterLine, View, roster_line_of, view_at}
 use Rattle.two_worlds.proofs.Grown.{filter-add_row, find_added, find_made, grown}
 use Rattle.two_worlds.proofs.Seen.{holder_passing}

@@ -4,16 +4,16 @@ use Rattle.bank_policy.specs.HeldRows.{user_row}
 use Rattle.bank_terms.specs.declared.rule.Rule.{Rule}
 use Rattle.bank_terms.specs.declared.rule.Rule.TheVariants as rule
 use Rattle.bank_books.specs.WorldLists.{WorldLists}
-use Rattle.bank_run.specs.Meaning.{ReplyText}
-use Rattle.bank_run.specs.PolicyRules.{asker}
-use Rattle.bank_run.specs.Requests.{denies, executes}
-use Rattle.bank_run.specs.Run.{reply, step}
-use Rattle.bank_run.specs.Sums.{IsProper, PassesChecks}
-use Rattle.bank_run.specs.declared.execution.Execution.{Execution}
-use Rattle.bank_run.specs.declared.request.Asked.{Asked}
-use Rattle.bank_run.specs.declared.request.Asked.TheVariants as asked
-use Rattle.bank_run.specs.declared.request.Request.{Request}
-use Rattle.bank_run.specs.declared.who.Who.{Who}
+use Rattle.bank_meaning.specs.Meaning.{ReplyText}
+use Rattle.bank_meaning.specs.PolicyRules.{asker}
+use Rattle.bank_meaning.specs.Requests.{denies, executes}
+use Rattle.bank_meaning.specs.Run.{reply, step}
+use Rattle.bank_meaning.specs.Sums.{IsProper, PassesChecks}
+use Rattle.bank_meaning.specs.declared.execution.Execution.{Execution}
+use Rattle.bank_meaning.specs.declared.request.Asked.{Asked}
+use Rattle.bank_meaning.specs.declared.request.Asked.TheVariants as asked
+use Rattle.bank_meaning.specs.declared.request.Request.{Request}
+use Rattle.bank_meaning.specs.declared.who.Who.{Who}
 use Rattle.two_worlds.specs.Agree.{Agree, AgreeOnPolicy, AgreeOnSlip}
 
 -- the replies to requests, each to the World that the one before it left

@@ -11,18 +11,18 @@ use Rattle.counter_ops.specs.Operations.{IsOp}
 use Rattle.counter_ops.specs.Ranges.{IsKey}
 use Rattle.counter_ops.specs.declared.op.Op.{Op}
 use Rattle.counter_ops.specs.declared.op.Op.TheVariants as op
-use Rattle.row_reads.specs.BookReads.{release, slip}
-use Rattle.touched.specs.Touched.{touched}
-use Rattle.bank_run.specs.PolicyRules.{asker, grounds, leave_of}
-use Rattle.bank_run.specs.Requests.{executes}
-use Rattle.bank_run.specs.Run.{reply, step}
-use Rattle.bank_run.specs.Slips.{slip_named}
-use Rattle.bank_run.specs.Sums.{PassesChecks}
-use Rattle.bank_run.specs.declared.execution.Execution.{Execution}
-use Rattle.bank_run.specs.declared.leave.Leave.TheVariants as leave
-use Rattle.bank_run.specs.declared.request.Asked.{Asked}
-use Rattle.bank_run.specs.declared.request.Asked.TheVariants as asked
-use Rattle.bank_run.specs.declared.request.Request.{Request}
+use Rattle.world_reads.specs.BookReads.{release, slip}
+use Rattle.counter_ops.specs.Touched.{touched}
+use Rattle.bank_meaning.specs.PolicyRules.{asker, grounds, leave_of}
+use Rattle.bank_meaning.specs.Requests.{executes}
+use Rattle.bank_meaning.specs.Run.{reply, step}
+use Rattle.bank_meaning.specs.Slips.{slip_named}
+use Rattle.bank_meaning.specs.Sums.{PassesChecks}
+use Rattle.bank_meaning.specs.declared.execution.Execution.{Execution}
+use Rattle.bank_meaning.specs.declared.leave.Leave.TheVariants as leave
+use Rattle.bank_meaning.specs.declared.request.Asked.{Asked}
+use Rattle.bank_meaning.specs.declared.request.Asked.TheVariants as asked
+use Rattle.bank_meaning.specs.declared.request.Request.{Request}
 use Rattle.two_worlds.specs.Agree.{Agree, AgreeByForm, AgreeOnPolicy, AgreeOnSlip, releases_given}
 use Rattle.two_worlds.specs.View.{view_of}
 

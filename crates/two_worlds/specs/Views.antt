@@ -7,10 +7,10 @@ use Rattle.bank_terms.specs.declared.item.Kind.TheVariants as kind
 use Rattle.bank_books.specs.Balances.{account_row, branch_row, teller_row, turn_count}
 use Rattle.bank_books.specs.WorldLists.{WorldLists}
 use Rattle.bank_books.specs.declared.rows.Entry.{Entry}
-use Rattle.bank_run.specs.Sums.{PassesChecks}
+use Rattle.bank_meaning.specs.Sums.{PassesChecks}
 use Rattle.counter_ops.specs.Ranges.{IsKey}
-use Rattle.row_reads.specs.BookReads.{is_entry_at}
-use Rattle.touched.specs.Touched.{account_item}
+use Rattle.world_reads.specs.BookReads.{is_entry_at}
+use Rattle.counter_ops.specs.Touched.{account_item}
 use Rattle.two_worlds.specs.View.{nothing, view_of}
 
 -- the item is not there: there is no account, no teller or no branch of its key

@@ -1,9 +1,9 @@
 use Rattle.std.proofs.Common.{◌≡◌, ℕ, List, Option, Result, Ok, Err, subst, sym}
 use Rattle.money.specs.declared.fault.Fault.{Fault}
-use Rattle.messages.specs.Parts.{MessageParts}
+use Rattle.http_messages.specs.Parts.{MessageParts}
 use Rattle.store_rows.specs.Status.{Status}
-use Rattle.bank_run.specs.declared.request.Asked.{Asked}
-use Rattle.bank_run.specs.declared.request.Request.{Request}
+use Rattle.bank_meaning.specs.declared.request.Asked.{Asked}
+use Rattle.bank_meaning.specs.declared.request.Request.{Request}
 use Rattle.counter_api.specs.CarriedOut.{IsCarried, IsCarriedOut}
 use Rattle.counter_api.specs.Handled.{as_outcome}
 use Rattle.counter_api.specs.Response.{ResponseParts}

@@ -1,7 +1,7 @@
 use Rattle.std.proofs.Common.{IfOk, Result, subst, sym, ◌∙◌}
-use Rattle.heads.specs.declared.fault.MessageFault.{MessageFault}
-use Rattle.bank_run.specs.Sums.{IsProper}
-use Rattle.bank_run.specs.declared.request.Request.{Request}
+use Rattle.http_heads.specs.declared.fault.MessageFault.{MessageFault}
+use Rattle.bank_meaning.specs.Sums.{IsProper}
+use Rattle.bank_meaning.specs.declared.request.Request.{Request}
 use Rattle.counter_api.proofs.Handled.{done, kept_out}
 use Rattle.counter_api.proofs.counter.handled.Goals as goal
 

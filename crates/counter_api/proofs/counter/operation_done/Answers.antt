@@ -3,16 +3,16 @@ use Rattle.money.specs.Counted.{stream_of}
 use Rattle.money.specs.declared.fault.Fault.TheVariants.{Memory}
 use Rattle.store_rows.specs.Status.{Keeps, Tells}
 use Rattle.store_rows.specs.declared.bank.Bank.{Bank}
-use Rattle.bank_run.specs.Operations.{is_report}
-use Rattle.bank_run.specs.Requests.{repeated, verdict}
-use Rattle.bank_run.specs.Run.{reply}
-use Rattle.bank_run.specs.declared.request.Asked.TheVariants as asked
-use Rattle.bank_run.specs.declared.request.Request.{Request}
+use Rattle.bank_meaning.specs.Operations.{is_report}
+use Rattle.bank_meaning.specs.Requests.{repeated, verdict}
+use Rattle.bank_meaning.specs.Run.{reply}
+use Rattle.bank_meaning.specs.declared.request.Asked.TheVariants as asked
+use Rattle.bank_meaning.specs.declared.request.Request.{Request}
 use Rattle.decide.specs.OneRequest.{Moves, Settles}
 use Rattle.decide.specs.Permit.{CarriesOut, IsReadyFor, reply_bank}
 use Rattle.decide.specs.declared.permit.Reply.{Reply}
-use Rattle.op_plans.specs.Judged.{IsReported}
-use Rattle.op_plans.specs.declared.prepared.Ready.{Ready}
+use Rattle.op_prepare.specs.Judged.{IsReported}
+use Rattle.op_prepare.specs.declared.prepared.Ready.{Ready}
 use Rattle.counter_api.specs.CarriedOut.{IsCarried, IsCarriedOut}
 use Rattle.counter_api.specs.Response.{ResponseParts}
 use Rattle.counter_api.specs.Run.{IsResponse, told_parts}

@@ -2,10 +2,10 @@ use Rattle.std.proofs.Common.{rules, ◌≡◌, None, Ok, refl, ap, subst, sym, 
 use Rattle.money.specs.Counted.{stream_of}
 use Rattle.store_rows.specs.Status.{Keeps, Tells}
 use Rattle.store_rows.specs.declared.bank.Bank.{Bank}
-use Rattle.bank_run.specs.Requests.{verdict}
-use Rattle.bank_run.specs.declared.request.Asked.TheVariants as asked
-use Rattle.bank_run.specs.declared.request.Request.{Request}
-use Rattle.op_plans.specs.Judged.{IsReported}
+use Rattle.bank_meaning.specs.Requests.{verdict}
+use Rattle.bank_meaning.specs.declared.request.Asked.TheVariants as asked
+use Rattle.bank_meaning.specs.declared.request.Request.{Request}
+use Rattle.op_prepare.specs.Judged.{IsReported}
 use Rattle.counter_api.specs.CarriedOut.{IsCarried}
 use Rattle.counter_api.specs.declared.counter.Outcome.TheVariants as outcome
 use Rattle.counter_api.proofs.Reported.{report_carried}

@@ -1,6 +1,6 @@
 use Rattle.std.proofs.Common.{◌≡◌, ℕ, List, ◌++◌, true, false, sym, ap, ◌∙◌}
 use Rattle.std.proofs.KnownBytes.{Appends-trans}
-use Rattle.heads.specs.Framing.{asks_head}
+use Rattle.http_heads.specs.Framing.{asks_head}
 use Rattle.reports.specs.Report.{text_of}
 use Rattle.counter_api.proofs.Replies.{body_begun, head_begun, head_of, keeps_same, rose_by_one, with_body, without_body}
 use Rattle.counter_api.proofs.sent.streamed.Goals as goal

@@ -1,6 +1,6 @@
 use Rattle.std.proofs.Common.{◌∙◌, ap, refl, subst}
 use Rattle.std.specs.Io.Buffered.{writer_buffer, writer_contents, writer_inner}
-use Rattle.ends.specs.Streams.{Streams, streams_at}
+use Rattle.exit_lines.specs.Streams.{Streams, streams_at}
 use Rattle.counter_connections.specs.Connections.{IsConnection, begun}
 use Rattle.counter_connections.proofs.StreamLemmas.{failures_by, just_begun}
 use Rattle.counter_connections.proofs.connection.serve_streams.Goals as goal

@@ -1,7 +1,7 @@
 use Rattle.std.proofs.Common.{◌≡◌, ◌+◌, ℕ, List, Result}
 use Rattle.counter_connections.specs.Connections.{AreServed, counted}
-use Rattle.messages.specs.declared.serving.ServeFault.{ServeFault}
-use Rattle.messages.specs.declared.serving.Served.{Served}
+use Rattle.http_messages.specs.declared.serving.ServeFault.{ServeFault}
+use Rattle.http_messages.specs.declared.serving.Served.{Served}
 use Rattle.counter_connections.proofs.connections.serve_connections.Given as goal
 
 abbrev pub invariant-loop-wanted : goal.invariant-loop-wanted

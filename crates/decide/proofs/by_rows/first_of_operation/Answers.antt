@@ -3,8 +3,8 @@ use Rattle.std.specs.Prelude.{nat_le}
 use Rattle.std.specs.Option.{option_map_or}
 use Rattle.bank_terms.specs.Limits.{max_slips}
 use Rattle.counter_ops.specs.Rows.{row_of}
-use Rattle.bank_run.specs.NamedRelease.{is_same_operation}
-use Rattle.bank_run.specs.Slips.{has_no_room, is_of_another, slip_grounds, slip_named}
+use Rattle.bank_meaning.specs.NamedRelease.{is_same_operation}
+use Rattle.bank_meaning.specs.Slips.{has_no_room, is_of_another, slip_grounds, slip_named}
 use Rattle.decide.proofs.SlipVerdict.{first_full, first_same}
 use Rattle.decide.proofs.by_rows.first_of_operation.Goals as goal
 

@@ -1,6 +1,6 @@
 use Rattle.std.proofs.Common.{◌≡◌, Err, rules, sym, true}
 use Rattle.bank_policy.specs.Tests.{is_certified}
-use Rattle.bank_run.specs.PolicyRules.{is_identified, leave_by_triples}
+use Rattle.bank_meaning.specs.PolicyRules.{is_identified, leave_by_triples}
 use Rattle.decide.proofs.LoadedRows.{first_by_triples}
 use Rattle.decide.specs.Loaded.{loaded_grounds}
 use Rattle.decide.proofs.by_rows.first_of_policy.Goals as goal

@@ -1,6 +1,6 @@
 use Rattle.std.proofs.Common.{ap, sym, ◌∙◌}
-use Rattle.bank_run.specs.Meaning.{by_books}
-use Rattle.bank_run.specs.Operations.{meaning_of}
+use Rattle.bank_meaning.specs.Meaning.{by_books}
+use Rattle.bank_meaning.specs.Operations.{meaning_of}
 use Rattle.decide.proofs.LoadedRows.{denied_by_policy, denied_by_books}
 use Rattle.decide.proofs.by_rows.first_without_slip.Goals as goal
 

@@ -1,4 +1,4 @@
-use Rattle.bank_run.specs.Requests.{commands}
+use Rattle.bank_meaning.specs.Requests.{commands}
 use Rattle.decide.proofs.CountedDenials.{carried_denied}
 use Rattle.decide.proofs.commands.decide_policy.Goals as goal
 

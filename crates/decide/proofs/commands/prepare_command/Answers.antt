@@ -1,9 +1,9 @@
 use Rattle.std.proofs.Common.{rules, ◌≡◌, true, refl, ◌∙◌}
 use Rattle.bank_policy.specs.HeldRows.{standing}
 use Rattle.certify.specs.CommandRows.{command_rows}
-use Rattle.bank_run.specs.PolicyRules.{is_identified}
+use Rattle.bank_meaning.specs.PolicyRules.{is_identified}
 use Rattle.decide.proofs.CommandVerdict.{by_rows}
-use Rattle.op_plans.proofs.CountedDenials.{counted_behind, none_denies, not_denied, read_counted}
+use Rattle.op_prepare.proofs.CountedDenials.{counted_behind, none_denies, not_denied, read_counted}
 use Rattle.decide.proofs.commands.prepare_command.Goals as goal
 
 pub returns-in-Err-clause-judged : goal.returns-in-Err-clause-judged

@@ -1,14 +1,14 @@
 use Rattle.std.proofs.Common.{rules, Result, Ok, ap, sym, subst, ◌∙◌}
 use Rattle.bank_books.specs.Effects.{applied}
-use Rattle.op_plans.specs.Judged.{IsReady, LeavesPolicyReady, ReportsOnly}
-use Rattle.bank_run.specs.Meaning.{by_books}
+use Rattle.op_prepare.specs.Judged.{IsReady, LeavesPolicyReady, ReportsOnly}
+use Rattle.bank_meaning.specs.Meaning.{by_books}
 use Rattle.bank_terms.specs.declared.rule.Rule.{Rule}
-use Rattle.bank_run.specs.Operations.{is_report, meaning_of}
-use Rattle.bank_run.specs.PolicyRules.{used_by}
-use Rattle.bank_run.proofs.PolicyLemmas.{leave_refused}
-use Rattle.op_plans.specs.declared.prepared.Ready.{Ready}
-use Rattle.op_plans.specs.declared.prepared.Ready.TheVariants as ready
-use Rattle.op_plans.proofs.CountedDenials.{counted_from, none_denies, read_counted}
+use Rattle.bank_meaning.specs.Operations.{is_report, meaning_of}
+use Rattle.bank_meaning.specs.PolicyRules.{used_by}
+use Rattle.bank_meaning.proofs.PolicyLemmas.{leave_refused}
+use Rattle.op_prepare.specs.declared.prepared.Ready.{Ready}
+use Rattle.op_prepare.specs.declared.prepared.Ready.TheVariants as ready
+use Rattle.op_prepare.proofs.CountedDenials.{counted_from, none_denies, read_counted}
 use Rattle.decide.proofs.CountedDenials.{on_fault}
 use Rattle.decide.proofs.JoinedVerdict.{books_deny, denied_by_books, prepared, reported}
 use Rattle.decide.proofs.judge.prepare.Goals as goal

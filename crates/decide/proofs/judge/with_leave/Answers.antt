@@ -2,7 +2,7 @@ use Rattle.std.proofs.Common.{ap, refl, sym, ◌∙◌}
 use Rattle.bank_books.specs.Effects.{applied}
 use Rattle.bank_books.specs.Version.{changes_policy}
 use Rattle.bank_books.specs.declared.row_write.RowWrite.TheVariants as write
-use Rattle.bank_run.specs.PolicyRules.{used_by}
+use Rattle.bank_meaning.specs.PolicyRules.{used_by}
 use Rattle.decide.proofs.UsedUp.{same_behind, used_up_behind}
 use Rattle.decide.proofs.judge.with_leave.Goals as goal
 use Rattle.decide.proofs.judge.with_leave.Goals.{in-Triple, in-Release+in_ok-push-in-Release}

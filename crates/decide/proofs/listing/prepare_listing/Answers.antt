@@ -1,7 +1,7 @@
 use Rattle.std.proofs.Common.{◌≡◌, None, rules, ◌∙◌}
 use Rattle.bank_policy.specs.HeldRows.{standing}
-use Rattle.bank_run.specs.Listing.{first_against_listing}
-use Rattle.op_plans.proofs.CountedDenials.{none_denies, read_counted}
+use Rattle.bank_meaning.specs.Listing.{first_against_listing}
+use Rattle.op_prepare.proofs.CountedDenials.{none_denies, read_counted}
 use Rattle.decide.proofs.CountedListing.{first_is, listing_counted}
 use Rattle.decide.proofs.listing.prepare_listing.Goals as goal
 

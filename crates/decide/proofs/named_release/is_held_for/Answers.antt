@@ -1,6 +1,6 @@
 use Rattle.std.proofs.Common.{sym}
 use Rattle.bank_policy.specs.Tests.{current}
-use Rattle.bank_run.proofs.PolicyLemmas.{limit_reaches, none_held_for}
+use Rattle.bank_meaning.proofs.PolicyLemmas.{limit_reaches, none_held_for}
 use Rattle.decide.proofs.named_release.is_held_for.Goals as goal
 
 pub returns-in-Some : goal.returns-in-Some

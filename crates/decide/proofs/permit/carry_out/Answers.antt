@@ -1,6 +1,6 @@
 use Rattle.std.proofs.Common.{None, ◌∙◌, ap, sym, subst, refl}
 use mathlib.Core.Option.{some}
-use Rattle.op_plans.specs.declared.prepared.Ready.{Ready}
+use Rattle.op_prepare.specs.declared.prepared.Ready.{Ready}
 use Rattle.decide.specs.Permit.{ChangesNothing, IsApplied, IsReplyOf}
 use Rattle.decide.specs.declared.permit.Reply.TheVariants as reply
 use Rattle.decide.proofs.CarriedOut.{carries, settles}

@@ -1,6 +1,6 @@
 use Rattle.std.proofs.Common.{arith}
 use Rattle.bank_policy.specs.Tests.{current}
-use Rattle.bank_run.proofs.PolicyLemmas.{none_holds, none_named, one_named, one_reaches}
+use Rattle.bank_meaning.proofs.PolicyLemmas.{none_holds, none_named, one_named, one_reaches}
 use Rattle.decide.proofs.policy_rules.leave_by_triples.Goals as goal
 
 pub returns-in_default : goal.returns-in_default

@@ -1,6 +1,6 @@
 -- What is sought, and what was looked up for it, tells the leave.
 use Rattle.std.proofs.Common.{rules, ◌≡◌, Ok, sym, subst, ◌∙◌}
-use Rattle.bank_run.specs.PolicyRules.{grounds, leave_sought}
+use Rattle.bank_meaning.specs.PolicyRules.{grounds, leave_sought}
 use Rattle.decide.proofs.LeaveByRelease.{by_release, refused_by_release, refused_before}
 use Rattle.decide.proofs.policy_rules.policy_leave.Goals as goal
 

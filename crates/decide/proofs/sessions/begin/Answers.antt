@@ -1,5 +1,5 @@
 use Rattle.std.proofs.Common.{Some}
-use Rattle.bank_run.specs.Requests.{opens_session}
+use Rattle.bank_meaning.specs.Requests.{opens_session}
 use Rattle.decide.proofs.CountedDenials.{carried_denied}
 use Rattle.decide.proofs.sessions.begin.Goals as goal
 

@@ -1,4 +1,4 @@
-use Rattle.bank_run.specs.Requests.{ends_session}
+use Rattle.bank_meaning.specs.Requests.{ends_session}
 use Rattle.decide.proofs.CountedDenials.{carried_denied}
 use Rattle.decide.proofs.sessions.end.Goals as goal
 

@@ -1,7 +1,7 @@
 use Rattle.std.proofs.Common.{rules, ◌≡◌, None, ◌∙◌}
 use Rattle.bank_policy.specs.HeldRows.{standing}
-use Rattle.bank_run.specs.Sessions.{first_against_ending}
-use Rattle.op_plans.proofs.CountedDenials.{none_denies, read_counted}
+use Rattle.bank_meaning.specs.Sessions.{first_against_ending}
+use Rattle.op_prepare.proofs.CountedDenials.{none_denies, read_counted}
 use Rattle.decide.proofs.CountedDenials.{ending_is}
 use Rattle.decide.proofs.sessions.prepare_ending.Goals as goal
 

@@ -4,10 +4,10 @@ use Rattle.bank_terms.specs.declared.rule.Rule.{Rule}
 use Rattle.bank_books.specs.Records.{slip_count}
 use Rattle.bank_books.specs.declared.row_write.RowWrite.TheVariants as write
 use Rattle.counter_ops.specs.Rows.{row_of}
-use Rattle.bank_run.specs.Executions.{execution_verdict}
-use Rattle.op_plans.specs.Judged.{IsReady, LeavesPolicyReady}
-use Rattle.op_plans.specs.declared.prepared.Ready.{Ready}
-use Rattle.op_plans.proofs.CountedDenials.{counted_from, none_denies}
+use Rattle.bank_meaning.specs.Executions.{execution_verdict}
+use Rattle.op_prepare.specs.Judged.{IsReady, LeavesPolicyReady}
+use Rattle.op_prepare.specs.declared.prepared.Ready.{Ready}
+use Rattle.op_prepare.proofs.CountedDenials.{counted_from, none_denies}
 use Rattle.decide.proofs.CountedDenials.{on_fault}
 use Rattle.decide.proofs.SlipVerdict.{denied_full, denied_new, denies_new, made_new}
 use Rattle.decide.proofs.slips.prepare_with_new_slip.Goals as goal

@@ -1,8 +1,8 @@
 use Rattle.std.proofs.Common.{◌≡◌, Option, Some, None, Ok, ap, rules, sym, ◌∙◌}
 use Rattle.bank_terms.specs.declared.rule.Rule.{Rule}
 use Rattle.bank_books.specs.WorldLists.{WorldLists}
-use Rattle.bank_run.specs.Executions.{execution_verdict}
-use Rattle.bank_run.proofs.PolicyLemmas.{leave_refused}
+use Rattle.bank_meaning.specs.Executions.{execution_verdict}
+use Rattle.bank_meaning.proofs.PolicyLemmas.{leave_refused}
 use Rattle.decide.specs.Slips.{or_full}
 use Rattle.decide.proofs.SlipVerdict.{rule_by_rows}
 use Rattle.decide.proofs.slips.rule_with_no_room.Goals as goal

@@ -1,10 +1,13 @@
 -- Where the difference is an amount of money, the two other tests decide.
-use Rattle.std.proofs.Common.{◌≡◌, Bool, true, rules, arith}
+use Rattle.std.proofs.Common.{◌≡◌, Bool, true, rules, arith, ℤ}
 use Rattle.std.specs.Prelude.{◌&&◌, ◌+ℤ◌, neg_ℤ}
-use Rattle.money.specs.Range.{is_cents}
+use Rattle.std.proofs.lemmas.Int.{ints}
+use Rattle.money.specs.Range.{IsCents, is_cents}
 use Rattle.drawers.specs.DrawerOff.{difference}
-use Rattle.drawers.proofs.CentsTest.{test_from}
 use Rattle.drawers.proofs.drawer_off.book_in_range.Goals as goal
+
+test_from : (z : ℤ) → IsCents z → is_cents z ≡ true
+test_from z in_range = grind (arith, ints)
 
 the_third : (a b c result : Bool) → a ≡ true → b ≡ true → result ≡ c → result ≡ (a && b && c)
 the_third a b c result first second is = grind (arith, first, second, is)

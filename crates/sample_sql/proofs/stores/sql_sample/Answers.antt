@@ -3,8 +3,8 @@ use Rattle.sqlite.specs.Held.{state}
 use Rattle.sqlite.specs.Steps.{over_memory}
 use Rattle.sqlite.proofs.Callers.{memory_is_clean}
 use Rattle.bank_books.specs.WorldLists.{WorldLists}
-use Rattle.bank_run.specs.Sums.{PassesChecks}
-use Rattle.bank_schema.specs.Held.{HoldsBank}
+use Rattle.bank_meaning.specs.Sums.{PassesChecks}
+use Rattle.sql_schema.specs.Held.{HoldsBank}
 use Rattle.sample_sql.proofs.stores.sql_sample.Goals as goal
 
 -- memory is always clean, and never shut

@@ -1,8 +1,8 @@
 use Rattle.std.proofs.Common.{subst, sym}
 use Rattle.sqlite.specs.Held.{state}
-use Rattle.bank_schema.specs.Held.{HoldsWorld}
-use Rattle.bank_schema.specs.Schema.{schema_of}
-use Rattle.open_sql.specs.Blank.{no_schema}
+use Rattle.sql_schema.specs.Held.{HoldsWorld}
+use Rattle.sql_schema.specs.Schema.{schema_of}
+use Rattle.sql_create.specs.Blank.{no_schema}
 use Rattle.sql_upgrade.specs.Left.{HasSchema, left}
 use Rattle.sql_upgrade.proofs.LeftLemmas.{none_left, whole_left}
 use Rattle.sql_upgrade.proofs.ProceedsLemmas.{ProceededBy, proceeds_on}

@@ -1,10 +1,10 @@
 use Rattle.std.proofs.Common.{subst, sym}
 use Rattle.sqlite.specs.Held.{state}
-use Rattle.whole_tables.proofs.ReadsLemmas.{handed_on}
-use Rattle.adopt_sql.specs.Refused.{IsNamedBy, IsOfStore, IsRefusedIn}
-use Rattle.adopt_sql.proofs.TakenLemmas.{handed_other}
+use Rattle.sql_schema.proofs.StepLemmas.{handed_on}
+use Rattle.sql_adopt.specs.Refused.{IsNamedBy, IsOfStore, IsRefusedIn}
+use Rattle.sql_adopt.proofs.TakenLemmas.{handed_other}
 use Rattle.sql_upgrade.proofs.CarryLemmas.{carried_over, carries, is_of, left_then, survives_more}
-use Rattle.bank_schema.proofs.StepLemmas.{early}
+use Rattle.sql_schema.proofs.StepLemmas.{early}
 use Rattle.sql_upgrade.proofs.upgrading.upgrade_bank.Goals as goal
 
 pub returns-in-Ok-clause-carries : goal.returns-in-Ok-clause-carries

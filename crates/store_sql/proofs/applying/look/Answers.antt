@@ -1,7 +1,7 @@
 use Rattle.std.proofs.Common.{Err, Ok, ℕ}
 use Rattle.money.specs.declared.fault.Fault.{Fault}
 use Rattle.sqlite.specs.Held.{state}
-use Rattle.bank_schema.proofs.WorldLemmas.{moves_nothing}
+use Rattle.sql_schema.proofs.WorldLemmas.{moves_nothing}
 use Rattle.store_sql.proofs.applying.look.Goals as goal
 
 pub returns-in-Ok-clause-moves : goal.returns-in-Ok-clause-moves

@@ -1,5 +1,5 @@
 use Rattle.std.proofs.Common.{rules, ◌≡◌, IfOk, subst}
-use Rattle.row_reads.specs.BookReads.{shown}
+use Rattle.world_reads.specs.BookReads.{shown}
 use Rattle.store_rows.proofs.Counted.{told_still}
 use Rattle.store_rows.proofs.list_store.ListStoreReportReads.shown.Goals as goal
 

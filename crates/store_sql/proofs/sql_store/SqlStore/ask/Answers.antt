@@ -1,6 +1,6 @@
 use Rattle.std.proofs.Common.{IsTrue}
 use Rattle.sqlite.specs.Held.{state}
-use Rattle.bank_schema.proofs.StepLemmas.{early, survived}
+use Rattle.sql_schema.proofs.StepLemmas.{early, survived}
 use Rattle.store_sql.proofs.CountedLemmas.{answered, known_of, not_both}
 use Rattle.store_sql.proofs.sql_store.SqlStore.ask.Goals as goal
 

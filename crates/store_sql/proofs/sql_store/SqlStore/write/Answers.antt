@@ -2,8 +2,8 @@ use Rattle.std.proofs.Common.{◌∙◌, IsTrue, sym, ap, subst, inl, inr}
 use Rattle.sqlite.specs.Effect.{Database}
 use Rattle.sqlite.specs.Held.{state}
 use Rattle.bank_books.specs.Effects.{applied}
-use Rattle.bank_schema.specs.Held.{AreOfWorld, HoldsBank}
-use Rattle.bank_schema.proofs.StepLemmas.{early}
+use Rattle.sql_schema.specs.Held.{AreOfWorld, HoldsBank}
+use Rattle.sql_schema.proofs.StepLemmas.{early}
 use Rattle.store_sql.proofs.CountedLemmas.{IsCounted, known_else, known_then, marked, unmarked, went_through}
 use Rattle.store_sql.proofs.WorldLemmas.{same_world}
 use Rattle.store_sql.proofs.sql_store.SqlStore.write.Goals as goal

@@ -1,5 +1,0 @@
-use Rattle.adopt_sql.proofs.SetLemmas.{AreOwn}
-use Rattle.adopt_sql.proofs.item_sets.own_members.Given as goal
-
-abbrev pub invariant-loop-row : goal.invariant-loop-row
-invariant-loop-row l = AreOwn l.set l.rows l.row-index l.own.items

@@ -1,5 +1,0 @@
-use Rattle.adopt_sql.proofs.FileLemmas.{bank_is_file}
-use Rattle.adopt_sql.proofs.laws.held_bank_is_file.Goals as goal
-
-pub returns : goal.returns
-returns g c = bank_is_file _

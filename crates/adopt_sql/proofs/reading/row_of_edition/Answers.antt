@@ -1,7 +1,0 @@
-use Rattle.adopt_sql.proofs.TakenLemmas.{first_found}
-use Rattle.adopt_sql.proofs.reading.row_of_edition.Goals as goal
-
-pub returns-in_default-2-clause-first : goal.returns-in_default-2-clause-first
-returns-in_default-2-clause-first c db version table row =
-    let found = first_found c.args.edition db c.args.found version table row in
-    let none = c.in_default.is in cc

@@ -1,0 +1,318 @@
+-- Every request keeps the lists of a World in order.
+use Rattle.std.proofs.Common.{◌≡◌, ◌==◌, ℕ, ◌+◌, Bool, true, false, not, List, [], ◌∷◌, map, Option, Some, None, refl}
+use Rattle.std.specs.Prelude.{if◌then◌else◌}
+use Rattle.std.proofs.lemmas.List.Kept.{IsNonDecreasingBy-filter}
+use Rattle.keyed_rows.proofs.AddRow.{IsNonDecreasingBy-add_row}
+use Rattle.keyed_rows.proofs.MadeRows.{IsNonDecreasingBy-made, key-changed}
+use Rattle.bank_terms.specs.declared.rule.Rule.{Rule}
+use Rattle.bank_policy.specs.Policy.{PolicyLists}
+use Rattle.bank_policy.specs.PolicyKeys.{certifier_key, relation_key, relation_number, set_key, triple_key, triple_number, user_key}
+use Rattle.bank_policy.specs.PolicyWrites.{in_session, in_suspension, is_triple_on, policy_written, with_session}
+use Rattle.bank_policy.specs.declared.policy_write.PolicyWrite.{PolicyWrite}
+use Rattle.bank_policy.specs.declared.policy_write.PolicyWrite.TheVariants as change
+use Rattle.bank_policy.specs.declared.policy_write.Session.{Session}
+use Rattle.bank_policy.specs.declared.rows.User.{User}
+use Rattle.bank_books.specs.Effects.{all_written, applied, on_day, used_up, written}
+use Rattle.bank_books.specs.Keys.{account_key, branch_key, entry_key, line_key, proof_key, release_key, release_number, slip_key}
+use Rattle.bank_books.specs.SlipRow.{SlipRow}
+use Rattle.bank_books.specs.Version.{changes_policy, has_version_for, with_version}
+use Rattle.bank_books.specs.WorldLists.{WorldLists}
+use Rattle.bank_books.specs.declared.row_write.RowWrite.{RowWrite}
+use Rattle.bank_books.specs.declared.row_write.RowWrite.TheVariants as write
+use Rattle.bank_books.specs.declared.signature.Signature.{Signature}
+use Rattle.certify.specs.Commands.{command_changes}
+use Rattle.counter_ops.specs.declared.op.Op.{Op}
+use Rattle.counter_ops.specs.declared.op.Op.TheVariants as op
+use Rattle.drawers.specs.CloseDay.{close_day_changes, closing_rows}
+use Rattle.drawers.specs.DrawerOff.{drawer_off_changes}
+use Rattle.drawers.specs.DrawerOn.{drawer_on_changes}
+use Rattle.drawers.specs.DrawerRows.{drawer_rows}
+use Rattle.drawers.specs.MoveCash.{move_changes, move_rows}
+use Rattle.money.specs.declared.fault.Fault.{Fault}
+use Rattle.postings.specs.Correct.{correct_changes, correct_rows}
+use Rattle.postings.specs.Post.{post_changes, post_rows}
+use Rattle.postings.specs.Transfer.{transfer_changes, transfer_rows}
+use Rattle.store_rows.specs.Status.{after_mark}
+use Rattle.bank_meaning.specs.Executions.{books_meaning, execution_meaning, signature_of}
+use Rattle.bank_meaning.specs.NewAccount.{opened}
+use Rattle.bank_meaning.specs.Operations.{meaning_of}
+use Rattle.bank_meaning.specs.Order.{AreBooksInOrder, IsInOrder, IsPolicyInOrder}
+use Rattle.bank_meaning.specs.PolicyRules.{asker, grounds, leave_of, used_by}
+use Rattle.bank_meaning.specs.Release.{release_changes, release_rows}
+use Rattle.bank_meaning.specs.Requests.{asked_meaning, effect, first, repeated}
+use Rattle.bank_meaning.specs.Run.{Marked, after_request, if_allowed, unless_repeated}
+use Rattle.bank_meaning.specs.Sessions.{latest, session_of, standing_of_asker}
+use Rattle.bank_meaning.specs.Slips.{slip_named, slip_of}
+use Rattle.bank_meaning.specs.declared.execution.Execution.{Execution}
+use Rattle.bank_meaning.specs.declared.leave.Leave.{Leave}
+use Rattle.bank_meaning.specs.declared.leave.Leave.TheVariants as leave
+use Rattle.bank_meaning.specs.declared.request.Asked.{Asked}
+use Rattle.bank_meaning.specs.declared.request.Asked.TheVariants as asked
+use Rattle.bank_meaning.specs.declared.who.Who.{Who}
+
+-- ---- the policy after one change
+
+-- of users who are made anew
+users_made : (p : PolicyLists) (made : User → User) → ((u : User) → user_key (made u) ≡ user_key u) → IsPolicyInOrder p → IsPolicyInOrder (record p { users = map made p.users })
+users_made p made same was = record {
+  users_in_order = IsNonDecreasingBy-made user_key made same p.users was.users_in_order;
+  sets_in_order = was.sets_in_order;
+  relations_in_order = was.relations_in_order;
+  triples_in_order = was.triples_in_order;
+  certifiers_in_order = was.certifiers_in_order;
+}
+
+change_in_order : (p : PolicyLists) (c : PolicyWrite) → IsPolicyInOrder p → IsPolicyInOrder (policy_written c p)
+change_in_order p (change.User row) was = record {
+  users_in_order = IsNonDecreasingBy-add_row user_key row p.users was.users_in_order;
+  sets_in_order = was.sets_in_order;
+  relations_in_order = was.relations_in_order;
+  triples_in_order = was.triples_in_order;
+  certifiers_in_order = was.certifiers_in_order;
+}
+change_in_order p (change.Set row) was = record {
+  users_in_order = was.users_in_order;
+  sets_in_order = IsNonDecreasingBy-add_row set_key row p.sets was.sets_in_order;
+  relations_in_order = was.relations_in_order;
+  triples_in_order = was.triples_in_order;
+  certifiers_in_order = was.certifiers_in_order;
+}
+change_in_order p (change.Relation row) was = record {
+  users_in_order = was.users_in_order;
+  sets_in_order = was.sets_in_order;
+  relations_in_order = IsNonDecreasingBy-add_row relation_key row p.relations was.relations_in_order;
+  triples_in_order = was.triples_in_order;
+  certifiers_in_order = was.certifiers_in_order;
+}
+change_in_order p (change.NoRelation k) was = record {
+  users_in_order = was.users_in_order;
+  sets_in_order = was.sets_in_order;
+  relations_in_order = IsNonDecreasingBy-filter relation_key (λ r. not (relation_key r == relation_number k.procedure k.set)) p.relations was.relations_in_order;
+  triples_in_order = IsNonDecreasingBy-filter triple_key (λ t. not (is_triple_on k t)) p.triples was.triples_in_order;
+  certifiers_in_order = was.certifiers_in_order;
+}
+change_in_order p (change.Triple row) was = record {
+  users_in_order = was.users_in_order;
+  sets_in_order = was.sets_in_order;
+  relations_in_order = was.relations_in_order;
+  triples_in_order = IsNonDecreasingBy-add_row triple_key row p.triples was.triples_in_order;
+  certifiers_in_order = was.certifiers_in_order;
+}
+change_in_order p (change.NoTriple k) was = record {
+  users_in_order = was.users_in_order;
+  sets_in_order = was.sets_in_order;
+  relations_in_order = was.relations_in_order;
+  triples_in_order = IsNonDecreasingBy-filter triple_key (λ t. not (triple_key t == triple_number k.user k.procedure k.set)) p.triples was.triples_in_order;
+  certifiers_in_order = was.certifiers_in_order;
+}
+change_in_order p (change.Certifier row) was = record {
+  users_in_order = was.users_in_order;
+  sets_in_order = was.sets_in_order;
+  relations_in_order = was.relations_in_order;
+  triples_in_order = was.triples_in_order;
+  certifiers_in_order = IsNonDecreasingBy-add_row certifier_key row p.certifiers was.certifiers_in_order;
+}
+change_in_order p (change.NoCertifier row) was = record {
+  users_in_order = was.users_in_order;
+  sets_in_order = was.sets_in_order;
+  relations_in_order = was.relations_in_order;
+  triples_in_order = was.triples_in_order;
+  certifiers_in_order = IsNonDecreasingBy-filter certifier_key (λ c. not (certifier_key c == certifier_key row)) p.certifiers was.certifiers_in_order;
+}
+change_in_order p (change.Suspended s) was =
+    users_made p (λ u. if user_key u == s.user then in_suspension s u else u) (key-changed user_key (in_suspension s) s.user (λ u. refl)) was
+
+session_in_order : (p : PolicyLists) (s : Session) → IsPolicyInOrder p → IsPolicyInOrder (record p { users = with_session s p.users })
+session_in_order p s was = users_made p (λ u. if user_key u == s.user then in_session s u else u) (key-changed user_key (in_session s) s.user (λ u. refl)) was
+
+-- ---- one change of a World
+
+books_written : (c : RowWrite) (w : WorldLists) → AreBooksInOrder w → AreBooksInOrder (written c w)
+books_written (write.Account row) w was = record {
+  branches = was.branches;
+  tellers = was.tellers;
+  accounts = IsNonDecreasingBy-add_row account_key row w.accounts was.accounts;
+  entries = was.entries;
+  lines = was.lines;
+  proofs = was.proofs;
+  releases = was.releases;
+  slips = was.slips;
+}
+books_written (write.Entry row) w was = record {
+  branches = was.branches;
+  tellers = was.tellers;
+  accounts = was.accounts;
+  entries = IsNonDecreasingBy-add_row entry_key row w.entries was.entries;
+  lines = was.lines;
+  proofs = was.proofs;
+  releases = was.releases;
+  slips = was.slips;
+}
+books_written (write.Line row) w was = record {
+  branches = was.branches;
+  tellers = was.tellers;
+  accounts = was.accounts;
+  entries = was.entries;
+  lines = IsNonDecreasingBy-add_row line_key row w.lines was.lines;
+  proofs = was.proofs;
+  releases = was.releases;
+  slips = was.slips;
+}
+books_written (write.Proof row) w was = record {
+  branches = was.branches;
+  tellers = was.tellers;
+  accounts = was.accounts;
+  entries = was.entries;
+  lines = was.lines;
+  proofs = IsNonDecreasingBy-add_row proof_key row w.proofs was.proofs;
+  releases = was.releases;
+  slips = was.slips;
+}
+books_written (write.Release row) w was = record {
+  branches = was.branches;
+  tellers = was.tellers;
+  accounts = was.accounts;
+  entries = was.entries;
+  lines = was.lines;
+  proofs = was.proofs;
+  releases = IsNonDecreasingBy-add_row release_key row w.releases was.releases;
+  slips = was.slips;
+}
+books_written (write.Day d) w was = record {
+  branches = IsNonDecreasingBy-made branch_key (λ row. if row.branch == d.branch then on_day d.day row else row) (key-changed branch_key (on_day d.day) d.branch (λ row. refl)) w.branches was.branches;
+  tellers = was.tellers;
+  accounts = was.accounts;
+  entries = was.entries;
+  lines = was.lines;
+  proofs = was.proofs;
+  releases = was.releases;
+  slips = was.slips;
+}
+books_written (write.Used k) w was = record {
+  branches = was.branches;
+  tellers = was.tellers;
+  accounts = was.accounts;
+  entries = was.entries;
+  lines = was.lines;
+  proofs = was.proofs;
+  releases = IsNonDecreasingBy-made release_key (λ row. if release_key row == release_number k.user k.number then used_up row else row) (key-changed release_key used_up (release_number k.user k.number) (λ row. refl)) w.releases was.releases;
+  slips = was.slips;
+}
+books_written (write.Session s) w was = record {
+  branches = was.branches;
+  tellers = was.tellers;
+  accounts = was.accounts;
+  entries = was.entries;
+  lines = was.lines;
+  proofs = was.proofs;
+  releases = was.releases;
+  slips = was.slips;
+}
+books_written (write.Policy c) w was = record {
+  branches = was.branches;
+  tellers = was.tellers;
+  accounts = was.accounts;
+  entries = was.entries;
+  lines = was.lines;
+  proofs = was.proofs;
+  releases = was.releases;
+  slips = was.slips;
+}
+books_written (write.Slip row) w was = record {
+  branches = was.branches;
+  tellers = was.tellers;
+  accounts = was.accounts;
+  entries = was.entries;
+  lines = was.lines;
+  proofs = was.proofs;
+  releases = was.releases;
+  slips = IsNonDecreasingBy-add_row slip_key row w.slips was.slips;
+}
+
+policy_after : (c : RowWrite) (w : WorldLists) → IsPolicyInOrder w.policy → IsPolicyInOrder (written c w).policy
+policy_after (write.Account row) w was = was
+policy_after (write.Entry row) w was = was
+policy_after (write.Line row) w was = was
+policy_after (write.Proof row) w was = was
+policy_after (write.Release row) w was = was
+policy_after (write.Day d) w was = was
+policy_after (write.Used k) w was = was
+policy_after (write.Session s) w was = session_in_order w.policy s was
+policy_after (write.Policy c) w was = change_in_order w.policy c was
+policy_after (write.Slip row) w was = was
+
+pub in_order_written : (c : RowWrite) (w : WorldLists) → IsInOrder w → IsInOrder (written c w)
+in_order_written c w was = record { books = books_written c w was.books; policy = policy_after c w was.policy }
+
+-- ---- a plan
+
+pub in_order_all_written : (cs : List RowWrite) (w : WorldLists) → IsInOrder w → IsInOrder (all_written cs w)
+in_order_all_written [] w was = was
+in_order_all_written (c ∷ cs) w was = in_order_all_written cs (written c w) (in_order_written c w was)
+
+pub in_order_with_version : (b : Bool) (w : WorldLists) → IsInOrder w → IsInOrder (with_version b w)
+in_order_with_version true w was = record {
+  books = record {
+    branches = was.books.branches;
+    tellers = was.books.tellers;
+    accounts = was.books.accounts;
+    entries = was.books.entries;
+    lines = was.books.lines;
+    proofs = was.books.proofs;
+    releases = was.books.releases;
+    slips = was.books.slips;
+  };
+  policy = was.policy;
+}
+in_order_with_version false w was = was
+
+in_order_applied : (cs : List RowWrite) (w : WorldLists) → IsInOrder w → IsInOrder (applied cs w)
+in_order_applied cs w was = go (has_version_for cs w.version)
+  where
+    go : (b : Bool) → IsInOrder (if b then with_version (changes_policy cs) (all_written cs w) else w)
+    go true = in_order_with_version (changes_policy cs) (all_written cs w) (in_order_all_written cs w was)
+    go false = was
+
+-- ---- whatever is asked for
+
+by_form : (o : Op) (by : Signature) (w : WorldLists) → IsInOrder w → IsInOrder (meaning_of o by w).effect
+by_form (op.Post post) by w was = in_order_applied (post_changes (post_rows w post) post by) w was
+by_form (op.Transfer transfer) by w was = in_order_applied (transfer_changes (transfer_rows w transfer) transfer by) w was
+by_form (op.Correct correct) by w was = in_order_applied (correct_changes (correct_rows w correct) correct by) w was
+by_form (op.DrawerOn form) by w was = in_order_applied (drawer_on_changes (drawer_rows w form.teller form.branch) form by) w was
+by_form (op.DrawerOff form) by w was = in_order_applied (drawer_off_changes (drawer_rows w form.teller form.branch) form by) w was
+by_form (op.MoveCash move) by w was = in_order_applied (move_changes (move_rows w move) move by) w was
+by_form (op.NewAccount form) by w was = in_order_written (write.Account (opened form)) w was
+by_form (op.Release form) by w was = in_order_applied (release_changes (release_rows w form) form by) w was
+by_form (op.Balance form) by w was = was
+by_form (op.Statement form) by w was = was
+by_form (op.Accounts form) by w was = was
+by_form (op.Proof form) by w was = was
+by_form (op.CloseDay form) by w was = in_order_applied (close_day_changes (closing_rows w form) form) w was
+
+with_leave : (l : Leave) (user : ℕ) (w : WorldLists) → IsInOrder w → IsInOrder (used_by l user w)
+with_leave leave.Triple user w was = was
+with_leave (leave.Release number) user w was = in_order_written (write.Used (record { user = user; number = number })) w was
+
+with_taken : (b : Bool) (row : SlipRow) (w : WorldLists) → IsInOrder w → IsInOrder (if b then w else written (write.Slip row) w)
+with_taken true row w was = was
+with_taken false row w was = in_order_written (write.Slip row) w was
+
+by_asked : (a : Asked) (who : Who) (moment : ℕ) (w : WorldLists) → IsInOrder w → IsInOrder (asked_meaning a who moment w).effect
+by_asked (asked.Operation o) who moment w was =
+    let x : Execution = record { who = who; moment = moment; op = o } in
+    with_taken (slip_named x == 0) (slip_of x (execution_meaning w x).reply.bytes) (execution_meaning w x).effect
+    (with_leave (leave_of (grounds w x)) (asker who) (books_meaning w x).effect (by_form o (signature_of x) w was))
+by_asked asked.Opening who moment w was = in_order_written (write.Session (session_of who (latest (standing_of_asker who w) + 1) true)) w was
+by_asked asked.Ending who moment w was = in_order_written (write.Session (session_of who (latest (standing_of_asker who w)) false)) w was
+by_asked (asked.Command command) who moment w was = in_order_applied (command_changes command (asker who)) w was
+by_asked asked.Listing who moment w was = was
+
+pub stays_in_order : (w : WorldLists) (m : Marked) → IsInOrder w → IsInOrder (after_request w m)
+stays_in_order w m was = go m.mark (repeated w m.request) (first w m.request)
+  where
+    go : (mark : Option Fault) (kept : Option (List ℕ)) (r : Option Rule) → IsInOrder (after_mark mark (unless_repeated kept (if_allowed r (effect w m.request) w) w) w)
+    go None None None = by_asked m.request.asked m.request.who m.request.moment w was
+    go None None (Some r) = was
+    go None (Some kept) r = was
+    go (Some f) kept r = was

@@ -1,0 +1,29 @@
+-- The closing of a day as an operation: its reply and its meaning. The rest of it is that of its plan.
+use Rattle.std.specs.Prelude.{ℕ, List, [], ◌++◌, codes, decimal}
+use Rattle.std.specs.Option.{option_map_or}
+use Rattle.std.specs.Fmt.{signed_decimal}
+use Rattle.serde_json.specs.Data.{Data, object, member, no_members}
+use Rattle.bank_books.specs.WorldLists.{WorldLists}
+use Rattle.counter_ops.specs.declared.close_day.CloseDay.{CloseDay}
+use Rattle.rule_tests.specs.Denial.{is_denial}
+use Rattle.drawers.specs.CloseDay.{close_day_tests, close_day_effect, closed_of, closing_rows}
+use Rattle.drawers.specs.declared.close_day.Closed.{Closed}
+use Rattle.bank_meaning.specs.Denial.{cents, natural}
+use Rattle.bank_meaning.specs.Meaning.{Meaning, json}
+
+-- what the proof of the day holds
+unfoldable pub closed_text : Closed → List ℕ
+closed_text c =
+    codes "{\"balance\":" ++ signed_decimal c.balance ++ codes ",\"cash\":" ++ signed_decimal c.cash ++ codes ",\"closed\":" ++ decimal c.closed ++ codes ",\"entries\":" ++ decimal c.entries ++ codes "}"
+
+-- the value of JSON behind it
+abbrev pub closed_data : Closed → Data
+closed_data c =
+    object (member (codes "balance") (cents c.balance) (member (codes "cash") (cents c.cash) (member (codes "closed") (natural c.closed) (member (codes "entries") (natural c.entries) no_members))))
+
+abbrev pub close_day_meaning : CloseDay → WorldLists → Meaning
+close_day_meaning form w = record {
+  denies = λ r. is_denial r (close_day_tests (closing_rows w form));
+  effect = close_day_effect w form;
+  reply = json (option_map_or closed_text (closed_of (closing_rows w form)) []);
+}

@@ -1,0 +1,31 @@
+-- A drawer that is put off, as an operation: its reply and its meaning. The rest of it is that of its plan.
+use Rattle.std.specs.Prelude.{ℕ, List, [], ◌++◌, codes, decimal}
+use Rattle.std.specs.Option.{option_map_or}
+use Rattle.std.specs.Fmt.{signed_decimal}
+use Rattle.serde_json.specs.Data.{Data, object, member, no_members}
+use Rattle.bank_books.specs.WorldLists.{WorldLists}
+use Rattle.bank_books.specs.declared.signature.Signature.{Signature}
+use Rattle.counter_ops.specs.declared.drawer_off.DrawerOff.{DrawerOff}
+use Rattle.rule_tests.specs.Denial.{is_denial}
+use Rattle.drawers.specs.DrawerOff.{drawer_off_tests, drawer_off_effect, put_off_of}
+use Rattle.drawers.specs.DrawerRows.{drawer_rows}
+use Rattle.drawers.specs.declared.drawer_off.PutOff.{PutOff}
+use Rattle.bank_meaning.specs.Denial.{cents, natural}
+use Rattle.bank_meaning.specs.Meaning.{Meaning, json}
+
+-- what the count differed by, and the cash of the vault after it
+unfoldable pub put_off_text : PutOff → List ℕ
+put_off_text p =
+    codes "{\"difference\":" ++ signed_decimal p.difference ++ codes ",\"teller\":" ++ decimal p.teller ++ codes ",\"vault\":" ++ signed_decimal p.vault ++ codes "}"
+
+-- the value of JSON behind it
+abbrev pub put_off_data : PutOff → Data
+put_off_data p =
+    object (member (codes "difference") (cents p.difference) (member (codes "teller") (natural p.teller) (member (codes "vault") (cents p.vault) no_members)))
+
+abbrev pub drawer_off_meaning : DrawerOff → Signature → WorldLists → Meaning
+drawer_off_meaning form by w = record {
+  denies = λ r. is_denial r (drawer_off_tests (drawer_rows w form.teller form.branch) form by);
+  effect = drawer_off_effect w form by;
+  reply = json (option_map_or put_off_text (put_off_of (drawer_rows w form.teller form.branch) form) []);
+}

@@ -1,0 +1,31 @@
+-- A drawer that is put on, as an operation: its reply and its meaning. The rest of it is that of its plan.
+use Rattle.std.specs.Prelude.{ℕ, List, [], ◌++◌, codes, decimal}
+use Rattle.std.specs.Option.{option_map_or}
+use Rattle.std.specs.Fmt.{signed_decimal}
+use Rattle.serde_json.specs.Data.{Data, object, member, no_members}
+use Rattle.bank_books.specs.WorldLists.{WorldLists}
+use Rattle.bank_books.specs.declared.signature.Signature.{Signature}
+use Rattle.counter_ops.specs.declared.drawer_on.DrawerOn.{DrawerOn}
+use Rattle.rule_tests.specs.Denial.{is_denial}
+use Rattle.drawers.specs.DrawerOn.{drawer_on_tests, drawer_on_effect, put_on_of}
+use Rattle.drawers.specs.DrawerRows.{drawer_rows}
+use Rattle.drawers.specs.declared.drawer_on.PutOn.{PutOn}
+use Rattle.bank_meaning.specs.Denial.{cents, natural}
+use Rattle.bank_meaning.specs.Meaning.{Meaning, json}
+
+-- the cash of the drawer and of the vault after it
+unfoldable pub put_on_text : PutOn → List ℕ
+put_on_text p =
+    codes "{\"cash\":" ++ signed_decimal p.cash ++ codes ",\"teller\":" ++ decimal p.teller ++ codes ",\"vault\":" ++ signed_decimal p.vault ++ codes "}"
+
+-- the value of JSON behind it
+abbrev pub put_on_data : PutOn → Data
+put_on_data p =
+    object (member (codes "cash") (cents p.cash) (member (codes "teller") (natural p.teller) (member (codes "vault") (cents p.vault) no_members)))
+
+abbrev pub drawer_on_meaning : DrawerOn → Signature → WorldLists → Meaning
+drawer_on_meaning form by w = record {
+  denies = λ r. is_denial r (drawer_on_tests (drawer_rows w form.teller form.branch) form);
+  effect = drawer_on_effect w form by;
+  reply = json (option_map_or put_on_text (put_on_of (drawer_rows w form.teller form.branch) form) []);
+}

@@ -1,0 +1,30 @@
+-- A move of cash as an operation: its reply and its meaning. The rest of it is that of its plan.
+use Rattle.std.specs.Prelude.{ℕ, List, [], ◌++◌, codes, decimal}
+use Rattle.std.specs.Option.{option_map_or}
+use Rattle.std.specs.Fmt.{signed_decimal}
+use Rattle.serde_json.specs.Data.{Data, object, member, no_members}
+use Rattle.bank_books.specs.WorldLists.{WorldLists}
+use Rattle.bank_books.specs.declared.signature.Signature.{Signature}
+use Rattle.counter_ops.specs.declared.move_cash.MoveCash.{MoveCash}
+use Rattle.rule_tests.specs.Denial.{is_denial}
+use Rattle.drawers.specs.MoveCash.{move_tests, move_effect, move_rows, moved_of}
+use Rattle.drawers.specs.declared.move_cash.Moved.{Moved}
+use Rattle.bank_meaning.specs.Denial.{cents, natural}
+use Rattle.bank_meaning.specs.Meaning.{Meaning, json}
+
+-- the cash of both places after it
+unfoldable pub moved_text : Moved → List ℕ
+moved_text m =
+    codes "{\"moved\":" ++ decimal m.moved ++ codes ",\"source\":" ++ signed_decimal m.source ++ codes ",\"target\":" ++ signed_decimal m.target ++ codes "}"
+
+-- the value of JSON behind it
+abbrev pub moved_data : Moved → Data
+moved_data m =
+    object (member (codes "moved") (natural m.moved) (member (codes "source") (cents m.source) (member (codes "target") (cents m.target) no_members)))
+
+abbrev pub move_meaning : MoveCash → Signature → WorldLists → Meaning
+move_meaning move by w = record {
+  denies = λ r. is_denial r (move_tests (move_rows w move) move by);
+  effect = move_effect w move by;
+  reply = json (option_map_or moved_text (moved_of (move_rows w move) move) []);
+}

@@ -1,0 +1,28 @@
+-- A post as an operation: its reply and its meaning. The rows that it is judged on, the rules against it, its effect and what it leaves are those of its plan.
+use Rattle.std.specs.Prelude.{ℕ, List, [], ◌++◌, codes, decimal}
+use Rattle.std.specs.Option.{option_map_or}
+use Rattle.std.specs.Fmt.{signed_decimal}
+use Rattle.serde_json.specs.Data.{Data, object, member, no_members}
+use Rattle.bank_books.specs.WorldLists.{WorldLists}
+use Rattle.bank_books.specs.declared.signature.Signature.{Signature}
+use Rattle.counter_ops.specs.declared.post.Post.{Post}
+use Rattle.rule_tests.specs.Denial.{is_denial}
+use Rattle.postings.specs.Post.{post_tests, post_effect, post_rows, posted_of}
+use Rattle.postings.specs.declared.post.Posted.{Posted}
+use Rattle.bank_meaning.specs.Denial.{cents, natural}
+use Rattle.bank_meaning.specs.Meaning.{Meaning, json}
+
+-- the balance of the account after it, and the place of its entry
+unfoldable pub posted_text : Posted → List ℕ
+posted_text p = codes "{\"balance\":" ++ signed_decimal p.balance ++ codes ",\"branch\":" ++ decimal p.branch ++ codes ",\"entry\":" ++ decimal p.entry ++ codes "}"
+
+-- the value of JSON behind it
+abbrev pub posted_data : Posted → Data
+posted_data p = object (member (codes "balance") (cents p.balance) (member (codes "branch") (natural p.branch) (member (codes "entry") (natural p.entry) no_members)))
+
+abbrev pub post_meaning : Post → Signature → WorldLists → Meaning
+post_meaning post by w = record {
+  denies = λ r. is_denial r (post_tests (post_rows w post) post by);
+  effect = post_effect w post by;
+  reply = json (option_map_or posted_text (posted_of (post_rows w post) post) []);
+}

@@ -1,0 +1,30 @@
+-- A transfer as an operation: its reply and its meaning. The rest of it is that of its plan.
+use Rattle.std.specs.Prelude.{ℕ, List, [], ◌++◌, codes, decimal}
+use Rattle.std.specs.Option.{option_map_or}
+use Rattle.std.specs.Fmt.{signed_decimal}
+use Rattle.serde_json.specs.Data.{Data, object, member, no_members}
+use Rattle.bank_books.specs.WorldLists.{WorldLists}
+use Rattle.bank_books.specs.declared.signature.Signature.{Signature}
+use Rattle.counter_ops.specs.declared.transfer.Transfer.{Transfer}
+use Rattle.rule_tests.specs.Denial.{is_denial}
+use Rattle.postings.specs.Transfer.{transfer_tests, transfer_effect, transfer_rows, transferred_of}
+use Rattle.postings.specs.declared.transfer.Transferred.{Transferred}
+use Rattle.bank_meaning.specs.Denial.{cents, natural}
+use Rattle.bank_meaning.specs.Meaning.{Meaning, json}
+
+-- the places of its entries, and the balances of both accounts after it
+unfoldable pub transferred_text : Transferred → List ℕ
+transferred_text t =
+    codes "{\"branch\":" ++ decimal t.branch ++ codes ",\"first\":" ++ decimal t.first ++ codes ",\"second\":" ++ decimal t.second ++ codes ",\"source\":" ++ signed_decimal t.source ++ codes ",\"target\":" ++ signed_decimal t.target ++ codes "}"
+
+-- the value of JSON behind it
+abbrev pub transferred_data : Transferred → Data
+transferred_data t =
+    object (member (codes "branch") (natural t.branch) (member (codes "first") (natural t.first) (member (codes "second") (natural t.second) (member (codes "source") (cents t.source) (member (codes "target") (cents t.target) no_members)))))
+
+abbrev pub transfer_meaning : Transfer → Signature → WorldLists → Meaning
+transfer_meaning transfer by w = record {
+  denies = λ r. is_denial r (transfer_tests (transfer_rows w transfer) transfer by);
+  effect = transfer_effect w transfer by;
+  reply = json (option_map_or transferred_text (transferred_of (transfer_rows w transfer) transfer) []);
+}

@@ -1,0 +1,132 @@
+//! What holds of every World, of every decision, of releases, of a new account, of sessions, and along every list of requests. The functions change nothing; their contracts are the laws.
+
+ghost use Rattle.bank_meaning.specs.LastWord.{LastWord};
+ghost use Rattle.bank_meaning.specs.Laws.{AllowedExactlyWhenHeld, DeniedBeforeTheBooks, FirstByPlace, IdentityIsJudged, NewAccountKeepsBooks, PolicyIsJudged, ReleaseKeepsBooks, ReleasesAreUsedOnce, SessionsChangeNoMore};
+ghost use Rattle.bank_meaning.specs.Once.{EachActsOnce};
+ghost use Rattle.bank_meaning.specs.Order.{IsInOrder};
+ghost use Rattle.bank_meaning.specs.Repeats.{RepliesAreKept, RetriesActOnce, SlipsStay};
+ghost use Rattle.bank_meaning.specs.Sums.{NoOneExecutesWhatHeCertifies, SumsAlwaysAgree};
+
+use bank_books::World;
+
+/// Each list of a World stands in order of its key. It only looks at the World's lists.
+pub fn world_is_in_order(world: &World)
+    ensures { IsInOrder world.now }
+{
+    let _branches = world.branches();
+    let _tellers = world.tellers();
+    let _accounts = world.accounts();
+    let _entries = world.entries();
+    let _lines = world.lines();
+    let _proofs = world.proofs();
+    let _releases = world.releases();
+    let _slips = world.slips();
+    let policy = world.policy();
+    let _users = policy.users();
+    let _sets = policy.sets();
+    let _relations = policy.relations();
+    let _triples = policy.triples();
+    let _certifiers = policy.certifiers();
+}
+
+/// The rule that a denial names is the first that denies, by its place in the list of rules, in which each stands once, and
+/// which today goes by their numbers; and where none is named, none denies.
+pub fn first_by_place()
+    ensures { FirstByPlace }
+{}
+
+/// The rules of the policy do not deny exactly where who asks is known, some relation, some one triple,
+/// and one up to the amount holds all that is touched, or a release that is named counts.
+pub fn policy_is_judged()
+    ensures { PolicyIsJudged }
+{}
+
+/// The rule on identity does not deny a command or the ending of a session exactly where who asks is known by his open session,
+/// and the opening of one exactly where he is there and not suspended.
+pub fn identity_is_judged()
+    ensures { IdentityIsJudged }
+{}
+
+/// An operation that a rule of the policy or the rule on slips denies is denied by it in every World of the same policy in which
+/// the slip that it bears, if any, is no other, and, where it is the rule on releases, of the same release: of the books nothing
+/// but the present day of that release's branch was looked at.
+pub fn denied_before_the_books()
+    ensures { DeniedBeforeTheBooks }
+{}
+
+/// An operation is allowed exactly when its user is known, some one triple of his holds all that it
+/// touches, up to its amount or by a release that counts, the procedure is certified for that, and no
+/// rule of the books denies it.
+pub fn allowed_exactly_when_held()
+    ensures { AllowedExactlyWhenHeld }
+{}
+
+/// A release that is what lets an operation be counts for none afterwards, and one that is named where a
+/// triple of the user's own suffices stays as it was.
+pub fn releases_are_used_once()
+    ensures { ReleasesAreUsedOnce }
+{}
+
+/// Where the books hold, they hold after a release is given that no rule of the books denies, too.
+pub fn release_keeps_books()
+    ensures { ReleaseKeepsBooks }
+{}
+
+/// Where the books hold, they hold after an account is opened that no rule of the books denies, too.
+pub fn new_account_keeps_books()
+    ensures { NewAccountKeepsBooks }
+{}
+
+/// The opening of a session and its ending change nothing but the session of the user who asks.
+pub fn sessions_change_no_more()
+    ensures { SessionsChangeNoMore }
+{}
+
+/// In a policy that separates them, no one is let execute a procedure that he certifies.
+pub fn no_one_executes_what_he_certifies()
+    ensures { NoOneExecutesWhatHeCertifies }
+{}
+
+/// Of every World that passes both checks, and after each request of every list of proper ones, with
+/// any marks: the checks pass; each branch, teller and account has gained what the accepted requests
+/// move there, and the cash of each branch what its entries brought and its counts differed by; each
+/// history has an entry more for each leg; and entries, cash lines and proofs were added alone.
+pub fn sums()
+    ensures { SumsAlwaysAgree }
+{}
+
+/// Of every World that passes both checks, and after each request of every list of proper ones, with
+/// any marks: each row of the policy is what the last request says that speaks of it, and where none
+/// does what the opening had; no other policy is in force, so every rule says the same, read over that.
+/// A request has a word where it is accepted, and where it is a command that finds a version left. And
+/// what is asked for leaves the policy alone, where it is an operation, and else the books.
+pub fn last_word()
+    ensures { LastWord }
+{}
+
+/// Of every World, and of every list of requests with any marks and with repeats, in any order: those that
+/// are not taken out leave, in a bank that knows no slips, what the list leaves, slips aside, with the same
+/// replies.
+pub fn once()
+    ensures { EachActsOnce }
+{}
+
+/// Of every World: after an operation that was accepted with a slip, and any further requests with any marks,
+/// what bears that slip with an equal operation gets the same reply and changes nothing, and with another it
+/// is denied by its own rule.
+pub fn replies_are_kept()
+    ensures { RepliesAreKept }
+{}
+
+/// Of every World: a slip that a user has stays his after any requests with any marks, with its operation and its reply.
+pub fn slips_stay()
+    ensures { SlipsStay }
+{}
+
+/// Of every World, and every operation that names a slip: a crash leaves the World before it or the one after it, and sent
+/// to either of them it leaves what it leaves once, and is replied what it was replied at first. The same with its slip in
+/// another session, at another moment or by another release, where it is answered with 200, is its repeat, or it has acted and
+/// the first has not. So who saw no reply sends it again.
+pub fn retries_act_once()
+    ensures { RetriesActOnce }
+{}

@@ -1,5 +1,0 @@
-use Rattle.bank_run.proofs.JudgedPolicy.{allowed_exactly_when_held}
-use Rattle.bank_run.proofs.laws.allowed_exactly_when_held.Goals as goal
-
-pub returns : goal.returns
-returns c = allowed_exactly_when_held

@@ -1,5 +1,0 @@
-use Rattle.bank_run.proofs.PolicyFirst.{denied_before_the_books}
-use Rattle.bank_run.proofs.laws.denied_before_the_books.Goals as goal
-
-pub returns : goal.returns
-returns c = denied_before_the_books

@@ -1,5 +1,0 @@
-use Rattle.bank_run.proofs.FirstRule.{first_by_place}
-use Rattle.bank_run.proofs.laws.first_by_place.Goals as goal
-
-pub returns : goal.returns
-returns c = first_by_place

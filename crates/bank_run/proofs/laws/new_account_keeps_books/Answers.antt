@@ -1,5 +1,0 @@
-use Rattle.bank_run.proofs.OpenedAccount as proven
-use Rattle.bank_run.proofs.laws.new_account_keeps_books.Goals as goal
-
-pub returns : goal.returns
-returns c = proven.new_account_keeps_books

@@ -1,5 +1,0 @@
-use Rattle.bank_run.proofs.AllowedRequest.{no_one_executes_what_he_certifies}
-use Rattle.bank_run.proofs.laws.no_one_executes_what_he_certifies.Goals as goal
-
-pub returns : goal.returns
-returns c = no_one_executes_what_he_certifies

@@ -1,5 +1,0 @@
-use Rattle.bank_run.proofs.ActsOnce.{each_acts_once}
-use Rattle.bank_run.proofs.laws.once.Goals as goal
-
-pub returns : goal.returns
-returns c = each_acts_once

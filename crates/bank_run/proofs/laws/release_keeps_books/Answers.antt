@@ -1,5 +1,0 @@
-use Rattle.bank_run.proofs.GivenRelease as proven
-use Rattle.bank_run.proofs.laws.release_keeps_books.Goals as goal
-
-pub returns : goal.returns
-returns c = proven.release_keeps_books

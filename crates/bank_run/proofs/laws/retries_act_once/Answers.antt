@@ -1,5 +1,0 @@
-use Rattle.bank_run.proofs.Retries.{retries_act_once}
-use Rattle.bank_run.proofs.laws.retries_act_once.Goals as goal
-
-pub returns : goal.returns
-returns c = retries_act_once

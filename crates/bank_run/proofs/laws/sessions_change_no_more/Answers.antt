@@ -1,5 +1,0 @@
-use Rattle.bank_run.proofs.SessionSteps.{sessions_change_no_more}
-use Rattle.bank_run.proofs.laws.sessions_change_no_more.Goals as goal
-
-pub returns : goal.returns
-returns c = sessions_change_no_more

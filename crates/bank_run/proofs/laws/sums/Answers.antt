@@ -1,5 +1,0 @@
-use Rattle.bank_run.proofs.RunSums.{sums_always_agree}
-use Rattle.bank_run.proofs.laws.sums.Goals as goal
-
-pub returns : goal.returns
-returns c = sums_always_agree

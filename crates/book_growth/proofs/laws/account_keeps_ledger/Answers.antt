@@ -1,5 +1,0 @@
-use Rattle.book_growth.proofs.AccountAdded as proven
-use Rattle.book_growth.proofs.laws.account_keeps_ledger.Goals as goal
-
-pub returns : goal.returns
-returns c = proven.account_keeps_ledger

@@ -1,5 +1,0 @@
-use Rattle.book_growth.proofs.EntryBooks as proven
-use Rattle.book_growth.proofs.laws.entry_keeps_books.Goals as goal
-
-pub returns : goal.returns
-returns c = proven.entry_keeps_books

@@ -1,5 +1,0 @@
-use Rattle.book_growth.proofs.EntryMoved as proven
-use Rattle.book_growth.proofs.laws.entry_stands_last.Goals as goal
-
-pub returns : goal.returns
-returns c = proven.entry_stands_last

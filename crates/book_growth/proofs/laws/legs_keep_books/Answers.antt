@@ -1,5 +1,0 @@
-use Rattle.book_growth.proofs.LegsBooks as proven
-use Rattle.book_growth.proofs.laws.legs_keep_books.Goals as goal
-
-pub returns : goal.returns
-returns c = proven.legs_keep_books

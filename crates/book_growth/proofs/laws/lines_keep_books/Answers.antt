@@ -1,5 +1,0 @@
-use Rattle.book_growth.proofs.LinesBooks as proven
-use Rattle.book_growth.proofs.laws.lines_keep_books.Goals as goal
-
-pub returns : goal.returns
-returns c = proven.lines_keep_books

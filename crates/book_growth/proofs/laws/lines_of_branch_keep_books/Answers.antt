@@ -1,5 +1,0 @@
-use Rattle.book_growth.proofs.LinesOfBranch as proven
-use Rattle.book_growth.proofs.laws.lines_of_branch_keep_books.Goals as goal
-
-pub returns : goal.returns
-returns c = proven.lines_of_branch_keep_books

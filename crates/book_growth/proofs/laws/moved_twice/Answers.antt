@@ -1,5 +1,0 @@
-use Rattle.book_growth.proofs.LimitsKept as proven
-use Rattle.book_growth.proofs.laws.moved_twice.Goals as goal
-
-pub returns : goal.returns
-returns c = proven.moved_twice

@@ -1,5 +1,0 @@
-use Rattle.book_growth.proofs.ReleaseAdded as proven
-use Rattle.book_growth.proofs.laws.release_moves_nothing.Goals as goal
-
-pub returns : goal.returns
-returns c = proven.release_moves_nothing

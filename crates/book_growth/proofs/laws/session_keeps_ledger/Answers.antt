@@ -1,5 +1,0 @@
-use Rattle.book_growth.proofs.SessionSet as proven
-use Rattle.book_growth.proofs.laws.session_keeps_ledger.Goals as goal
-
-pub returns : goal.returns
-returns c = proven.session_keeps_ledger

@@ -1,5 +1,0 @@
-use Rattle.book_growth.proofs.ReleaseUsed as proven
-use Rattle.book_growth.proofs.laws.used_keeps_books.Goals as goal
-
-pub returns : goal.returns
-returns c = proven.used_keeps_books

@@ -1,5 +1,0 @@
-use Rattle.book_growth.proofs.ReleaseUsed as proven
-use Rattle.book_growth.proofs.laws.used_moves_nothing.Goals as goal
-
-pub returns : goal.returns
-returns c = proven.used_moves_nothing

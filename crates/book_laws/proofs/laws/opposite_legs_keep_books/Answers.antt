@@ -1,0 +1,5 @@
+use Rattle.book_laws.proofs.LegsBooks as proven
+use Rattle.book_laws.proofs.laws.opposite_legs_keep_books.Goals as goal
+
+pub returns : goal.returns
+returns c = proven.opposite_legs_keep_books

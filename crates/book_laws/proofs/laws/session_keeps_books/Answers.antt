@@ -1,0 +1,5 @@
+use Rattle.book_laws.proofs.SessionSet as proven
+use Rattle.book_laws.proofs.laws.session_keeps_books.Goals as goal
+
+pub returns : goal.returns
+returns c = proven.session_keeps_books

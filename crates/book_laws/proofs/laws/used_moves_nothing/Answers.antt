@@ -1,0 +1,5 @@
+use Rattle.book_laws.proofs.ReleaseUsed as proven
+use Rattle.book_laws.proofs.laws.used_moves_nothing.Goals as goal
+
+pub returns : goal.returns
+returns c = proven.used_moves_nothing

@@ -1,4 +1,0 @@
-use Rattle.book_tables.proofs.entries.insert_entry.Goals as goal
-
-pub returns-clause-runs : goal.returns-clause-runs
-returns-clause-runs g c clean inside = rw (c.params-to_sql.ensures, c.params-to_sql-2.ensures, c.params-to_sql-3.ensures, c.params-to_sql-4.ensures, c.params-to_sql-5.ensures, c.params-to_sql-6.ensures, c.params-to_sql-7.ensures, c.params-to_sql-8.ensures, c.params-to_sql-9.ensures, c.params-to_sql-10.ensures, c.params-to_sql-11.ensures, c.params-to_sql-12.ensures, c.params-to_sql-13.ensures) at (c.run.ensures.runs clean inside)

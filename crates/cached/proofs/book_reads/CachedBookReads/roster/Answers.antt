@@ -1,5 +1,0 @@
-use Rattle.cached.proofs.Standing.{reads_beside}
-use Rattle.cached.proofs.book_reads.CachedBookReads.roster.Goals as goal
-
-pub returns : goal.returns
-returns g c = reads_beside _ _ _ _ _ c.roster.ensures

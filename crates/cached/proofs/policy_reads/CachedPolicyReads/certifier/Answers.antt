@@ -1,5 +1,0 @@
-use Rattle.cached.proofs.Standing.{reads_beside}
-use Rattle.cached.proofs.policy_reads.CachedPolicyReads.certifier.Goals as goal
-
-pub returns : goal.returns
-returns g c = reads_beside _ _ _ _ _ c.certifier.ensures

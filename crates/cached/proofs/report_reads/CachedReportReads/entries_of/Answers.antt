@@ -1,5 +1,0 @@
-use Rattle.cached.proofs.Standing.{reads_beside}
-use Rattle.cached.proofs.report_reads.CachedReportReads.entries_of.Goals as goal
-
-pub returns : goal.returns
-returns g c = reads_beside _ _ _ _ _ c.entries_of.ensures

@@ -1,0 +1,185 @@
+ghost use Rattle.std.specs.Prelude.{◌≡◌, IfOk, codes, false};
+ghost use Rattle.bank_terms.specs.Limits.{max_moment};
+ghost use Rattle.clap.specs.Words.{app_of, rule_of};
+ghost use Rattle.clap.specs.declared.builder.Command.TheViews.{out-Command as fields_of};
+ghost use Rattle.cli_words.specs.Commands.{bank_app, check_app, init_app, max_port, max_requests, number_rule, option_rule, run_app, sample_app, serve_app, top_app, upgrade_app, word_rule};
+
+use crate::words::{MAX_PORT, MAX_REQUESTS};
+use bank_terms::MAX_MOMENT;
+use clap::builder::ValueParser;
+use clap::{Arg, Command};
+use std::alloc::{AllocError, Global};
+
+/// A required option whose value is a number in these bounds.
+fn number<'a>(alloc: Global, id: &'a str, shown: &'a str, low: u64, high: u64) -> Arg<'a>
+    ensures rule { rule_of result ≡ number_rule id.entry.now low high }
+    ensures local { result.global ≡ false }
+{
+    Arg::new(alloc, id)
+        .long(id)
+        .required(true)
+        .value_name(shown)
+        .value_parser(ValueParser::unsigned(low, high))
+}
+
+/// A required option whose value is taken as given.
+fn option<'a>(alloc: Global, id: &'a str, shown: &'a str) -> Arg<'a>
+    ensures rule { rule_of result ≡ option_rule id.entry.now }
+    ensures local { result.global ≡ false }
+{
+    Arg::new(alloc, id)
+        .long(id)
+        .required(true)
+        .value_name(shown)
+}
+
+/// A required word, which is taken as given.
+fn word<'a>(alloc: Global, id: &'a str, shown: &'a str) -> Arg<'a>
+    ensures rule { rule_of result ≡ word_rule id.entry.now }
+    ensures local { result.global ≡ false }
+{
+    Arg::new(alloc, id).required(true).value_name(shown)
+}
+
+/// The moment that every message bears.
+fn moment<'a>(alloc: Global) -> Arg<'a>
+    ensures rule { rule_of result ≡ number_rule (codes "moment") 0 max_moment }
+    ensures local { result.global ≡ false }
+{
+    number(alloc, "moment", "N", 0, MAX_MOMENT).help(
+        "The moment of every message, in seconds from 0 to 99999999999",
+    )
+}
+
+/// The file of a bank that is there.
+fn bank_file<'a>(alloc: Global) -> Arg<'a>
+    ensures rule { rule_of result ≡ word_rule (codes "file") }
+    ensures local { result.global ≡ false }
+{
+    word(alloc, "file", "FILE").help("The file of a bank, as init made it")
+}
+
+/// The list of badges.
+fn badges<'a>(alloc: Global) -> Arg<'a>
+    ensures rule { rule_of result ≡ option_rule (codes "badges") }
+    ensures local { result.global ≡ false }
+{
+    option(alloc, "badges", "LIST").help(
+        "A CSV file with the heading badge,user, which names the user of each badge",
+    )
+}
+
+/// The port at which connections are waited for.
+fn port<'a>(alloc: Global) -> Arg<'a>
+    ensures rule { rule_of result ≡ number_rule (codes "port") 1 max_port }
+    ensures local { result.global ≡ false }
+{
+    number(alloc, "port", "P", 1, MAX_PORT).help("The port of 127.0.0.1, from 1 to 65535")
+}
+
+/// How many messages are counted before the program ends.
+fn requests<'a>(alloc: Global) -> Arg<'a>
+    ensures rule { rule_of result ≡ number_rule (codes "requests") 1 max_requests }
+    ensures local { result.global ≡ false }
+{
+    number(alloc, "requests", "N", 1, MAX_REQUESTS).help(
+        "How many messages are served, from 1 to 1000000; a connection counts at least one",
+    )
+}
+
+fn sample_command<'a>(alloc: Global) -> Result<Command<'a>, AllocError>
+    ensures app { IfOk result (λ c. app_of c ≡ sample_app) }
+    ensures local { IfOk result (λ c. (fields_of c).has_globals ≡ false) }
+{
+    Command::new(alloc, "sample")
+        .about("Serves standard input to standard output over the sample bank, in memory")
+        .arg(moment(alloc))
+}
+
+fn init_command<'a>(alloc: Global) -> Result<Command<'a>, AllocError>
+    ensures app { IfOk result (λ c. app_of c ≡ init_app) }
+    ensures local { IfOk result (λ c. (fields_of c).has_globals ≡ false) }
+{
+    let file = word(alloc, "file", "FILE").help(
+        "The file to make, which is not there or holds no table",
+    );
+    let dir = word(alloc, "dir", "DIR").help(
+        "The folder with branches.csv, tellers.csv, accounts.csv, users.csv, sets.csv, relations.csv, triples.csv and certifiers.csv",
+    );
+    Command::new(alloc, "init")
+        .about(
+            "Makes the bank of FILE from the opening lists in DIR, where its books hold and its policy is sound",
+        )
+        .arg(file)?
+        .arg(dir)
+}
+
+fn check_command<'a>(alloc: Global) -> Result<Command<'a>, AllocError>
+    ensures app { IfOk result (λ c. app_of c ≡ check_app) }
+    ensures local { IfOk result (λ c. (fields_of c).has_globals ≡ false) }
+{
+    Command::new(alloc, "check")
+        .about("Says whether FILE is a bank whose books hold and whose policy is sound")
+        .arg(bank_file(alloc))
+}
+
+fn upgrade_command<'a>(alloc: Global) -> Result<Command<'a>, AllocError>
+    ensures app { IfOk result (λ c. app_of c ≡ upgrade_app) }
+    ensures local { IfOk result (λ c. (fields_of c).has_globals ≡ false) }
+{
+    let file = word(alloc, "file", "FILE").help(
+        "The file of a bank, as an earlier version of this program made it",
+    );
+    Command::new(alloc, "upgrade")
+        .about(
+            "Carries the bank of FILE over to this version, where its books hold and its policy is sound",
+        )
+        .arg(file)
+}
+
+fn run_command<'a>(alloc: Global) -> Result<Command<'a>, AllocError>
+    ensures app { IfOk result (λ c. app_of c ≡ run_app) }
+    ensures local { IfOk result (λ c. (fields_of c).has_globals ≡ false) }
+{
+    Command::new(alloc, "run")
+        .about("Serves standard input to standard output over the bank of FILE")
+        .arg(bank_file(alloc))?
+        .arg(badges(alloc))?
+        .arg(moment(alloc))
+}
+
+fn serve_command<'a>(alloc: Global) -> Result<Command<'a>, AllocError>
+    ensures app { IfOk result (λ c. app_of c ≡ serve_app) }
+    ensures local { IfOk result (λ c. (fields_of c).has_globals ≡ false) }
+{
+    Command::new(alloc, "serve")
+        .about(
+            "Serves connections at a port of this machine over the bank of FILE, one after another",
+        )
+        .arg(bank_file(alloc))?
+        .arg(badges(alloc))?
+        .arg(port(alloc))?
+        .arg(requests(alloc))
+}
+
+fn top_command<'a>(alloc: Global) -> Command<'a>
+    ensures { app_of result ≡ top_app }
+{
+    Command::new(alloc, "bank")
+        .about("A branch and teller system")
+        .no_binary_name(true)
+        .subcommand_required(true)
+}
+
+/// The command line of the program.
+pub(crate) fn bank_command<'a>(alloc: Global) -> Result<Command<'a>, AllocError>
+    ensures { IfOk result (λ c. app_of c ≡ bank_app) }
+{
+    top_command(alloc)
+        .subcommand(sample_command(alloc)?)?
+        .subcommand(init_command(alloc)?)?
+        .subcommand(check_command(alloc)?)?
+        .subcommand(upgrade_command(alloc)?)?
+        .subcommand(run_command(alloc)?)?
+        .subcommand(serve_command(alloc)?)
+}

@@ -1,0 +1,51 @@
+ghost use Rattle.cli_words.specs.Explained.{IsExplained, IsUnread};
+ghost use Rattle.exit_lines.specs.Streams.{stream_at};
+
+use clap::Error;
+use clap::error::ErrorKind;
+use exit_lines::{ServeFault, fail, show, tell};
+use money::Tallied;
+use std::alloc::Global;
+use std::io;
+use std::io::Write;
+
+/// The status of a program whose words are refused.
+pub const REFUSED_WORDS: u8 = 2;
+
+/// Tells why words name no action, and answers the status: `DONE` where they ask for help, `REFUSED_WORDS` where they are
+/// refused, and `FAILED` where memory is, or help can't be written. Help goes to `output`, and all else to `errors`.
+pub fn explain<W: Write, E: Write>(
+    alloc: Global,
+    error: &Error,
+    output: &mut Tallied<W>,
+    errors: &mut Tallied<E>,
+) -> u8
+    ensures { IsExplained error.now
+        (stream_at W.contents output.old) (stream_at W.contents output.new)
+        (stream_at E.contents errors.old) (stream_at E.contents errors.new) result }
+{
+    if error.kind() == ErrorKind::OutOfMemory {
+        return fail(errors, ServeFault::Memory);
+    }
+    let Ok(text) = format!(in alloc; "{error}") else {
+        return fail(errors, ServeFault::Memory);
+    };
+    if error.use_stderr() {
+        tell(errors, text.as_str());
+        REFUSED_WORDS
+    } else {
+        show(output, errors, text.as_str())
+    }
+}
+
+/// Tells why the words could not be read: they are no text, or memory is refused for them. Answers the status.
+pub fn unread<E: Write>(errors: &mut Tallied<E>, kind: io::ErrorKind) -> u8
+    ensures { IsUnread kind (stream_at E.contents errors.old) (stream_at E.contents errors.new) result }
+{
+    if kind == io::ErrorKind::InvalidData {
+        tell(errors, "error: a word is no text\n");
+        REFUSED_WORDS
+    } else {
+        fail(errors, ServeFault::Memory)
+    }
+}

@@ -1,2 +1,0 @@
-mod Items
-mod Values

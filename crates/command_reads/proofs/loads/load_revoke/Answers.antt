@@ -1,0 +1,11 @@
+use Rattle.std.proofs.Common.{rules, ◌∙◌}
+use Rattle.command_reads.proofs.LoadedCommands.{revoke_read}
+use Rattle.command_reads.proofs.loads.load_revoke.Goals as goal
+
+pub returns : goal.returns
+returns g c = record {
+  told = λ honest w holds. c.of_revoke.ensures ∙ revoke_read w c.args.by c.args.key.now _ _ (search rules) (search rules);
+  kept = search rules;
+  refused = search rules;
+  counted = search rules;
+}

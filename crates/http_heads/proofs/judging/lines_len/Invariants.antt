@@ -1,0 +1,10 @@
+use Rattle.std.proofs.Common.{◌≢◌, ℕ, ◌<◌, ◌≤◌, length, get_or}
+use Rattle.http_heads.proofs.judging.lines_len.Given as goal
+
+abbrev pub invariant-loop-len : goal.invariant-loop-len
+invariant-loop-len l =
+    (l.len ≤ length l.bytes)
+    × ((k : ℕ) → l.len ≤ k → k < length l.bytes → get_or l.bytes k 0 ≢ 10)
+
+abbrev pub decreases-loop-len : goal.decreases-loop-len
+decreases-loop-len l = l.len

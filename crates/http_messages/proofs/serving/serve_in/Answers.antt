@@ -1,0 +1,49 @@
+use Rattle.std.proofs.Common.{◌≡◌, ◌<◌, ℕ, length, [], ◌∷◌, ◌++◌, ◌+◌, length-append, refl, sym, ap, ◌∙◌, inl, inr, arith}
+use Rattle.http_messages.specs.declared.serving.Served.{Served}
+use Rattle.http_messages.specs.declared.serving.Turn.{Turn}
+use Rattle.http_messages.proofs.FailureLemmas.{end_behind}
+use Rattle.http_messages.proofs.RunLemmas.{run_none, run_more}
+use Rattle.http_messages.proofs.serving.serve_in.Goals as goal
+
+pub loop-done-init : goal.loop-done-init
+loop-done-init g c = (([], [], refl, run_none g.E.Engine.answers g.E.Engine.stops g.E.Engine.breaks _ c.requires.bounded c.requires.flushed), refl, refl)
+
+pub returns-in-Ok-Closed-clause-served : goal.returns-in-Ok-Closed-clause-served
+returns-in-Ok-Closed-clause-served g c =
+    let turn = rw c.in-Ok-Closed.field-0-is at c.in-Ok-Closed.ensures.turn in
+    let i = c.loop-done.invariant.0 in
+    let fewer : length i.0 < c.args.most = omega (arith, i.2) in
+    (_, i.0, i.1, i.3, inr (fewer, inl (ap (λ (n : ℕ). n + 1) (sym i.2), turn)))
+
+pub returns-in-Ok-Ended-clause-served : goal.returns-in-Ok-Ended-clause-served
+returns-in-Ok-Ended-clause-served g c =
+    let turn = rw c.in-Ok-Ended.field-0-is at c.in-Ok-Ended.ensures.turn in
+    let i = c.loop-done.invariant.0 in
+    let fewer : length i.0 < c.args.most = omega (arith, i.2) in
+    (_, i.0, i.1, i.3, inr (fewer, inr (sym i.2, turn)))
+
+pub returns-in-Err-clause-served : goal.returns-in-Err-clause-served
+returns-in-Err-clause-served g c =
+    let i = c.loop-done.invariant.0 in
+    let fewer : length i.0 < c.args.most = omega (arith, i.2) in
+    (_, i.0, i.1, i.3, (fewer, c.in-Err.ensures.turn))
+
+pub returns-in-Err-clause-failures : goal.returns-in-Err-clause-failures
+returns-in-Err-clause-failures g c =
+    end_behind Turn Served c.args.reader.now c.loop-done.reader c.serve_one.new.reader c.args.writer.now c.loop-done.writer c.serve_one.new.writer c.in-Err.fault (c.loop-done.invariant.1, c.loop-done.invariant.2) c.in-Err.ensures.failures
+
+pub loop-done-preserved : goal.loop-done-preserved
+loop-done-preserved g c =
+    let turn = rw c.in-Ok-Answered.field-0-is at c.in-Ok-Answered.ensures.turn in
+    let i = c.loop-done.invariant.0 in
+    let m = turn.1.message in (
+      (i.0 ++ m ∷ [], i.1 ++ turn.0, omega (arith, length-append i.0 (m ∷ []), i.2), run_more _ _ _ _ _ _ i.0 i.1 i.3 turn),
+      c.in-Ok-Answered.ensures.failures.0 ∙ c.loop-done.invariant.1,
+      c.in-Ok-Answered.ensures.failures.1 ∙ c.loop-done.invariant.2,
+    )
+
+pub returns-clause-served : goal.returns-clause-served
+returns-clause-served g c =
+    let i = c.loop-done.invariant.0 in
+    let all_done : c.loop-done.done ≡ c.args.most = omega arith in
+    (_, i.0, i.1, i.3, inl (i.2 ∙ all_done, sym (i.2 ∙ all_done), refl))

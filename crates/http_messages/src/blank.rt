@@ -1,0 +1,25 @@
+ghost use Rattle.std.specs.Prelude.{◌≡◌, ◌≢◌, ◌↔◌, ◌++◌, ℕ, List, IsTrue, IsNone, IfSome};
+ghost use Rattle.httparse.specs.Grammar.{LineEnd, print_end};
+ghost use Rattle.http_messages.specs.Blank.{AreLineEnds};
+
+/// What is behind a line end, LF or CR LF, where the bytes begin with one.
+fn strip_line_end(bytes: &[u8]) -> Option<&[u8]>
+    ensures some { IfSome result (λ rest. (end : LineEnd) × (bytes.now ≡ print_end end ++ rest.now)) }
+    ensures none { IsNone result → (end : LineEnd) (rest : List ℕ) → bytes.now ≢ print_end end ++ rest }
+{
+    match bytes.strip_prefix(b"\n".as_slice()) {
+        Some(rest) => Some(rest),
+        None => bytes.strip_prefix(b"\r\n".as_slice()),
+    }
+}
+
+/// Whether the bytes are line ends alone.
+pub(crate) fn are_line_ends(bytes: &[u8]) -> bool
+    ensures { IsTrue result ↔ AreLineEnds bytes.now }
+{
+    let mut rest = bytes;
+    while let Some(behind) = strip_line_end(rest) {
+        rest = behind;
+    }
+    rest.is_empty()
+}

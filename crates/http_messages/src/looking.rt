@@ -1,0 +1,91 @@
+ghost use Rattle.std.specs.Prelude.{◌≢◌, ℕ, ◌<◌, ◌≤◌, List, length, get_or};
+ghost use Rattle.httparse.specs.declared.spans.HeaderSpan.{HeaderSpan};
+ghost use Rattle.http_heads.specs.Framing.{max_body_len};
+ghost use Rattle.http_heads.specs.Stream.{max_fields, max_head_len};
+ghost use Rattle.http_messages.specs.Next.{BeginsSound, IsAwaited, IsNext};
+
+use http_heads::{Head, Judged, MAX_HEAD_LEN, MessageFault, judge};
+use httparse::spans::{HeaderSpan, RequestSpans};
+
+/// What the bytes that were read begin with.
+#[derive(Clone, Copy)]
+pub(crate) enum Next {
+    /// A whole message: its head, and how many bytes of body follow it.
+    Message(RequestSpans, usize),
+    /// A head with a fault.
+    FaultyHead(RequestSpans, MessageFault),
+    /// Bytes that begin no head, or none within the longest.
+    NoHead(MessageFault),
+    /// Less than a whole message, of which this is known.
+    Partial(Awaited),
+}
+
+/// What is awaited of a message that has come in part, and what was found of it.
+#[derive(Clone, Copy)]
+pub(crate) enum Awaited {
+    /// A head. So many bytes were judged: they are no head yet, and a head can begin with them.
+    Head(usize),
+    /// A body. This is the head, and so many bytes of body follow it.
+    Body(RequestSpans, usize),
+}
+
+/// What bytes begin with where this head begins them, and a body of this length follows it.
+fn look_behind(bytes: &[u8], spans: RequestSpans, body_len: usize) -> Next
+    requires head { spans.len ≤ max_head_len }
+    requires body { body_len ≤ max_body_len }
+    ensures { (headers : List HeaderSpan) → BeginsSound bytes.now headers spans body_len → IsNext bytes.now headers result }
+{
+    if spans.len + body_len <= bytes.len() {
+        Next::Message(spans, body_len)
+    } else {
+        Next::Partial(Awaited::Body(spans, body_len))
+    }
+}
+
+/// What bytes begin with of which nothing is known.
+fn look_anew(bytes: &[u8], headers: &mut [HeaderSpan]) -> Next
+    requires { max_fields ≤ length headers.old }
+    ensures { IsNext bytes.now headers.new result }
+{
+    match judge(bytes, headers) {
+        Judged::Head(spans) => match Head::new(bytes, headers, &spans).body_len() {
+            Ok(body_len) => look_behind(bytes, spans, body_len),
+            Err(fault) => Next::FaultyHead(spans, fault),
+        },
+        Judged::Malformed => Next::NoHead(MessageFault::BadHead),
+        Judged::TooLong => Next::NoHead(MessageFault::HeadTooLong),
+        Judged::Waiting => Next::Partial(Awaited::Head(bytes.len())),
+    }
+}
+
+/// How many bytes there are through the last line feed behind `from`, or `from` where there is none.
+fn lines_end(bytes: &[u8], from: usize) -> usize
+    requires { from ≤ length bytes.now }
+    ensures within { (from ≤ result) × (result ≤ length bytes.now) }
+    ensures after { (k : ℕ) → result ≤ k → k < length bytes.now → get_or bytes.now k 0 ≢ 10 }
+{
+    let mut end = bytes.len();
+    while end > from && bytes[end - 1] != b'\n' {
+        end -= 1;
+    }
+    end
+}
+
+/// What bytes begin with of which this is known. A head that was found is not judged again, nor are bytes behind which
+/// no line ended: then it takes time by the bytes that came since.
+pub(crate) fn look(bytes: &[u8], headers: &mut [HeaderSpan], awaited: Awaited) -> Next
+    requires room { max_fields ≤ length headers.old }
+    requires known { IsAwaited bytes.now headers.old awaited }
+    ensures { IsNext bytes.now headers.new result }
+{
+    match awaited {
+        Awaited::Body(spans, body_len) => look_behind(bytes, spans, body_len),
+        Awaited::Head(judged) => {
+            if bytes.len() < MAX_HEAD_LEN && lines_end(bytes, judged) == judged {
+                Next::Partial(Awaited::Head(bytes.len()))
+            } else {
+                look_anew(bytes, headers)
+            }
+        }
+    }
+}

@@ -1,0 +1,100 @@
+ghost use Rattle.std.specs.Prelude.{◌≡◌, ◌+◌, ◌<◌, ◌≤◌, ℕ, List, [], length, take, drop, nat_lt, false, Ok, IfOk, OnErr};
+ghost use Rattle.std.specs.Io.KnownBytes.{Keeps, IsAtEnd};
+ghost use Rattle.money.specs.Counted.{stream_of};
+ghost use Rattle.http_messages.specs.Failures.{CountsByCall};
+ghost use Rattle.http_messages.specs.Received.{max_message_len, Takes};
+
+use http_heads::{MAX_BODY_LEN, MAX_HEAD_LEN};
+use money::Tallied;
+use std::alloc::{AllocError, Global};
+use std::io::Read;
+use std::marker::Model;
+
+/// As many bytes as the longest message has.
+pub(crate) const MAX_MESSAGE_LEN: usize = MAX_HEAD_LEN + MAX_BODY_LEN;
+
+/// A read failed.
+#[derive(Clone, Copy, Drop)]
+pub(crate) struct ReadFailed;
+
+/// Reads once into the room behind the bytes that are held, and answers how many are held then.
+fn read_behind<R: Read>(
+    reader: &mut Tallied<R>,
+    room: &mut [u8],
+    held: usize,
+) -> Result<usize, ReadFailed>
+    requires { held < length room.old }
+    ensures within { IfOk result (λ len. (held ≤ len) × (len ≤ length room.new)) }
+    ensures ok { IfOk result (λ len. (more : List ℕ)
+        × Takes (R.remaining (stream_of reader.old)) (R.remaining (stream_of reader.new)) (take held room.old) (take len room.new) more
+        × (len ≡ held + length more)) }
+    ensures end { IfOk result (λ len. len ≡ held → IsAtEnd (R.remaining (stream_of reader.new))) }
+    ensures err { OnErr result (Keeps (R.remaining (stream_of reader.old)) (R.remaining (stream_of reader.new)) × (take held room.new ≡ take held room.old)) }
+    ensures failures { CountsByCall reader.old reader.new result }
+{
+    match reader.read(&mut room[held..]) {
+        Ok(n) => Ok(held + n),
+        Err(_) => Err(ReadFailed),
+    }
+}
+
+/// The bytes that were read and not yet answered, in a room of one message.
+#[derive(Drop)]
+pub(crate) struct Received {
+    room: Vec<u8>,
+    len: usize,
+}
+
+impl Model for Received {
+    ghost use Rattle.std.specs.Prelude.{◌≡◌, ◌≤◌, ℕ, List, length, take};
+    ghost use Rattle.http_messages.specs.Received.{max_message_len};
+
+    ghost Value = { List ℕ };
+
+    ghost view = { λ r. take r.len r.room.items };
+
+    ghost invariant = { λ r. (r.len ≤ max_message_len) × (length r.room.items ≡ max_message_len) };
+}
+
+impl Received {
+    /// Nothing yet. An error comes where memory was refused.
+    pub(crate) fn new(alloc: Global) -> Result<Received, AllocError>
+        ensures { IfOk result (λ received. received ≡ []) }
+    {
+        let room = vec![in alloc; 0u8; MAX_MESSAGE_LEN]?;
+        Ok(Received { room, len: 0 })
+    }
+
+    /// The bytes.
+    pub(crate) fn bytes(&self) -> &[u8]
+        ensures value { result.now ≡ self.now }
+        ensures bounded { length result.now ≤ max_message_len }
+    {
+        &self.room[..self.len]
+    }
+
+    /// Reads once into the room that is left, and answers whether any byte came.
+    pub(crate) fn fill<R: Read>(&mut self, reader: &mut Tallied<R>) -> Result<bool, ReadFailed>
+        requires { length self.old < max_message_len }
+        ensures ok { IfOk result (λ any. (more : List ℕ)
+            × Takes (R.remaining (stream_of reader.old)) (R.remaining (stream_of reader.new)) self.old self.new more
+            × (any ≡ nat_lt 0 (length more))) }
+        ensures bounded { length self.new ≤ max_message_len }
+        ensures end { result ≡ Ok false → IsAtEnd (R.remaining (stream_of reader.new)) }
+        ensures err { OnErr result (Keeps (R.remaining (stream_of reader.old)) (R.remaining (stream_of reader.new)) × (self.new ≡ self.old)) }
+        ensures failures { CountsByCall reader.old reader.new result }
+    {
+        let before = self.len;
+        self.len = read_behind(reader, self.room.as_mut_slice(), before)?;
+        Ok(self.len > before)
+    }
+
+    /// Drops the first bytes.
+    pub(crate) fn drop_front(&mut self, n: usize)
+        requires { n ≤ length self.old }
+        ensures { self.new ≡ drop n self.old }
+    {
+        self.room.copy_within(n..self.len, 0);
+        self.len -= n;
+    }
+}

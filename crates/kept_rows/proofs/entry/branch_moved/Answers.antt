@@ -1,9 +1,0 @@
--- What search finds for itself, asked for here so that a mistake is refused soon.
-use Rattle.std.proofs.Common.{rules}
-use Rattle.kept_rows.proofs.entry.branch_moved.Goals as goal
-
-pub returns-else-moved-number-clause-told : goal.returns-else-moved-number-clause-told
-returns-else-moved-number-clause-told c = search rules
-
-pub returns-then-moved-number-clause-moved : goal.returns-then-moved-number-clause-moved
-returns-then-moved-number-clause-moved c = search rules

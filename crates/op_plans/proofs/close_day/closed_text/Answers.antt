@@ -1,9 +1,0 @@
--- The text of the value is the reply.
-use Rattle.std.proofs.Common.{ap, ◌∙◌}
-use Rattle.std.proofs.lemmas.Result.{IfOk-weaker}
-use Rattle.serde_json.specs.Written.{compact_text}
-use Rattle.op_plans.proofs.CloseDayText.{closed_text_is}
-use Rattle.op_plans.proofs.close_day.closed_text.Goals as goal
-
-pub returns : goal.returns
-returns c = IfOk-weaker c.compact.result _ _ (λ t h. h ∙ ap compact_text c.in_ok-value.ensures ∙ closed_text_is c.args.closed.now) c.compact.ensures

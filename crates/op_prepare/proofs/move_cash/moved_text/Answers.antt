@@ -1,0 +1,9 @@
+-- The text of the value is the reply.
+use Rattle.std.proofs.Common.{ap, ◌∙◌}
+use Rattle.std.proofs.lemmas.Result.{IfOk-weaker}
+use Rattle.serde_json.specs.Written.{compact_text}
+use Rattle.op_prepare.proofs.MoveCashText.{moved_text_is}
+use Rattle.op_prepare.proofs.move_cash.moved_text.Goals as goal
+
+pub returns : goal.returns
+returns c = IfOk-weaker c.compact.result _ _ (λ t h. h ∙ ap compact_text c.in_ok-value.ensures ∙ moved_text_is c.args.moved.now) c.compact.ensures

@@ -1,0 +1,17 @@
+use Rattle.std.proofs.Common.{◌≡◌, None, rules}
+use Rattle.bank_meaning.specs.NewAccount.{first_against_new_account}
+use Rattle.op_prepare.proofs.CountedDenials.{read_counted, rows_allow}
+use Rattle.op_prepare.proofs.new_account.prepare_new_account.Goals as goal
+
+pub returns-in_err-rows-clause-denied : goal.returns-in_err-rows-clause-denied
+returns-in_err-rows-clause-denied g c = λ honest w holds some. read_counted _ _ _ c.in_err-rows.ensures.counted
+
+pub returns-in_err-plan-clause-denied : goal.returns-in_err-plan-clause-denied
+returns-in_err-plan-clause-denied g c = λ honest w holds some.
+    let none : first_against_new_account c.in_ok-rows.rows ≡ None = search rules in
+    rows_allow first_against_new_account _ _ (c.in_ok-rows.ensures.told honest w holds) none some
+
+pub returns-in_err-text-clause-denied : goal.returns-in_err-text-clause-denied
+returns-in_err-text-clause-denied g c = λ honest w holds some.
+    let none : first_against_new_account c.in_ok-rows.rows ≡ None = search rules in
+    rows_allow first_against_new_account _ _ (c.in_ok-rows.ensures.told honest w holds) none some

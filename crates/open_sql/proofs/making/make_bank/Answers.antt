@@ -1,7 +1,0 @@
-use Rattle.open_sql.specs.Made.{IsRefusal}
-use Rattle.open_sql.proofs.CheckLemmas.{same_fault}
-use Rattle.open_sql.proofs.making.make_bank.Goals as goal
-
-pub returns-in_err-kept-clause-refused : goal.returns-in_err-kept-clause-refused
-returns-in_err-kept-clause-refused g c =
-    same_fault c.from_residual.result c.in_err-kept.field-0.0 (IsRefusal c.args.conn.now.schema c.args.world.now) c.from_residual.ensures.1 (c.in_err-kept.ensures.refused c.args.conn.now.schema)

@@ -1,5 +1,0 @@
-use Rattle.policy_lists.proofs.LineLemmas.{left_of}
-use Rattle.policy_lists.proofs.lists.+add_from.Given as goal
-
-abbrev pub decreases-add_from : goal.decreases-add_from
-decreases-add_from g l = left_of l.kind

@@ -1,4 +1,0 @@
-use Rattle.policy_tables.proofs.sets.insert_set.Goals as goal
-
-pub returns-clause-runs : goal.returns-clause-runs
-returns-clause-runs g c clean inside = rw c.params-to_sql.ensures at (c.run.ensures.runs clean inside)

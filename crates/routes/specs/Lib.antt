@@ -1,2 +1,0 @@
-pub mod RouterRows
-pub mod Routes

@@ -1,5 +1,0 @@
-use Rattle.row_reads.proofs.Turns.{end_with_turns}
-use Rattle.row_reads.proofs.laws.entries_end_with_turns.Goals as goal
-
-pub returns : goal.returns
-returns c = end_with_turns

@@ -1,5 +1,0 @@
-use Rattle.row_reads.proofs.Turns.{stand_by_turn}
-use Rattle.row_reads.proofs.laws.entries_stand_by_turn.Goals as goal
-
-pub returns : goal.returns
-returns c = stand_by_turn

@@ -1,5 +1,0 @@
-use Rattle.row_reads.proofs.Firsts.{first_shown}
-use Rattle.row_reads.proofs.laws.first_shown_is_next.Goals as goal
-
-pub returns : goal.returns
-returns c = first_shown

@@ -1,6 +1,0 @@
-use Rattle.std.proofs.Common.{◌≡◌, ◌++◌, map, drop}
-use Rattle.row_reads.specs.declared.policy_row.PolicyRow.TheVariants as row
-use Rattle.row_reads.proofs.listing.add_relations.Given as goal
-
-abbrev pub invariant-loop-relation : goal.invariant-loop-relation
-invariant-loop-relation l = l.rows.items ++ map row.Relation (drop l.relation-index l.relations) ≡ l.initial.rows.items ++ map row.Relation l.relations

@@ -1,6 +1,0 @@
-use Rattle.std.proofs.Common.{◌≡◌, ◌++◌, map, drop}
-use Rattle.row_reads.specs.declared.policy_row.PolicyRow.TheVariants as row
-use Rattle.row_reads.proofs.listing.add_triples.Given as goal
-
-abbrev pub invariant-loop-triple : goal.invariant-loop-triple
-invariant-loop-triple l = l.rows.items ++ map row.Triple (drop l.triple-index l.triples) ≡ l.initial.rows.items ++ map row.Triple l.triples

@@ -1,4 +1,0 @@
-pub mod BranchParts
-pub mod Planned
-pub mod Rules
-pub mod Signed

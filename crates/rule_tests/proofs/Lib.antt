@@ -1,0 +1,2 @@
+pub mod FoundRows
+pub mod RuleTests

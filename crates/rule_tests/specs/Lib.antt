@@ -1,0 +1,5 @@
+pub mod BranchParts
+pub mod Denial
+pub mod Planned
+pub mod Rules
+pub mod Signed

@@ -1,0 +1,168 @@
+//! A file of an edition before the newest, read in the edition that its own row names.
+
+ghost use Rattle.std.specs.Prelude.{ℕ, ◌≡◌, ◌≢◌, ◌↔◌, Some, false, pos, IfErr, IfOk, IsErrAnd, IsOk, IsSome, IsTrue, OnOk};
+ghost use Rattle.sqlite.specs.Effect.{IsDatabase};
+ghost use Rattle.sqlite.specs.Held.{state};
+ghost use Rattle.sqlite.specs.State.{HasCleanDisk};
+ghost use Rattle.sqlite.specs.Tree.{Trees};
+ghost use Rattle.bank_books.specs.Records.{kept_of};
+ghost use Rattle.book_kept.specs.Keepable.{IsKeepable};
+ghost use Rattle.sql_schema.specs.Cells.{edition_number};
+ghost use Rattle.sql_schema.specs.Held.{HoldsSheetsIn};
+ghost use Rattle.sql_schema.specs.Readable.{AreReadable};
+ghost use Rattle.sql_schema.specs.Schema.{newest};
+ghost use Rattle.sql_schema.specs.declared.edition.Edition.{Edition as TheEdition};
+ghost use Rattle.sql_schema.specs.Steps.{LeavesNone};
+ghost use Rattle.book_kept.specs.Sheets.{Sheets};
+ghost use Rattle.sql_whole.specs.BankRow.{IsBankTable};
+ghost use Rattle.sql_whole.specs.Whole.{HasBankTables, OnReadable, Reads};
+ghost use Rattle.sql_adopt.specs.Adopted.{AreFileRows, Finds, IsBankFileIn, IsBankRow, IsLeft, ReadsLast};
+ghost use Rattle.sql_adopt.specs.Older.{BearsNoOther, IsNewestFile, IsNoBank, IsOlderFile, IsOlderRow, NamesOlder};
+ghost use Rattle.sql_adopt.specs.Refused.{HoldsSoundBankIn, IsNamedBy, IsOfOther, IsOfStore, IsRefusedIn, RefusesFor};
+
+use crate::adopt_fault::{AdoptFault, table_unread};
+use crate::bank_rows::BankRows;
+use crate::judging::judge_file;
+use crate::reading::{FileRows, rows_inside};
+use sql_schema::Edition;
+use sql_whole::{BankRow, bank_row};
+use sqlite::{Alter, Connection, Transaction};
+use std::alloc::Global;
+
+/// A bank of an edition before the newest.
+#[derive(Drop)]
+pub struct OlderBank {
+    /// The edition of its tables.
+    pub edition: Edition,
+    /// Its World with the numbers that are kept beside it.
+    pub bank: BankRows,
+}
+
+/// The rows of all tables of such a bank.
+#[derive(Drop)]
+struct OlderRows {
+    edition: Edition,
+    rows: FileRows,
+}
+
+/// The row of the bank, where this is what its table has.
+fn bank_row_in(found: Option<BankRow>) -> Result<BankRow, AdoptFault>
+    ensures row { IfOk result (λ row. (found ≡ Some row) × (row.id ≡ pos 1)) }
+    ensures none { (db : Trees) → IsBankTable db found → IfErr result (IsNoBank db) }
+{
+    match found {
+        Some(row) if row.id == 1 => Ok(row),
+        _ => Err(AdoptFault::NotABank),
+    }
+}
+
+/// Whether the row of the bank is of this edition.
+fn is_of(row: &BankRow, edition: Edition) -> bool
+    ensures { IsTrue result ↔ (row.now.version ≡ pos (edition_number edition)) }
+{
+    row.version == edition.number()
+}
+
+/// The edition that the row of the bank names, where that is not the newest.
+fn older_in(found: Option<BankRow>) -> Result<Edition, AdoptFault>
+    ensures row { IfOk result (NamesOlder found) }
+    ensures refused { (e : TheEdition) → e ≢ newest → (db : Trees) → IsBankTable db found → IfErr result (IsRefusedIn e db) }
+    ensures other { (db : Trees) (version : ℕ) → IsBankTable db found → IsBankRow newest db version → IsErrAnd result IsOfOther }
+    ensures first { (e : TheEdition) → e ≢ newest → (db : Trees) (version : ℕ) → IsBankTable db found → IsBankRow e db version → IsOk result }
+{
+    let row = bank_row_in(found)?;
+    if is_of(&row, Edition::First) {
+        return Ok(Edition::First);
+    }
+    if is_of(&row, Edition::Second) {
+        return Ok(Edition::Second);
+    }
+    Err(AdoptFault::Version)
+}
+
+fn told_edition<S: Alter>(tx: &mut Transaction<'_, S>) -> Result<Edition, AdoptFault>
+    ensures same_reference { tx.new.conn.ghost_name ≡ tx.old.conn.ghost_name }
+    ensures whole { (e : TheEdition) → Reads e (state S.Store tx.old.conn.now) (state S.Store tx.new.conn.now) IsOlderRow result }
+    ensures older { IfOk result (λ edition. edition ≢ newest) }
+    ensures refused { (e : TheEdition) → e ≢ newest → RefusesFor e (state S.Store tx.old.conn.now) (state S.Store tx.new.conn.now) result }
+    ensures other { HasCleanDisk (state S.Store tx.new.conn.now) → (e : TheEdition) → HasBankTables e (state S.Store tx.old.conn.now) → (version : ℕ) → IsBankRow newest (state S.Store tx.old.conn.now).now.trees version → IsErrAnd result IsOfOther }
+    ensures takes { (e : TheEdition) → e ≢ newest → OnReadable e (state S.Store tx.old.conn.now) (state S.Store tx.new.conn.now) (IfErr result IsOfStore) }
+    ensures survives { LeavesNone (state S.Store tx.old.conn.now) (state S.Store tx.new.conn.now) }
+{
+    match bank_row(tx) {
+        Ok(found) => older_in(found),
+        Err(fault) => Err(table_unread(fault)),
+    }
+}
+
+/// The rows of all tables, in the edition that the row of the bank names.
+fn older_inside<S: Alter>(
+    alloc: Global,
+    tx: &mut Transaction<'_, S>,
+) -> Result<OlderRows, AdoptFault>
+    ensures same_reference { tx.new.conn.ghost_name ≡ tx.old.conn.ghost_name }
+    ensures whole { (e : TheEdition) → BearsNoOther e (state S.Store tx.old.conn.now).now.trees → ReadsLast e (state S.Store tx.old.conn.now) (state S.Store tx.new.conn.now) (λ trees file. (file.edition ≡ e) × AreFileRows e trees file.rows) result }
+    ensures older { IfOk result (λ file. file.edition ≢ newest) }
+    ensures refused { (e : TheEdition) → e ≢ newest → BearsNoOther e (state S.Store tx.old.conn.now).now.trees → RefusesFor e (state S.Store tx.old.conn.now) (state S.Store tx.new.conn.now) result }
+    ensures other { HasCleanDisk (state S.Store tx.new.conn.now) → (e : TheEdition) → HasBankTables e (state S.Store tx.old.conn.now) → (version : ℕ) → IsBankRow newest (state S.Store tx.old.conn.now).now.trees version → IsErrAnd result IsOfOther }
+    ensures takes { (e : TheEdition) → e ≢ newest → BearsNoOther e (state S.Store tx.old.conn.now).now.trees → OnReadable e (state S.Store tx.old.conn.now) (state S.Store tx.new.conn.now) (IfOk result (λ file. IsSome file.rows.policy) × IfErr result IsOfStore) }
+    ensures open { HasCleanDisk (state S.Store tx.new.conn.now) → (e : TheEdition) → HasBankTables e (state S.Store tx.old.conn.now) → OnOk result (IsTrue (state S.Store tx.old.conn.now).is_open) }
+    ensures survives { LeavesNone (state S.Store tx.old.conn.now) (state S.Store tx.new.conn.now) }
+{
+    let edition = told_edition(tx)?;
+    let rows = rows_inside(alloc, tx, edition)?;
+    Ok(OlderRows { edition, rows })
+}
+
+/// The rows of all tables, read in one transaction that is rolled back.
+fn read_older_file<S: Alter>(
+    alloc: Global,
+    conn: &mut Connection<S>,
+) -> Result<OlderRows, AdoptFault>
+    requires { conn.old.in_transaction ≡ false }
+    ensures mode { conn.new.in_transaction ≡ false }
+    ensures whole { HasCleanDisk (state S.Store conn.new) → (e : TheEdition) → IsOlderFile e (state S.Store conn.old) → IfOk result (λ file. (file.edition ≡ e) × AreFileRows e (state S.Store conn.old).now.trees file.rows) }
+    ensures older { IfOk result (λ file. file.edition ≢ newest) }
+    ensures refused { HasCleanDisk (state S.Store conn.new) → (e : TheEdition) → IsOlderFile e (state S.Store conn.old) → IfErr result (IsRefusedIn e (state S.Store conn.old).now.trees) }
+    ensures other { HasCleanDisk (state S.Store conn.new) → IsNewestFile (state S.Store conn.old) → IsErrAnd result IsOfOther }
+    ensures takes { HasCleanDisk (state S.Store conn.new) → (e : TheEdition) → IsOlderFile e (state S.Store conn.old) → (s : Sheets) → HoldsSheetsIn e (state S.Store conn.old).now.trees s → AreReadable s → IfOk result (λ file. IsSome file.rows.policy) × IfErr result IsOfStore }
+    ensures left { HasCleanDisk (state S.Store conn.new) → (e : TheEdition) → IsOlderFile e (state S.Store conn.old) → IsLeft (state S.Store conn.old) (state S.Store conn.new) }
+    ensures sound { HasCleanDisk (state S.Store conn.new) → (e : TheEdition) → IsOlderFile e (state S.Store conn.old) → OnOk result (IsDatabase (state S.Store conn.old).now) }
+    ensures survives { LeavesNone (state S.Store conn.old) (state S.Store conn.new) }
+{
+    // With its schema a connection tells that its state is one that it can be in, which the clauses rest on.
+    let _schema = conn.schema();
+    let mut tx = conn.transaction();
+    let rows = older_inside(alloc, &mut tx);
+    tx.rollback();
+    rows
+}
+
+/// The bank that stands in the tables of an edition before the newest, which its row names: it is read whole
+/// and judged as `read_bank` says. One of the newest edition, or of none, is told as of another version.
+/// Nothing is changed.
+pub fn read_older_bank<S: Alter>(
+    alloc: Global,
+    conn: &mut Connection<S>,
+) -> Result<OlderBank, AdoptFault>
+    requires { conn.old.in_transaction ≡ false }
+    ensures mode { conn.new.in_transaction ≡ false }
+    ensures found { HasCleanDisk (state S.Store conn.new) → (e : TheEdition) → IsOlderFile e (state S.Store conn.old) → IfOk result (λ older. (older.edition ≡ e) × Finds e (state S.Store conn.old).now older.bank.world) }
+    ensures older { IfOk result (λ older. older.edition ≢ newest) }
+    ensures refused { HasCleanDisk (state S.Store conn.new) → (e : TheEdition) → IsOlderFile e (state S.Store conn.old) → IfErr result (IsRefusedIn e (state S.Store conn.old).now.trees) }
+    ensures other { HasCleanDisk (state S.Store conn.new) → IsNewestFile (state S.Store conn.old) → IsErrAnd result IsOfOther }
+    ensures sound { HasCleanDisk (state S.Store conn.new) → (e : TheEdition) → IsOlderFile e (state S.Store conn.old) → HoldsSoundBankIn e (state S.Store conn.old).now → IfErr result IsOfStore }
+    ensures named { HasCleanDisk (state S.Store conn.new) → (e : TheEdition) → IsOlderFile e (state S.Store conn.old) → (s : Sheets) → HoldsSheetsIn e (state S.Store conn.old).now.trees s → AreReadable s → IfErr result (IsNamedBy s) }
+    ensures left { HasCleanDisk (state S.Store conn.new) → (e : TheEdition) → IsOlderFile e (state S.Store conn.old) → IsLeft (state S.Store conn.old) (state S.Store conn.new) }
+    ensures kept { IfOk result (λ older. (older.bank.kept ≡ kept_of older.bank.world) × IsKeepable older.bank.world) }
+    ensures survives { LeavesNone (state S.Store conn.old) (state S.Store conn.new) }
+{
+    let file = read_older_file(alloc, conn)?;
+    match judge_file(alloc, file.rows) {
+        Ok(bank) => Ok(OlderBank {
+            edition: file.edition,
+            bank,
+        }),
+        Err(fault) => Err(fault),
+    }
+}

@@ -1,0 +1,4 @@
+pub mod Given
+pub mod Picks
+pub mod Texts
+pub mod Turns

@@ -1,0 +1,83 @@
+ghost use Rattle.std.specs.Prelude.{◌≡◌, ◌≤◌, ◌∷◌, ◌^◌, [], pos, IfErr, IfOk, IsTrue};
+ghost use Rattle.money.specs.declared.fault.Fault.TheVariants.{Size};
+ghost use Rattle.sqlite.specs.Held.{state};
+ghost use Rattle.sqlite.specs.State.{HasCleanDisk};
+ghost use Rattle.sqlite.specs.declared.types.Value.TheVariants.{Int};
+ghost use Rattle.book_kept.specs.Sheets.{Sheets};
+ghost use Rattle.sql_schema.specs.Held.{HoldsTables};
+ghost use Rattle.sql_schema.specs.Steps.{LeavesNone, Stays, Steps, WasOpen};
+ghost use Rattle.sql_schema.specs.Told.{Runs};
+ghost use Rattle.sql_books.specs.Given.{given_version};
+ghost use Rattle.sql_books.specs.Texts.{set_version_text};
+
+use money::Fault;
+use sql_schema::{count_at, count_cell, plain_rows, run};
+use sqlite::{Alter, Row, Transaction, params};
+
+/// The version of the policy, in one row.
+fn select_version<S: Alter>(tx: &mut Transaction<'_, S>) -> Result<Vec<Row>, Fault>
+    ensures same_reference { tx.new.conn.ghost_name ≡ tx.old.conn.ghost_name }
+    ensures rows { HasCleanDisk (state S.Store tx.new.conn.now) → (s : Sheets) → HoldsTables (state S.Store tx.old.conn.now).now s → IfOk result (λ rows. rows.items ≡ (Int (pos s.version) ∷ []) ∷ []) }
+    ensures steps { Stays (state S.Store tx.old.conn.now) (state S.Store tx.new.conn.now) result }
+    ensures open { WasOpen (state S.Store tx.old.conn.now) (state S.Store tx.new.conn.now) result }
+    ensures survives { LeavesNone (state S.Store tx.old.conn.now) (state S.Store tx.new.conn.now) }
+{
+    plain_rows(tx, "SELECT policy FROM bank WHERE id = 1", params![])
+}
+
+/// The version of the policy: how many plans have changed it. A file without the row of the bank is
+/// a fault of the disk.
+pub fn version_of<S: Alter>(tx: &mut Transaction<'_, S>) -> Result<u64, Fault>
+    ensures same_reference { tx.new.conn.ghost_name ≡ tx.old.conn.ghost_name }
+    ensures found { HasCleanDisk (state S.Store tx.new.conn.now) → (s : Sheets) → HoldsTables (state S.Store tx.old.conn.now).now s → IfOk result (λ version. version ≡ s.version) }
+    ensures steps { Stays (state S.Store tx.old.conn.now) (state S.Store tx.new.conn.now) result }
+    ensures open { WasOpen (state S.Store tx.old.conn.now) (state S.Store tx.new.conn.now) result }
+    ensures survives { LeavesNone (state S.Store tx.old.conn.now) (state S.Store tx.new.conn.now) }
+{
+    let rows = select_version(tx)?;
+    match rows.first() {
+        Some(row) => count_at(row, 0),
+        None => Err(Fault::Disk),
+    }
+}
+
+/// What is given with the statement that writes the version.
+#[derive(Drop)]
+struct VersionCells {
+    version: i64,
+}
+
+fn cells_of(version: u64) -> Result<VersionCells, Fault>
+    ensures cells { IfOk result (λ c. given_version c ≡ Int (pos version) ∷ []) }
+    ensures err { IfErr result (λ fault. (fault ≡ Size) × (2 ^ 63 ≤ version)) }
+{
+    Ok(VersionCells {
+        version: count_cell(version)?,
+    })
+}
+
+fn update_version<S: Alter>(
+    tx: &mut Transaction<'_, S>,
+    cells: &VersionCells,
+) -> Result<usize, Fault>
+    ensures same_reference { tx.new.conn.ghost_name ≡ tx.old.conn.ghost_name }
+    ensures runs { HasCleanDisk (state S.Store tx.new.conn.now) → IsTrue (state S.Store tx.old.conn.now).in_transaction → Runs set_version_text (given_version cells.now) (state S.Store tx.old.conn.now) (state S.Store tx.new.conn.now) result }
+    ensures survives { LeavesNone (state S.Store tx.old.conn.now) (state S.Store tx.new.conn.now) }
+{
+    run(
+        tx,
+        "UPDATE bank SET policy = ?1 WHERE id = 1",
+        params![&cells.version],
+    )
+}
+
+/// Writes the version of the policy.
+pub fn set_version<S: Alter>(tx: &mut Transaction<'_, S>, version: u64) -> Result<(), Fault>
+    ensures same_reference { tx.new.conn.ghost_name ≡ tx.old.conn.ghost_name }
+    ensures steps { Steps (state S.Store tx.old.conn.now) (state S.Store tx.new.conn.now) (λ s. record s { version = version }) result }
+    ensures survives { LeavesNone (state S.Store tx.old.conn.now) (state S.Store tx.new.conn.now) }
+{
+    let cells = cells_of(version)?;
+    update_version(tx, &cells)?;
+    Ok(())
+}

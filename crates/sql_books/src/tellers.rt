@@ -1,0 +1,152 @@
+ghost use Rattle.std.specs.Prelude.{◌≡◌, ◌==◌, IfOk, IsTrue};
+ghost use Rattle.std.specs.List.{filter, find};
+ghost use Rattle.sqlite.specs.Held.{state};
+ghost use Rattle.sqlite.specs.State.{HasCleanDisk};
+ghost use Rattle.keyed_rows.specs.Ordered.{add_row};
+ghost use Rattle.book_kept.specs.Named.{IsFree};
+ghost use Rattle.book_kept.specs.Sheets.{Sheets, teller_no, set_row};
+ghost use Rattle.sql_schema.specs.Held.{HoldsTables};
+ghost use Rattle.sql_schema.specs.Steps.{LeavesNone, Stays, Steps, Tells, WasOpen};
+ghost use Rattle.sql_schema.specs.Told.{Runs};
+ghost use Rattle.sql_books.specs.Given.{given_teller};
+ghost use Rattle.sql_books.specs.Picks.{is_teller_after, is_teller_of};
+ghost use Rattle.sql_schema.specs.Shown.{shown_teller};
+ghost use Rattle.sql_books.specs.Texts.{add_teller_text, set_teller_text};
+
+use book_kept::KeptTeller;
+use money::Fault;
+use sql_schema::{listed, picked, run, select_tellers, sum_cell};
+use sqlite::{Alter, Transaction, params};
+
+/// The row of this teller with the numbers that are kept beside it, or none where it isn't there.
+pub fn teller_of<S: Alter>(
+    tx: &mut Transaction<'_, S>,
+    teller: u32,
+) -> Result<Option<KeptTeller>, Fault>
+    ensures same_reference { tx.new.conn.ghost_name ≡ tx.old.conn.ghost_name }
+    ensures found { HasCleanDisk (state S.Store tx.new.conn.now) → (s : Sheets) → HoldsTables (state S.Store tx.old.conn.now).now s → IfOk result (λ found. found ≡ find (λ r. teller_no r == teller) s.tellers) }
+    ensures steps { Stays (state S.Store tx.old.conn.now) (state S.Store tx.new.conn.now) result }
+    ensures open { WasOpen (state S.Store tx.old.conn.now) (state S.Store tx.new.conn.now) result }
+    ensures survives { LeavesNone (state S.Store tx.old.conn.now) (state S.Store tx.new.conn.now) }
+{
+    picked(tx, select_tellers!("WHERE teller = ?1"), params![teller])
+}
+
+/// The tellers of this branch, by number, with the numbers that are kept beside them.
+pub fn roster<S: Alter>(tx: &mut Transaction<'_, S>, branch: u32) -> Result<Vec<KeptTeller>, Fault>
+    ensures same_reference { tx.new.conn.ghost_name ≡ tx.old.conn.ghost_name }
+    ensures found { HasCleanDisk (state S.Store tx.new.conn.now) → (s : Sheets) → HoldsTables (state S.Store tx.old.conn.now).now s → IfOk result (λ tellers. tellers.items ≡ filter (is_teller_of branch) s.tellers) }
+    ensures steps { Stays (state S.Store tx.old.conn.now) (state S.Store tx.new.conn.now) result }
+    ensures open { WasOpen (state S.Store tx.old.conn.now) (state S.Store tx.new.conn.now) result }
+    ensures survives { LeavesNone (state S.Store tx.old.conn.now) (state S.Store tx.new.conn.now) }
+{
+    listed(
+        tx,
+        select_tellers!("WHERE branch = ?1 ORDER BY teller"),
+        params![branch],
+    )
+}
+
+/// The next teller of this branch above a number, or none where there is no other.
+pub fn next_teller<S: Alter>(
+    tx: &mut Transaction<'_, S>,
+    branch: u32,
+    after: u32,
+) -> Result<Option<KeptTeller>, Fault>
+    ensures same_reference { tx.new.conn.ghost_name ≡ tx.old.conn.ghost_name }
+    ensures found { HasCleanDisk (state S.Store tx.new.conn.now) → (s : Sheets) → HoldsTables (state S.Store tx.old.conn.now).now s → IfOk result (λ found. found ≡ find (is_teller_after branch after) s.tellers) }
+    ensures steps { Stays (state S.Store tx.old.conn.now) (state S.Store tx.new.conn.now) result }
+    ensures open { WasOpen (state S.Store tx.old.conn.now) (state S.Store tx.new.conn.now) result }
+    ensures survives { LeavesNone (state S.Store tx.old.conn.now) (state S.Store tx.new.conn.now) }
+{
+    picked(
+        tx,
+        select_tellers!("WHERE branch = ?1 AND teller > ?2 ORDER BY teller LIMIT 1"),
+        params![branch, after],
+    )
+}
+
+/// What is given with a statement that writes a teller.
+#[derive(Drop)]
+struct TellerCells {
+    teller: u32,
+    branch: u32,
+    opening: i64,
+    balance: i64,
+    cash: i64,
+    holder: u32,
+}
+
+fn cells_of(teller: &KeptTeller) -> Result<TellerCells, Fault>
+    ensures { IfOk result (λ c. given_teller c ≡ shown_teller teller.now) }
+{
+    Ok(TellerCells {
+        teller: teller.row.teller,
+        branch: teller.row.branch,
+        opening: teller.row.opening.get(),
+        balance: sum_cell(&teller.balance)?,
+        cash: sum_cell(&teller.cash)?,
+        holder: teller.holder,
+    })
+}
+
+fn insert_teller<S: Alter>(tx: &mut Transaction<'_, S>, cells: &TellerCells) -> Result<usize, Fault>
+    ensures same_reference { tx.new.conn.ghost_name ≡ tx.old.conn.ghost_name }
+    ensures runs { HasCleanDisk (state S.Store tx.new.conn.now) → IsTrue (state S.Store tx.old.conn.now).in_transaction → Runs add_teller_text (given_teller cells.now) (state S.Store tx.old.conn.now) (state S.Store tx.new.conn.now) result }
+    ensures survives { LeavesNone (state S.Store tx.old.conn.now) (state S.Store tx.new.conn.now) }
+{
+    run(
+        tx,
+        "INSERT INTO tellers (teller, branch, opening, balance, cash, holder) VALUES (?1, ?2, ?3, ?4, ?5, ?6)",
+        params![
+            cells.teller,
+            cells.branch,
+            &cells.opening,
+            &cells.balance,
+            &cells.cash,
+            cells.holder
+        ],
+    )
+}
+
+/// Adds a teller. One whose number is taken is a fault of the disk.
+pub fn add_teller<S: Alter>(tx: &mut Transaction<'_, S>, teller: &KeptTeller) -> Result<(), Fault>
+    ensures same_reference { tx.new.conn.ghost_name ≡ tx.old.conn.ghost_name }
+    ensures steps { Steps (state S.Store tx.old.conn.now) (state S.Store tx.new.conn.now) (λ s. record s { tellers = add_row teller_no teller.now s.tellers }) result }
+    ensures free { Tells (state S.Store tx.old.conn.now) (state S.Store tx.new.conn.now) (λ s. IsFree teller_no s.tellers (teller_no teller.now)) result }
+    ensures survives { LeavesNone (state S.Store tx.old.conn.now) (state S.Store tx.new.conn.now) }
+{
+    let cells = cells_of(teller)?;
+    insert_teller(tx, &cells)?;
+    Ok(())
+}
+
+fn update_teller<S: Alter>(tx: &mut Transaction<'_, S>, cells: &TellerCells) -> Result<usize, Fault>
+    ensures same_reference { tx.new.conn.ghost_name ≡ tx.old.conn.ghost_name }
+    ensures runs { HasCleanDisk (state S.Store tx.new.conn.now) → IsTrue (state S.Store tx.old.conn.now).in_transaction → Runs set_teller_text (given_teller cells.now) (state S.Store tx.old.conn.now) (state S.Store tx.new.conn.now) result }
+    ensures survives { LeavesNone (state S.Store tx.old.conn.now) (state S.Store tx.new.conn.now) }
+{
+    run(
+        tx,
+        "UPDATE tellers SET branch = ?2, opening = ?3, balance = ?4, cash = ?5, holder = ?6 WHERE teller = ?1",
+        params![
+            cells.teller,
+            cells.branch,
+            &cells.opening,
+            &cells.balance,
+            &cells.cash,
+            cells.holder
+        ],
+    )
+}
+
+/// Writes a teller in place of the one of its number.
+pub fn set_teller<S: Alter>(tx: &mut Transaction<'_, S>, teller: &KeptTeller) -> Result<(), Fault>
+    ensures same_reference { tx.new.conn.ghost_name ≡ tx.old.conn.ghost_name }
+    ensures steps { Steps (state S.Store tx.old.conn.now) (state S.Store tx.new.conn.now) (λ s. record s { tellers = set_row teller_no teller.now s.tellers }) result }
+    ensures survives { LeavesNone (state S.Store tx.old.conn.now) (state S.Store tx.new.conn.now) }
+{
+    let cells = cells_of(teller)?;
+    update_teller(tx, &cells)?;
+    Ok(())
+}

@@ -1,0 +1,35 @@
+ghost use Rattle.std.specs.Prelude.{◌≡◌};
+ghost use Rattle.sqlite.specs.Held.{state};
+ghost use Rattle.book_kept.specs.Sheets.{Sheets};
+ghost use Rattle.sql_schema.specs.Steps.{LeavesNone, Steps};
+ghost use Rattle.sql_create.specs.Filled.{with_all};
+
+use money::Fault;
+use sqlite::{Alter, Transaction};
+
+/// A row that is written to the tables, with the numbers that are kept beside it.
+pub(crate) trait SheetRow {
+    /// The rows that the tables hold with it.
+    ghost with_it: { Self → Sheets → Sheets };
+
+    /// Writes it inside a transaction. A row of its key that is there already is a fault of the disk.
+    fn add<S: Alter>(&self, tx: &mut Transaction<'_, S>) -> Result<(), Fault>
+        ensures same_reference { tx.new.conn.ghost_name ≡ tx.old.conn.ghost_name }
+        ensures steps { Steps (state S.Store tx.old.conn.now) (state S.Store tx.new.conn.now) (with_it self.now) result }
+        ensures survives { LeavesNone (state S.Store tx.old.conn.now) (state S.Store tx.new.conn.now) };
+}
+
+/// Writes these rows, one after another.
+pub(crate) fn add_all<S: Alter, R: SheetRow>(
+    tx: &mut Transaction<'_, S>,
+    rows: &[R],
+) -> Result<(), Fault>
+    ensures same_reference { tx.new.conn.ghost_name ≡ tx.old.conn.ghost_name }
+    ensures steps { Steps (state S.Store tx.old.conn.now) (state S.Store tx.new.conn.now) (with_all R.with_it rows.now) result }
+    ensures survives { LeavesNone (state S.Store tx.old.conn.now) (state S.Store tx.new.conn.now) }
+{
+    for row in rows {
+        row.add(tx)?;
+    }
+    Ok(())
+}

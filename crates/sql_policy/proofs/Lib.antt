@@ -1,0 +1,11 @@
+pub mod AnyLemmas
+pub mod CascadeLemmas
+pub mod CertifierLemmas
+pub mod MemberLemmas
+pub mod RelationLemmas
+pub mod RemovalLemmas
+pub mod SetLemmas
+pub mod SoFarLemmas
+pub mod TripleLemmas
+pub mod UserLemmas
+pub mod WorldLemmas

@@ -1,0 +1,4 @@
+pub mod Given
+pub mod HeldRows
+pub mod Tests
+pub mod Texts

@@ -1,0 +1,121 @@
+ghost use Rattle.std.specs.Prelude.{◌≡◌, map, IfOk, IsTrue};
+ghost use Rattle.std.specs.List.{filter};
+ghost use Rattle.sqlite.specs.Held.{state};
+ghost use Rattle.sqlite.specs.State.{HasCleanDisk};
+ghost use Rattle.bank_policy.specs.HeldRows.{is_relation_of, is_triple_of};
+ghost use Rattle.book_kept.specs.Sheets.{Sheets};
+ghost use Rattle.sql_schema.specs.Held.{HoldsTables};
+ghost use Rattle.sql_schema.specs.Steps.{LeavesNone, Stays, WasOpen};
+ghost use Rattle.sql_policy.specs.HeldRows.{certified_in, held_in};
+
+use crate::members::members_of;
+use crate::relations::relations_in;
+use crate::triples::triples_in;
+use bank_policy::{CertifiedRow, HeldRow, Relation, Triple};
+use bank_terms::Procedure;
+use money::Fault;
+use sqlite::{Alter, Transaction};
+use std::alloc::Global;
+
+/// The triple with the members of its set.
+fn held_row<S: Alter>(
+    alloc: Global,
+    tx: &mut Transaction<'_, S>,
+    triple: &Triple,
+) -> Result<HeldRow, Fault>
+    ensures same_reference { tx.new.conn.ghost_name ≡ tx.old.conn.ghost_name }
+    ensures found { HasCleanDisk (state S.Store tx.new.conn.now) → (s : Sheets) → HoldsTables (state S.Store tx.old.conn.now).now s → IfOk result (λ row. row ≡ held_in s triple.now) }
+    ensures steps { Stays (state S.Store tx.old.conn.now) (state S.Store tx.new.conn.now) result }
+    ensures open { WasOpen (state S.Store tx.old.conn.now) (state S.Store tx.new.conn.now) result }
+    ensures survives { LeavesNone (state S.Store tx.old.conn.now) (state S.Store tx.new.conn.now) }
+{
+    let members = members_of(alloc, tx, triple.set)?;
+    Ok(HeldRow::new(*triple, members))
+}
+
+/// These triples, each with the members of its set.
+fn held_rows<S: Alter>(
+    alloc: Global,
+    tx: &mut Transaction<'_, S>,
+    triples: &[Triple],
+) -> Result<Vec<HeldRow>, Fault>
+    ensures same_reference { tx.new.conn.ghost_name ≡ tx.old.conn.ghost_name }
+    ensures found { HasCleanDisk (state S.Store tx.new.conn.now) → IsTrue (state S.Store tx.old.conn.now).in_transaction → (s : Sheets) → HoldsTables (state S.Store tx.old.conn.now).now s → IfOk result (λ rows. rows.items ≡ map (held_in s) triples.now) }
+    ensures steps { Stays (state S.Store tx.old.conn.now) (state S.Store tx.new.conn.now) result }
+    ensures open { HasCleanDisk (state S.Store tx.new.conn.now) → IsTrue (state S.Store tx.new.conn.now).is_open → IsTrue (state S.Store tx.old.conn.now).is_open }
+    ensures survives { LeavesNone (state S.Store tx.old.conn.now) (state S.Store tx.new.conn.now) }
+{
+    let mut rows = Vec::new(alloc);
+    for triple in triples {
+        rows.push(held_row(alloc, tx, triple)?)?;
+    }
+    Ok(rows)
+}
+
+/// The triples of this user for this procedure, each with the members of its set, by set.
+pub fn triples_of<S: Alter>(
+    alloc: Global,
+    tx: &mut Transaction<'_, S>,
+    user: u32,
+    procedure: Procedure,
+) -> Result<Vec<HeldRow>, Fault>
+    ensures same_reference { tx.new.conn.ghost_name ≡ tx.old.conn.ghost_name }
+    ensures found { HasCleanDisk (state S.Store tx.new.conn.now) → IsTrue (state S.Store tx.old.conn.now).in_transaction → (s : Sheets) → HoldsTables (state S.Store tx.old.conn.now).now s → IfOk result (λ rows. rows.items ≡ map (held_in s) (filter (is_triple_of user procedure) s.triples)) }
+    ensures steps { Stays (state S.Store tx.old.conn.now) (state S.Store tx.new.conn.now) result }
+    ensures open { WasOpen (state S.Store tx.old.conn.now) (state S.Store tx.new.conn.now) result }
+    ensures survives { LeavesNone (state S.Store tx.old.conn.now) (state S.Store tx.new.conn.now) }
+{
+    let triples = triples_in(tx, user, procedure)?;
+    held_rows(alloc, tx, &triples)
+}
+
+/// The relation with the members of its set.
+fn certified_row<S: Alter>(
+    alloc: Global,
+    tx: &mut Transaction<'_, S>,
+    relation: &Relation,
+) -> Result<CertifiedRow, Fault>
+    ensures same_reference { tx.new.conn.ghost_name ≡ tx.old.conn.ghost_name }
+    ensures found { HasCleanDisk (state S.Store tx.new.conn.now) → (s : Sheets) → HoldsTables (state S.Store tx.old.conn.now).now s → IfOk result (λ row. row ≡ certified_in s relation.now) }
+    ensures steps { Stays (state S.Store tx.old.conn.now) (state S.Store tx.new.conn.now) result }
+    ensures open { WasOpen (state S.Store tx.old.conn.now) (state S.Store tx.new.conn.now) result }
+    ensures survives { LeavesNone (state S.Store tx.old.conn.now) (state S.Store tx.new.conn.now) }
+{
+    let members = members_of(alloc, tx, relation.set)?;
+    Ok(CertifiedRow::new(*relation, members))
+}
+
+/// These relations, each with the members of its set.
+fn certified_rows<S: Alter>(
+    alloc: Global,
+    tx: &mut Transaction<'_, S>,
+    relations: &[Relation],
+) -> Result<Vec<CertifiedRow>, Fault>
+    ensures same_reference { tx.new.conn.ghost_name ≡ tx.old.conn.ghost_name }
+    ensures found { HasCleanDisk (state S.Store tx.new.conn.now) → IsTrue (state S.Store tx.old.conn.now).in_transaction → (s : Sheets) → HoldsTables (state S.Store tx.old.conn.now).now s → IfOk result (λ rows. rows.items ≡ map (certified_in s) relations.now) }
+    ensures steps { Stays (state S.Store tx.old.conn.now) (state S.Store tx.new.conn.now) result }
+    ensures open { HasCleanDisk (state S.Store tx.new.conn.now) → IsTrue (state S.Store tx.new.conn.now).is_open → IsTrue (state S.Store tx.old.conn.now).is_open }
+    ensures survives { LeavesNone (state S.Store tx.old.conn.now) (state S.Store tx.new.conn.now) }
+{
+    let mut rows = Vec::new(alloc);
+    for relation in relations {
+        rows.push(certified_row(alloc, tx, relation)?)?;
+    }
+    Ok(rows)
+}
+
+/// The relations of this procedure, each with the members of its set, by set.
+pub fn relations_of<S: Alter>(
+    alloc: Global,
+    tx: &mut Transaction<'_, S>,
+    procedure: Procedure,
+) -> Result<Vec<CertifiedRow>, Fault>
+    ensures same_reference { tx.new.conn.ghost_name ≡ tx.old.conn.ghost_name }
+    ensures found { HasCleanDisk (state S.Store tx.new.conn.now) → IsTrue (state S.Store tx.old.conn.now).in_transaction → (s : Sheets) → HoldsTables (state S.Store tx.old.conn.now).now s → IfOk result (λ rows. rows.items ≡ map (certified_in s) (filter (is_relation_of procedure) s.relations)) }
+    ensures steps { Stays (state S.Store tx.old.conn.now) (state S.Store tx.new.conn.now) result }
+    ensures open { WasOpen (state S.Store tx.old.conn.now) (state S.Store tx.new.conn.now) result }
+    ensures survives { LeavesNone (state S.Store tx.old.conn.now) (state S.Store tx.new.conn.now) }
+{
+    let relations = relations_in(tx, procedure)?;
+    certified_rows(alloc, tx, &relations)
+}

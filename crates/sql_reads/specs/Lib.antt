@@ -1,0 +1,2 @@
+pub mod LeastShown
+pub mod Shown

@@ -1,0 +1,13 @@
+pub mod Cells
+pub mod CreateTexts
+pub mod Faults
+pub mod Heads
+pub mod Held
+pub mod HeldRows
+pub mod Numbers
+pub mod Readable
+pub mod Reads
+pub mod Schema
+pub mod Shown
+pub mod Steps
+pub mod Told

@@ -1,0 +1,41 @@
+-- Steps inside a transaction.
+use Rattle.std.specs.Prelude.{IsTrue, OnOk, Result}
+use Rattle.sqlite.specs.State.{HasCleanDisk, KeepsCommit, State, Survives}
+use Rattle.bank_books.specs.WorldLists.{WorldLists}
+use Rattle.book_kept.specs.Sheets.{Sheets}
+use Rattle.sql_schema.specs.Held.{HoldsTables, HoldsWorld}
+
+-- Where the tables held these rows they hold what the step makes of them, and nothing is committed. A step that is refused says nothing
+-- of what they hold, since the transaction is then rolled back.
+abbrev pub Steps : {X E : Type 0} → State → State → (Sheets → Sheets) → Result X E → Type 0
+Steps old new after result =
+    HasCleanDisk new → IsTrue old.in_transaction → (s : Sheets) → HoldsTables old.now s →
+    OnOk result (IsTrue new.in_transaction × HoldsTables new.now (after s)) × KeepsCommit old new
+
+-- what the tables hold stays as it is, and nothing is committed
+abbrev pub Stays : {X E : Type 0} → State → State → Result X E → Type 0
+Stays old new result = Steps old new (λ s. s) result
+
+-- a crash leaves nothing that it could not leave before
+abbrev pub LeavesNone : State → State → Type 0
+LeavesNone old new = Survives old new (λ _. ⊥)
+
+-- a step of Worlds
+abbrev pub Moves : {X E : Type 0} → State → State → (WorldLists → WorldLists) → Result X E → Type 0
+Moves old new after result =
+    HasCleanDisk new → IsTrue old.in_transaction → (w : WorldLists) → HoldsWorld old.now w →
+    OnOk result (IsTrue new.in_transaction × HoldsWorld new.now (after w)) × KeepsCommit old new
+
+-- the same of steps that went through
+abbrev pub MovedBy : State → State → (WorldLists → WorldLists) → Type 0
+MovedBy old new after =
+    HasCleanDisk new → IsTrue old.in_transaction → (w : WorldLists) → HoldsWorld old.now w →
+    (IsTrue new.in_transaction × HoldsWorld new.now (after w)) × KeepsCommit old new
+
+-- What a step that went through tells of the rows that the tables held before it.
+abbrev pub Tells : {X E : Type 0} → State → State → (Sheets → Type 0) → Result X E → Type 0
+Tells old new says result = HasCleanDisk new → IsTrue old.in_transaction → (s : Sheets) → HoldsTables old.now s → OnOk result (says s)
+
+-- a connection that a call finds open was open, and one that answers is
+abbrev pub WasOpen : {X E : Type 0} → State → State → Result X E → Type 0
+WasOpen old new result = HasCleanDisk new → OnOk result (IsTrue old.is_open) × (IsTrue new.is_open → IsTrue old.is_open)

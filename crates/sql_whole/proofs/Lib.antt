@@ -1,0 +1,10 @@
+pub mod BankRowLemmas
+pub mod BankWhole
+pub mod BookWhole
+pub mod CountLemmas
+pub mod HistoryWhole
+pub mod PolicyWhole
+pub mod ReadsLemmas
+pub mod RefusalLemmas
+pub mod WholeLemmas
+pub mod WidthLemmas

@@ -1,0 +1,91 @@
+ghost use Rattle.std.specs.Prelude.{◌≡◌, IfSome, IsTrue, ⊤};
+ghost use Rattle.sqlite.specs.Held.{state};
+ghost use Rattle.sql_whole.specs.Whole.{IsAnswered, IsThere, Reads};
+ghost use Rattle.sql_schema.specs.Steps.{LeavesNone};
+
+use crate::fault::ReadFault;
+use crate::fault::Table::{
+    self, Accounts, Bank, Branches, Certifiers, Entries, Lines, Members, Proofs, Relations,
+    Releases, Sets, SlipCounts, Slips, Tellers, Triples, Users,
+};
+use crate::table_row::shown_rows;
+use sql_schema::Edition;
+use sqlite::{Alter, Transaction};
+
+/// All tables of a bank but that of its one row.
+const OTHERS: [Table; 15] = [
+    Users, Sets, Members, Relations, Triples, Certifiers, Branches, Tellers, Accounts, Entries,
+    Lines, Proofs, Releases, Slips, SlipCounts,
+];
+
+/// The query by which the whole table is read, or none where the edition has no such table.
+fn query_for(table: Table, edition: Edition) -> Option<&'static str>
+    ensures { IfSome result (λ sql. IsAnswered edition sql.now) }
+{
+    match table {
+        Bank => Some(crate::bank::QUERY),
+        Users => Some(crate::users::QUERY),
+        Sets => Some(crate::sets::QUERY),
+        Members => Some(crate::members::QUERY),
+        Relations => Some(crate::relations::QUERY),
+        Triples => Some(crate::triples::query(edition)),
+        Certifiers => Some(crate::certifiers::QUERY),
+        Branches => Some(crate::branches::QUERY),
+        Tellers => Some(crate::tellers::QUERY),
+        Accounts => Some(crate::accounts::QUERY),
+        Entries => Some(crate::entries::QUERY),
+        Lines => Some(crate::lines::QUERY),
+        Proofs => Some(crate::day_proofs::QUERY),
+        Releases => Some(crate::releases::QUERY),
+        Slips => crate::slips::query(edition),
+        SlipCounts => crate::slip_counts::query(edition),
+    }
+}
+
+/// Asks by a query, of whose answer nothing is read.
+fn ask<S: Alter>(
+    tx: &mut Transaction<'_, S>,
+    edition: Edition,
+    sql: &str,
+    table: Table,
+) -> Result<(), ReadFault>
+    requires { IsAnswered edition sql.now }
+    ensures same_reference { tx.new.conn.ghost_name ≡ tx.old.conn.ghost_name }
+    ensures whole { Reads edition (state S.Store tx.old.conn.now) (state S.Store tx.new.conn.now) (λ _ _. ⊤) result }
+    ensures there { IsThere edition (state S.Store tx.old.conn.now) (state S.Store tx.new.conn.now) result }
+    ensures survives { LeavesNone (state S.Store tx.old.conn.now) (state S.Store tx.new.conn.now) }
+{
+    shown_rows(tx, sql, table)?;
+    Ok(())
+}
+
+/// Asks a table for all of its rows. One that the edition has not is passed over.
+fn ask_table<S: Alter>(
+    tx: &mut Transaction<'_, S>,
+    edition: Edition,
+    table: Table,
+) -> Result<(), ReadFault>
+    ensures same_reference { tx.new.conn.ghost_name ≡ tx.old.conn.ghost_name }
+    ensures whole { IsTrue (state S.Store tx.old.conn.now).is_open → Reads edition (state S.Store tx.old.conn.now) (state S.Store tx.new.conn.now) (λ _ _. ⊤) result }
+    ensures there { IsThere edition (state S.Store tx.old.conn.now) (state S.Store tx.new.conn.now) result }
+    ensures survives { LeavesNone (state S.Store tx.old.conn.now) (state S.Store tx.new.conn.now) }
+{
+    match query_for(table, edition) {
+        Some(sql) => ask(tx, edition, sql, table),
+        None => Ok(()),
+    }
+}
+
+/// Asks all tables but that of the bank's row for their rows, so that a table which is not there is told
+/// before any value of the others is read.
+pub fn ask_tables<S: Alter>(tx: &mut Transaction<'_, S>, edition: Edition) -> Result<(), ReadFault>
+    ensures same_reference { tx.new.conn.ghost_name ≡ tx.old.conn.ghost_name }
+    ensures whole { IsTrue (state S.Store tx.old.conn.now).is_open → Reads edition (state S.Store tx.old.conn.now) (state S.Store tx.new.conn.now) (λ _ _. ⊤) result }
+    ensures there { IsTrue (state S.Store tx.old.conn.now).is_open → IsThere edition (state S.Store tx.old.conn.now) (state S.Store tx.new.conn.now) result }
+    ensures survives { LeavesNone (state S.Store tx.old.conn.now) (state S.Store tx.new.conn.now) }
+{
+    for table in OTHERS {
+        ask_table(tx, edition, table)?;
+    }
+    Ok(())
+}

@@ -1,0 +1,68 @@
+ghost use Rattle.std.specs.Prelude.{◌≡◌, ◌≢◌, IfErr, IfOk};
+ghost use Rattle.money.specs.declared.fault.Fault.TheVariants.{Memory};
+ghost use Rattle.sqlite.specs.Held.{state};
+ghost use Rattle.sql_schema.specs.Steps.{LeavesNone, WasOpen};
+ghost use Rattle.sql_whole.specs.BankRow.{IsBankTable, IsToldBy, bank_row_cells};
+ghost use Rattle.sql_whole.specs.Faults.{IsOfDatabase};
+ghost use Rattle.sql_schema.specs.Told.{told_by_key};
+ghost use Rattle.sql_schema.specs.declared.edition.Edition.{Edition};
+ghost use Rattle.sql_whole.specs.Whole.{IsThere, Reads};
+
+use crate::fault::{ReadFault, Table};
+use crate::table_row::shown_rows;
+use money::Fault;
+use sql_schema::whole_at;
+use sqlite::{Alter, Row, Transaction};
+
+/// The row of a bank, whatever numbers it bears.
+#[derive(Clone, Copy, Debug, PartialEq, Eq)]
+pub struct BankRow {
+    /// Its key, 1 in the only row of a bank.
+    pub id: i64,
+    /// The version of its tables.
+    pub version: i64,
+    /// The version of its policy.
+    pub policy: i64,
+}
+
+pub(crate) const QUERY: &str = "SELECT id, version, policy FROM bank ORDER BY id";
+
+/// The one row of the table of the bank, which is alike in all editions, or none where the table has not
+/// one row of whole numbers.
+pub fn bank_row<S: Alter>(tx: &mut Transaction<'_, S>) -> Result<Option<BankRow>, ReadFault>
+    ensures same_reference { tx.new.conn.ghost_name ≡ tx.old.conn.ghost_name }
+    ensures whole { (e : Edition) → Reads e (state S.Store tx.old.conn.now) (state S.Store tx.new.conn.now) IsBankTable result }
+    ensures there { (e : Edition) → IsThere e (state S.Store tx.old.conn.now) (state S.Store tx.new.conn.now) result }
+    ensures open { WasOpen (state S.Store tx.old.conn.now) (state S.Store tx.new.conn.now) result }
+    ensures survives { LeavesNone (state S.Store tx.old.conn.now) (state S.Store tx.new.conn.now) }
+{
+    let rows = shown_rows(tx, QUERY, Table::Bank)?;
+    only_row(&rows)
+}
+
+/// What these rows tell, where it is one row of whole numbers.
+fn only_row(rows: &[Row]) -> Result<Option<BankRow>, ReadFault>
+    ensures told { IfOk result (IsToldBy rows.now) }
+    ensures there { IfErr result IsOfDatabase }
+{
+    if rows.len() != 1 {
+        return Ok(None);
+    }
+    match read_row(&rows[0]) {
+        Ok(row) => Ok(Some(row)),
+        Err(Fault::Memory) => Err(ReadFault::Fault(Fault::Memory)),
+        Err(_) => Ok(None),
+    }
+}
+
+/// The row that a row of the answer tells.
+fn read_row(row: &Row) -> Result<BankRow, Fault>
+    ensures same { IfOk result (λ b. told_by_key 2 row.now ≡ bank_row_cells b) }
+    ensures unread { IfErr result (λ fault. fault ≢ Memory → (b : BankRow) → told_by_key 2 row.now ≢ bank_row_cells b) }
+{
+    Ok(BankRow {
+        id: whole_at(row, 0)?,
+        version: whole_at(row, 1)?,
+        policy: whole_at(row, 2)?,
+    })
+}

@@ -1,0 +1,61 @@
+ghost use Rattle.std.specs.Prelude.{◌≡◌, IfErr, IfOk, IfSome, IsTrue};
+ghost use Rattle.sqlite.specs.Held.{state};
+ghost use Rattle.sql_schema.specs.Readable.{IsReadableSlip};
+ghost use Rattle.sql_schema.specs.Steps.{LeavesNone};
+ghost use Rattle.sql_schema.specs.declared.edition.Edition.TheVariants.{Third};
+ghost use Rattle.sql_whole.specs.Tables.{AreSlips};
+ghost use Rattle.sql_whole.specs.Faults.{IsOfDatabase};
+ghost use Rattle.sql_whole.specs.Typed.{Each};
+ghost use Rattle.sql_whole.specs.Whole.{IsAnswered, OnReadable, Reads};
+
+use crate::fault::{ReadFault, Table};
+use crate::table_row::{WholeRow, whole_table};
+use bank_books::Slip;
+use sql_schema::{Edition, select_slips};
+use sqlite::{Alter, Transaction};
+use std::alloc::Global;
+
+const QUERY: &str = select_slips!("ORDER BY user_no, slip");
+
+/// The query for the slips, in an edition that has them.
+pub(crate) fn query(edition: Edition) -> Option<&'static str>
+    ensures { IfSome result (λ sql. IsAnswered edition sql.now) }
+{
+    match edition {
+        Edition::First => None,
+        Edition::Second => None,
+        Edition::Third => Some(QUERY),
+    }
+}
+
+/// All slips, by user, then number. Editions before the third have none, and are not asked.
+pub fn all_slips<S: Alter>(
+    alloc: Global,
+    tx: &mut Transaction<'_, S>,
+    edition: Edition,
+) -> Result<Vec<Slip>, ReadFault>
+    ensures same_reference { tx.new.conn.ghost_name ≡ tx.old.conn.ghost_name }
+    ensures whole { IsTrue (state S.Store tx.old.conn.now).is_open → Reads edition (state S.Store tx.old.conn.now) (state S.Store tx.new.conn.now) (λ trees rows. AreSlips edition trees rows.items) result }
+    ensures typed { IfOk result (λ rows. Each IsReadableSlip rows.items) }
+    ensures takes { OnReadable edition (state S.Store tx.old.conn.now) (state S.Store tx.new.conn.now) (IfErr result IsOfDatabase) }
+    ensures survives { LeavesNone (state S.Store tx.old.conn.now) (state S.Store tx.new.conn.now) }
+{
+    match edition {
+        Edition::First => Ok(Vec::new(alloc)),
+        Edition::Second => Ok(Vec::new(alloc)),
+        Edition::Third => third_slips(alloc, tx),
+    }
+}
+
+/// Those of the table `slips`.
+fn third_slips<S: Alter>(alloc: Global, tx: &mut Transaction<'_, S>) -> Result<Vec<Slip>, ReadFault>
+    ensures same_reference { tx.new.conn.ghost_name ≡ tx.old.conn.ghost_name }
+    ensures whole { Reads Third (state S.Store tx.old.conn.now) (state S.Store tx.new.conn.now) (λ trees rows. AreSlips Third trees rows.items) result }
+    ensures typed { IfOk result (λ rows. Each IsReadableSlip rows.items) }
+    ensures takes { OnReadable Third (state S.Store tx.old.conn.now) (state S.Store tx.new.conn.now) (IfErr result IsOfDatabase) }
+    ensures survives { LeavesNone (state S.Store tx.old.conn.now) (state S.Store tx.new.conn.now) }
+{
+    whole_table(alloc, tx, Edition::Third, QUERY, Table::Slips)
+}
+
+impl WholeRow for Slip {}

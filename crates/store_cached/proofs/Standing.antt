@@ -1,0 +1,71 @@
+-- What calls of the store below are to the store with its cache.
+use Rattle.std.proofs.Common.{◌≡◌, ◌≤◌, ◌+◌, IsTrue, List, Result, Ok, IfOk, Option, ap, subst, sym, ◌∙◌}
+use Rattle.bank_books.specs.WorldLists.{WorldLists}
+use Rattle.store_rows.specs.Status.{Keeps, ReadsRow, RoseBy, Status, count_after, counts, counts_at_most, failures_after, mark_of, stops}
+use Rattle.store_cached.specs.Fresh.{AreFresh}
+use Rattle.store_cached.specs.Standing.{with_entries}
+use Rattle.store_cached.specs.declared.entry.Kept.{Kept}
+use Rattle.store_cached.specs.declared.entry.Key.{Key}
+use Rattle.money.specs.declared.fault.Fault.{Fault}
+
+-- a read that answered, and then another read
+pub reads_then : {A B : Type 0} (old mid new : Status) (first : A) (r : Result B Fault) (P : WorldLists → A → Type 0) (Q : WorldLists → B → Type 0)
+    → ReadsRow old mid (Ok first) P → ReadsRow mid new r Q → ReadsRow old new r Q
+reads_then old mid new first r P Q a b = record {
+  told = λ clean w holds. b.told clean w (a.kept.kept w holds);
+  kept = record {
+    answers = record {
+      honest = λ clean. a.kept.answers.honest (b.kept.answers.honest clean);
+      state = b.kept.answers.state ∙ ap (stops (mark_of r)) a.kept.answers.state;
+      was_stopped = λ is. subst (λ s. IsTrue s) a.kept.answers.state (b.kept.answers.was_stopped is);
+      counted = subst (λ n. RoseBy (counts (mark_of r)) n new.fault_count) a.counted b.kept.answers.counted;
+      no_more = subst (λ n. new.fault_count ≤ n + counts_at_most (mark_of r)) a.counted b.kept.answers.no_more;
+      failed = b.kept.answers.failed ∙ ap (failures_after (mark_of r)) a.kept.answers.failed;
+    };
+    kept = λ w holds. b.kept.kept w (a.kept.kept w holds);
+    crash = λ clean w left. a.kept.crash (b.kept.answers.honest clean) w (b.kept.crash clean w left);
+    whole = λ clean before. b.kept.whole clean (a.kept.whole (b.kept.answers.honest clean) before);
+  };
+  refused = λ stopped. b.refused (subst (λ s. IsTrue s) (sym a.kept.answers.state) stopped);
+  counted = b.counted ∙ ap (count_after (mark_of r)) a.counted;
+}
+
+keeps_with : (old new : Status) (entries after : List (Key × Kept)) (mark : Option Fault) → Keeps old new mark
+    → (new.is_honest → (w : WorldLists) → old.holds w → AreFresh w entries → AreFresh w after) → Keeps (with_entries old entries) (with_entries new after) mark
+keeps_with old new entries after mark k stay = record {
+  answers = record {
+    honest = k.answers.honest;
+    state = k.answers.state;
+    was_stopped = k.answers.was_stopped;
+    counted = k.answers.counted;
+    no_more = k.answers.no_more;
+    failed = k.answers.failed;
+  };
+  kept = λ w holds. (k.kept w holds.0, λ clean. stay clean w holds.0 (holds.1 (k.answers.honest clean)));
+  crash = λ clean w left. k.crash clean w left;
+  whole = λ clean before. k.whole clean before;
+}
+
+-- A read of the store below that ends as the call does. The call may answer other rows than the read, and other entries may be kept
+-- after it, as far as they fit.
+pub reads_with : {A B : Type 0} (old new : Status) (entries after : List (Key × Kept)) (r : Result A Fault) (s : Result B Fault) (P : WorldLists → A → Type 0) (Q : WorldLists → B → Type 0)
+    → ReadsRow old new r P → mark_of s ≡ mark_of r
+    → (new.is_honest → (w : WorldLists) → old.holds w → AreFresh w entries → AreFresh w after)
+    → (new.is_honest → (w : WorldLists) → old.holds w → AreFresh w entries → IfOk s (Q w))
+    → ReadsRow (with_entries old entries) (with_entries new after) s Q
+reads_with old new entries after r s P Q read marks stay tell = record {
+  told = λ clean w holds. tell clean w holds.0 (holds.1 (read.kept.answers.honest clean));
+  kept = subst (λ m. Keeps (with_entries old entries) (with_entries new after) m) (sym marks) (keeps_with old new entries after (mark_of r) read.kept stay);
+  refused = λ stopped. marks ∙ read.refused stopped;
+  counted = read.counted ∙ ap (λ m. count_after m old.fault_count) (sym marks);
+}
+
+-- a read that is handed on
+pub reads_beside : {A : Type 0} (old new : Status) (entries : List (Key × Kept)) (r : Result A Fault) (P : WorldLists → A → Type 0)
+    → ReadsRow old new r P → ReadsRow (with_entries old entries) (with_entries new entries) r P
+reads_beside old new entries r P read = record {
+  told = λ clean w holds. read.told clean w holds.0;
+  kept = keeps_with old new entries entries (mark_of r) read.kept (λ clean w holds fresh. fresh);
+  refused = read.refused;
+  counted = read.counted;
+}

@@ -1,0 +1,5 @@
+use Rattle.store_cached.proofs.Standing.{reads_beside}
+use Rattle.store_cached.proofs.book_reads.CachedBookReads.entry.Goals as goal
+
+pub returns : goal.returns
+returns g c = reads_beside _ _ _ _ _ c.entry.ensures

@@ -1,0 +1,76 @@
+ghost use Rattle.std.specs.Prelude.{◌≡◌, ◌≤◌, [], length, IfOk, IfErr};
+ghost use Rattle.bank_books.specs.WorldLists.{WorldLists};
+ghost use Rattle.store_cached.specs.Standing.{below, cached_status, remembered, unkept_count};
+
+use crate::policy_cache::PolicyCache;
+use std::alloc::Global;
+use store_rows::{Stands, Store};
+
+/// A store that keeps rows of the policy that it read of the store below: triples of a user for a
+/// procedure, and relations of a procedure, at most `MAX_ENTRIES` of them. It asks for the version of the
+/// policy at each such read, and answers from what it keeps where that is of the present version. All
+/// else it hands on.
+#[derive(Drop)]
+pub struct Cached<S> {
+    pub(crate) store: S,
+    pub(crate) cache: PolicyCache,
+    pub(crate) unkept: u64,
+}
+
+impl<S: Store> Cached<S> {
+    /// The store with a cache that keeps nothing yet. It stands for what the store stands for. Where
+    /// memory is refused the store is handed back.
+    pub fn new(alloc: Global, store: S) -> Result<Cached<S>, S>
+        ensures below { IfOk result (λ c. below c ≡ store) }
+        ensures empty { IfOk result (λ c. remembered c ≡ []) }
+        ensures none { IfOk result (λ c. unkept_count c ≡ 0) }
+        ensures holds { IfOk result (λ c. (w : WorldLists) → (S.status store).holds w → (cached_status S.status c).holds w) }
+        ensures returned { IfErr result (λ s. s ≡ store) }
+    {
+        match PolicyCache::new(alloc) {
+            Ok(cache) => Ok(Cached {
+                store,
+                cache,
+                unkept: 0,
+            }),
+            Err(_) => Err(store),
+        }
+    }
+
+    /// The store below.
+    pub fn below(&self) -> &S
+        ensures { result.now ≡ below self.now }
+    {
+        &self.store
+    }
+
+    /// The store below, without what is kept of it.
+    pub fn into_below(self) -> S
+        ensures { result ≡ below self }
+    {
+        self.store
+    }
+
+    /// How many entries it keeps.
+    pub fn entry_count(&self) -> usize
+        ensures count { result ≡ length (remembered self.now) }
+        ensures bounded { result ≤ 64 }
+    {
+        self.cache.len()
+    }
+
+    /// How many times memory for an entry was refused. It stays at the greatest `u64`.
+    pub fn unkept_count(&self) -> u64
+        ensures { result ≡ unkept_count self.now }
+    {
+        self.unkept
+    }
+}
+
+impl<S: Store> Stands for Cached<S> {
+    ghost status = { cached_status S.status };
+
+    fn faults(&self) -> u64 {
+        self.store.faults()
+    }
+}

@@ -1,3 +1,0 @@
-pub mod LeastShown
-pub mod Reads
-pub mod Shown

@@ -1,0 +1,74 @@
+//! Transfers, whose two entries stand at one teller: what they move, and what stays in range.
+
+use crate::amounts::{MOST, delta};
+use crate::asking::{Desk, SAMPLE_LEDGER, TOM};
+use crate::forms::transfer;
+use crate::opening::{TARGET_AT_MOST, teller_12_at, with_drawers_on};
+use bank_books::{Entry, EntryForm};
+use decide::Rule;
+use rule_tests::Ledger;
+use std::alloc::Global;
+use std::process::Abort;
+
+#[test]
+fn a_transfer_makes_two_entries(rt: HostRuntime) {
+    let mut desk = Desk::of_sample(&rt, rt.alloc());
+    let body = r#"{"branch":1,"first":1,"second":2,"source":30000,"target":20000}"#;
+    desk.done(&rt, TOM, transfer(101, 102, 20_000), body);
+    let first = Entry {
+        branch: 1,
+        number: 1,
+        account: 101,
+        turn: 1,
+        teller: 12,
+        delta: delta(&rt, -20_000),
+        moment: 700,
+        day: 1,
+        user: 8,
+        form: EntryForm::TransferLeg,
+        partner: 2,
+        undoes: 0,
+    };
+    let second = Entry {
+        number: 2,
+        account: 102,
+        delta: delta(&rt, 20_000),
+        partner: 1,
+        ..first
+    };
+    desk.entry_is(&rt, first);
+    desk.entry_is(&rt, second);
+}
+
+#[test]
+fn the_target_of_a_transfer_stays_in_range(rt: HostRuntime) {
+    let alloc = rt.alloc();
+    let mut desk = Desk::over(alloc, with_drawers_on(&rt, alloc, TARGET_AT_MOST));
+    desk.denied(&rt, TOM, transfer(101, 102, 1), Rule::Range);
+    desk.account_is(&rt, 101, 1_000, 0);
+    let body = r#"{"branch":1,"first":1,"second":2,"source":999999999998,"target":1001}"#;
+    desk.done(&rt, TOM, transfer(102, 101, 1), body);
+    let body = r#"{"branch":1,"first":3,"second":4,"source":1000,"target":999999999999}"#;
+    desk.done(&rt, TOM, transfer(101, 102, 1), body);
+}
+
+/// Has Tom transfer 10.00, where his teller and his branch stand at this balance.
+fn stays_at(rt: &impl Abort, alloc: Global, end: i64) {
+    let mut desk = Desk::over(alloc, teller_12_at(rt, alloc, end));
+    let body = r#"{"branch":1,"first":1,"second":2,"source":0,"target":0}"#;
+    desk.done(rt, TOM, transfer(101, 102, 1_000), body);
+    desk.teller_is(rt, 12, i128::from(end));
+    let ledger = Ledger {
+        balance: i128::from(end),
+        entries: 2,
+        ..SAMPLE_LEDGER
+    };
+    desk.ledger_is(rt, 1, ledger);
+}
+
+/// The teller and the branch of a transfer stand at an end of the range, which one of its entries alone would leave.
+#[test]
+fn the_range_is_judged_after_both_entries(rt: HostRuntime) {
+    stays_at(&rt, rt.alloc(), MOST);
+    stays_at(&rt, rt.alloc(), -MOST);
+}

@@ -1,9 +1,0 @@
-use Rattle.bank_schema.specs.Held.Sheet.{accounts as in_accounts}
-use Rattle.whole_tables.proofs.BookWhole.{tells_accounts}
-use Rattle.whole_tables.proofs.accounts.all_accounts.Goals as goal
-
-pub whole_table-requires : goal.whole_table-requires
-whole_table-requires g c = tells_accounts c.args.edition
-
-pub returns-clause-takes : goal.returns-clause-takes
-returns-clause-takes g c clean has s holds readable = c.whole_table.ensures.takes clean has s.accounts (holds in_accounts) readable.accounts

@@ -1,8 +1,0 @@
-use Rattle.std.proofs.Common.{subst, sym}
-use Rattle.whole_tables.specs.Texts.{all_slip_counts_text}
-use Rattle.whole_tables.specs.Whole.{IsAnswered}
-use Rattle.whole_tables.proofs.HistoryWhole.{tells_slip_counts}
-use Rattle.whole_tables.proofs.slip_counts.query.Goals as goal
-
-pub returns-in-Third : goal.returns-in-Third
-returns-in-Third c = subst (λ e. IsAnswered e all_slip_counts_text) (sym c.in-Third.is) tells_slip_counts.asks

@@ -1,9 +1,0 @@
-use Rattle.bank_schema.specs.Held.Sheet.{triples as in_triples}
-use Rattle.whole_tables.proofs.PolicyWhole.{tells_third_triples}
-use Rattle.whole_tables.proofs.triples.third_triples.Goals as goal
-
-pub whole_table-requires : goal.whole_table-requires
-whole_table-requires g c = tells_third_triples
-
-pub returns-clause-takes : goal.returns-clause-takes
-returns-clause-takes g c clean has s holds readable = c.whole_table.ensures.takes clean has s.triples (holds in_triples) readable.triples

@@ -1,0 +1,133 @@
+ghost use Rattle.std.specs.Prelude.{◌≡◌, map, IfOk};
+ghost use Rattle.std.specs.List.{find, flat_map};
+ghost use Rattle.std.specs.Option.{option_copied};
+ghost use Rattle.world_reads.specs.PolicyListing.{is_behind, is_member_behind, is_row_behind, lines_behind_users, next_policy, set_members};
+ghost use Rattle.world_reads.specs.declared.policy_row.PolicyKey.TheVariants as key;
+ghost use Rattle.world_reads.specs.declared.policy_row.PolicyRow.TheVariants as row;
+
+use crate::listing::copied_user;
+use crate::policy_row::{PolicyKey, PolicyRow, SetMember};
+use bank_books::World;
+use bank_policy::{ItemSet, Policy, User};
+use std::alloc::{AllocError, Global};
+
+/// The line of the policy that is listed behind the one of this key, or the first where there is
+/// none; none where no line is listed there. Only memory keeps it from an answer.
+pub fn next_policy(
+    alloc: Global,
+    world: &World,
+    after: Option<PolicyKey>,
+) -> Result<Option<PolicyRow>, AllocError>
+    ensures { IfOk result (λ row. row ≡ next_policy world.now after) }
+{
+    let policy = world.policy();
+    match user_behind(policy.users(), after) {
+        Some(row) => Ok(Some(PolicyRow::User(copied_user(alloc, row)?))),
+        None => Ok(line_behind(policy, after)),
+    }
+}
+
+/// The first line behind the users that is listed behind this key.
+fn line_behind(policy: &Policy, after: Option<PolicyKey>) -> Option<PolicyRow>
+    ensures { result ≡ find (is_row_behind after) (lines_behind_users policy.now) }
+{
+    if let Some(row) = certifier_behind(policy, after) {
+        return Some(row);
+    }
+    if let Some(row) = member_line_behind(policy, after) {
+        return Some(row);
+    }
+    if let Some(row) = relation_behind(policy, after) {
+        return Some(row);
+    }
+    triple_behind(policy, after)
+}
+
+fn user_behind(users: &[User], after: Option<PolicyKey>) -> Option<&User>
+    ensures { option_copied result ≡ find (λ user. is_behind after (key.User user.user)) users.now }
+{
+    users
+        .iter()
+        .find(|row| PolicyKey::User { user: row.user }.is_behind(after))
+}
+
+fn certifier_behind(policy: &Policy, after: Option<PolicyKey>) -> Option<PolicyRow>
+    ensures { result ≡ find (is_row_behind after) (map row.Certifier policy.now.certifiers) }
+{
+    policy
+        .certifiers()
+        .iter()
+        .map(|row| PolicyRow::Certifier(*row))
+        .find(|row| row.key().is_behind(after))
+}
+
+fn relation_behind(policy: &Policy, after: Option<PolicyKey>) -> Option<PolicyRow>
+    ensures { result ≡ find (is_row_behind after) (map row.Relation policy.now.relations) }
+{
+    policy
+        .relations()
+        .iter()
+        .map(|row| PolicyRow::Relation(*row))
+        .find(|row| row.key().is_behind(after))
+}
+
+fn triple_behind(policy: &Policy, after: Option<PolicyKey>) -> Option<PolicyRow>
+    ensures { result ≡ find (is_row_behind after) (map row.Triple policy.now.triples) }
+{
+    policy
+        .triples()
+        .iter()
+        .map(|row| PolicyRow::Triple(*row))
+        .find(|row| row.key().is_behind(after))
+}
+
+fn member_line_behind(policy: &Policy, after: Option<PolicyKey>) -> Option<PolicyRow>
+    ensures { result ≡ find (is_row_behind after) (map row.Member (flat_map set_members policy.now.sets)) }
+{
+    match member_behind(policy.sets(), after) {
+        Some(row) => Some(PolicyRow::Member(row)),
+        None => None,
+    }
+}
+
+/// The first member of these sets that is listed behind this key.
+fn member_behind(sets: &[ItemSet], after: Option<PolicyKey>) -> Option<SetMember>
+    ensures { result ≡ find (is_member_behind after) (flat_map set_members sets.now) }
+{
+    for set in sets {
+        if let Some(row) = member_of_behind(set, after) {
+            return Some(row);
+        }
+    }
+    None
+}
+
+fn member_of_behind(set: &ItemSet, after: Option<PolicyKey>) -> Option<SetMember>
+    ensures { result ≡ find (is_member_behind after) (set_members set.now) }
+{
+    let number = set.set();
+    let members = set.members();
+    let mut place: u64 = 0;
+    for member in members {
+        place += 1;
+        let row = SetMember {
+            set: number,
+            place,
+            member: *member,
+        };
+        if is_member_behind(row, after) {
+            return Some(row);
+        }
+    }
+    None
+}
+
+fn is_member_behind(row: SetMember, after: Option<PolicyKey>) -> bool
+    ensures { result ≡ is_member_behind after row }
+{
+    PolicyKey::Member {
+        set: row.set,
+        place: row.place,
+    }
+    .is_behind(after)
+}
