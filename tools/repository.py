@@ -7,10 +7,10 @@ import sys
 
 TOP = os.path.dirname(os.path.dirname(os.path.abspath(__file__)))
 # The programs that take times over banks made up, and what makes these up. tools/bench and tools/check-bench prove them.
-BENCHES = ("made_up_bank", "check_bench", "post_bench")
+BENCHES = ("bench_bank", "bench_check", "bench_posts")
 # The bank program, and the one that serves the sample in a store of one's choice, which tools/rows-over proves and builds.
 BANK_PROGRAM = "bank_cli"
-ROWS_OVER = "rows_over"
+ROWS_OVER = "test_stores"
 # These two, as tools/build leaves them.
 PROGRAM, OVER = (os.path.join(TOP, "crates", it, "out", it) for it in (BANK_PROGRAM, ROWS_OVER))
 # What rt ci says of a crate that is proved.
@@ -53,7 +53,7 @@ def below(uses, names):
 
 def tests_to_run(uses):
     """The crates of tests alone that tools/worked runs, and what they share. The gate does not prove them."""
-    return [it for it in uses if it.startswith(("worked_", "test_"))]
+    return [it for it in uses if it.startswith("test_") and it != ROWS_OVER]
 
 
 def shared_by_tests(uses):
