@@ -2,6 +2,7 @@ pub mod AccountKept
 pub mod BooksKeepable
 pub mod EntryKept
 pub mod LastRow
+pub mod LegsKept
 pub mod LineKept
 pub mod MemberRows
 pub mod NextNumber

@@ -9,14 +9,15 @@ use Rattle.bank_books.specs.declared.rows.CashLine.{CashLine}
 use Rattle.bank_books.specs.declared.rows.Entry.{Entry}
 use Rattle.bank_books.specs.declared.rows.Release.{Release}
 use Rattle.book_laws.specs.Moves.{account_entered, branch_entered, branch_lined}
-use Rattle.book_kept.specs.Changes.{account_sheets, drawer_sheets, entry_sheets, posting_sheets, release_sheets, vault_sheets}
+use Rattle.book_kept.specs.Changes.{account_sheets, drawer_sheets, entry_sheets, legs_sheets, posting_sheets, release_sheets, vault_sheets}
 use Rattle.book_kept.specs.Keepable.{IsKeepable}
 use Rattle.book_kept.specs.Kept.{AreKept, IsKept}
-use Rattle.book_kept.specs.Named.{AreOfEntry, AreOfLine, HasReleases, IsBranchRow, IsFree}
+use Rattle.book_kept.specs.Named.{AreLegs, AreOfEntry, AreOfLegs, AreOfLine, HasReleases, IsBranchRow, IsFree}
 use Rattle.book_kept.specs.Records.{entry_left, kept_teller_entered, kept_teller_lined}
 use Rattle.book_kept.specs.Sheets.{account_no, sheets_of}
 use Rattle.book_kept.specs.declared.account.AccountRows.{AccountRows}
 use Rattle.book_kept.specs.declared.entry.EntryRows.{EntryRows}
+use Rattle.book_kept.specs.declared.legs.LegRows.{LegRows}
 use Rattle.book_kept.specs.declared.lines.LineRows.{LineRows}
 use Rattle.book_kept.specs.declared.records.KeptTeller.{KeptTeller}
 
@@ -47,6 +48,11 @@ AreAfterLine l t b rows = (w : WorldLists) → IsKeepable w → AreOfLine (sheet
 -- the account, the teller and the branch that an entry and its cash line name, and the entry
 abbrev pub AreAfterPosting : Entry → CashLine → AccountRecord → KeptTeller → BranchRecord → EntryRows → Type 0
 AreAfterPosting e l a t b rows = (w : WorldLists) → IsKeepable w → AreOfEntry (sheets_of w) e a t b → AreKept w (write.Entry e ∷ write.Line l ∷ []) (posting_sheets l rows)
+
+-- the accounts of two entries of one teller and one branch, the teller, the branch and the entries
+abbrev pub AreAfterLegs : Entry → Entry → AccountRecord → AccountRecord → KeptTeller → BranchRecord → LegRows → Type 0
+AreAfterLegs e f source target t b rows =
+    (w : WorldLists) → IsKeepable w → AreLegs e f → AreOfLegs (sheets_of w) e f source target t b → AreKept w (write.Entry e ∷ write.Entry f ∷ []) (legs_sheets rows)
 
 -- the branch of a line at the vault
 abbrev pub IsAfterVaultLine : CashLine → BranchRecord → BranchRecord → Type 0

@@ -22,6 +22,7 @@ use Rattle.book_kept.specs.Records.{member_rows}
 use Rattle.book_kept.specs.Sheets.{Sheets, account_no, branch_no, entry_no, member_no, set_row, slip_no, teller_no, user_no}
 use Rattle.book_kept.specs.declared.account.AccountRows.{AccountRows}
 use Rattle.book_kept.specs.declared.entry.EntryRows.{EntryRows}
+use Rattle.book_kept.specs.declared.legs.LegRows.{LegRows}
 use Rattle.book_kept.specs.declared.lines.LineRows.{LineRows}
 
 -- ---- the books
@@ -46,6 +47,15 @@ drawer_sheets l rows s = record s {
 -- after an entry and its cash line: both have moved the teller and the branch, each of which stands there once
 abbrev pub posting_sheets : CashLine → EntryRows → Sheets → Sheets
 posting_sheets l rows s = record (entry_sheets rows s) { lines = add_row line_key l s.lines }
+
+-- after two entries of one teller and one branch, each of which stands there once, as both have moved it; the accounts are two
+abbrev pub legs_sheets : LegRows → Sheets → Sheets
+legs_sheets rows s = record s {
+  branches = set_row branch_no rows.branch s.branches;
+  tellers = set_row teller_no rows.teller s.tellers;
+  accounts = set_row account_no rows.target (set_row account_no rows.source s.accounts);
+  entries = add_row entry_no rows.second (add_row entry_no rows.first s.entries);
+}
 
 -- after a line at the vault: its branch alone does
 abbrev pub vault_sheets : CashLine → BranchRecord → Sheets → Sheets

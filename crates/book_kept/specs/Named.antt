@@ -33,6 +33,17 @@ pub record AreOfEntry (s : Sheets) (e : Entry) (a : AccountRecord) (t : KeptTell
   pub teller : IsTellerRow s e.teller t
   pub branch : IsBranchRow s e.branch b
 
+-- two entries of one teller and one branch that move two accounts
+pub record AreLegs (e f : Entry) : Type 0 where
+  pub teller : f.teller ≡ e.teller
+  pub branch : f.branch ≡ e.branch
+  pub account : f.account ≢ e.account
+
+-- the accounts of two such entries, and the teller and the branch of both
+pub record AreOfLegs (s : Sheets) (e f : Entry) (source target : AccountRecord) (t : KeptTeller) (b : BranchRecord) : Type 0 where
+  pub first : AreOfEntry s e source t b
+  pub second : IsAccountRow s f.account target
+
 -- the teller and the branch of a line at a drawer
 pub record AreOfLine (s : Sheets) (l : CashLine) (t : KeptTeller) (b : BranchRecord) : Type 0 where
   pub teller : IsTellerRow s l.place t

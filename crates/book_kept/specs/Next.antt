@@ -6,6 +6,8 @@ use Rattle.bank_books.specs.declared.records.AccountRecord.{AccountRecord}
 use Rattle.bank_books.specs.declared.records.BranchRecord.{BranchRecord}
 use Rattle.bank_books.specs.declared.rows.CashLine.{CashLine}
 use Rattle.bank_books.specs.declared.rows.Entry.{Entry}
+use Rattle.book_laws.specs.Moves.{branch_entered}
+use Rattle.book_kept.specs.Records.{kept_teller_entered}
 use Rattle.book_kept.specs.declared.records.KeptTeller.{KeptTeller}
 
 -- what the entries of a branch come to is within the limits
@@ -41,6 +43,11 @@ pub record IsNextAtDrawer (l : CashLine) (t : KeptTeller) (b : BranchRecord) : T
   pub number : l.number ≡ b.lines + 1
   pub drawer : IsCents t.cash
   pub cash : IsCashTold b
+
+-- two entries, the second of which comes next behind the first
+pub record AreNextLegs (e f : Entry) (source target : AccountRecord) (t : KeptTeller) (b : BranchRecord) : Type 0 where
+  pub first : IsNextOf e source t b
+  pub second : IsNextOf f target (kept_teller_entered e.delta t) (branch_entered e.delta b)
 
 -- an entry with its cash line
 pub record IsNextPosting (e : Entry) (l : CashLine) (a : AccountRecord) (t : KeptTeller) (b : BranchRecord) : Type 0 where

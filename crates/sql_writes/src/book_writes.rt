@@ -13,7 +13,7 @@ ghost use Rattle.book_kept.specs.Changes.{account_sheets, drawer_sheets, entry_s
 ghost use Rattle.book_kept.specs.Named.{AreOfEntry, AreOfLine, IsAccountRow, IsBranchRow, IsFree, IsTellerRow};
 ghost use Rattle.book_kept.specs.Sheets.{Sheets, account_no, set_row, slip_no, user_no};
 ghost use Rattle.sql_schema.specs.Held.{HoldsTables};
-ghost use Rattle.sql_schema.specs.Steps.{LeavesNone, Moves, Stays, Steps, Tells};
+ghost use Rattle.sql_schema.specs.Steps.{LeavesNone, Moves, Stays, Steps, Tells, WasOpen};
 
 use crate::policy_writes::user_row;
 use crate::required::required;
@@ -35,10 +35,14 @@ use sql_releases::{add_release, add_slip, set_slip_count, slip_count_of, use_up}
 use sqlite::{Alter, Transaction};
 
 /// The account of this number. One that isn't there is a fault of the disk.
-fn account_row<S: Alter>(tx: &mut Transaction<'_, S>, account: u32) -> Result<AccountRecord, Fault>
+pub(crate) fn account_row<S: Alter>(
+    tx: &mut Transaction<'_, S>,
+    account: u32,
+) -> Result<AccountRecord, Fault>
     ensures same_reference { tx.new.conn.ghost_name ≡ tx.old.conn.ghost_name }
     ensures told { HasCleanDisk (state S.Store tx.new.conn.now) → IsTrue (state S.Store tx.old.conn.now).in_transaction → (s : Sheets) → HoldsTables (state S.Store tx.old.conn.now).now s → IfOk result (λ row. IsAccountRow s account row) }
     ensures steps { Stays (state S.Store tx.old.conn.now) (state S.Store tx.new.conn.now) result }
+    ensures open { WasOpen (state S.Store tx.old.conn.now) (state S.Store tx.new.conn.now) result }
     ensures survives { LeavesNone (state S.Store tx.old.conn.now) (state S.Store tx.new.conn.now) }
 {
     required(account_of(tx, account)?)
@@ -80,6 +84,7 @@ pub(crate) fn rows_of_entry<S: Alter>(
     ensures same_reference { tx.new.conn.ghost_name ≡ tx.old.conn.ghost_name }
     ensures told { HasCleanDisk (state S.Store tx.new.conn.now) → IsTrue (state S.Store tx.old.conn.now).in_transaction → (s : Sheets) → HoldsTables (state S.Store tx.old.conn.now).now s → IfOk result (λ rows. AreOfEntry s entry.now rows.account rows.teller rows.branch) }
     ensures steps { Stays (state S.Store tx.old.conn.now) (state S.Store tx.new.conn.now) result }
+    ensures open { WasOpen (state S.Store tx.old.conn.now) (state S.Store tx.new.conn.now) result }
     ensures survives { LeavesNone (state S.Store tx.old.conn.now) (state S.Store tx.new.conn.now) }
 {
     let account = account_row(tx, entry.account)?;

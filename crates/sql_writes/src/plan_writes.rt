@@ -7,18 +7,21 @@ ghost use Rattle.bank_books.specs.Effects.{all_written, applied, written};
 ghost use Rattle.bank_books.specs.Version.{has_version_for};
 ghost use Rattle.bank_books.specs.WorldLists.{WorldLists};
 ghost use Rattle.bank_books.specs.declared.row_write.RowWrite.TheVariants as write;
+ghost use Rattle.book_kept.specs.Named.{AreLegs};
 ghost use Rattle.sql_schema.specs.Held.{HoldsWorld};
-ghost use Rattle.sql_schema.specs.Steps.{LeavesNone, Moves};
+ghost use Rattle.sql_schema.specs.Steps.{LeavesNone, Moves, WasOpen};
 
 use crate::book_writes::{
     write_account, write_day, write_entry, write_line, write_proof, write_release, write_slip,
     write_used,
 };
+use crate::leg_writes::write_legs;
 use crate::policy_writes::{write_policy, write_session};
 use crate::posting_writes::write_posting;
 use crate::version_writes::raise_version;
 use bank_books::{CashLine, Entry, RowWrite, changes_policy};
 use money::Fault;
+use sql_books::version_of;
 use sqlite::{Alter, Transaction};
 use std::alloc::Global;
 
@@ -76,7 +79,36 @@ fn posting_of(plan: &[RowWrite]) -> Option<(&Entry, &CashLine, &[RowWrite])>
     }
 }
 
-/// Writes these changes. An entry and the line of its cash, where they begin them, are written as one.
+/// The two entries that begin these changes, of one teller and one branch and of two accounts, and the changes behind both. None where
+/// they begin otherwise.
+fn legs_of(plan: &[RowWrite]) -> Option<(&Entry, &Entry, &[RowWrite])>
+    ensures begin { IfSome result (λ it. plan.now ≡ write.Entry it.0.now ∷ write.Entry it.1.now ∷ it.2.now) }
+    ensures legs { IfSome result (λ it. AreLegs it.0.now it.1.now) }
+{
+    match plan {
+        [RowWrite::Entry(first), RowWrite::Entry(second), rest @ ..]
+            if second.teller == first.teller
+                && second.branch == first.branch
+                && second.account != first.account => { Some((first, second, rest)) }
+        _ => None,
+    }
+}
+
+/// Reads something, which shows that the connection is open.
+fn look<S: Alter>(tx: &mut Transaction<'_, S>) -> Result<(), Fault>
+    ensures same_reference { tx.new.conn.ghost_name ≡ tx.old.conn.ghost_name }
+    ensures moves { Moves (state S.Store tx.old.conn.now) (state S.Store tx.new.conn.now) (λ w. w) result }
+    ensures open { WasOpen (state S.Store tx.old.conn.now) (state S.Store tx.new.conn.now) result }
+    ensures survives { LeavesNone (state S.Store tx.old.conn.now) (state S.Store tx.new.conn.now) }
+{
+    match version_of(tx) {
+        Ok(_) => Ok(()),
+        Err(fault) => Err(fault),
+    }
+}
+
+/// Writes these changes. An entry and the line of its cash, or two entries of a transfer, where they begin them, are written as one. Either
+/// begins with a read, which shows that the connection is open; any others stand behind one.
 fn write_changes<S: Alter>(
     alloc: Global,
     tx: &mut Transaction<'_, S>,
@@ -84,6 +116,7 @@ fn write_changes<S: Alter>(
 ) -> Result<(), Fault>
     ensures same_reference { tx.new.conn.ghost_name ≡ tx.old.conn.ghost_name }
     ensures moves { Moves (state S.Store tx.old.conn.now) (state S.Store tx.new.conn.now) (all_written plan.now) result }
+    ensures open { WasOpen (state S.Store tx.old.conn.now) (state S.Store tx.new.conn.now) result }
     ensures survives { LeavesNone (state S.Store tx.old.conn.now) (state S.Store tx.new.conn.now) }
 {
     match posting_of(plan) {
@@ -91,7 +124,16 @@ fn write_changes<S: Alter>(
             write_posting(tx, entry, line)?;
             write_all(alloc, tx, rest)
         }
-        None => write_all(alloc, tx, plan),
+        None => match legs_of(plan) {
+            Some((first, second, rest)) => {
+                write_legs(tx, first, second)?;
+                write_all(alloc, tx, rest)
+            }
+            None => {
+                look(tx)?;
+                write_all(alloc, tx, plan)
+            }
+        },
     }
 }
 
@@ -105,6 +147,7 @@ pub fn write_plan<S: Alter>(
     ensures same_reference { tx.new.conn.ghost_name ≡ tx.old.conn.ghost_name }
     ensures moves { Moves (state S.Store tx.old.conn.now) (state S.Store tx.new.conn.now) (applied plan.now) result }
     ensures room { HasCleanDisk (state S.Store tx.new.conn.now) → IsTrue (state S.Store tx.old.conn.now).in_transaction → (w : WorldLists) → HoldsWorld (state S.Store tx.old.conn.now).now w → OnOk result (IsTrue (has_version_for plan.now w.version)) }
+    ensures open { WasOpen (state S.Store tx.old.conn.now) (state S.Store tx.new.conn.now) result }
     ensures survives { LeavesNone (state S.Store tx.old.conn.now) (state S.Store tx.new.conn.now) }
 {
     write_changes(alloc, tx, plan)?;

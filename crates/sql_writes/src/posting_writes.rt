@@ -5,7 +5,7 @@ ghost use Rattle.sqlite.specs.Held.{state};
 ghost use Rattle.bank_books.specs.Effects.{all_written};
 ghost use Rattle.bank_books.specs.declared.row_write.RowWrite.TheVariants as write;
 ghost use Rattle.book_kept.specs.Changes.{posting_sheets};
-ghost use Rattle.sql_schema.specs.Steps.{LeavesNone, Moves, Steps};
+ghost use Rattle.sql_schema.specs.Steps.{LeavesNone, Moves, Steps, WasOpen};
 
 use crate::book_writes::{put_entry, rows_of_entry};
 use crate::required::required;
@@ -38,6 +38,7 @@ pub(crate) fn write_posting<S: Alter>(
 ) -> Result<(), Fault>
     ensures same_reference { tx.new.conn.ghost_name ≡ tx.old.conn.ghost_name }
     ensures moves { Moves (state S.Store tx.old.conn.now) (state S.Store tx.new.conn.now) (all_written (write.Entry entry.now ∷ write.Line line.now ∷ [])) result }
+    ensures open { WasOpen (state S.Store tx.old.conn.now) (state S.Store tx.new.conn.now) result }
     ensures survives { LeavesNone (state S.Store tx.old.conn.now) (state S.Store tx.new.conn.now) }
 {
     let named = rows_of_entry(tx, entry)?;

@@ -5,28 +5,13 @@ ghost use Rattle.bank_books.specs.Effects.{applied};
 ghost use Rattle.bank_books.specs.Version.{has_version_for};
 ghost use Rattle.bank_books.specs.WorldLists.{WorldLists};
 ghost use Rattle.sql_schema.specs.Held.{AreOfWorld, HoldsBank};
-ghost use Rattle.sql_schema.specs.Steps.{LeavesNone, Moves, WasOpen};
 
 use bank_books::RowWrite;
 use money::Fault;
-use sql_books::version_of;
 use sql_schema::commit;
 use sql_writes::write_plan;
-use sqlite::{Alter, Connection, Transaction};
+use sqlite::{Alter, Connection};
 use std::alloc::Global;
-
-/// Reads something, which shows that the connection is open.
-fn look<S: Alter>(tx: &mut Transaction<'_, S>) -> Result<(), Fault>
-    ensures same_reference { tx.new.conn.ghost_name ≡ tx.old.conn.ghost_name }
-    ensures moves { Moves (state S.Store tx.old.conn.now) (state S.Store tx.new.conn.now) (λ w. w) result }
-    ensures open { WasOpen (state S.Store tx.old.conn.now) (state S.Store tx.new.conn.now) result }
-    ensures survives { LeavesNone (state S.Store tx.old.conn.now) (state S.Store tx.new.conn.now) }
-{
-    match version_of(tx) {
-        Ok(_) => Ok(()),
-        Err(fault) => Err(fault),
-    }
-}
 
 /// Writes the whole plan in one transaction, or at a fault nothing of it.
 pub(crate) fn apply_plan<S: Alter>(
@@ -44,7 +29,6 @@ pub(crate) fn apply_plan<S: Alter>(
     ensures crash { Survives (state S.Store conn.old) (state S.Store conn.new) (λ trees. IsTrue (state S.Store conn.old).is_open × ((w : WorldLists) → HoldsBank (state S.Store conn.old) w → AreOfWorld (applied plan.now w) trees)) }
 {
     let mut tx = conn.transaction();
-    look(&mut tx)?;
     write_plan(alloc, &mut tx, plan)?;
     commit(tx)
 }
