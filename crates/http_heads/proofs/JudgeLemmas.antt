@@ -70,7 +70,7 @@ pub malformed : (bytes : List ℕ) (n : ℕ) → n ≤ max_head_len → EndsLine
 malformed bytes n short line never =
     (take n bytes, drop n bytes, sym (take-append-drop n bytes), line, omega (arith, length-take n bytes), never)
 
-take_take : (k m : ℕ) (xs : List ℕ) → k ≤ m → take k (take m xs) ≡ take k xs
+pub take_take : (k m : ℕ) (xs : List ℕ) → k ≤ m → take k (take m xs) ≡ take k xs
 take_take zero m xs h = refl
 take_take (suc k) zero xs h = absurd (omega arith)
 take_take (suc k) (suc m) [] h = refl

@@ -4,5 +4,6 @@ pub mod Found
 pub mod Framing
 pub mod Judged
 pub mod Parts
+pub mod Seen
 pub mod Stream
 pub mod Words

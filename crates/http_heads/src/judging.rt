@@ -1,7 +1,9 @@
-ghost use Rattle.std.specs.Prelude.{◌≡◌, ◌≢◌, ℕ, ◌-◌, ◌<◌, ◌≤◌, ◌⊎◌, [], length, get_or};
+ghost use Rattle.std.specs.Prelude.{◌≡◌, ◌≤◌, ◌⊎◌, [], length};
 ghost use Rattle.http_heads.specs.Stream.{max_head_len, max_fields, EndsLine};
 ghost use Rattle.http_heads.specs.Judged.{IsJudged, AreLinesJudged};
+ghost use Rattle.http_heads.specs.Seen.{IsSeen};
 
+use crate::lines::{Seen, go_on, lines_end};
 use httparse::spans::{HeaderSpan, RequestSpans, parse_request};
 use httparse::{Error, Status};
 
@@ -24,19 +26,6 @@ pub enum Judged {
     Waiting,
 }
 
-/// How many bytes there are through the last line feed.
-fn lines_len(bytes: &[u8]) -> usize
-    ensures within { result ≤ length bytes.now }
-    ensures line { 0 < result → get_or bytes.now (result - 1) 0 ≡ 10 }
-    ensures after { (k : ℕ) → result ≤ k → k < length bytes.now → get_or bytes.now k 0 ≢ 10 }
-{
-    let mut len = bytes.len();
-    while len > 0 && bytes[len - 1] != b'\n' {
-        len -= 1;
-    }
-    len
-}
-
 /// Whether whole lines begin with a head, begin one, or can begin none.
 fn judge_lines(lines: &[u8], headers: &mut [HeaderSpan]) -> Judged
     requires whole { (lines.now ≡ []) ⊎ EndsLine lines.now }
@@ -55,6 +44,44 @@ fn judge_lines(lines: &[u8], headers: &mut [HeaderSpan]) -> Judged
     }
 }
 
+/// Judges the first bytes of a stream, as `judge` does, where so many of them were judged before, and keeps how many are now.
+/// Where only further fields came, or further line ends before the start line, these alone are looked at: so a head takes
+/// time by its length, in however many pieces it comes. No contract says so.
+pub fn judge_from(bytes: &[u8], headers: &mut [HeaderSpan], seen: &mut Seen) -> Judged
+    requires room { max_fields ≤ length headers.old }
+    requires known { IsSeen bytes.now seen.old }
+    ensures judged { IsJudged bytes.now headers.new result }
+    ensures kept { IsSeen bytes.now seen.new }
+    ensures through { result ≡ Judged.Waiting → seen.new.len ≡ length bytes.now }
+{
+    let window = &bytes[..bytes.len().min(MAX_HEAD_LEN)];
+    let len = lines_end(window, *seen);
+    let lines = &bytes[..len];
+    let is_short = bytes.len() < MAX_HEAD_LEN;
+    if is_short && go_on(lines, headers, *seen) {
+        seen.len = bytes.len();
+        seen.lines = len;
+        return Judged::Waiting;
+    }
+    match judge_lines(lines, headers) {
+        Judged::Head(head) => Judged::Head(head),
+        Judged::Malformed => Judged::Malformed,
+        Judged::TooLong => unreachable!(),
+        Judged::Waiting => {
+            if is_short {
+                *seen = Seen {
+                    len: bytes.len(),
+                    lines: len,
+                    started: true,
+                };
+                Judged::Waiting
+            } else {
+                Judged::TooLong
+            }
+        }
+    }
+}
+
 /// Judges the first bytes of a stream at the last line feed of the first `MAX_HEAD_LEN`, and writes where the fields of
 /// a head are to the front of `headers`. A head, and lines that begin none, stay so whatever bytes follow, and
 /// exclude each other; so this is what a judgement at each line feed comes to.
@@ -62,18 +89,5 @@ pub fn judge(bytes: &[u8], headers: &mut [HeaderSpan]) -> Judged
     requires room { max_fields ≤ length headers.old }
     ensures { IsJudged bytes.now headers.new result }
 {
-    let window = &bytes[..bytes.len().min(MAX_HEAD_LEN)];
-    let len = lines_len(window);
-    match judge_lines(&bytes[..len], headers) {
-        Judged::Head(head) => Judged::Head(head),
-        Judged::Malformed => Judged::Malformed,
-        Judged::TooLong => unreachable!(),
-        Judged::Waiting => {
-            if bytes.len() < MAX_HEAD_LEN {
-                Judged::Waiting
-            } else {
-                Judged::TooLong
-            }
-        }
-    }
+    judge_from(bytes, headers, &mut Seen::nothing())
 }

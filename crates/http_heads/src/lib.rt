@@ -1,19 +1,24 @@
 //! Heads of HTTP/1.1 messages, by the grammar of `httparse`. `judge` tells exactly whether bytes begin with
-//! a head, can begin none, are too long, or may still become one. `Head` tells the method, the target and
-//! the fields; `find_field` ignores letter case. `Head::body_len` is the length of the body, 1,024 at most,
-//! or the least fault. `closes` and `framing` say how the reply ends. Nothing here knows of banks.
+//! a head, can begin none, are too long, or may still become one; `judge_from` tells it of a head that comes
+//! in pieces, and keeps how far it was judged. `Head` tells the method, the target and the fields;
+//! `find_field` ignores letter case. `Head::body_len` is the length of the body, 1,024 at most, or the least
+//! fault. `closes` and `framing` say how the reply ends. Nothing here knows of banks.
 #![tactic(auto)]
 
+mod blank;
 mod fault;
 mod fields;
 mod framing;
 mod head;
 mod judging;
 mod length;
+mod lines;
 mod words;
 
+pub use blank::are_line_ends;
 pub use fault::MessageFault;
 pub use fields::{Found, find_field};
 pub use framing::Framing;
 pub use head::{Head, MAX_BODY_LEN};
-pub use judging::{Judged, MAX_FIELDS, MAX_HEAD_LEN, judge};
+pub use judging::{Judged, MAX_FIELDS, MAX_HEAD_LEN, judge, judge_from};
+pub use lines::Seen;

@@ -1,5 +1,5 @@
 -- What the bytes of a stream begin with.
-use Rattle.std.specs.Prelude.{◌≡◌, ◌⊎◌, ℕ, ◌+◌, ◌<◌, ◌≤◌, List, length, take, Some, None}
+use Rattle.std.specs.Prelude.{◌≡◌, ◌⊎◌, ℕ, ◌+◌, ◌<◌, ◌≤◌, List, length, Some, None, ⊤}
 use Rattle.httparse.specs.declared.spans.HeaderSpan.{HeaderSpan}
 use Rattle.httparse.specs.declared.spans.RequestSpans.{RequestSpans}
 use Rattle.httparse.specs.Grammar.{RequestHead}
@@ -11,6 +11,7 @@ use Rattle.http_messages.specs.declared.looking.Next.TheVariants.{Message, Fault
 use Rattle.http_messages.specs.declared.looking.Awaited.{Awaited}
 use Rattle.http_messages.specs.declared.looking.Awaited.TheVariants.{Head, Body}
 use Rattle.http_heads.specs.Stream.{max_head_len, BeginsHead, IsMalformed, IsTooLong, IsUndecided}
+use Rattle.http_heads.specs.Seen.{IsSeen}
 use Rattle.http_heads.specs.Framing.{max_body_len, head_fault, body_len}
 use Rattle.http_heads.specs.Parts.{parts_of}
 use Rattle.http_messages.specs.Received.{max_message_len}
@@ -61,13 +62,18 @@ HasFault bytes Fault.BadHead = IsMalformed bytes
 HasFault bytes Fault.HeadTooLong = IsTooLong bytes
 HasFault bytes _ = ⊥
 
--- what was found of a message that came in part: bytes that were judged, or its head
+-- what was found of a message that came in part: how far a head was judged, or the head
 abbrev pub IsAwaited : List ℕ → List HeaderSpan → Awaited → Type 0
-IsAwaited bytes headers (Head n) = (n ≤ length bytes) × IsUndecided (take n bytes)
+IsAwaited bytes headers (Head seen) = IsSeen bytes seen
 IsAwaited bytes headers (Body r n) = BeginsSound bytes headers r n
+
+-- where a head is awaited, all of the bytes were judged
+abbrev pub IsThrough : List ℕ → Awaited → Type 0
+IsThrough bytes (Head seen) = seen.len ≡ length bytes
+IsThrough bytes (Body r n) = ⊤
 
 abbrev pub IsNext : List ℕ → List HeaderSpan → Next → Type 0
 IsNext bytes headers (Message r n) = BeginsMessage bytes headers r n
 IsNext bytes headers (FaultyHead r fault) = BeginsFaulty bytes headers r fault
 IsNext bytes headers (NoHead fault) = HasFault bytes fault
-IsNext bytes headers (Partial a) = IsPartial bytes × (length bytes < max_message_len) × IsAwaited bytes headers a
+IsNext bytes headers (Partial a) = IsPartial bytes × (length bytes < max_message_len) × IsAwaited bytes headers a × IsThrough bytes a

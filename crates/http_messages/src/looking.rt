@@ -1,10 +1,11 @@
-ghost use Rattle.std.specs.Prelude.{◌≢◌, ℕ, ◌<◌, ◌≤◌, List, length, get_or};
+ghost use Rattle.std.specs.Prelude.{◌≤◌, List, length};
 ghost use Rattle.httparse.specs.declared.spans.HeaderSpan.{HeaderSpan};
 ghost use Rattle.http_heads.specs.Framing.{max_body_len};
+ghost use Rattle.http_heads.specs.Seen.{IsSeen};
 ghost use Rattle.http_heads.specs.Stream.{max_fields, max_head_len};
 ghost use Rattle.http_messages.specs.Next.{BeginsSound, IsAwaited, IsNext};
 
-use http_heads::{Head, Judged, MAX_HEAD_LEN, MessageFault, judge};
+use http_heads::{Head, Judged, MessageFault, Seen, judge_from};
 use httparse::spans::{HeaderSpan, RequestSpans};
 
 /// What the bytes that were read begin with.
@@ -23,8 +24,8 @@ pub(crate) enum Next {
 /// What is awaited of a message that has come in part, and what was found of it.
 #[derive(Clone, Copy)]
 pub(crate) enum Awaited {
-    /// A head. So many bytes were judged: they are no head yet, and a head can begin with them.
-    Head(usize),
+    /// A head. So far it was judged.
+    Head(Seen),
     /// A body. This is the head, and so many bytes of body follow it.
     Body(RequestSpans, usize),
 }
@@ -42,37 +43,25 @@ fn look_behind(bytes: &[u8], spans: RequestSpans, body_len: usize) -> Next
     }
 }
 
-/// What bytes begin with of which nothing is known.
-fn look_anew(bytes: &[u8], headers: &mut [HeaderSpan]) -> Next
-    requires { max_fields ≤ length headers.old }
+/// What bytes begin with of which so much was judged.
+fn look_from(bytes: &[u8], headers: &mut [HeaderSpan], mut seen: Seen) -> Next
+    requires room { max_fields ≤ length headers.old }
+    requires known { IsSeen bytes.now seen }
     ensures { IsNext bytes.now headers.new result }
 {
-    match judge(bytes, headers) {
+    match judge_from(bytes, headers, &mut seen) {
         Judged::Head(spans) => match Head::new(bytes, headers, &spans).body_len() {
             Ok(body_len) => look_behind(bytes, spans, body_len),
             Err(fault) => Next::FaultyHead(spans, fault),
         },
         Judged::Malformed => Next::NoHead(MessageFault::BadHead),
         Judged::TooLong => Next::NoHead(MessageFault::HeadTooLong),
-        Judged::Waiting => Next::Partial(Awaited::Head(bytes.len())),
+        Judged::Waiting => Next::Partial(Awaited::Head(seen)),
     }
 }
 
-/// How many bytes there are through the last line feed behind `from`, or `from` where there is none.
-fn lines_end(bytes: &[u8], from: usize) -> usize
-    requires { from ≤ length bytes.now }
-    ensures within { (from ≤ result) × (result ≤ length bytes.now) }
-    ensures after { (k : ℕ) → result ≤ k → k < length bytes.now → get_or bytes.now k 0 ≢ 10 }
-{
-    let mut end = bytes.len();
-    while end > from && bytes[end - 1] != b'\n' {
-        end -= 1;
-    }
-    end
-}
-
-/// What bytes begin with of which this is known. A head that was found is not judged again, nor are bytes behind which
-/// no line ended: then it takes time by the bytes that came since.
+/// What bytes begin with of which this is known. It takes time by the bytes that came since; where these end the head,
+/// by the head, too.
 pub(crate) fn look(bytes: &[u8], headers: &mut [HeaderSpan], awaited: Awaited) -> Next
     requires room { max_fields ≤ length headers.old }
     requires known { IsAwaited bytes.now headers.old awaited }
@@ -80,12 +69,6 @@ pub(crate) fn look(bytes: &[u8], headers: &mut [HeaderSpan], awaited: Awaited) -
 {
     match awaited {
         Awaited::Body(spans, body_len) => look_behind(bytes, spans, body_len),
-        Awaited::Head(judged) => {
-            if bytes.len() < MAX_HEAD_LEN && lines_end(bytes, judged) == judged {
-                Next::Partial(Awaited::Head(bytes.len()))
-            } else {
-                look_anew(bytes, headers)
-            }
-        }
+        Awaited::Head(seen) => look_from(bytes, headers, seen),
     }
 }

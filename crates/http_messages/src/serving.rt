@@ -11,13 +11,12 @@ ghost use Rattle.http_messages.specs.Run.{IsServed};
 ghost use Rattle.http_messages.specs.Turn.{IsTurn};
 ghost use Rattle.http_heads.specs.Stream.{max_fields};
 
-use crate::blank::are_line_ends;
 use crate::engine::{AnswerFault, Engine};
 use crate::looking::{Awaited, Next, look};
 use crate::message::Message;
 use crate::received::Received;
 use crate::reply::write_reply;
-use http_heads::{Framing, Head, MAX_FIELDS, MessageFault};
+use http_heads::{Framing, Head, MAX_FIELDS, MessageFault, Seen, are_line_ends};
 use httparse::spans::{EMPTY_HEADER_SPAN, HeaderSpan};
 use money::Tallied;
 use std::alloc::{AllocError, Global};
@@ -90,8 +89,8 @@ fn flush_written<W: Write>(writer: &mut Tallied<W>, written: &mut bool) -> Resul
 }
 
 /// Reads until a whole message or a fault has come, or the input ends. Before each read the writer is flushed. What was
-/// found of the message is kept from read to read: its head is judged again only where a read ended a line of it, and
-/// its body is only counted.
+/// found of the message is kept from read to read: how far its head was judged, or the head, behind which the body is
+/// only counted.
 fn read_next<R: Read, W: Write>(
     reader: &mut Tallied<R>,
     writer: &mut Tallied<W>,
@@ -109,7 +108,7 @@ fn read_next<R: Read, W: Write>(
     ensures kept { Keeps (W.contents (stream_of writer.old)) (W.contents (stream_of writer.new)) }
     ensures failures { CountsByEnd reader.old reader.new writer.old writer.new result }
 {
-    let mut awaited = Awaited::Head(0);
+    let mut awaited = Awaited::Head(Seen::nothing());
     loop {
         match look(received.bytes(), headers, awaited) {
             Next::Partial(found) => awaited = found,
@@ -282,8 +281,7 @@ fn flush_last<W: Write>(
 /// before each read and at the end, where something was written since it was flushed last. A flush that fails is a
 /// failed write; one that fails at the end takes the place of an `Ok`, and of no other fault.
 ///
-/// In however many pieces a message comes, a read takes time by the bytes that it brings, and by the head as far as it
-/// has come only where it ends a line of that head. No contract says so.
+/// In however many pieces a message comes, it is read in time by its length. No contract says so.
 pub fn serve_messages<E: Engine, R: Read, W: Write>(
     alloc: Global,
     engine: &mut E,

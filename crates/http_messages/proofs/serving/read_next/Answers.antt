@@ -2,12 +2,12 @@
 use Rattle.std.proofs.Common.{rules, List, ℕ, sym, subst, ◌∙◌}
 use Rattle.std.proofs.KnownBytes.{Keeps-trans}
 use Rattle.http_messages.specs.Next.{IsAwaited}
-use Rattle.http_messages.proofs.AwaitedLemmas.{awaited_more, takes_more, undecided_nil}
+use Rattle.http_messages.proofs.AwaitedLemmas.{awaited_more, takes_more}
 use Rattle.http_messages.proofs.FailureLemmas.{one_behind}
 use Rattle.http_messages.proofs.serving.read_next.Goals as goal
 
 pub loop-found-init : goal.loop-found-init
-loop-found-init g c = (search rules, search rules, search rules, search rules, search rules, (search rules, undecided_nil))
+loop-found-init g c = (search rules, search rules, search rules, search rules, search rules, c.nothing.ensures c.args.received.now)
 
 pub loop-found-preserved : goal.loop-found-preserved
 loop-found-preserved g c =

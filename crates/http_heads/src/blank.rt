@@ -1,6 +1,5 @@
 ghost use Rattle.std.specs.Prelude.{◌≡◌, ◌≢◌, ◌↔◌, ◌++◌, ℕ, List, IsTrue, IsNone, IfSome};
-ghost use Rattle.httparse.specs.Grammar.{LineEnd, print_end};
-ghost use Rattle.http_messages.specs.Blank.{AreLineEnds};
+ghost use Rattle.httparse.specs.Grammar.{LineEnd, print_end, print_blank};
 
 /// What is behind a line end, LF or CR LF, where the bytes begin with one.
 fn strip_line_end(bytes: &[u8]) -> Option<&[u8]>
@@ -13,9 +12,9 @@ fn strip_line_end(bytes: &[u8]) -> Option<&[u8]>
     }
 }
 
-/// Whether the bytes are line ends alone.
-pub(crate) fn are_line_ends(bytes: &[u8]) -> bool
-    ensures { IsTrue result ↔ AreLineEnds bytes.now }
+/// Whether the bytes are line ends alone, each LF or CR LF.
+pub fn are_line_ends(bytes: &[u8]) -> bool
+    ensures { IsTrue result ↔ ((ends : List LineEnd) × (bytes.now ≡ print_blank ends)) }
 {
     let mut rest = bytes;
     while let Some(behind) = strip_line_end(rest) {

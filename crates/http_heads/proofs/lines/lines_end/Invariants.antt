@@ -1,9 +1,9 @@
 use Rattle.std.proofs.Common.{◌≢◌, ℕ, ◌<◌, ◌≤◌, length, get_or}
-use Rattle.http_messages.proofs.looking.lines_end.Given as goal
+use Rattle.http_heads.proofs.lines.lines_end.Given as goal
 
 abbrev pub invariant-loop-end : goal.invariant-loop-end
 invariant-loop-end l =
-    (l.from ≤ l.end)
+    (l.seen.len ≤ l.end)
     × (l.end ≤ length l.bytes)
     × ((k : ℕ) → l.end ≤ k → k < length l.bytes → get_or l.bytes k 0 ≢ 10)
 

@@ -2,8 +2,8 @@ use Rattle.std.proofs.Common.{[], length, refl, ap, ◌∙◌, arith}
 use Rattle.std.specs.Prelude.{◌==◌}
 use Rattle.std.proofs.lemmas.Bool.Decides.{nat_tests}
 use Rattle.http_heads.proofs.LineLemmas.{nil_of_length}
-use Rattle.http_messages.proofs.BlankLemmas.{more, fewer, none_left}
-use Rattle.http_messages.proofs.blank.are_line_ends.Goals as goal
+use Rattle.http_heads.proofs.BlankLemmas.{more, fewer, none_left}
+use Rattle.http_heads.proofs.blank.are_line_ends.Goals as goal
 
 pub loop-behind-preserved : goal.loop-behind-preserved
 loop-behind-preserved c =
