@@ -2,6 +2,7 @@ use crate::client::{AtZero, OneUser};
 use counter_api::serve;
 use money::Tallied;
 use std::fmt;
+use std::io::BufWriter;
 use std::time::{CpuClock, Duration, Instant};
 use store_rows::{Bank, Store};
 
@@ -28,11 +29,12 @@ impl fmt::Display for Times {
     }
 }
 
-/// Serves standard input to standard output over this store. None where a stream or memory fails, or the clock.
+/// Serves standard input to standard output over this store, whose replies are gathered as the bank program does. None where a
+/// stream or memory fails, or the clock.
 pub fn serve_timed<S: Store + Drop>(rt: &HostRuntime, store: S) -> Option<Times> {
     let mut bank = Bank { store };
     let mut input = Tallied::new(rt.stdin());
-    let mut output = Tallied::new(rt.stdout());
+    let mut output = Tallied::new(BufWriter::new(rt.alloc(), rt.stdout()).ok()?);
     let start = Instant::now(rt).ok()?;
     let before = rt.process_cpu_time().ok()?;
     let served = serve(

@@ -1,7 +1,7 @@
 -- A port of the machine, served over any store.
-use Rattle.std.specs.Prelude.{◌≡◌, ◌⊎◌, ℕ, List, [], ◌∷◌, codes, decimal, Option, Result, Err}
+use Rattle.std.specs.Prelude.{◌≡◌, ◌⊎◌, ℕ, List, [], ◌∷◌, codes, decimal, Option, None, Result, Err}
 use Rattle.std.specs.List.{concat}
-use Rattle.store_cached.specs.Standing.{below, cached_status, remembered}
+use Rattle.store_cached.specs.Standing.{below, cached_status, known_version, remembered}
 use Rattle.store_cached.specs.declared.cached.Cached.{Cached}
 use Rattle.exit_lines.specs.Streams.{GetsAll, GetsBeginning, Stream}
 use Rattle.store_rows.specs.Status.{Status}
@@ -34,6 +34,7 @@ module _ {S C : Type 0} (status : S → Status) (users : List ℕ → Option ℕ
     pub ended : Cached S
     pub over : below began ≡ old.store
     pub empty : remembered began ≡ []
+    pub unread : known_version began ≡ None
     pub served : IsPortServed (cached_status status) users may_give port requests output_old output_new
         (record { store = began; clock = old.clock }) (record { store = ended; clock = new.clock }) result
     pub uncovered : new.store ≡ below ended

@@ -1,6 +1,6 @@
 -- What serving a stream over a store comes to, and what it leaves of the store.
-use Rattle.std.specs.Prelude.{◌≡◌, ◌⊎◌, [], ℕ, List, Option, Result, Ok, Err}
-use Rattle.store_cached.specs.Standing.{below, cached_status, remembered}
+use Rattle.std.specs.Prelude.{◌≡◌, ◌⊎◌, [], ℕ, List, Option, None, Result, Ok, Err}
+use Rattle.store_cached.specs.Standing.{below, cached_status, known_version, remembered}
 use Rattle.store_cached.specs.declared.cached.Cached.{Cached}
 use Rattle.counter_api.specs.Exit.{IsServed}
 use Rattle.counter_clocks.specs.Standing.{gives_its_own, standing_at}
@@ -44,6 +44,7 @@ module _ {S : Type 0} (status : S → Status) (users : List ℕ → Option ℕ) 
     pub ended : Cached S
     pub over : below began ≡ opened
     pub empty : remembered began ≡ []
+    pub unread : known_version began ≡ None
     pub served : IsServedOver (cached_status status) users began moment old new ended result
     pub uncovered : left ≡ below ended
 

@@ -2,6 +2,7 @@
 use Rattle.std.proofs.Common.{◌≡◌, ◌==◌, ◌&&◌, ℕ, Bool, true, false, not, cond, List, Option, Some, None, Ok, Err, Result, ap, sym, ◌∙◌}
 use Rattle.std.specs.Prelude.{if◌then◌else◌}
 use Rattle.std.specs.Prelude.{option_map}
+use Rattle.std.specs.Rc.{rc_slice_items}
 use Rattle.bank_policy.specs.HeldRows.{CertifiedSet, HeldTriple}
 use Rattle.bank_policy.specs.declared.rows.Standing.{Standing}
 use Rattle.bank_policy.specs.Tests.{current, is_certified, is_held}
@@ -42,8 +43,8 @@ grounds_with x s relations held released = record {
 same_grounds : (w : WorldLists) (x : Execution) (l : OperationRows) → IsLoadedFor w x l → loaded_grounds l.policy x ≡ grounds w x
 same_grounds w x l loaded =
     let g = grounds w x in
-    ap (λ s. grounds_with x s l.policy.relations.items (current x.moment l.policy.held.items) (option_map (grounds_of x.moment) l.policy.released)) loaded.standing
-    ∙ ap (λ rows. grounds_with x g.standing rows (current x.moment l.policy.held.items) (option_map (grounds_of x.moment) l.policy.released)) loaded.relations
+    ap (λ s. grounds_with x s (rc_slice_items l.policy.relations) (current x.moment (rc_slice_items l.policy.held)) (option_map (grounds_of x.moment) l.policy.released)) loaded.standing
+    ∙ ap (λ rows. grounds_with x g.standing rows (current x.moment (rc_slice_items l.policy.held)) (option_map (grounds_of x.moment) l.policy.released)) loaded.relations
     ∙ ap (λ rows. grounds_with x g.standing g.relations (current x.moment rows) (option_map (grounds_of x.moment) l.policy.released)) loaded.held
     ∙ ap (λ released. grounds_with x g.standing g.relations g.held released) loaded.released
 

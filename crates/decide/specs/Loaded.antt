@@ -1,5 +1,6 @@
 -- Rows that were loaded for a request.
 use Rattle.std.specs.Prelude.{ℕ, ◌≡◌, option_and_then, option_map}
+use Rattle.std.specs.Rc.{rc_slice_items}
 use Rattle.bank_policy.specs.HeldRows.{relations_of, standing, triples_of}
 use Rattle.bank_policy.specs.Tests.{current}
 use Rattle.bank_books.specs.WorldLists.{WorldLists}
@@ -28,8 +29,8 @@ use Rattle.bank_meaning.specs.declared.who.Who.{Who}
 -- these rows are those of a World by which an operation is judged
 pub record IsLoadedFor (w : WorldLists) (x : Execution) (l : OperationRows) : Type 0 where
   pub standing : l.policy.standing ≡ option_and_then (λ user. standing w.policy user) x.who.user
-  pub relations : l.policy.relations.items ≡ relations_of w.policy (procedure_of x.op)
-  pub held : l.policy.held.items ≡ triples_of w.policy (asker x.who) (procedure_of x.op)
+  pub relations : rc_slice_items l.policy.relations ≡ relations_of w.policy (procedure_of x.op)
+  pub held : rc_slice_items l.policy.held ≡ triples_of w.policy (asker x.who) (procedure_of x.op)
   pub released : option_map (grounds_of x.moment) l.policy.released ≡ release_grounds w (asker x.who) x.who.release x.moment
   pub books : l.books ≡ book_rows w x.op
   pub slip : l.slip.found ≡ (slip_grounds w x).found
@@ -75,8 +76,8 @@ loaded_grounds rows x = record {
   user = asker x.who;
   standing = rows.standing;
   session = x.who.session;
-  relations = rows.relations.items;
-  held = current x.moment rows.held.items;
+  relations = rc_slice_items rows.relations;
+  held = current x.moment (rc_slice_items rows.held);
   operation = row_of x.op;
   items = touched x.op;
   amount = amount x.op;

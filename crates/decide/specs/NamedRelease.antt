@@ -1,6 +1,7 @@
 -- What the rows of a release that is named tell of it.
 use Rattle.std.specs.Prelude.{ℕ, Bool, Option, false, option_map}
 use Rattle.std.specs.Option.{option_map_or}
+use Rattle.std.specs.Rc.{rc_slice_items}
 use Rattle.counter_ops.specs.Rows.{row_of}
 use Rattle.counter_ops.specs.Touched.{amount, touched}
 use Rattle.bank_policy.specs.Tests.{current}
@@ -11,7 +12,7 @@ use Rattle.decide.specs.declared.named_release.NamedRelease.{NamedRelease}
 
 -- what it is judged by at a moment
 abbrev pub grounds_of : ℕ → NamedRelease → ReleaseGrounds
-grounds_of moment r = record { row = r.row; today = r.today; giver = r.giver; held = current moment r.held.items }
+grounds_of moment r = record { row = r.row; today = r.today; giver = r.giver; held = current moment (rc_slice_items r.held) }
 
 -- it is there and counts for the operation that is asked for
 abbrev pub is_released_by : Option NamedRelease → Execution → Bool

@@ -22,6 +22,7 @@ use bank_terms::{MAX_SLIPS, Rule};
 use certify::CommandRows;
 use counter_ops::{amount, touches};
 use op_prepare::{BookRows, first_of_books};
+use std::rc::RcSlice;
 
 /// The rows of the policy by which an operation is judged.
 #[derive(Drop)]
@@ -29,9 +30,9 @@ pub struct PolicyRows {
     /// What the row of the user who asks says of whether he may, or none where he isn't there.
     pub standing: Option<Standing>,
     /// The relations of the procedure.
-    pub relations: Vec<CertifiedRow>,
+    pub relations: RcSlice<CertifiedRow>,
     /// The user's triples for it.
-    pub held: Vec<HeldRow>,
+    pub held: RcSlice<HeldRow>,
     /// What the release that is named is judged by, or none where it isn't there.
     pub released: Option<NamedRelease>,
 }

@@ -14,6 +14,7 @@ use command_reads::standing_of;
 use counter_ops::{amount, touches};
 use money::Fault;
 use std::alloc::Global;
+use std::rc::RcSlice;
 use store_rows::{BookReads, PolicyReads};
 
 /// All that a release is judged by, where it is there.
@@ -26,7 +27,7 @@ pub struct NamedRelease {
     /// What the row of the user who gave it says of whether he may, or none where he isn't there.
     pub giver: Option<Standing>,
     /// That user's triples for releases.
-    pub held: Vec<HeldRow>,
+    pub held: RcSlice<HeldRow>,
 }
 
 /// What the release of this number of a user is judged by, or none where it isn't there.

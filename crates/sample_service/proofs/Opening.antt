@@ -3,7 +3,7 @@ use Rattle.std.proofs.Common.{◌≡◌, ◌∙◌, [], ℕ, Option, Some, None,
 use Rattle.bank_books.specs.WorldLists.{WorldLists}
 use Rattle.bank_meaning.specs.Sums.{PassesChecks}
 use Rattle.store_cached.specs.Fresh.{AreFresh}
-use Rattle.store_cached.specs.Standing.{below, cached_status, remembered}
+use Rattle.store_cached.specs.Standing.{below, cached_status, known_version, remembered}
 use Rattle.store_cached.specs.declared.cached.Cached.{Cached}
 use Rattle.exit_lines.specs.Streams.{Streams}
 use Rattle.http_messages.specs.declared.serving.ServeFault.{ServeFault}
@@ -24,13 +24,13 @@ opens_with store world same passes holds only = record {
 }
 
 -- one with a cache over such a store that keeps nothing yet
-pub opens_behind : {S : Type 0} (status : S → Status) (cached : Cached S) (store : S) → below cached ≡ store → remembered cached ≡ []
+pub opens_behind : {S : Type 0} (status : S → Status) (cached : Cached S) (store : S) → below cached ≡ store → remembered cached ≡ [] → known_version cached ≡ None
     → IsOpening status store → IsOpening (cached_status status) cached
-opens_behind status cached store same empty opens = record {
+opens_behind status cached store same empty unread opens = record {
   passes = opens.passes;
   holds = (
     subst (λ s. (status s).holds sample_opening) (sym same) opens.holds,
-    λ _. subst (AreFresh sample_opening) (sym empty) (λ entry has. absurd (omega (arith, has.1))),
+    λ _. (subst (AreFresh sample_opening) (sym empty) (λ entry has. absurd (omega (arith, has.1))), rw unread search),
   );
   only = λ w h. opens.only w (subst (λ s. (status s).holds w) same h.0);
 }
@@ -41,5 +41,5 @@ pub served_through : {S : Type 0} (status : S → Status) (moment : ℕ) (old ne
     → (ended : Option (Cached S)) × IsSampleServed (cached_status status) moment old new ended result
 served_through status moment old new None result served = (None, served)
 served_through status moment old new (Some left) result (opened, opens, inl through) =
-    (Some through.ended, (through.began, opens_behind status through.began opened through.over through.empty opens, through.served))
+    (Some through.ended, (through.began, opens_behind status through.began opened through.over through.empty through.unread opens, through.served))
 served_through status moment old new (Some left) result (opened, opens, inr (refused, same, unread)) = (None, (refused, unread))

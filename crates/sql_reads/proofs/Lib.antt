@@ -1,3 +1,4 @@
+pub mod LentRows
 pub mod BookLemmas
 pub mod LeastLemmas
 pub mod LowerLemmas

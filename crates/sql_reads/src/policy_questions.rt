@@ -1,6 +1,7 @@
 //! Questions about the policy.
 
 ghost use Rattle.std.specs.Prelude.{◌≡◌, option_map};
+ghost use Rattle.std.specs.Rc.{rc_slice_items};
 ghost use Rattle.bank_policy.specs.HeldRows.{relations_of, triples_of};
 ghost use Rattle.world_reads.specs.BookReads.{release};
 ghost use Rattle.world_reads.specs.PolicyReads.{is_certifier, is_set, set_count, triple_count, user_record};
@@ -14,6 +15,7 @@ use money::Fault;
 use sql_schema::Question;
 use sqlite::{Alter, Transaction};
 use std::alloc::Global;
+use std::rc::RcSlice;
 use world_reads::UserRecord;
 
 /// What a store answers of a user, by the row that is kept of him.
@@ -68,16 +70,17 @@ pub struct TriplesFor {
 }
 
 impl Question for TriplesFor {
-    type Answer = Vec<HeldRow>;
+    type Answer = RcSlice<HeldRow>;
 
-    ghost says = { λ asked w rows. rows.items ≡ triples_of w.policy asked.user asked.procedure };
+    ghost says = { λ asked w rows. rc_slice_items rows ≡ triples_of w.policy asked.user asked.procedure };
 
     fn ask<S: Alter>(
         &self,
         alloc: Global,
         tx: &mut Transaction<'_, S>,
-    ) -> Result<Vec<HeldRow>, Fault> {
-        sql_policy::triples_of(alloc, tx, self.user, self.procedure)
+    ) -> Result<RcSlice<HeldRow>, Fault> {
+        let rows = sql_policy::triples_of(alloc, tx, self.user, self.procedure)?;
+        Ok(RcSlice::from_vec(rows)?)
     }
 }
 
@@ -89,16 +92,17 @@ pub struct RelationsOf {
 }
 
 impl Question for RelationsOf {
-    type Answer = Vec<CertifiedRow>;
+    type Answer = RcSlice<CertifiedRow>;
 
-    ghost says = { λ asked w rows. rows.items ≡ relations_of w.policy asked.procedure };
+    ghost says = { λ asked w rows. rc_slice_items rows ≡ relations_of w.policy asked.procedure };
 
     fn ask<S: Alter>(
         &self,
         alloc: Global,
         tx: &mut Transaction<'_, S>,
-    ) -> Result<Vec<CertifiedRow>, Fault> {
-        sql_policy::relations_of(alloc, tx, self.procedure)
+    ) -> Result<RcSlice<CertifiedRow>, Fault> {
+        let rows = sql_policy::relations_of(alloc, tx, self.procedure)?;
+        Ok(RcSlice::from_vec(rows)?)
     }
 }
 

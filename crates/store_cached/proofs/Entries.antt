@@ -6,7 +6,7 @@ use Rattle.std.proofs.lemmas.Bool.{eq-eqb, eqb-true, ne_eqb}
 use Rattle.std.specs.Option.{option_and_then, option_map_or}
 use Rattle.bank_books.specs.WorldLists.{WorldLists}
 use Rattle.store_cached.proofs.Keys.{same, same_is_key, same_key}
-use Rattle.store_cached.specs.Fresh.{AreFresh, Fits, HasRows, IsFirst, SameRows, entry_of, is_key, rows_kept}
+use Rattle.store_cached.specs.Fresh.{AreFresh, Fits, HasRows, IsFirst, SameRows, entry_of, rows_kept}
 use Rattle.store_cached.specs.declared.entry.Kept.{Kept}
 use Rattle.store_cached.specs.declared.entry.Key.{Key}
 use Rattle.store_cached.specs.declared.entry.Rows.{Rows}

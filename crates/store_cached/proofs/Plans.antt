@@ -1,4 +1,5 @@
 -- A plan leaves no entry of a cache wrong: a change of the policy makes each of them one of an older version.
+use Rattle.std.specs.Prelude.{IfSome}
 use Rattle.std.proofs.Common.{◌≡◌, ℕ, ◌+◌, if◌then◌else◌, ◌≤◌, Bool, true, false, ◌||◌, List, [], ◌∷◌, Option, Some, None, refl, ap, subst, sym, ◌∙◌, arith}
 use Rattle.bank_books.specs.Effects.{all_written, applied, in_full, written}
 use Rattle.bank_books.specs.Version.{changes_policy, has_version_for, is_of_policy, with_version}
@@ -7,7 +8,7 @@ use Rattle.bank_books.specs.declared.row_write.RowWrite.{RowWrite}
 use Rattle.bank_books.specs.declared.row_write.RowWrite.TheVariants as write
 use Rattle.store_rows.specs.Status.{Changes, Status, after_mark}
 use Rattle.store_cached.specs.Fresh.{AreFresh, HasRows}
-use Rattle.store_cached.specs.Standing.{with_entries}
+use Rattle.store_cached.specs.Standing.{Suits, with_kept}
 use Rattle.store_cached.specs.declared.entry.Kept.{Kept}
 use Rattle.store_cached.specs.declared.entry.Key.{Key}
 use Rattle.store_cached.specs.declared.entry.Rows.{Rows}
@@ -85,10 +86,34 @@ after_fresh : (mark : Option Fault) (plan : List RowWrite) (w : WorldLists) (ent
 after_fresh None plan w entries fresh = applied_fresh plan w entries fresh
 after_fresh (Some fault) plan w entries fresh = fresh
 
--- a plan that is carried out below is carried out with the cache
-pub changes_beside : (old new : Status) (entries : List (Key × Kept)) (plan : List RowWrite) (mark : Option Fault)
-    → Changes old new (applied plan) mark → Changes (with_entries old entries) (with_entries new entries) (applied plan) mark
-changes_beside old new entries plan mark c = record {
+applied_version : (plan : List RowWrite) (w : WorldLists) → changes_policy plan ≡ false → (applied plan w).version ≡ w.version
+applied_version plan w none = by (has_version_for plan w.version)
+  where
+    by : (b : Bool) → (if b then in_full plan w else w).version ≡ w.version
+    by true = ap (λ (c : Bool). (with_version c (all_written plan w)).version) none ∙ written_version plan w
+    by false = refl
+
+after_version : (mark : Option Fault) (plan : List RowWrite) (w : WorldLists) → changes_policy plan ≡ false → (after_mark mark (applied plan w) w).version ≡ w.version
+after_version None plan w none = applied_version plan w none
+after_version (Some fault) plan w none = refl
+
+still : (version : Option ℕ) (n m : ℕ) → n ≡ m → IfSome version (λ v. v ≡ n) → IfSome version (λ v. v ≡ m)
+still None n m same is = tt
+still (Some v) n m same is = is ∙ same
+
+-- the version that is still known behind a plan is that of the World behind it
+known_version : (version : Option ℕ) (mark : Option Fault) (plan : List RowWrite) (w : WorldLists) → IfSome version (λ v. v ≡ w.version)
+    → IfSome (if changes_policy plan then None else version) (λ v. v ≡ (after_mark mark (applied plan w) w).version)
+known_version version mark plan w is = by (changes_policy plan) refl
+  where
+    by : (b : Bool) → changes_policy plan ≡ b → IfSome (if b then None else version) (λ v. v ≡ (after_mark mark (applied plan w) w).version)
+    by true some = tt
+    by false none = still version w.version (after_mark mark (applied plan w) w).version (sym (after_version mark plan w none)) is
+
+-- a plan that is carried out below is carried out with the cache, which then knows the version unless the plan changes the policy
+pub changes_beside : (old new : Status) (version : Option ℕ) (entries : List (Key × Kept)) (plan : List RowWrite) (mark : Option Fault)
+    → Changes old new (applied plan) mark → Changes (with_kept old (Suits version entries)) (with_kept new (Suits (if changes_policy plan then None else version) entries)) (applied plan) mark
+changes_beside old new version entries plan mark c = record {
   answers = record {
     honest = c.answers.honest;
     state = c.answers.state;
@@ -97,7 +122,7 @@ changes_beside old new entries plan mark c = record {
     no_more = c.answers.no_more;
     failed = c.answers.failed;
   };
-  moved = λ w holds. (c.moved w holds.0, λ clean. after_fresh mark plan w entries (holds.1 (c.answers.honest clean)));
+  moved = λ w holds. (c.moved w holds.0, λ clean. let suits = holds.1 (c.answers.honest clean) in (after_fresh mark plan w entries suits.0, known_version version mark plan w suits.1));
   crash = λ clean w left holds may. c.crash clean w left holds.0 may;
   settled = λ clean done w left holds may. c.settled clean done w left holds.0 may;
   whole = λ clean w holds before. c.whole clean w holds.0 before;

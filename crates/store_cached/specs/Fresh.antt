@@ -1,6 +1,7 @@
 -- Entries of a cache that tell what the policy is now.
 use Rattle.std.specs.Prelude.{◌≡◌, ℕ, ◌<◌, ◌≤◌, ◌==◌, ◌&&◌, if◌then◌else◌, Bool, List, [], ◌∷◌, Option, Some, None, slice_get, Contains, IsSomeAnd}
 use Rattle.std.specs.Option.{option_and_then}
+use Rattle.std.specs.Rc.{rc_slice_items}
 use Rattle.bank_terms.specs.Procedure.{number_of}
 use Rattle.bank_books.specs.WorldLists.{WorldLists}
 use Rattle.bank_policy.specs.HeldRows.{relations_of, triples_of}
@@ -11,8 +12,8 @@ use Rattle.store_cached.specs.declared.entry.Rows.TheVariants.{Triples, Relation
 
 -- The rows are those of the key in this World: the triples of its user, or at user 0 the relations of its procedure.
 abbrev pub HasRows : WorldLists → Key → Rows → Type 0
-HasRows w key (Triples rows) = (0 < key.user) × (rows.items ≡ triples_of w.policy key.user key.procedure)
-HasRows w key (Relations rows) = (key.user ≡ 0) × (rows.items ≡ relations_of w.policy key.procedure)
+HasRows w key (Triples rows) = (0 < key.user) × (rc_slice_items rows ≡ triples_of w.policy key.user key.procedure)
+HasRows w key (Relations rows) = (key.user ≡ 0) × (rc_slice_items rows ≡ relations_of w.policy key.procedure)
 
 -- An entry of the present version has the rows of this World, and no entry is of a later one.
 pub record Fits (w : WorldLists) (entry : Key × Kept) : Type 0 where
@@ -28,10 +29,10 @@ IsFirst key version entries = IsSomeAnd (slice_get entries 0) (λ entry. (entry.
 
 -- rows of one kind, and the same ones
 abbrev pub SameRows : Rows → Rows → Type 0
-SameRows (Triples rows) (Triples copy) = copy.items ≡ rows.items
+SameRows (Triples rows) (Triples copy) = rc_slice_items copy ≡ rc_slice_items rows
 SameRows (Triples rows) (Relations copy) = ⊥
 SameRows (Relations rows) (Triples copy) = ⊥
-SameRows (Relations rows) (Relations copy) = copy.items ≡ rows.items
+SameRows (Relations rows) (Relations copy) = rc_slice_items copy ≡ rc_slice_items rows
 
 -- the same user and the same procedure
 abbrev pub is_key : Key → Key → Bool

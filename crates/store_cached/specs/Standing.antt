@@ -1,16 +1,21 @@
 -- What a store with a cache stands for.
-use Rattle.std.specs.Prelude.{◌≡◌, ℕ, ◌⊎◌, List}
+use Rattle.std.specs.Prelude.{◌≡◌, ℕ, ◌⊎◌, List, Option, IfSome}
 use Rattle.money.specs.Counted.{counted_once_more}
+use Rattle.bank_books.specs.WorldLists.{WorldLists}
 use Rattle.store_rows.specs.Status.{Status}
 use Rattle.store_cached.specs.Fresh.{AreFresh, IsFirst}
 use Rattle.store_cached.specs.declared.cached.Cached.{Cached}
 use Rattle.store_cached.specs.declared.entry.Kept.{Kept}
 use Rattle.store_cached.specs.declared.entry.Key.{Key}
 
--- With these entries it stands for the Worlds that the store below stands for and that the entries fit. Of a disk that has not
--- returned what was written nothing is said.
-abbrev pub with_entries : Status → List (Key × Kept) → Status
-with_entries s entries = record s { holds = λ w. s.holds w × (s.is_honest → AreFresh w entries) }
+-- The entries fit this World, and the version, where one is kept, is its version.
+abbrev pub Suits : Option ℕ → List (Key × Kept) → WorldLists → Type 0
+Suits version entries w = AreFresh w entries × IfSome version (λ v. v ≡ w.version)
+
+-- It stands for the Worlds that the store below stands for and that what it keeps suits. Of a disk that has not returned what was
+-- written nothing is said.
+abbrev pub with_kept : Status → (WorldLists → Type 0) → Status
+with_kept s suits = record s { holds = λ w. s.holds w × (s.is_honest → suits w) }
 
 module _ {S : Type 0} where
   -- the store that it reads
@@ -20,6 +25,10 @@ module _ {S : Type 0} where
   -- what it keeps, the last used first
   abbrev pub remembered : Cached S → List (Key × Kept)
   remembered c = c.cache
+
+  -- the version of the policy that it read last, where that is kept
+  abbrev pub known_version : Cached S → Option ℕ
+  known_version c = c.version
 
   -- how many times memory for an entry was refused
   abbrev pub unkept_count : Cached S → ℕ
@@ -31,4 +40,4 @@ module _ {S : Type 0} where
       (IsFirst key version (remembered new) × (unkept_count new ≡ unkept_count old)) ⊎ (unkept_count new ≡ counted_once_more (unkept_count old))
 
   abbrev pub cached_status : (S → Status) → Cached S → Status
-  cached_status status c = with_entries (status (below c)) (remembered c)
+  cached_status status c = with_kept (status (below c)) (Suits (known_version c) (remembered c))

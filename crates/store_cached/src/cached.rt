@@ -1,19 +1,23 @@
-ghost use Rattle.std.specs.Prelude.{◌≡◌, ◌≤◌, [], length, IfOk, IfErr};
+ghost use Rattle.std.specs.Prelude.{◌≡◌, ◌≤◌, [], length, IfOk, IfErr, None};
 ghost use Rattle.bank_books.specs.WorldLists.{WorldLists};
-ghost use Rattle.store_cached.specs.Standing.{below, cached_status, remembered, unkept_count};
+ghost use Rattle.store_rows.specs.Status.{ReadsRow};
+ghost use Rattle.store_cached.specs.Standing.{below, cached_status, known_version, remembered, unkept_count};
 
 use crate::policy_cache::PolicyCache;
+use money::Fault;
 use std::alloc::Global;
 use store_rows::{Stands, Store};
 
 /// A store that keeps rows of the policy that it read of the store below: triples of a user for a
-/// procedure, and relations of a procedure, at most `MAX_ENTRIES` of them. It asks for the version of the
-/// policy at each such read, and answers from what it keeps where that is of the present version. All
-/// else it hands on.
+/// procedure, and relations of a procedure, at most `MAX_ENTRIES` of them. It answers from what it keeps
+/// where that is of the present version of the policy. The version that it read last it keeps, too, until a
+/// plan changes the policy. All else it hands on.
 #[derive(Drop)]
 pub struct Cached<S> {
     pub(crate) store: S,
     pub(crate) cache: PolicyCache,
+    /// The version of the policy, where it was read since a plan changed the policy last.
+    pub(crate) version: Option<u64>,
     pub(crate) unkept: u64,
 }
 
@@ -23,6 +27,7 @@ impl<S: Store> Cached<S> {
     pub fn new(alloc: Global, store: S) -> Result<Cached<S>, S>
         ensures below { IfOk result (λ c. below c ≡ store) }
         ensures empty { IfOk result (λ c. remembered c ≡ []) }
+        ensures unread { IfOk result (λ c. known_version c ≡ None) }
         ensures none { IfOk result (λ c. unkept_count c ≡ 0) }
         ensures holds { IfOk result (λ c. (w : WorldLists) → (S.status store).holds w → (cached_status S.status c).holds w) }
         ensures returned { IfErr result (λ s. s ≡ store) }
@@ -31,6 +36,7 @@ impl<S: Store> Cached<S> {
             Ok(cache) => Ok(Cached {
                 store,
                 cache,
+                version: None,
                 unkept: 0,
             }),
             Err(_) => Err(store),
@@ -65,6 +71,23 @@ impl<S: Store> Cached<S> {
     {
         self.unkept
     }
+
+    /// The version of the policy: where the store below is not stopped, the one that is kept, and else the
+    /// one that it answers, which is then kept.
+    pub(crate) fn present_version(&mut self, alloc: Global) -> Result<u64, Fault>
+        ensures reads { ReadsRow (cached_status S.status self.old) (cached_status S.status self.new) result (λ w n. n ≡ w.version) }
+        ensures entries { remembered self.new ≡ remembered self.old }
+        ensures unkept { unkept_count self.new ≡ unkept_count self.old }
+    {
+        match self.version {
+            Some(version) if !self.store.is_stopped() => Ok(version),
+            _ => {
+                let version = self.store.version(alloc)?;
+                self.version = Some(version);
+                Ok(version)
+            }
+        }
+    }
 }
 
 impl<S: Store> Stands for Cached<S> {
@@ -72,5 +95,9 @@ impl<S: Store> Stands for Cached<S> {
 
     fn faults(&self) -> u64 {
         self.store.faults()
+    }
+
+    fn is_stopped(&self) -> bool {
+        self.store.is_stopped()
     }
 }

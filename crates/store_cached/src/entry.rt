@@ -1,5 +1,6 @@
 use bank_policy::{CertifiedRow, HeldRow};
 use bank_terms::Procedure;
+use std::rc::RcSlice;
 
 /// Whose rows of the policy, and for what.
 #[derive(Clone, Copy, Debug, PartialEq, Eq, Hash)]
@@ -10,13 +11,13 @@ pub struct Key {
     pub procedure: Procedure,
 }
 
-/// Rows of the policy, each with the members of its set.
+/// Rows of the policy, each with the members of its set. They are lent, and never copied.
 #[derive(Debug, Drop)]
 pub enum Rows {
     /// The triples of a user for a procedure.
-    Triples(Vec<HeldRow>),
+    Triples(RcSlice<HeldRow>),
     /// The relations of a procedure.
-    Relations(Vec<CertifiedRow>),
+    Relations(RcSlice<CertifiedRow>),
 }
 
 /// Rows as they were read at a version of the policy.

@@ -1,13 +1,14 @@
 //! `Cached` is a store over any other, which keeps the triples of a user for a procedure and the relations
-//! of a procedure, 64 entries at most. It promises what every store does. What it keeps of the present
-//! version of the policy is what the World has; after `triples_of` or `relations_of` the entry stands
-//! first, or memory for it was refused. That a read is saved is only tested. All else is handed on.
+//! of a procedure, 64 entries at most, and lends them. It promises what every store does. What it keeps of the
+//! present version of the policy is what the World has; after `triples_of` or `relations_of` the entry stands
+//! first, or memory for it was refused. The version of the policy it keeps until a plan changes it. That a read
+//! is saved is only tested. All else is handed on.
 #![tactic(auto)]
 
 mod book_reads;
 mod cached;
-mod copies;
 mod entry;
+mod lending;
 mod policy_cache;
 mod policy_reads;
 mod report_reads;

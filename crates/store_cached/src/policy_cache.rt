@@ -1,16 +1,18 @@
 ghost use Rattle.std.specs.Prelude.{◌≡◌, ◌<◌, ◌≤◌, [], length, IfOk, IfSome, IsOk, IsSome, IfNone, OnOk, OnErr, OnSome};
 ghost use Rattle.std.specs.Option.{option_copied};
+ghost use Rattle.std.specs.Rc.{rc_slice_items};
 ghost use Rattle.bank_books.specs.WorldLists.{WorldLists};
 ghost use Rattle.bank_policy.specs.HeldRows.{relations_of, triples_of};
 ghost use Rattle.store_cached.specs.Fresh.{AreFresh, HasRows, IsFirst, entry_of, rows_kept};
 
-use crate::copies::{copied_relations, copied_rows, copied_triples};
 use crate::entry::{Kept, Key, Rows};
+use crate::lending::lent_rows;
 use bank_policy::{CertifiedRow, HeldRow};
 use lru::LruCache;
 use std::alloc::{AllocError, Global};
 use std::marker::Model;
 use std::num::NonZeroUsize;
+use std::rc::RcSlice;
 
 /// How many entries a cache keeps at most.
 pub const MAX_ENTRIES: usize = 64;
@@ -62,49 +64,47 @@ impl PolicyCache {
         }
     }
 
-    /// A copy of the rows that are kept for a key at this version, which are the last used from now on.
-    /// None, and nothing is changed, where no rows of this version are kept, or where memory for the copy
-    /// is refused.
-    pub fn recall(&mut self, alloc: Global, key: Key, version: u64) -> Option<Rows>
+    /// Lends the rows that are kept for a key at this version, which are the last used from now on. None, and
+    /// nothing is changed, where no rows of this version are kept, or where they are lent as often as can be
+    /// counted. It takes no memory.
+    pub fn recall(&mut self, key: Key, version: u64) -> Option<Rows>
         ensures told { IfSome result (λ rows. (w : WorldLists) → AreFresh w self.old → version ≡ w.version → HasRows w key rows) }
         ensures fresh { (w : WorldLists) → AreFresh w self.old → AreFresh w self.new }
         ensures first { OnSome result (IsFirst key version self.new) }
         ensures none { IfNone result (self.new ≡ self.old) }
     {
         let kept = self.find(key, version)?;
-        let rows = copied_rows(alloc, kept).ok()?;
+        let rows = lent_rows(kept).ok()?;
         self.entries.promote(&key);
         Some(rows)
     }
 
-    /// Keeps a copy of the triples of a user for a procedure, as `remember` does.
+    /// Keeps the triples of a user for a procedure, as `remember` does.
     pub fn remember_triples(
         &mut self,
-        alloc: Global,
         key: Key,
         version: u64,
-        rows: &[HeldRow],
+        rows: &RcSlice<HeldRow>,
     ) -> Result<(), AllocError>
-        ensures fresh { (w : WorldLists) → AreFresh w self.old → version ≡ w.version → 0 < key.user → rows.now ≡ triples_of w.policy key.user key.procedure → AreFresh w self.new }
+        ensures fresh { (w : WorldLists) → AreFresh w self.old → version ≡ w.version → 0 < key.user → rc_slice_items rows.now ≡ triples_of w.policy key.user key.procedure → AreFresh w self.new }
         ensures first { OnOk result (IsFirst key version self.new) }
     {
-        let copy = copied_triples(alloc, rows)?;
-        self.remember(key, version, Rows::Triples(copy))
+        let lent = rows.clone()?;
+        self.remember(key, version, Rows::Triples(lent))
     }
 
-    /// Keeps a copy of the relations of a procedure, as `remember` does.
+    /// Keeps the relations of a procedure, as `remember` does.
     pub fn remember_relations(
         &mut self,
-        alloc: Global,
         key: Key,
         version: u64,
-        rows: &[CertifiedRow],
+        rows: &RcSlice<CertifiedRow>,
     ) -> Result<(), AllocError>
-        ensures fresh { (w : WorldLists) → AreFresh w self.old → version ≡ w.version → key.user ≡ 0 → rows.now ≡ relations_of w.policy key.procedure → AreFresh w self.new }
+        ensures fresh { (w : WorldLists) → AreFresh w self.old → version ≡ w.version → key.user ≡ 0 → rc_slice_items rows.now ≡ relations_of w.policy key.procedure → AreFresh w self.new }
         ensures first { OnOk result (IsFirst key version self.new) }
     {
-        let copy = copied_relations(alloc, rows)?;
-        self.remember(key, version, Rows::Relations(copy))
+        let lent = rows.clone()?;
+        self.remember(key, version, Rows::Relations(lent))
     }
 
     /// Keeps the rows of a key as they are at this version, in place of what was kept for it. They are the

@@ -1,4 +1,5 @@
 ghost use Rattle.std.specs.Prelude.{◌≡◌, ◌<◌, OnErr, OnOk};
+ghost use Rattle.std.specs.Rc.{rc_slice_items};
 ghost use Rattle.bank_policy.specs.HeldRows.{relations_of, triples_of};
 ghost use Rattle.store_rows.specs.Status.{ReadsRow, Tells};
 ghost use Rattle.store_cached.specs.Standing.{IsKept, cached_status, remembered, unkept_count};
@@ -10,6 +11,7 @@ use bank_policy::{CertifiedRow, HeldRow};
 use bank_terms::Procedure;
 use money::Fault;
 use std::alloc::Global;
+use std::rc::RcSlice;
 use store_rows::{PolicyReads, Store, UserRecord};
 
 impl<S: Store> PolicyReads for Cached<S> {
@@ -26,8 +28,8 @@ impl<S: Store> PolicyReads for Cached<S> {
         alloc: Global,
         user: u32,
         procedure: Procedure,
-    ) -> Result<Vec<HeldRow>, Fault>
-        ensures reads { ReadsRow (cached_status S.status self.old) (cached_status S.status self.new) result (λ w rows. rows.items ≡ triples_of w.policy user procedure) }
+    ) -> Result<RcSlice<HeldRow>, Fault>
+        ensures reads { ReadsRow (cached_status S.status self.old) (cached_status S.status self.new) result (λ w rows. rc_slice_items rows ≡ triples_of w.policy user procedure) }
         ensures kept { Tells (cached_status S.status self.old) (cached_status S.status self.new) (λ w. OnOk result (0 < user → IsKept (record { user = user; procedure = procedure }) w.version self.old self.new)) }
         ensures nobody { user ≡ 0 → (remembered self.new ≡ remembered self.old) × (unkept_count self.new ≡ unkept_count self.old) }
         ensures err { OnErr result (unkept_count self.new ≡ unkept_count self.old) }
@@ -35,13 +37,13 @@ impl<S: Store> PolicyReads for Cached<S> {
         if user == 0 {
             return self.store.triples_of(alloc, user, procedure);
         }
-        let version = self.store.version(alloc)?;
+        let version = self.present_version(alloc)?;
         let key = Key { user, procedure };
-        if let Some(Rows::Triples(rows)) = self.cache.recall(alloc, key, version) {
+        if let Some(Rows::Triples(rows)) = self.cache.recall(key, version) {
             return Ok(rows);
         }
         let rows = self.store.triples_of(alloc, user, procedure)?;
-        let kept = self.cache.remember_triples(alloc, key, version, &rows);
+        let kept = self.cache.remember_triples(key, version, &rows);
         if kept.is_err() {
             self.unkept = self.unkept.saturating_add(1);
         }
@@ -55,18 +57,18 @@ impl<S: Store> PolicyReads for Cached<S> {
         &mut self,
         alloc: Global,
         procedure: Procedure,
-    ) -> Result<Vec<CertifiedRow>, Fault>
-        ensures reads { ReadsRow (cached_status S.status self.old) (cached_status S.status self.new) result (λ w rows. rows.items ≡ relations_of w.policy procedure) }
+    ) -> Result<RcSlice<CertifiedRow>, Fault>
+        ensures reads { ReadsRow (cached_status S.status self.old) (cached_status S.status self.new) result (λ w rows. rc_slice_items rows ≡ relations_of w.policy procedure) }
         ensures kept { Tells (cached_status S.status self.old) (cached_status S.status self.new) (λ w. OnOk result (IsKept (record { user = 0; procedure = procedure }) w.version self.old self.new)) }
         ensures err { OnErr result (unkept_count self.new ≡ unkept_count self.old) }
     {
-        let version = self.store.version(alloc)?;
+        let version = self.present_version(alloc)?;
         let key = Key { user: 0, procedure };
-        if let Some(Rows::Relations(rows)) = self.cache.recall(alloc, key, version) {
+        if let Some(Rows::Relations(rows)) = self.cache.recall(key, version) {
             return Ok(rows);
         }
         let rows = self.store.relations_of(alloc, procedure)?;
-        let kept = self.cache.remember_relations(alloc, key, version, &rows);
+        let kept = self.cache.remember_relations(key, version, &rows);
         if kept.is_err() {
             self.unkept = self.unkept.saturating_add(1);
         }
@@ -94,6 +96,6 @@ impl<S: Store> PolicyReads for Cached<S> {
     }
 
     fn version(&mut self, alloc: Global) -> Result<u64, Fault> {
-        self.store.version(alloc)
+        self.present_version(alloc)
     }
 }

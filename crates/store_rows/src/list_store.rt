@@ -1,4 +1,5 @@
 ghost use Rattle.std.specs.Prelude.{◌≡◌, ◌↔◌, ◌⊎◌, false, IfOk, IsTrue, OnErr, OnOk, Ok, Err};
+ghost use Rattle.std.specs.Rc.{rc_slice_items};
 ghost use Rattle.bank_books.specs.Effects.{applied};
 ghost use Rattle.bank_books.specs.Records.{account_record, branch_record, teller_record};
 ghost use Rattle.bank_books.specs.Version.{has_version_for};
@@ -19,6 +20,7 @@ use bank_policy::{CertifiedRow, HeldRow, relations_of, triples_of};
 use bank_terms::Procedure;
 use money::Fault;
 use std::alloc::{AllocError, Global};
+use std::rc::RcSlice;
 use world_reads::{
     DrawerRecord, PolicyKey, PolicyRow, UserRecord, drawer, entries_of, entry, entry_at,
     is_certifier, is_set, next_policy, next_shown, next_teller, policy_rows, release, roster,
@@ -78,6 +80,10 @@ impl Stands for ListStore {
     fn faults(&self) -> u64 {
         self.faults
     }
+
+    fn is_stopped(&self) -> bool {
+        false
+    }
 }
 
 impl PolicyReads for ListStore {
@@ -92,22 +98,22 @@ impl PolicyReads for ListStore {
         alloc: Global,
         user: u32,
         procedure: Procedure,
-    ) -> Result<Vec<HeldRow>, Fault>
-        ensures { ReadsList self.old self.new result (λ w rows. rows.items ≡ triples_of w.policy user procedure) }
+    ) -> Result<RcSlice<HeldRow>, Fault>
+        ensures { ReadsList self.old self.new result (λ w rows. rc_slice_items rows ≡ triples_of w.policy user procedure) }
     {
         let rows = triples_of(alloc, self.world.policy(), user, procedure);
-        self.counted(rows)
+        self.counted(rows.and_then(RcSlice::from_vec))
     }
 
     fn relations_of(
         &mut self,
         alloc: Global,
         procedure: Procedure,
-    ) -> Result<Vec<CertifiedRow>, Fault>
-        ensures { ReadsList self.old self.new result (λ w rows. rows.items ≡ relations_of w.policy procedure) }
+    ) -> Result<RcSlice<CertifiedRow>, Fault>
+        ensures { ReadsList self.old self.new result (λ w rows. rc_slice_items rows ≡ relations_of w.policy procedure) }
     {
         let rows = relations_of(alloc, self.world.policy(), procedure);
-        self.counted(rows)
+        self.counted(rows.and_then(RcSlice::from_vec))
     }
 
     fn triples(&mut self, _alloc: Global, user: u32) -> Result<u64, Fault>

@@ -1,4 +1,5 @@
 ghost use Rattle.std.specs.Prelude.{◌≡◌, IsTrue, OnOk};
+ghost use Rattle.std.specs.Rc.{rc_slice_items};
 ghost use Rattle.bank_books.specs.Records.{account_record, branch_record, slip_count, teller_record};
 ghost use Rattle.bank_books.specs.Effects.{applied};
 ghost use Rattle.bank_books.specs.Version.{has_version_for};
@@ -15,6 +16,7 @@ use bank_policy::{CertifiedRow, HeldRow};
 use bank_terms::Procedure;
 use money::Fault;
 use std::alloc::Global;
+use std::rc::RcSlice;
 use world_reads::{DrawerRecord, PolicyKey, PolicyRow, UserRecord};
 
 /// What stands for a World, as long as it answers.
@@ -25,6 +27,10 @@ pub trait Stands {
     /// How many calls answered a fault. It stays at the greatest `u64`.
     fn faults(&self) -> u64
         ensures { result ≡ (status self.now).fault_count };
+
+    /// Does it refuse each call?
+    fn is_stopped(&self) -> bool
+        ensures { result ≡ (status self.now).is_stopped };
 }
 
 /// The reads by which the policy is judged and its commands are planned, and no others. Each answers
@@ -34,22 +40,23 @@ pub trait PolicyReads: Stands {
     fn user(&mut self, alloc: Global, user: u32) -> Result<Option<UserRecord>, Fault>
         ensures { ReadsRow (Self.status self.old) (Self.status self.new) result (λ w row. row ≡ user_record w user) };
 
-    /// The triples of this user for this procedure, each with the members of its set.
+    /// The triples of this user for this procedure, each with the members of its set. A store that keeps them
+    /// lends them, and copies none.
     fn triples_of(
         &mut self,
         alloc: Global,
         user: u32,
         procedure: Procedure,
-    ) -> Result<Vec<HeldRow>, Fault>
-        ensures { ReadsRow (Self.status self.old) (Self.status self.new) result (λ w rows. rows.items ≡ triples_of w.policy user procedure) };
+    ) -> Result<RcSlice<HeldRow>, Fault>
+        ensures { ReadsRow (Self.status self.old) (Self.status self.new) result (λ w rows. rc_slice_items rows ≡ triples_of w.policy user procedure) };
 
-    /// The relations of this procedure, each with the members of its set.
+    /// The relations of this procedure, each with the members of its set, lent as the triples are.
     fn relations_of(
         &mut self,
         alloc: Global,
         procedure: Procedure,
-    ) -> Result<Vec<CertifiedRow>, Fault>
-        ensures { ReadsRow (Self.status self.old) (Self.status self.new) result (λ w rows. rows.items ≡ relations_of w.policy procedure) };
+    ) -> Result<RcSlice<CertifiedRow>, Fault>
+        ensures { ReadsRow (Self.status self.old) (Self.status self.new) result (λ w rows. rc_slice_items rows ≡ relations_of w.policy procedure) };
 
     /// How many triples this user has.
     fn triples(&mut self, alloc: Global, user: u32) -> Result<u64, Fault>

@@ -9,6 +9,7 @@ use sql_reads::{
 };
 use sqlite::Alter;
 use std::alloc::Global;
+use std::rc::RcSlice;
 use store_rows::PolicyReads;
 use world_reads::UserRecord;
 
@@ -22,7 +23,7 @@ impl<S: Alter> PolicyReads for SqlStore<S> {
         alloc: Global,
         user: u32,
         procedure: Procedure,
-    ) -> Result<Vec<HeldRow>, Fault> {
+    ) -> Result<RcSlice<HeldRow>, Fault> {
         self.ask(alloc, &TriplesFor { user, procedure })
     }
 
@@ -30,7 +31,7 @@ impl<S: Alter> PolicyReads for SqlStore<S> {
         &mut self,
         alloc: Global,
         procedure: Procedure,
-    ) -> Result<Vec<CertifiedRow>, Fault> {
+    ) -> Result<RcSlice<CertifiedRow>, Fault> {
         self.ask(alloc, &RelationsOf { procedure })
     }
 

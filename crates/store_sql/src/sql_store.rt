@@ -145,6 +145,10 @@ impl<S: Alter> Stands for SqlStore<S> {
     fn faults(&self) -> u64 {
         self.faults
     }
+
+    fn is_stopped(&self) -> bool {
+        self.is_stopped
+    }
 }
 
 impl<S: Alter> Store for SqlStore<S> {

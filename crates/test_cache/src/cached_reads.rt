@@ -1,6 +1,8 @@
 //! What of the policy two equal questions read, with a cache and without.
 
+use crate::cached_rows::NO_TRIPLE;
 use crate::counting::Counting;
+use bank_books::{Plan, RowWrite};
 use bank_terms::Procedure;
 use counter_ops::Balance;
 use decide::{Decision, Op, Reply, Who, carry_out, decide};
@@ -105,4 +107,21 @@ fn triples_that_are_not_there_are_read_once(rt: HostRuntime) {
     let mut store = cached_sample(&rt, alloc).store;
     assert!(rt; reads_after_none(&rt, alloc, &mut store) == (1, 0));
     assert!(rt; reads_after_none(&rt, alloc, &mut store) == (1, 0));
+}
+
+/// The version of the policy is read with them, and then not until a plan changes the policy.
+#[test]
+fn the_version_is_read_once_for_each_policy(rt: HostRuntime) {
+    let alloc = rt.alloc();
+    let mut store = cached_sample(&rt, alloc).store;
+    for _ in 0..2 {
+        assert!(rt; reads_after_none(&rt, alloc, &mut store) == (1, 0));
+        assert!(rt; store.below().watch().all() == 2);
+        store.apply(alloc, Plan::new(alloc)).expect(&rt, "no fault");
+    }
+    let change = vec![in alloc; RowWrite::Policy(NO_TRIPLE)];
+    let applied = store.apply(alloc, change.expect(&rt, "memory"));
+    applied.expect(&rt, "no fault");
+    assert!(rt; reads_after_none(&rt, alloc, &mut store) == (2, 0));
+    assert!(rt; store.below().watch().all() == 4);
 }

@@ -8,6 +8,7 @@ use bank_policy::{
 use bank_terms::{Cdi, Kind, Procedure};
 use std::alloc::Global;
 use std::process::Abort;
+use std::rc::RcSlice;
 use store_cached::Cached;
 use store_rows::{ListStore, PolicyReads, Store};
 
@@ -43,7 +44,7 @@ fn first_policy(rt: &impl Abort, alloc: Global) -> Plan {
 }
 
 /// That the triple is there no more.
-const NO_TRIPLE: PolicyWrite = PolicyWrite::NoTriple(TripleKey {
+pub(crate) const NO_TRIPLE: PolicyWrite = PolicyWrite::NoTriple(TripleKey {
     user: 7,
     procedure: Procedure::Post,
     set: 1,
@@ -80,12 +81,12 @@ impl Cache {
         self.apply(rt, plan.expect(rt, "memory"));
     }
 
-    fn triples_of(&mut self, rt: &impl Abort, user: u32) -> Vec<HeldRow> {
+    fn triples_of(&mut self, rt: &impl Abort, user: u32) -> RcSlice<HeldRow> {
         let rows = self.store.triples_of(self.alloc, user, Procedure::Post);
         rows.expect(rt, "no fault")
     }
 
-    fn relations(&mut self, rt: &impl Abort) -> Vec<CertifiedRow> {
+    fn relations(&mut self, rt: &impl Abort) -> RcSlice<CertifiedRow> {
         let rows = self.store.relations_of(self.alloc, Procedure::Post);
         rows.expect(rt, "no fault")
     }
@@ -176,4 +177,15 @@ fn fill(rt: &impl Abort, cache: &mut Cache) {
 #[test]
 fn sixty_four_entries_are_kept_at_most(rt: HostRuntime) {
     fill(&rt, &mut Cache::new(&rt, rt.alloc()));
+}
+
+/// What is kept is lent: who asks again has the rows that were read once, and no copy of them.
+#[test]
+fn kept_rows_are_lent(rt: HostRuntime) {
+    let mut cache = Cache::new(&rt, rt.alloc());
+    cache.apply(&rt, first_policy(&rt, rt.alloc()));
+    let triples = cache.triples_of(&rt, 7);
+    let relations = cache.relations(&rt);
+    assert!(rt; RcSlice::ptr_eq(&triples, &cache.triples_of(&rt, 7)));
+    assert!(rt; RcSlice::ptr_eq(&relations, &cache.relations(&rt)));
 }

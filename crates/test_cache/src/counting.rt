@@ -47,6 +47,10 @@ impl Stands for Counting {
     fn faults(&self) -> u64 {
         0
     }
+
+    fn is_stopped(&self) -> bool {
+        false
+    }
 }
 
 impl Watch for Counting {

@@ -7,6 +7,7 @@ use bank_policy::{CertifiedRow, HeldRow};
 use bank_terms::Procedure;
 use money::Fault;
 use std::alloc::Global;
+use std::rc::RcSlice;
 use store_rows::{
     BookReads, DrawerRecord, ListStore, PolicyKey, PolicyReads, PolicyRow, ReportReads, SlipReads,
     Stands, Store, UserRecord,
@@ -78,6 +79,10 @@ impl<W: Watch> Stands for Watched<W> {
     fn faults(&self) -> u64 {
         self.watch.faults().saturating_add(self.store.faults())
     }
+
+    fn is_stopped(&self) -> bool {
+        self.watch.is_stopped()
+    }
 }
 
 impl<W: Watch> PolicyReads for Watched<W> {
@@ -91,7 +96,7 @@ impl<W: Watch> PolicyReads for Watched<W> {
         alloc: Global,
         user: u32,
         procedure: Procedure,
-    ) -> Result<Vec<HeldRow>, Fault> {
+    ) -> Result<RcSlice<HeldRow>, Fault> {
         self.watch.on_read(Read::Triples)?;
         self.store.triples_of(alloc, user, procedure)
     }
@@ -100,7 +105,7 @@ impl<W: Watch> PolicyReads for Watched<W> {
         &mut self,
         alloc: Global,
         procedure: Procedure,
-    ) -> Result<Vec<CertifiedRow>, Fault> {
+    ) -> Result<RcSlice<CertifiedRow>, Fault> {
         self.watch.on_read(Read::Relations)?;
         self.store.relations_of(alloc, procedure)
     }

@@ -13,6 +13,7 @@ use postings::PostRows;
 use sample_bank::sample_world;
 use std::alloc::Global;
 use std::process::Abort;
+use std::rc::RcSlice;
 use store_rows::{BookReads, ListStore, PolicyReads};
 
 /// Tom, who posts up to 500.00.
@@ -37,13 +38,13 @@ fn sample(rt: &impl Abort, alloc: Global) -> ListStore {
 }
 
 /// The triples of a user of the sample for a procedure.
-fn triples_of(rt: &impl Abort, alloc: Global, user: u32, procedure: Procedure) -> Vec<HeldRow> {
+fn triples_of(rt: &impl Abort, alloc: Global, user: u32, procedure: Procedure) -> RcSlice<HeldRow> {
     let rows = sample(rt, alloc).triples_of(alloc, user, procedure);
     rows.expect(rt, "no fault")
 }
 
 /// The relations of a procedure of the sample.
-fn relations_of(rt: &impl Abort, alloc: Global, procedure: Procedure) -> Vec<CertifiedRow> {
+fn relations_of(rt: &impl Abort, alloc: Global, procedure: Procedure) -> RcSlice<CertifiedRow> {
     let rows = sample(rt, alloc).relations_of(alloc, procedure);
     rows.expect(rt, "no fault")
 }
@@ -165,7 +166,7 @@ fn a_release_counts_by_another_who_has_a_triple(rt: HostRuntime) {
     by_himself.row.giver = TOM;
     does_not_count(&rt, alloc, by_himself);
     let mut by_one_without_a_triple = given(&rt, alloc);
-    by_one_without_a_triple.held = Vec::new(alloc);
+    by_one_without_a_triple.held = RcSlice::from_vec(Vec::new(alloc)).expect(&rt, "memory");
     does_not_count(&rt, alloc, by_one_without_a_triple);
 }
 

@@ -77,6 +77,10 @@ impl Stands for Failing {
     fn faults(&self) -> u64 {
         self.faults
     }
+
+    fn is_stopped(&self) -> bool {
+        self.stopped
+    }
 }
 
 impl Watch for Failing {

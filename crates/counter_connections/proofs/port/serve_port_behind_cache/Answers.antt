@@ -8,6 +8,7 @@ returns-in-Ok g c = inl (record {
   ended = c.serve_port-served.new.bank.store;
   over = c.in-Ok.ensures.below;
   empty = c.in-Ok.ensures.empty;
+  unread = c.in-Ok.ensures.unread;
   served = c.serve_port-served.ensures;
   uncovered = c.into_below.ensures;
 })

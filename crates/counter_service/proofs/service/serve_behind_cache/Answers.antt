@@ -8,6 +8,7 @@ returns-in-Ok-clause-served g c = inl (record {
   ended = c.serve_stream-left.result.0;
   over = c.in-Ok.ensures.below;
   empty = c.in-Ok.ensures.empty;
+  unread = c.in-Ok.ensures.unread;
   served = c.serve_stream-left.ensures.served;
   uncovered = c.into_below.ensures;
 })

@@ -1,7 +1,6 @@
-use Rattle.std.proofs.Common.{◌≡◌, ◌∙◌, Some, None, ap, subst, sym}
+use Rattle.std.proofs.Common.{◌∙◌, ap, sym}
 use Rattle.std.specs.Option.{option_copied}
 use Rattle.store_cached.proofs.Entries.{rows_found, rows_missing, rows_outdated}
-use Rattle.store_cached.specs.Fresh.{rows_kept}
 use Rattle.store_cached.proofs.policy_cache.PolicyCache.find.Goals.{in_default-via-in-Some+else-kept-version, in_default-via-in_default}
 use Rattle.store_cached.proofs.policy_cache.PolicyCache.find.Goals as goal
 

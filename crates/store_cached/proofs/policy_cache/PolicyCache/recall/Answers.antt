@@ -11,7 +11,7 @@ pub returns-clause-told : goal.returns-clause-told
 returns-clause-told c = λ w fresh present.
     let there = kept_found c.args.self.now c.args.key c.args.version c.in_ok-kept.kept.now (ap option_copied (sym c.in_ok-kept.was) ∙ c.find.ensures) in
     copy-HasRows w c.args.key c.in_ok-kept.kept.now c.in_ok-rows.rows
-    (copied c.in_ok-kept.kept.now c.in_ok-rows.rows c.copied_rows.result c.copied_rows.ensures (sym c.ok.ensures.value ∙ c.in_ok-rows.was))
+    (copied c.in_ok-kept.kept.now c.in_ok-rows.rows c.lent_rows.result c.lent_rows.ensures (sym c.ok.ensures.value ∙ c.in_ok-rows.was))
     (subst (HasRows w c.args.key) there.3 (found-fresh w c.args.self.now c.args.key there.0 there.1 (there.2 ∙ present) fresh))
 
 pub returns-clause-fresh : goal.returns-clause-fresh

@@ -2,4 +2,4 @@ use Rattle.std.proofs.Common.{◌∙◌}
 use Rattle.store_cached.proofs.policy_cache.PolicyCache.remember_relations.Goals as goal
 
 pub returns-clause-fresh : goal.returns-clause-fresh
-returns-clause-fresh c = λ w fresh present none rows. c.remember.ensures.fresh w fresh present (none, c.in_ok-copy.ensures ∙ rows)
+returns-clause-fresh c = λ w fresh present none rows. c.remember.ensures.fresh w fresh present (none, c.in_ok-lent.ensures.cases ∙ rows)

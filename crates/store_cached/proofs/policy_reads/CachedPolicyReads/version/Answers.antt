@@ -1,5 +1,0 @@
-use Rattle.store_cached.proofs.Standing.{reads_beside}
-use Rattle.store_cached.proofs.policy_reads.CachedPolicyReads.version.Goals as goal
-
-pub returns : goal.returns
-returns g c = reads_beside _ _ _ _ _ c.version.ensures
