@@ -1,8 +1,7 @@
 //! Heads of HTTP/1.1 messages, by the grammar of `httparse`. `judge` tells exactly whether bytes begin with
-//! a head, can begin none, are too long, or may still become one; `judge_from` tells it of a head that comes
-//! in pieces, and keeps how far it was judged. `Head` tells the method, the target and the fields;
-//! `find_field` ignores letter case. `Head::body_len` is the length of the body, 1,024 at most, or the least
-//! fault. `closes` and `framing` say how the reply ends. Nothing here knows of banks.
+//! a head, can begin none, are too long, or may still become one; `judge_from` tells it of pieces. `Head`
+//! tells the method, the target and the fields; `find_field` ignores letter case. `Head::body_len` is the
+//! length of the body, 1,024 at most, or the least fault. `closes` and `framing` say how the reply ends.
 #![tactic(auto)]
 
 mod blank;

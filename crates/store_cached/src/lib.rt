@@ -1,8 +1,7 @@
-//! `Cached` is a store over any other, which keeps the triples of a user for a procedure and the relations
-//! of a procedure, 64 entries at most, and lends them. It promises what every store does. What it keeps of the
-//! present version of the policy is what the World has; after `triples_of` or `relations_of` the entry stands
-//! first, or memory for it was refused. The version of the policy it keeps until a plan changes it. That a read
-//! is saved is only tested. All else is handed on.
+//! `Cached` is a store over any other, which keeps and lends the triples of a user for a procedure and the
+//! relations of a procedure, 64 entries at most. What it keeps of the policy's present version is what the World
+//! has; after `triples_of` or `relations_of` the entry stands first, or memory for it was refused. The version
+//! it keeps until a plan changes it. That a read is saved is only tested. All else is handed on.
 #![tactic(auto)]
 
 mod book_reads;
