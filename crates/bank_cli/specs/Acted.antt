@@ -11,6 +11,9 @@ use Rattle.cli_words.specs.declared.words.Action.TheVariants as action
 use Rattle.cli_file.specs.Actions.{IsChecked, IsInited, IsListened, IsRun, IsUpgraded}
 use Rattle.cli_file.specs.Telling.{IsEnded, IsSaid}
 use Rattle.cli_file.specs.declared.fault.ActionFault.{ActionFault}
+use Rattle.cli_file.specs.declared.left.FileLeft.{FileLeft}
+use Rattle.cli_file.specs.declared.left.PathLeft.{PathLeft}
+use Rattle.cli_file.specs.declared.left.PathLeft.TheVariants as path
 use Rattle.exit_lines.specs.Lines.{line}
 use Rattle.exit_lines.specs.Streams.{Stream, Streams}
 use Rattle.sample_service.specs.Ends.{IsSampleEnd}
@@ -39,25 +42,26 @@ pub record IsListenedToEnd (did : Stream → Result Unit ActionFault → Type 0)
   pub ended : IsEnded result told new.output errors_old errors_new status
   pub unread : new.input ≡ old.input
 
--- the action was carried out, and the status, standard output and standard error tell how that ended
-abbrev pub IsActed : {D C : Type 0} → Ghosts D → Image → (C → ℕ → C → Type 0) → C → C → Action → Streams → Streams → Stream → Stream → ℕ → Type 0
-IsActed g image may_give from to (action.Sample moment) old new errors_old errors_new status =
-    IsSampleEnd cached_sql_status moment old new errors_old errors_new status
-IsActed g image may_give from to (action.Init file dir) old new errors_old errors_new status =
-    IsToldOf (IsInited g image) (codes "made") old new errors_old errors_new status
-IsActed g image may_give from to (action.Check file) old new errors_old errors_new status =
-    IsToldOf (IsChecked g image) (codes "books hold") old new errors_old errors_new status
-IsActed g image may_give from to (action.Upgrade file) old new errors_old errors_new status =
-    IsToldOf (IsUpgraded g image) (codes "carried over") old new errors_old errors_new status
-IsActed g image may_give from to (action.Run file badges moment) old new errors_old errors_new status =
-    IsRunToEnd (IsRun g image badges.now moment old) new errors_old errors_new status
-IsActed g image may_give from to (action.Serve file badges port requests) old new errors_old errors_new status =
-    IsListenedToEnd (λ told result. IsListened g image badges.now may_give port requests old.output told from to result) old new errors_old errors_new status
+-- The action was carried out; this is left of the file, and the status, standard output and standard error tell how that ended. What uses no
+-- file leaves the opener as it was.
+abbrev pub IsActed : {D O C : Type 0} → (g : Ghosts D) → Image → O → (C → ℕ → C → Type 0) → C → C → Action → Streams → Streams → Stream → Stream → PathLeft O (FileLeft D g) → ℕ → Type 0
+IsActed g image opener may_give from to (action.Sample moment) old new errors_old errors_new left status =
+    (left ≡ path.Unopened opener) × IsSampleEnd cached_sql_status moment old new errors_old errors_new status
+IsActed g image opener may_give from to (action.Init file dir) old new errors_old errors_new left status =
+    IsToldOf (IsInited g image opener left) (codes "made") old new errors_old errors_new status
+IsActed g image opener may_give from to (action.Check file) old new errors_old errors_new left status =
+    IsToldOf (IsChecked g image left) (codes "books hold") old new errors_old errors_new status
+IsActed g image opener may_give from to (action.Upgrade file) old new errors_old errors_new left status =
+    IsToldOf (IsUpgraded g image left) (codes "carried over") old new errors_old errors_new status
+IsActed g image opener may_give from to (action.Run file badges moment) old new errors_old errors_new left status =
+    IsRunToEnd (λ served result. IsRun g image opener badges.now moment old served left result) new errors_old errors_new status
+IsActed g image opener may_give from to (action.Serve file badges port requests) old new errors_old errors_new left status =
+    IsListenedToEnd (λ told result. IsListened g image badges.now may_give opener port requests old.output told from to left result) old new errors_old errors_new status
 
 -- The words name an action, which was carried out; or they are refused, or memory for them is, and why was told.
-abbrev pub IsAnswered : {D C : Type 0} → Ghosts D → Image → (C → ℕ → C → Type 0) → C → C → List Text → Streams → Streams → Stream → Stream → ℕ → Type 0
-IsAnswered g image may_give from to words old new errors_old errors_new status =
+abbrev pub IsAnswered : {D O C : Type 0} → (g : Ghosts D) → Image → O → (C → ℕ → C → Type 0) → C → C → List Text → Streams → Streams → Stream → Stream → PathLeft O (FileLeft D g) → ℕ → Type 0
+IsAnswered g image opener may_give from to words old new errors_old errors_new left status =
     ((action : Action) × IsNamedBy (subcommand_of bank_app words) action × (fault_of bank_app words ≡ [])
-    × IsActed g image may_give from to action old new errors_old errors_new status)
-    ⊎ ((error : Error) × IsRefusal words error × (new.input ≡ old.input)
+    × IsActed g image opener may_give from to action old new errors_old errors_new left status)
+    ⊎ ((error : Error) × IsRefusal words error × (new.input ≡ old.input) × (left ≡ path.Unopened opener)
     × IsExplained error old.output new.output errors_old errors_new status)

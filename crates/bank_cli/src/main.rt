@@ -40,7 +40,7 @@ fn run(rt: &HostRuntime) -> io::Result<u8> {
     let mut errors = Tallied::new(rt.stderr());
     let is_watched = rt.stderr().is_terminal();
     let mut progress = Progress::on(if is_watched { Some(rt.stderr()) } else { None });
-    Ok(answer(
+    let (left, status) = answer(
         rt,
         words.as_slice(),
         Machine { start: Unknown },
@@ -49,5 +49,7 @@ fn run(rt: &HostRuntime) -> io::Result<u8> {
         &mut output,
         &mut errors,
         &mut progress,
-    ))
+    );
+    drop(left);
+    Ok(status)
 }

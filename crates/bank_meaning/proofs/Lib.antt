@@ -4,6 +4,7 @@ pub mod CommandSteps
 pub mod CountingRelease
 pub mod FirstRule
 pub mod GivenRelease
+pub mod Headline
 pub mod JudgedPolicy
 pub mod KeptOrder
 pub mod KeptReplies

@@ -151,11 +151,15 @@ pub record SlipAllows (w : WorldLists) (x : Execution) : Type 0 where
   pub not_another : is_of_another (slip_grounds w x) ≡ false
   pub has_room : has_no_room (slip_grounds w x) ≡ false
 
--- An operation is allowed exactly when its user is known, its procedure is certified for what it touches, some one triple of his holds all of that, within its limit
--- or by a release that counts, and no rule of the books denies it.
+-- Its user is known, its procedure is certified for what it touches, some one triple of his holds all of that, within its limit or by a release that counts, no rule of
+-- the books denies it, and its slip lets it be.
+abbrev pub IsHeld : WorldLists → Execution → Type 0
+IsHeld w x =
+    IsIdentified w x.who × Certified w.policy (procedure_of x.op) (touched x.op) × InLimitOrReleased w x × ((by_books (books_meaning w x)).first ≡ None) × SlipAllows w x
+
+-- An operation is allowed exactly when all of this is so.
 abbrev pub AllowedExactlyWhenHeld : Type 0
-AllowedExactlyWhenHeld = (w : WorldLists) (x : Execution) → first w (executes x) ≡ None
-    ↔ (IsIdentified w x.who × Certified w.policy (procedure_of x.op) (touched x.op) × InLimitOrReleased w x × ((by_books (books_meaning w x)).first ≡ None) × SlipAllows w x)
+AllowedExactlyWhenHeld = (w : WorldLists) (x : Execution) → first w (executes x) ≡ None ↔ IsHeld w x
 
 -- A release is used up exactly where it is what lets an operation be: what a triple of the user's own reaches leaves the release that it names as it was, and one that
 -- let an operation be counts for none afterwards.

@@ -7,6 +7,7 @@ pub mod Denial
 pub mod DrawerOff
 pub mod DrawerOn
 pub mod Executions
+pub mod Headline
 pub mod InForce
 pub mod LastWord
 pub mod Laws

@@ -1,5 +1,6 @@
 //! What holds of every World, of every decision, of releases, of a new account, of sessions, and along every list of requests. The functions change nothing; their contracts are the laws.
 
+ghost use Rattle.bank_meaning.specs.Headline.{Headline};
 ghost use Rattle.bank_meaning.specs.LastWord.{LastWord};
 ghost use Rattle.bank_meaning.specs.Laws.{AllowedExactlyWhenHeld, DeniedBeforeTheBooks, FirstByPlace, IdentityIsJudged, NewAccountKeepsBooks, PolicyIsJudged, ReleaseKeepsBooks, ReleasesAreUsedOnce, SessionsChangeNoMore};
 ghost use Rattle.bank_meaning.specs.Once.{EachActsOnce};
@@ -129,4 +130,12 @@ pub fn slips_stay()
 /// the first has not. So who saw no reply sends it again.
 pub fn retries_act_once()
     ensures { RetriesActOnce }
+{}
+
+/// Of every World that passes both checks, and of every list of proper requests with any marks: each is treated rightly in the
+/// World that those before it leave. It is carried out exactly where all of it is held and no rule of the books denies it; else it
+/// changes nothing, and the first rule against it is named; no one executes what he certifies. The sums agree, the policy
+/// is the one in force by last word, and what bears a slip acts once and is replied what it was replied at first.
+pub fn headline()
+    ensures { Headline }
 {}

@@ -1,2 +1,3 @@
-mod FaultLemmas
+mod BankDayLemmas
 mod ListLemmas
+mod OpenedLemmas

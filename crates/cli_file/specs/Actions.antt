@@ -1,5 +1,5 @@
 -- What the actions over a file come to. The image stands for what the file and its log held before; no clause ties it to a path.
-use Rattle.std.specs.Prelude.{◌≡◌, ◌⊎◌, ℕ, List, IsErrAnd, Result, Ok, Err}
+use Rattle.std.specs.Prelude.{◌≡◌, ℕ, List, IsErrAnd, Result, Ok, Err}
 use Rattle.sqlite_disk.specs.declared.Disk.{Ghosts}
 use Rattle.sqlite_wal.specs.Recovery.{Image}
 use Rattle.sqlite.specs.declared.FileStore.{FileStore}
@@ -17,71 +17,78 @@ use Rattle.cli_file.specs.Serving.{IsServedIn}
 use Rattle.cli_file.specs.Upgrading.{IsUpgradedIn}
 use Rattle.cli_file.specs.declared.fault.ActionFault.{ActionFault}
 use Rattle.cli_file.specs.declared.left.FileLeft.{FileLeft}
+use Rattle.cli_file.specs.declared.left.FileLeft.TheVariants as left
+use Rattle.cli_file.specs.declared.left.PathLeft.{PathLeft}
+use Rattle.cli_file.specs.declared.left.PathLeft.TheVariants as path
 
 module _ {D : Type 0} (g : Ghosts D) (image : Image) where
   -- Lists stated a World, the file was opened, and the bank of that World was made there, or refused.
-  pub record IsInitedIn (result : Result Unit ActionFault) : Type 0 where
+  pub record IsInitedIn (left : FileLeft D g) (result : Result Unit ActionFault) : Type 0 where
     pub world : WorldLists
     pub read : IsOpeningRead (Ok world)
     pub opened : Held (FileStore D g)
     pub from : IsOpenedFrom image opened
-    pub left : FileLeft D g
     pub made : IsMadeIn g opened world left result
 
-  -- it was done so; or the lists were refused or not read; or the file was not opened
-  abbrev pub IsInited : Result Unit ActionFault → Type 0
-  IsInited result =
-      IsErrAnd result (λ told. IsOpeningRead (Err told)) ⊎ (IsErrAnd result IsOfFile ⊎ IsInitedIn result)
+  -- It was done so, and this is left of the file; or lists were refused or not read, and the opener is handed back; or the file was not
+  -- opened.
+  abbrev pub IsInited : {O : Type 0} → O → PathLeft O (FileLeft D g) → Result Unit ActionFault → Type 0
+  IsInited opener (path.Unopened o) result = (o ≡ opener) × IsErrAnd result (λ told. IsOpeningRead (Err told))
+  IsInited opener path.Refused result = IsErrAnd result IsOfFile
+  IsInited opener (path.Opened left) result = IsInitedIn left result
 
   -- the file was opened, and a bank was found there, or none
-  pub record IsCheckedFrom (result : Result Unit ActionFault) : Type 0 where
+  pub record IsCheckedFrom (now : Held (FileStore D g)) (result : Result Unit ActionFault) : Type 0 where
     pub opened : Held (FileStore D g)
     pub from : IsOpenedFrom image opened
-    pub now : Held (FileStore D g)
     pub checked : IsCheckedIn opened now result
 
-  -- it was done so; or the file was not opened
-  abbrev pub IsChecked : Result Unit ActionFault → Type 0
-  IsChecked result = IsErrAnd result IsUnopened ⊎ IsCheckedFrom result
+  -- it was done so, and the connection is left; or the file was not opened
+  abbrev pub IsChecked : {O : Type 0} → PathLeft O (FileLeft D g) → Result Unit ActionFault → Type 0
+  IsChecked path.Refused result = IsErrAnd result IsUnopened
+  IsChecked (path.Opened (left.Open conn)) result = IsCheckedFrom conn result
+  IsChecked _ result = ⊥
 
   -- the file was opened, and the bank that stood there was carried over, or there was none
-  pub record IsUpgradedFrom (result : Result Unit ActionFault) : Type 0 where
+  pub record IsUpgradedFrom (left : FileLeft D g) (result : Result Unit ActionFault) : Type 0 where
     pub opened : Held (FileStore D g)
     pub from : IsOpenedFrom image opened
-    pub left : FileLeft D g
     pub upgraded : IsUpgradedIn g opened left result
 
-  -- it was done so; or the file was not opened
-  abbrev pub IsUpgraded : Result Unit ActionFault → Type 0
-  IsUpgraded result = IsErrAnd result IsUnopened ⊎ IsUpgradedFrom result
+  -- it was done so, and this is left of the file; or the file was not opened
+  abbrev pub IsUpgraded : {O : Type 0} → PathLeft O (FileLeft D g) → Result Unit ActionFault → Type 0
+  IsUpgraded (path.Unopened o) result = ⊥
+  IsUpgraded path.Refused result = IsErrAnd result IsUnopened
+  IsUpgraded (path.Opened left) result = IsUpgradedFrom left result
 
   -- A list stated badges, the file was opened, and the stream was served to their users over the bank that was found there, if one was.
-  pub record IsRunFrom (list : List ℕ) (moment : ℕ) (old new : Streams) (result : Result Unit ActionFault) : Type 0 where
+  pub record IsRunFrom (list : List ℕ) (moment : ℕ) (old new : Streams) (left : FileLeft D g) (result : Result Unit ActionFault) : Type 0 where
     pub badges : Badges
     pub read : AreBadgesRead list (Ok badges)
     pub opened : Held (FileStore D g)
     pub from : IsOpenedFrom image opened
-    pub left : FileLeft D g
     pub served : IsServedIn g (user_of badges) opened moment old new left result
 
-  -- it was done so; or the list was refused or not read; or the file was not opened; and then nothing was read or written
-  abbrev pub IsRun : List ℕ → ℕ → Streams → Streams → Result Unit ActionFault → Type 0
-  IsRun list moment old new result =
-      (IsErrAnd result (λ told. AreBadgesRead list (Err told)) × (new ≡ old))
-      ⊎ ((IsErrAnd result IsUnopened × (new ≡ old)) ⊎ IsRunFrom list moment old new result)
+  -- It was done so, and this is left of the file; or the list was refused or not read, and the opener is handed back; or the file was not
+  -- opened; and then nothing was read or written.
+  abbrev pub IsRun : {O : Type 0} → O → List ℕ → ℕ → Streams → Streams → PathLeft O (FileLeft D g) → Result Unit ActionFault → Type 0
+  IsRun opener list moment old new (path.Unopened o) result = (o ≡ opener) × IsErrAnd result (λ told. AreBadgesRead list (Err told)) × (new ≡ old)
+  IsRun opener list moment old new path.Refused result = IsErrAnd result IsUnopened × (new ≡ old)
+  IsRun opener list moment old new (path.Opened left) result = IsRunFrom list moment old new left result
 
 module _ {D C : Type 0} (g : Ghosts D) (image : Image) (list : List ℕ) (may_give : C → ℕ → C → Type 0) where
   -- A list stated badges, the file was opened, and the port was served to their users over the bank that was found there, if one was.
-  pub record IsListenedFrom (port requests : ℕ) (output_old output_new : Stream) (from to : C) (result : Result Unit ActionFault) : Type 0 where
+  pub record IsListenedFrom (port requests : ℕ) (output_old output_new : Stream) (from to : C) (left : FileLeft D g) (result : Result Unit ActionFault) : Type 0 where
     pub badges : Badges
     pub read : AreBadgesRead list (Ok badges)
     pub opened : Held (FileStore D g)
     pub from_image : IsOpenedFrom image opened
-    pub left : FileLeft D g
     pub served : IsListenedIn g (user_of badges) may_give opened port requests output_old output_new from to left result
 
-  -- it was done so; or the list was refused or not read, or the file was not opened, and nothing was listened to or written
-  abbrev pub IsListened : ℕ → ℕ → Stream → Stream → C → C → Result Unit ActionFault → Type 0
-  IsListened port requests output_old output_new from to result =
-      ((IsErrAnd result (λ told. AreBadgesRead list (Err told)) ⊎ IsErrAnd result IsUnopened) × (output_new ≡ output_old) × (to ≡ from))
-      ⊎ IsListenedFrom port requests output_old output_new from to result
+  -- It was done so, and this is left of the file; or the list was refused or not read, and the opener is handed back; or the file was not
+  -- opened; and then nothing was listened to or written.
+  abbrev pub IsListened : {O : Type 0} → O → ℕ → ℕ → Stream → Stream → C → C → PathLeft O (FileLeft D g) → Result Unit ActionFault → Type 0
+  IsListened opener port requests output_old output_new from to (path.Unopened o) result =
+      (o ≡ opener) × IsErrAnd result (λ told. AreBadgesRead list (Err told)) × (output_new ≡ output_old) × (to ≡ from)
+  IsListened opener port requests output_old output_new from to path.Refused result = IsErrAnd result IsUnopened × (output_new ≡ output_old) × (to ≡ from)
+  IsListened opener port requests output_old output_new from to (path.Opened left) result = IsListenedFrom port requests output_old output_new from to left result

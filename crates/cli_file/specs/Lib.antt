@@ -1,7 +1,9 @@
 pub mod Actions
+pub mod BankDay
 pub mod Checking
 pub mod Faults
 pub mod Files
+pub mod Laws
 pub mod Listening
 pub mod Lists
 pub mod Making

@@ -12,3 +12,14 @@ pub enum FileLeft<D: Disk + Drop> {
     /// What could not be closed.
     Unclosed(FileStore<D>),
 }
+
+/// What an action that begins with a path leaves, where `O` opens files.
+#[derive(Drop)]
+pub enum PathLeft<O: Drop, L: Drop> {
+    /// The opener, as it was given: no file was opened.
+    Unopened(O),
+    /// Nothing: the file could not be opened.
+    Refused,
+    /// What is left of the open file.
+    Opened(L),
+}

@@ -1,5 +1,6 @@
 pub mod CarriedOut
 pub mod CounterLemmas
+pub mod DayLemmas
 pub mod ExitLemmas
 pub mod FramingLemmas
 pub mod RunLemmas

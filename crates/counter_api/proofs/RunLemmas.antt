@@ -8,8 +8,7 @@ use Rattle.store_rows.specs.Status.{RoseBy, Status, counts, counts_at_most}
 use Rattle.bank_meaning.specs.LastWord.{finds_room, heard}
 use Rattle.bank_meaning.specs.Run.{Marked, accepted, is_accepted, world_after}
 use Rattle.bank_meaning.specs.Sums.{AreProper, IsProper}
-use Rattle.bank_meaning.proofs.LastWord.{last_word}
-use Rattle.bank_meaning.proofs.RunSums.{sums_always_agree}
+use Rattle.bank_meaning.proofs.Headline.{headline}
 use Rattle.bank_meaning.specs.declared.request.Request.{Request}
 use Rattle.counter_api.specs.Response.{ResponseParts}
 use Rattle.counter_api.specs.Run.{AreOrderly, FindsRoom, IsHandled, IsPending, IsRun, MarkedMessage, after_message, failed_after, faults_of, framed, marked, marks_of, pending_after, requests_of, stated_by, stopped_after}
@@ -24,7 +23,7 @@ along : (m n a b c : ℕ) → b ≤ a + m → c ≤ b + n → c ≤ a + (m + n)
 along m n a b c p q = omega arith
 
 -- a request in front
-after_marked : (w : WorldLists) (stated : Result Request MessageFault) (mark : Option Fault) (rest : List Marked)
+pub after_marked : (w : WorldLists) (stated : Result Request MessageFault) (mark : Option Fault) (rest : List Marked)
     → world_after (world_after w (marked stated mark [])) rest ≡ world_after w (marked stated mark rest)
 after_marked w (Ok r) mark rest = refl
 after_marked w (Err fault) mark rest = refl
@@ -57,7 +56,7 @@ more_after P Q w (Ok r) (Some fault) within l (inl may) = elim (within l may) [ 
 more_after P Q w (Ok r) (Some fault) within l (inr is) = inr (inr is)
 more_after P Q w (Ok r) None within l (rests, may) = elim (within l may) [ inl same ↦ inl (same ∙ sym rests) | inr q ↦ inr (rests, q) ]
 
-more_pending : (users : List ℕ → Option ℕ) (P Q : WorldLists → Type 0) (w : WorldLists) (ms : List MarkedMessage) → ((l : WorldLists) → P l → (l ≡ w) ⊎ Q l)
+pub more_pending : (users : List ℕ → Option ℕ) (P Q : WorldLists → Type 0) (w : WorldLists) (ms : List MarkedMessage) → ((l : WorldLists) → P l → (l ≡ w) ⊎ Q l)
     → (l : WorldLists) → IsPending users P w ms l → (l ≡ world_after w (requests_of users ms)) ⊎ IsPending users Q w ms l
 more_pending users P Q w [] within l may = within l may
 more_pending users P Q w (m ∷ ms) within l may =
@@ -83,8 +82,7 @@ none_ran how none users s =
       leaves = λ clean w held left may. inr may;
       whole = λ clean w held before. before;
       proper = proper;
-      agrees = λ w checks. sums_always_agree w [] checks proper;
-      last_word = λ w checks. last_word.0 w [] checks proper;
+      headline = λ w checks. headline w [] checks proper;
     }
 
 -- one message in front of others, where what is said of its response and of the replies behind joins
@@ -122,6 +120,5 @@ one_more how users old mid new m ms says later out joined here behind =
             ]
           ];
       proper = proper;
-      agrees = λ w checks. sums_always_agree w (requests_of users (m ∷ ms)) checks proper;
-      last_word = λ w checks. last_word.0 w (requests_of users (m ∷ ms)) checks proper;
+      headline = λ w checks. headline w (requests_of users (m ∷ ms)) checks proper;
     }

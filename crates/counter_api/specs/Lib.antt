@@ -1,5 +1,6 @@
 pub mod Answers
 pub mod CarriedOut
+pub mod Day
 pub mod Exit
 pub mod Fault
 pub mod Handled

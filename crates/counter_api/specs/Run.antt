@@ -9,10 +9,11 @@ use Rattle.http_heads.specs.declared.fault.MessageFault.{MessageFault}
 use Rattle.http_messages.specs.Parts.{MessageParts}
 use Rattle.http_messages.specs.Reply.{reply_bytes}
 use Rattle.store_rows.specs.Status.{Answers, RoseBy, StaysWhole, Status, Tells, counts, counts_at_most, failures_after, stops}
-use Rattle.bank_meaning.specs.LastWord.{HasLastWord, finds_room, heard}
+use Rattle.bank_meaning.specs.Headline.{IsHeadline}
+use Rattle.bank_meaning.specs.LastWord.{finds_room, heard}
 use Rattle.bank_meaning.specs.Meaning.{ReplyText}
 use Rattle.bank_meaning.specs.Run.{Marked, accepted, is_accepted, reply, step, world_after}
-use Rattle.bank_meaning.specs.Sums.{AreProper, IsProper, PassesChecks, SumsAgree}
+use Rattle.bank_meaning.specs.Sums.{AreProper, IsProper, PassesChecks}
 use Rattle.bank_meaning.specs.declared.request.Request.{Request}
 use Rattle.requests.specs.Request.{request_of}
 use Rattle.counter_api.specs.Response.{ResponseParts, denied_parts, done_parts, faulted_parts, refused_parts}
@@ -156,9 +157,9 @@ pub record IsRun (how : List ℕ → List ℕ → Type 0) (users : List ℕ → 
   pub whole : StaysWhole old new
   -- the requests that were made are proper: their members and their moments are in their ranges
   pub proper : AreProper (requests_of users ms)
-  -- and where the checks passed before, they pass after each request, the sums agree, and the policy is the one in force by last word
-  pub agrees : (w : WorldLists) → PassesChecks w → SumsAgree w (requests_of users ms)
-  pub last_word : (w : WorldLists) → PassesChecks w → HasLastWord w (requests_of users ms)
+  -- and where the checks passed before, each request is carried out exactly where it is held, the first rule against any other is
+  -- named, the sums agree, the policy is the one in force by last word, and what bears a slip acts once
+  pub headline : (w : WorldLists) → PassesChecks w → IsHeadline w (requests_of users ms)
 
 -- The message bore a moment that the clock gave, and a mark, and these bytes stand so to its reply.
 pub record IsAnswered {C : Type 0} (how : List ℕ → List ℕ → Type 0) (users : List ℕ → Option ℕ) (may_give : C → ℕ → C → Type 0) (old new : Status) (from to : C) (message : MessageParts) (out : List ℕ) : Type 0 where

@@ -1,9 +1,13 @@
 -- Connections, one more after those before.
+use Rattle.std.specs.Prelude.{IsErrAnd, MatchResult}
 use Rattle.std.proofs.Common.{◌≡◌, ◌+◌, ◌-◌, ◌<◌, ◌≤◌, ◌∙◌, ◌++◌, ◌∷◌, [], ℕ, List, None, Option, Result, Ok, Err, IfOk, ap, add_assoc, arith, max, refl, subst, sym}
-use Rattle.counter_connections.specs.Connections.{AreServed, At, IsConnection, begun, counted, counted_by}
+use Rattle.counter_api.proofs.DayLemmas.{day_joined, day_of_none, day_of_serve, replied_by_serve}
+use Rattle.counter_api.specs.Day.{IsDay}
+use Rattle.counter_api.specs.Exit.{Place}
+use Rattle.counter_connections.specs.Connections.{AreAllReplied, AreServed, At, IsConnection, begun, counted, counted_by, messages_of}
 use Rattle.http_messages.specs.declared.serving.ServeFault.{ServeFault}
 use Rattle.http_messages.specs.declared.serving.Served.{Served}
-use Rattle.store_rows.specs.Status.{Status}
+use Rattle.store_rows.specs.Status.{Status, Tells}
 
 pub counted_more : (exits : List (Result Served ServeFault)) (exit : Result Served ServeFault)
     → counted (exits ++ exit ∷ []) ≡ counted exits + counted_by exit
@@ -16,6 +20,11 @@ pub counts_at_most : (exit : Result Served ServeFault) (most : ℕ) → 0 < most
     → counted_by exit ≤ most
 counts_at_most (Ok served) most some within = omega (arith, some, within)
 counts_at_most (Err fault) most some within = some
+
+-- an error goes on as one
+pub ends_by_fault : {X E : Type 0} (r : Result X E) (P : E → Type 0) (A : X → Type 0) (B : Type 0) → IsErrAnd r P → B → MatchResult r A (λ _. B)
+ends_by_fault (Ok x) P A B is b = absurd is
+ends_by_fault (Err e) P A B is b = b
 
 module _ {S C : Type 0} (status : S → Status) (users : List ℕ → Option ℕ) (may_give : C → ℕ → C → Type 0) where
   pub served_more : (wanted : ℕ) (old mid new : At S C) (exits : List (Result Served ServeFault)) (exit : Result Served ServeFault)
@@ -38,4 +47,27 @@ module _ {S C : Type 0} (status : S → Status) (users : List ℕ → Option ℕ
                 (subst (λ most. IsConnection status users may_give most mid (begun None None) new exit) left next),
           ),
         ),
+      )
+
+  -- connections one after another are one run
+  pub one_day : (wanted : ℕ) (old : At S C) (exits : List (Result Served ServeFault)) (new : At S C) (served : AreServed status users may_give wanted old exits new)
+      → IsDay users (status old.store) (status new.store) (messages_of status users may_give wanted old exits new served)
+  one_day wanted old [] new same = subst (λ (at : At S C). IsDay users (status old.store) (status at.store) []) (sym same) (day_of_none users (status old.store))
+  one_day wanted old (exit ∷ exits) new (wants, (mid, (one, rest))) =
+      day_joined users (status old.store) (status mid.store) (status new.store) _ _
+      (day_of_serve status users may_give wanted
+      (record { left = None; written = None; store = old.store; clock = old.clock })
+      (record { left = one.to.input.bytes; written = one.to.output.bytes; store = mid.store; clock = mid.clock })
+      exit one.served)
+      (one_day (wanted - counted_by exit) mid exits new rest)
+
+  pub all_replied : (wanted : ℕ) (old : At S C) (exits : List (Result Served ServeFault)) (new : At S C) (served : AreServed status users may_give wanted old exits new)
+      → Tells (status old.store) (status new.store) (AreAllReplied status users may_give wanted old exits new served)
+  all_replied wanted old [] new same = λ clean w held. tt
+  all_replied wanted old (exit ∷ exits) new (wants, (mid, (one, rest))) = λ clean w held.
+      let from : Place S C = record { left = None; written = None; store = old.store; clock = old.clock } in
+      let to : Place S C = record { left = one.to.input.bytes; written = one.to.output.bytes; store = mid.store; clock = mid.clock } in
+      let honest = (one_day (wanted - counted_by exit) mid exits new rest).honest clean in (
+        replied_by_serve status users may_give wanted from to exit one.served honest w held,
+        all_replied (wanted - counted_by exit) mid exits new rest clean _ ((day_of_serve status users may_give wanted from to exit one.served).moved honest w held),
       )

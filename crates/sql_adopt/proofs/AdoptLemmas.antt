@@ -17,7 +17,7 @@ use Rattle.book_kept.specs.Keepable.{IsOrdered}
 use Rattle.book_kept.specs.Laws.{AreSheetsOrdered}
 use Rattle.book_kept.specs.Sheets.{Sheets, slip_no}
 use Rattle.book_kept.proofs.SheetsTell.{sheets_are_ordered}
-use Rattle.store_sql.proofs.WorldLemmas.{same_world_in}
+use Rattle.store_sql.proofs.WorldLemmas.{same_world, same_world_in}
 use Rattle.sql_whole.specs.BookRows.{AreBookRows}
 use Rattle.sql_whole.specs.PolicyTables.{ArePolicyTables}
 use Rattle.sql_whole.specs.Tables.{AreSlipCounts, AreSlips}
@@ -68,12 +68,16 @@ found_bank e db books tables version w numbers schema kept sound row are_books a
     record { books = bank.books; policy = bank.policy; held = held; only = λ other has. same_world_in e other w db.trees has.world held.world }
 
 pub adopted : (old new : State) (w : WorldLists) → IsBankFile old → Finds newest old.now w → IsLeft old new → ((trees : Trees) → new.may_leave trees → trees ≡ old.committed.trees) → Adopts old new
-adopted old new w file found left settled = record {
-  world = w;
-  books = found.books;
-  policy = found.policy;
-  held = found.held;
-  only = found.only;
-  durable = λ trees may. subst (AreOfWorld w) (sym (settled trees may ∙ ap (λ (d : Database). d.trees) file.settled)) found.held.world;
-  holds = λ is_open. record { now = subst (λ (d : Database). HoldsWorld d w) (sym (left.now is_open)) found.held; settled = left.settled is_open };
-}
+adopted old new w file found left settled =
+    let durable : (trees : Trees) → new.may_leave trees → AreOfWorld w trees =
+    λ trees may. subst (AreOfWorld w) (sym (settled trees may ∙ ap (λ (d : Database). d.trees) file.settled)) found.held.world in
+    record {
+      world = w;
+      books = found.books;
+      policy = found.policy;
+      held = found.held;
+      only = found.only;
+      durable = durable;
+      alone = λ left (trees, may, of). same_world left w trees of (durable trees may);
+      holds = λ is_open. record { now = subst (λ (d : Database). HoldsWorld d w) (sym (left.now is_open)) found.held; settled = left.settled is_open };
+    }

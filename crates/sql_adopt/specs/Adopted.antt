@@ -9,6 +9,7 @@ use Rattle.sql_schema.specs.Cells.{bank_cells_in, edition_number}
 use Rattle.sql_schema.specs.Held.{AreOfWorld, HoldsBank, HoldsWorld, HoldsWorldIn, IsIn, Sheet, tree_of}
 use Rattle.sql_schema.specs.Schema.{newest, schema_of}
 use Rattle.sql_schema.specs.declared.edition.Edition.{Edition}
+use Rattle.store_sql.specs.Bank.{MayLeave}
 use Rattle.policy_check.specs.PolicyVerdict.{IsPolicyVerdict}
 use Rattle.sql_whole.specs.BankRow.{bank_row_cells}
 use Rattle.sql_whole.specs.BookRows.{AreBookRows}
@@ -71,6 +72,7 @@ pub record Adopts (old new : State) : Type 0 where
   pub only : (other : WorldLists) → HoldsWorld old.now other → other ≡ world
   pub holds : IsTrue new.is_open → HoldsBank new world
   pub durable : (trees : Trees) → new.may_leave trees → AreOfWorld world trees
+  pub alone : (left : WorldLists) → MayLeave new left → left ≡ world
 
 -- nothing was changed
 pub record IsLeft (old new : State) : Type 0 where

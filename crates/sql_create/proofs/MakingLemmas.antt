@@ -32,8 +32,12 @@ bank_made old tabled begun new w version result same can tables over row then ro
 
 -- An open connection leaves after a crash what was committed last.
 pub kept_as : (s : State) (w : WorldLists) → HoldsBank s w → ((trees : Trees) → s.may_leave trees → trees ≡ s.committed.trees) → IsKeptAs s w
-kept_as s w holds settled = record {
-  holds = holds;
-  only = λ other bank. same_world other w s.now.trees bank.now.world holds.now.world;
-  durable = λ trees may. subst (AreOfWorld w) (sym (settled trees may ∙ ap (λ (d : Database). d.trees) holds.settled)) holds.now.world;
-}
+kept_as s w holds settled =
+    let durable : (trees : Trees) → s.may_leave trees → AreOfWorld w trees =
+    λ trees may. subst (AreOfWorld w) (sym (settled trees may ∙ ap (λ (d : Database). d.trees) holds.settled)) holds.now.world in
+    record {
+      holds = holds;
+      only = λ other bank. same_world other w s.now.trees bank.now.world holds.now.world;
+      durable = durable;
+      alone = λ left (trees, may, of). same_world left w trees of (durable trees may);
+    }

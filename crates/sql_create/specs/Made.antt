@@ -7,6 +7,7 @@ use Rattle.bank_books.specs.Books.{Books}
 use Rattle.bank_books.specs.Records.{kept_of}
 use Rattle.bank_books.specs.WorldLists.{WorldLists}
 use Rattle.sql_schema.specs.Held.{AreOfWorld, HoldsBank}
+use Rattle.store_sql.specs.Bank.{MayLeave}
 use Rattle.book_check.specs.Verdict.{IsVerdict}
 use Rattle.policy_check.specs.PolicyVerdict.{IsPolicyVerdict}
 use Rattle.sql_create.specs.Blank.{no_schema}
@@ -23,6 +24,7 @@ pub record IsKeptAs (s : State) (w : WorldLists) : Type 0 where
   pub holds : HoldsBank s w
   pub only : (other : WorldLists) → HoldsBank s other → other ≡ w
   pub durable : (trees : Trees) → s.may_leave trees → AreOfWorld w trees
+  pub alone : (left : WorldLists) → MayLeave s left → left ≡ w
 
 -- why no bank of this World is made in a database of this schema; a fault of the database may come at any point
 abbrev pub IsRefusal : Schema → WorldLists → OpenFault → Type 0

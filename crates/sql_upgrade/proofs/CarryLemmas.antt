@@ -11,6 +11,7 @@ use Rattle.sql_schema.proofs.StepLemmas.{early}
 use Rattle.sql_schema.specs.Steps.{LeavesNone}
 use Rattle.sql_adopt.specs.Adopted.{Finds, IsBankFileIn, IsLeft}
 use Rattle.sql_adopt.specs.Older.{IsOlderFile}
+use Rattle.store_sql.proofs.WorldLemmas.{same_world}
 use Rattle.sql_upgrade.specs.Carried.{Carries, IsCarriedOver, IsOf}
 
 -- after a read that changed nothing
@@ -71,9 +72,12 @@ module _ (edition : Edition) (old mid new : State) (w : WorldLists) (read : Leav
       let was_clean = early mid new _ written clean in
       let of = is_of was_clean e older in
       let holds = made of in
+      let durable : (trees : Trees) → new.may_leave trees → AreOfWorld w trees =
+      λ trees may. subst (AreOfWorld w) (sym (settled of trees may ∙ ap (λ (d : Database). d.trees) holds.settled)) holds.now.world in
       record {
         world = w;
         found = (found was_clean e older).1;
         holds = holds;
-        durable = λ trees may. subst (AreOfWorld w) (sym (settled of trees may ∙ ap (λ (d : Database). d.trees) holds.settled)) holds.now.world;
+        durable = durable;
+        alone = λ left (trees, may, other). same_world left w trees other (durable trees may);
       }

@@ -6,6 +6,7 @@ use Rattle.bank_books.specs.WorldLists.{WorldLists}
 use Rattle.sql_schema.specs.Held.{AreOfWorld, HoldsBank}
 use Rattle.sql_schema.specs.Schema.{schema_of}
 use Rattle.sql_schema.specs.declared.edition.Edition.{Edition}
+use Rattle.store_sql.specs.Bank.{MayLeave}
 use Rattle.sql_adopt.specs.Adopted.{Finds}
 
 -- The tables of an older edition held a World whose books hold and whose policy is sound, and no other. Those of the newest hold it now, and
@@ -15,6 +16,7 @@ pub record Carries (e : Edition) (old new : State) : Type 0 where
   pub found : Finds e old.now world
   pub holds : HoldsBank new world
   pub durable : (trees : Trees) → new.may_leave trees → AreOfWorld world trees
+  pub alone : (left : WorldLists) → MayLeave new left → left ≡ world
 
 -- these trees are the tables of the newest edition, with the World that those of the older one held
 pub record IsCarriedOver (e : Edition) (old : State) (trees : Trees) : Type 0 where

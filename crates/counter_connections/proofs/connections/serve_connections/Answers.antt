@@ -1,6 +1,7 @@
 use Rattle.std.proofs.Common.{◌≡◌, ◌+◌, ◌-◌, ◌<◌, ◌≤◌, ◌∙◌, ◌++◌, ◌∷◌, [], None, ap, arith, subst, sym}
 use Rattle.counter_connections.specs.Connections.{IsConnection, begun, counted}
-use Rattle.counter_connections.proofs.ConnectionLemmas.{counted_more, counts_at_most, served_more}
+use Rattle.money.specs.Counted.{counted_once_more}
+use Rattle.counter_connections.proofs.ConnectionLemmas.{all_replied, counted_more, counts_at_most, ends_by_fault, one_day, served_more}
 use Rattle.counter_connections.proofs.connections.serve_connections.Goals as goal
 
 pub loop-wanted-preserved : goal.loop-wanted-preserved
@@ -26,4 +27,26 @@ loop-wanted-preserved g c =
           left c.serve_connection-exit.ensures.connection);
       counts = omega (arith, more, inv.counts, within);
       never = c.in_ok-stream.ensures.ok ∙ inv.never;
+    }
+
+pub returns-in_err-stream : goal.returns-in_err-stream
+returns-in_err-stream g c =
+    let inv = c.loop-wanted.invariant in
+    record {
+      exits = inv.exits;
+      served = inv.served;
+      day = one_day g.S.Stands.status (g.G.Gate.users c.args.gate.now) g.C.Clock.may_give c.args.requests _ inv.exits _ inv.served;
+      replied = all_replied g.S.Stands.status (g.G.Gate.users c.args.gate.now) g.C.Clock.may_give c.args.requests _ inv.exits _ inv.served;
+      ends = ends_by_fault c.from_residual.result _ _ _ c.from_residual.ensures.1 (omega (arith, inv.counts, c.loop-wanted-test.true), c.in_err-stream.ensures.err ∙ ap counted_once_more inv.never);
+    }
+
+pub returns : goal.returns
+returns g c =
+    let inv = c.loop-wanted.invariant in
+    record {
+      exits = inv.exits;
+      served = inv.served;
+      day = one_day g.S.Stands.status (g.G.Gate.users c.args.gate.now) g.C.Clock.may_give c.args.requests _ inv.exits _ inv.served;
+      replied = all_replied g.S.Stands.status (g.G.Gate.users c.args.gate.now) g.C.Clock.may_give c.args.requests _ inv.exits _ inv.served;
+      ends = (omega (arith, inv.counts, c.loop-wanted-test.false), inv.never);
     }

@@ -1,0 +1,57 @@
+-- What holds along every list of requests, in one record: what becomes of each, the sums, the policy in force, and what bears a slip.
+use Rattle.std.specs.Prelude.{ℕ, ◌≡◌, ◌≢◌, ◌↔◌, ◌+◌, ◌<◌, true, List, Some, None, Ok, Err, slice_get, take}
+use Rattle.money.specs.declared.fault.Fault.{Fault}
+use Rattle.bank_terms.specs.declared.rule.Rule.{Rule}
+use Rattle.bank_books.specs.WorldLists.{WorldLists}
+use Rattle.counter_ops.specs.Op.{procedure_of}
+use Rattle.policy_check.specs.Separation.{Certifies}
+use Rattle.bank_meaning.specs.LastWord.{HasLastWord}
+use Rattle.bank_meaning.specs.Laws.{IsFirstRule, IsHeld}
+use Rattle.bank_meaning.specs.Meaning.{json}
+use Rattle.bank_meaning.specs.Once.{ActsOnce}
+use Rattle.bank_meaning.specs.PolicyRules.{asker}
+use Rattle.bank_meaning.specs.Repeats.{IsKeptReply}
+use Rattle.bank_meaning.specs.Requests.{effect, executes, first, repeated, reply_text}
+use Rattle.bank_meaning.specs.Run.{Marked, is_accepted, reply, world_after}
+use Rattle.bank_meaning.specs.Slips.{slip_named}
+use Rattle.bank_meaning.specs.Sums.{AreProper, PassesChecks, SumsAgree}
+use Rattle.bank_meaning.specs.declared.execution.Execution.{Execution}
+use Rattle.bank_meaning.specs.declared.request.Request.{Request}
+
+-- A request that is made, in the World that those before it left, and the World after it.
+pub record IsMadeRightly (w : WorldLists) (q : Request) (after : WorldLists) : Type 0 where
+  -- the rule that is named is the first that denies
+  pub named : IsFirstRule w q
+  -- what repeats none is carried out where no rule denies it; else it changes nothing, and is told that rule
+  pub carried_out : repeated w q ≡ None → first w q ≡ None → (after ≡ effect w q) × (reply w q ≡ Ok (reply_text w q))
+  pub denied : (r : Rule) → repeated w q ≡ None → first w q ≡ Some r → (after ≡ w) × (reply w q ≡ Err r)
+  -- a repeat changes nothing, and gets the reply that was kept
+  pub again : (kept : List ℕ) → repeated w q ≡ Some kept → (after ≡ w) × (reply w q ≡ Ok (json kept))
+  -- no rule denies an operation exactly where all of it is held
+  pub held : (x : Execution) → q ≡ executes x → (first w q ≡ None ↔ IsHeld w x)
+  -- Clark and Wilson's rule E4
+  pub apart : (x : Execution) → q ≡ executes x → first w q ≡ None → ¬ Certifies w.policy (asker x.who) (procedure_of x.op)
+
+-- One with its mark: what a fault kept from being made changes nothing.
+pub record IsTreatedRightly (w : WorldLists) (m : Marked) (after : WorldLists) : Type 0 where
+  pub made : m.mark ≡ None → IsMadeRightly w m.request after
+  pub unmade : (fault : Fault) → m.mark ≡ Some fault → after ≡ w
+
+-- The n-th of these requests is an operation that bears a slip, and was accepted.
+pub record IsAcceptedAt (w : WorldLists) (requests : List Marked) (n : ℕ) (x : Execution) : Type 0 where
+  pub there : slice_get requests n ≡ Some (record { request = executes x; mark = None })
+  pub slip : slip_named x ≢ 0
+  pub accepted : is_accepted (world_after w (take n requests)) (record { request = executes x; mark = None }) ≡ true
+
+-- the requests, from this World on
+pub record IsHeadline (w : WorldLists) (requests : List Marked) : Type 0 where
+  pub each : (n : ℕ) (m : Marked) → slice_get requests n ≡ Some m → IsTreatedRightly (world_after w (take n requests)) m (world_after w (take (n + 1) requests))
+  pub sums : SumsAgree w requests
+  pub policy : HasLastWord w requests
+  pub acts_once : ActsOnce w requests
+  -- what bears the slip of an accepted operation gets its reply, wherever it comes behind
+  pub kept : (n k : ℕ) (x : Execution) → IsAcceptedAt w requests n x → n < k → IsKeptReply (world_after w (take k requests)) x (reply_text (world_after w (take n requests)) (executes x))
+
+-- of every World that passes both checks, and of every list of proper requests with any marks
+abbrev pub Headline : Type 0
+Headline = (w : WorldLists) (requests : List Marked) → PassesChecks w → AreProper requests → IsHeadline w requests
