@@ -24,12 +24,12 @@ along : (m n a b c : ℕ) → b ≤ a + m → c ≤ b + n → c ≤ a + (m + n)
 along m n a b c p q = omega arith
 
 -- a request in front
-after_marked : (w : WorldLists) (stated : Result Request MessageFault) (mark : Option Fault) (rest : List Marked)
+pub after_marked : (w : WorldLists) (stated : Result Request MessageFault) (mark : Option Fault) (rest : List Marked)
     → world_after (world_after w (marked stated mark [])) rest ≡ world_after w (marked stated mark rest)
 after_marked w (Ok r) mark rest = refl
 after_marked w (Err fault) mark rest = refl
 
-proper_in_front : (stated : Result Request MessageFault) (mark : Option Fault) (rest : List Marked) → (mark ≡ None → IfOk stated IsProper) → AreProper rest → AreProper (marked stated mark rest)
+pub proper_in_front : (stated : Result Request MessageFault) (mark : Option Fault) (rest : List Marked) → (mark ≡ None → IfOk stated IsProper) → AreProper rest → AreProper (marked stated mark rest)
 proper_in_front (Ok r) mark rest here behind = All-cons (λ m. m.mark ≡ None → IsProper m.request) (record { request = r; mark = mark }) rest here behind
 proper_in_front (Err fault) mark rest here behind = behind
 
@@ -41,7 +41,7 @@ if_found true true found r heard accepted same = ap (λ rest. r ∷ rest) same
 if_found true false found r heard accepted same = let none : false ≡ true = found refl in absurd cc
 if_found false finds found r heard accepted same = same
 
-heard_in_front : (w : WorldLists) (stated : Result Request MessageFault) (mark : Option Fault) (rest : List Marked) → IfOk stated (λ r. FindsRoom r mark w)
+pub heard_in_front : (w : WorldLists) (stated : Result Request MessageFault) (mark : Option Fault) (rest : List Marked) → IfOk stated (λ r. FindsRoom r mark w)
     → heard (world_after w (marked stated mark [])) rest ≡ accepted (world_after w (marked stated mark [])) rest → heard w (marked stated mark rest) ≡ accepted w (marked stated mark rest)
 heard_in_front w (Ok r) mark rest found same =
     if_found (is_accepted w (record { request = r; mark = mark })) (finds_room w r.asked) found r _ _ same
@@ -57,7 +57,7 @@ more_after P Q w (Ok r) (Some fault) within l (inl may) = elim (within l may) [ 
 more_after P Q w (Ok r) (Some fault) within l (inr is) = inr (inr is)
 more_after P Q w (Ok r) None within l (rests, may) = elim (within l may) [ inl same ↦ inl (same ∙ sym rests) | inr q ↦ inr (rests, q) ]
 
-more_pending : (users : List ℕ → Option ℕ) (P Q : WorldLists → Type 0) (w : WorldLists) (ms : List MarkedMessage) → ((l : WorldLists) → P l → (l ≡ w) ⊎ Q l)
+pub more_pending : (users : List ℕ → Option ℕ) (P Q : WorldLists → Type 0) (w : WorldLists) (ms : List MarkedMessage) → ((l : WorldLists) → P l → (l ≡ w) ⊎ Q l)
     → (l : WorldLists) → IsPending users P w ms l → (l ≡ world_after w (requests_of users ms)) ⊎ IsPending users Q w ms l
 more_pending users P Q w [] within l may = within l may
 more_pending users P Q w (m ∷ ms) within l may =

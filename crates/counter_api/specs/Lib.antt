@@ -6,3 +6,4 @@ pub mod Handled
 pub mod Response
 pub mod Run
 pub mod Sent
+pub mod Turn
