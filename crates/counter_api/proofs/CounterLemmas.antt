@@ -19,7 +19,7 @@ module _ {S G C : Type 0} (status : S → Status) (users : G → List ℕ → Op
     pub clock : now.clock.ghost_name ≡ start.clock.ghost_name
     pub same_users : users now.gate.now ≡ users start.gate.now
 
-  as_before : (start : Counter S G C) → IsAsBefore start start
+  pub as_before : (start : Counter S G C) → IsAsBefore start start
   as_before start = record { bank = refl; clock = refl; same_users = refl }
 
   still : (start old new : Counter S G C) → IsAsBefore start old → new.bank.ghost_name ≡ old.bank.ghost_name → new.clock.ghost_name ≡ old.clock.ghost_name → new.gate ≡ old.gate
@@ -27,14 +27,14 @@ module _ {S G C : Type 0} (status : S → Status) (users : G → List ℕ → Op
   still start old new before bank clock gate =
       record { bank = bank ∙ before.bank; clock = clock ∙ before.clock; same_users = ap (λ g. users g.now) gate ∙ before.same_users }
 
-  tells : (how : List ℕ → List ℕ → Type 0) (start old new : Counter S G C) (m : MessageParts) (out : List ℕ) → IsAsBefore start old → CounterAnswers how status users may_give old m out new
+  pub tells : (how : List ℕ → List ℕ → Type 0) (start old new : Counter S G C) (m : MessageParts) (out : List ℕ) → IsAsBefore start old → CounterAnswers how status users may_give old m out new
       → IsAsBefore start new × IsAnswered how (users start.gate.now) may_give (status old.bank.now.store) (status new.bank.now.store) old.clock.now new.clock.now m out
   tells how start old new m out before says = (
     still start old new before says.same_bank says.same_clock says.same_gate,
     subst (λ known. IsAnswered how known may_give (status old.bank.now.store) (status new.bank.now.store) old.clock.now new.clock.now m out) before.same_users says.answered,
   )
 
-  tells_broken : (start old new : Counter S G C) (m : MessageParts) (sent : List ℕ) → IsAsBefore start old → CounterBreaks status users may_give old m sent new
+  pub tells_broken : (start old new : Counter S G C) (m : MessageParts) (sent : List ℕ) → IsAsBefore start old → CounterBreaks status users may_give old m sent new
       → IsAsBefore start new × IsBroken (users start.gate.now) may_give (status old.bank.now.store) (status new.bank.now.store) old.clock.now new.clock.now m sent
   tells_broken start old new m sent before says = (
     still start old new before says.same_bank says.same_clock says.same_gate,

@@ -15,7 +15,7 @@ use Rattle.counter_api.specs.Run.{IsAnswered, IsRun, IsWhole, MarkedMessage, aft
 use Rattle.counter_api.proofs.RunLemmas.{none_ran, one_more}
 
 -- a beginning of a beginning is one
-shorter : (n : ℕ) (whole sent : List ℕ) → BeginsWith whole sent → BeginsWith whole (take n sent)
+pub shorter : (n : ℕ) (whole sent : List ℕ) → BeginsWith whole sent → BeginsWith whole (take n sent)
 shorter n whole sent (rest, is) =
     (drop n sent ++ rest, is ∙ ap (λ l. l ++ rest) (sym (take-append-drop n sent)) ∙ append_assoc (take n sent) (drop n sent) rest)
 

@@ -28,7 +28,7 @@ pub after_marked : (w : WorldLists) (stated : Result Request MessageFault) (mark
 after_marked w (Ok r) mark rest = refl
 after_marked w (Err fault) mark rest = refl
 
-proper_in_front : (stated : Result Request MessageFault) (mark : Option Fault) (rest : List Marked) → (mark ≡ None → IfOk stated IsProper) → AreProper rest → AreProper (marked stated mark rest)
+pub proper_in_front : (stated : Result Request MessageFault) (mark : Option Fault) (rest : List Marked) → (mark ≡ None → IfOk stated IsProper) → AreProper rest → AreProper (marked stated mark rest)
 proper_in_front (Ok r) mark rest here behind = All-cons (λ m. m.mark ≡ None → IsProper m.request) (record { request = r; mark = mark }) rest here behind
 proper_in_front (Err fault) mark rest here behind = behind
 
@@ -40,7 +40,7 @@ if_found true true found r heard accepted same = ap (λ rest. r ∷ rest) same
 if_found true false found r heard accepted same = let none : false ≡ true = found refl in absurd cc
 if_found false finds found r heard accepted same = same
 
-heard_in_front : (w : WorldLists) (stated : Result Request MessageFault) (mark : Option Fault) (rest : List Marked) → IfOk stated (λ r. FindsRoom r mark w)
+pub heard_in_front : (w : WorldLists) (stated : Result Request MessageFault) (mark : Option Fault) (rest : List Marked) → IfOk stated (λ r. FindsRoom r mark w)
     → heard (world_after w (marked stated mark [])) rest ≡ accepted (world_after w (marked stated mark [])) rest → heard w (marked stated mark rest) ≡ accepted w (marked stated mark rest)
 heard_in_front w (Ok r) mark rest found same =
     if_found (is_accepted w (record { request = r; mark = mark })) (finds_room w r.asked) found r _ _ same

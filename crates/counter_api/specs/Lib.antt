@@ -7,3 +7,4 @@ pub mod Handled
 pub mod Response
 pub mod Run
 pub mod Sent
+pub mod Turn

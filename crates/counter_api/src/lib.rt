@@ -8,8 +8,10 @@ mod counter;
 mod response;
 mod sent;
 mod service;
+mod turns;
 
 pub use counter_clocks::Clock;
-pub use http_messages::{ServeFault, Served};
+pub use http_messages::{Received, ServeFault, Served, Turn};
 pub use requests::Gate;
 pub use service::serve;
+pub use turns::{Desk, take_turn};

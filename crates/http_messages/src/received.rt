@@ -4,7 +4,8 @@ ghost use Rattle.money.specs.Counted.{stream_of};
 ghost use Rattle.http_messages.specs.Failures.{CountsByCall};
 ghost use Rattle.http_messages.specs.Received.{max_message_len, Takes};
 
-use http_heads::{MAX_BODY_LEN, MAX_HEAD_LEN};
+use http_heads::{MAX_BODY_LEN, MAX_FIELDS, MAX_HEAD_LEN};
+use httparse::spans::{EMPTY_HEADER_SPAN, HeaderSpan};
 use money::Tallied;
 use std::alloc::{AllocError, Global};
 use std::io::Read;
@@ -40,7 +41,7 @@ fn read_behind<R: Read>(
 
 /// The bytes that were read and not yet answered, in a room of one message.
 #[derive(Drop)]
-pub(crate) struct Received {
+pub struct Received {
     room: Vec<u8>,
     len: usize,
 }
@@ -58,7 +59,7 @@ impl Model for Received {
 
 impl Received {
     /// Nothing yet. An error comes where memory was refused.
-    pub(crate) fn new(alloc: Global) -> Result<Received, AllocError>
+    pub fn new(alloc: Global) -> Result<Received, AllocError>
         ensures { IfOk result (λ received. received ≡ []) }
     {
         let room = vec![in alloc; 0u8; MAX_MESSAGE_LEN]?;
@@ -71,6 +72,11 @@ impl Received {
         ensures bounded { length result.now ≤ max_message_len }
     {
         &self.room[..self.len]
+    }
+
+    /// Whether it holds no byte.
+    pub fn is_empty(&self) -> bool {
+        self.len == 0
     }
 
     /// Reads once into the room that is left, and answers whether any byte came.
@@ -96,5 +102,31 @@ impl Received {
     {
         self.room.copy_within(n..self.len, 0);
         self.len -= n;
+    }
+}
+
+/// Room for the places of a head's fields. What it holds is of no meaning between turns, so many connections share it.
+#[derive(Drop)]
+pub struct FieldRoom {
+    pub(crate) spans: Vec<HeaderSpan>,
+}
+
+impl Model for FieldRoom {
+    ghost use Rattle.std.specs.Prelude.{◌≤◌, List, length};
+    ghost use Rattle.httparse.specs.declared.spans.HeaderSpan.{HeaderSpan};
+    ghost use Rattle.http_heads.specs.Stream.{max_fields};
+
+    ghost Value = { List HeaderSpan };
+
+    ghost view = { λ r. r.spans.items };
+
+    ghost invariant = { λ r. max_fields ≤ length r.spans.items };
+}
+
+impl FieldRoom {
+    /// As much as the longest head needs. An error comes where memory was refused.
+    pub fn new(alloc: Global) -> Result<FieldRoom, AllocError> {
+        let spans = vec![in alloc; EMPTY_HEADER_SPAN; MAX_FIELDS]?;
+        Ok(FieldRoom { spans })
     }
 }

@@ -1,4 +1,4 @@
-ghost use Rattle.std.specs.Prelude.{◌≡◌, ◌≤◌, ◌<◌, ◌+◌, ◌⊎◌, ℕ, List, length, true, false, IfOk, IfErr, Ok, Err};
+ghost use Rattle.std.specs.Prelude.{◌≡◌, ◌≤◌, ◌<◌, ◌+◌, ◌⊎◌, ℕ, Bool, List, length, true, false, IfOk, IfErr, Ok, Err};
 ghost use Rattle.std.specs.Io.KnownBytes.{Appends, Keeps, IsAtEnd};
 ghost use Rattle.money.specs.Counted.{stream_of, AppendsBeginning};
 ghost use Rattle.http_messages.specs.Answered.{IsTurnOf};
@@ -14,7 +14,7 @@ ghost use Rattle.http_heads.specs.Stream.{max_fields};
 use crate::engine::{AnswerFault, Engine};
 use crate::looking::{Awaited, Next, look};
 use crate::message::Message;
-use crate::received::Received;
+use crate::received::{FieldRoom, Received};
 use crate::reply::write_reply;
 use http_heads::{Framing, Head, MAX_FIELDS, MessageFault, Seen, are_line_ends};
 use httparse::spans::{EMPTY_HEADER_SPAN, HeaderSpan};
@@ -60,9 +60,9 @@ impl From<AllocError> for ServeFault {
     }
 }
 
-/// How a turn of the loop ended.
-#[derive(Clone, Copy)]
-enum Turn {
+/// How a turn ended, which reads what is at hand and answers one message at most.
+#[derive(Clone, Copy, Debug, PartialEq, Eq)]
+pub enum Turn {
     /// A message was answered, and the next may follow.
     Answered,
     /// A message was answered by a reply that ends the connection.
@@ -318,4 +318,31 @@ pub fn serve_messages<E: Engine, R: Read, W: Write>(
         }
         Err(fault) => Err(fault),
     }
+}
+
+/// Reads what is at hand, and answers one message where it has come whole. What has come of one that is not whole is held: a
+/// later turn goes on with it, and so it does where a read answered that nothing is at hand, which is an `Err(Read)`. A
+/// connection may have a turn as long as its turns end by `Answered` or so.
+pub fn serve_turn<E: Engine, R: Read, W: Write>(
+    engine: &mut E,
+    reader: &mut Tallied<R>,
+    writer: &mut Tallied<W>,
+    received: &mut Received,
+    fields: &mut FieldRoom,
+) -> Result<Turn, ServeFault>
+    ensures turn { (unflushed : Bool) × IsTurn E.answers E.stops E.breaks
+        (record { left = R.remaining (stream_of reader.old); held = received.old; written = W.contents (stream_of writer.old); unflushed = false; engine = engine.old })
+        (record { left = R.remaining (stream_of reader.new); held = received.new; written = W.contents (stream_of writer.new); unflushed = unflushed; engine = engine.new })
+        result }
+    ensures failures { CountsByEnd reader.old reader.new writer.old writer.new result }
+{
+    let mut written = false;
+    serve_one(
+        engine,
+        reader,
+        writer,
+        &mut written,
+        received,
+        fields.spans.as_mut_slice(),
+    )
 }
