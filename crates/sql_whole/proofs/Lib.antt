@@ -2,6 +2,7 @@ pub mod BankRowLemmas
 pub mod BankWhole
 pub mod BookWhole
 pub mod CountLemmas
+pub mod FoldLemmas
 pub mod HistoryWhole
 pub mod PolicyWhole
 pub mod ReadsLemmas

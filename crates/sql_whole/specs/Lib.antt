@@ -1,8 +1,10 @@
 pub mod BankRow
 pub mod BookRows
 pub mod Faults
+pub mod Folds
 pub mod PolicyTables
 pub mod Tables
 pub mod Texts
+pub mod TurnParts
 pub mod Typed
 pub mod Whole

@@ -3,12 +3,11 @@ ghost use Rattle.sqlite.specs.Held.{state};
 ghost use Rattle.sql_whole.specs.Whole.{IsAnswered, IsThere, Reads};
 ghost use Rattle.sql_schema.specs.Steps.{LeavesNone};
 
-use crate::fault::ReadFault;
 use crate::fault::Table::{
     self, Accounts, Bank, Branches, Certifiers, Entries, Lines, Members, Proofs, Relations,
     Releases, Sets, SlipCounts, Slips, Tellers, Triples, Users,
 };
-use crate::table_row::shown_rows;
+use crate::fault::{ReadFault, read_fault};
 use sql_schema::Edition;
 use sqlite::{Alter, Transaction};
 
@@ -42,7 +41,7 @@ fn query_for(table: Table, edition: Edition) -> Option<&'static str>
     }
 }
 
-/// Asks by a query, of whose answer nothing is read.
+/// Asks whether the tables have an answer to a query, and reads none.
 fn ask<S: Alter>(
     tx: &mut Transaction<'_, S>,
     edition: Edition,
@@ -55,7 +54,10 @@ fn ask<S: Alter>(
     ensures there { IsThere edition (state S.Store tx.old.conn.now) (state S.Store tx.new.conn.now) result }
     ensures survives { LeavesNone (state S.Store tx.old.conn.now) (state S.Store tx.new.conn.now) }
 {
-    shown_rows(tx, sql, table)?;
+    let _statement = match tx.prepare(sql) {
+        Ok(statement) => statement,
+        Err(error) => return Err(read_fault(error, table)),
+    };
     Ok(())
 }
 
