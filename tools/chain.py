@@ -68,8 +68,8 @@ def ends(uses, minutes, crates, processors):
 
 
 def minutes_left(uses, minutes, took, began, processors):
-    """How many minutes of a build of crates are left, by the minutes that are kept of each, those that each proved one took, if
-    it was proved in this build, and those since each other one began. What takes twice the kept minutes is likely to go on so."""
+    """How many minutes of a build of crates are left, by the minutes that are kept of each, those that each proved one took,
+    if it was proved in this build, and those since each other one began. The pace of those is taken to go on."""
     anew = {it: own for it, own in took.items() if own is not None}
     pace = (sum(anew.values()) + STEADY_MINUTES) / (sum(minutes[it] for it in anew) + STEADY_MINUTES)
     left = {it: max(kept - began.get(it, 0) / pace, 0) for it, kept in minutes.items() if it not in took}

@@ -123,7 +123,8 @@ def functions(text, path, homes):
             if head["fn"]:
                 body = body_of(code, at)
                 if body:
-                    name, attributes = "::".join([*above, head["fn"]]), code[code.rfind("}", 0, head.start()) + 1 : head.start()]
+                    name = "::".join([*above, head["fn"]])
+                    attributes = code[code.rfind("}", 0, head.start()) + 1 : head.start()]
                     of_trait = trait and f"{trait}::{head['fn']}"
                     has_clause = bool(PROMISE.search(code, head.start(), body[0]))
                     stands_alone = is_free and "#[cycle" not in attributes
