@@ -1,6 +1,8 @@
 pub mod ActsOnce
 pub mod AllowedRequest
+pub mod BooksJudged
 pub mod CommandSteps
+pub mod CommandsJudged
 pub mod CountingRelease
 pub mod FirstRule
 pub mod GivenRelease

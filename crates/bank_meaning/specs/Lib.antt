@@ -1,7 +1,9 @@
 pub mod Accounts
 pub mod Balance
+pub mod BooksJudged
 pub mod CloseDay
 pub mod Commands
+pub mod CommandsJudged
 pub mod Correct
 pub mod Denial
 pub mod DrawerOff

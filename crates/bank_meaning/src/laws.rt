@@ -1,5 +1,8 @@
 //! What holds of every World, of every decision, of releases, of a new account, of sessions, and along every list of requests. The functions change nothing; their contracts are the laws.
 
+
+ghost use Rattle.bank_meaning.specs.BooksJudged.{BooksAreJudged};
+ghost use Rattle.bank_meaning.specs.CommandsJudged.{CommandsAreJudged};
 ghost use Rattle.bank_meaning.specs.Headline.{Headline};
 ghost use Rattle.bank_meaning.specs.LastWord.{LastWord};
 ghost use Rattle.bank_meaning.specs.Laws.{AllowedExactlyWhenHeld, DeniedBeforeTheBooks, FirstByPlace, IdentityIsJudged, NewAccountKeepsBooks, PolicyIsJudged, ReleaseKeepsBooks, ReleasesAreUsedOnce, SessionsChangeNoMore};
@@ -53,6 +56,22 @@ pub fn identity_is_judged()
 /// but the present day of that release's branch was looked at.
 pub fn denied_before_the_books()
     ensures { DeniedBeforeTheBooks }
+{}
+
+/// What no rule denies is asked for by whom and where it has to be. Who posts, transfers, corrects, moves the cash of a drawer or
+/// puts it off holds that drawer, at a teller of the branch that is named; nobody holds one that is put on, and none of the branch
+/// is held where a day is closed. What is corrected was entered by somebody else on the branch's present day, is no correction,
+/// has not been undone, and is as it is named. Accounts stay at their floors, drawers and vaults at zero or above. An account that
+/// is opened is new, and a release is given to somebody else.
+pub fn books_are_judged()
+    ensures { BooksAreJudged }
+{}
+
+/// A command that no rule denies is asked for by a user who is known and not suspended: by an officer to appoint, dismiss, enrol,
+/// suspend or restore; by a certifier of the procedure to certify, withdraw, grant or revoke; by any certifier to define a set. The
+/// policy is listed to officers alone.
+pub fn commands_are_judged()
+    ensures { CommandsAreJudged }
 {}
 
 /// An operation is allowed exactly when its user is known, some one triple of his holds all that it
