@@ -1,5 +1,6 @@
 pub mod ActsOnce
 pub mod AllowedRequest
+pub mod AmountBounds
 pub mod BooksJudged
 pub mod CommandSteps
 pub mod CommandsJudged
@@ -22,6 +23,7 @@ pub mod OpenedAccount
 pub mod OperationSteps
 pub mod PolicyFirst
 pub mod PolicyLemmas
+pub mod Questions
 pub mod Retries
 pub mod RunSums
 pub mod SessionSteps

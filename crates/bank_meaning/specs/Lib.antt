@@ -1,4 +1,5 @@
 pub mod Accounts
+pub mod Amounts
 pub mod Balance
 pub mod BooksJudged
 pub mod CloseDay
@@ -24,6 +25,7 @@ pub mod Order
 pub mod PolicyRules
 pub mod Post
 pub mod Proof
+pub mod Questions
 pub mod Release
 pub mod Repeats
 pub mod Requests
