@@ -1,11 +1,10 @@
 -- The amount of an operation bounds what it adds to each balance, and to the cash of each place.
-use Rattle.std.proofs.Common.{◌≡◌, ℕ, ◌≤◌, zero, suc, ℤ, pos, negsuc, neg_ℤ, ◌+ℤ◌, ◌==◌, ◌&&◌, List, [], ◌∷◌, map, Bool, true, false, not, Option, Some, None, refl, ap, arith, sym, subst, ◌∙◌}
-use Rattle.std.specs.Prelude.{is_none, unsigned_abs, if◌then◌else◌}
+use Rattle.std.proofs.Common.{◌≡◌, ℕ, ◌≤◌, zero, suc, ℤ, pos, negsuc, neg_ℤ, ◌+ℤ◌, ◌==◌, ◌&&◌, List, [], ◌∷◌, Bool, true, false, not, Option, Some, None, refl, ap, arith, sym, subst, ◌∙◌}
+use Rattle.std.specs.Prelude.{unsigned_abs, if◌then◌else◌}
 use Rattle.std.proofs.lemmas.Int.{ints}
-use Rattle.money.specs.declared.fault.Fault.{Fault}
 use Rattle.bank_terms.specs.declared.rule.Rule.{Rule}
 use Rattle.bank_books.specs.Balances.{account_balance, branch_balance, teller_balance}
-use Rattle.bank_books.specs.Cash.{cash_of, place_cash, vault_opening}
+use Rattle.bank_books.specs.Cash.{place_cash, vault_opening}
 use Rattle.bank_books.specs.Effects.{all_written, applied, in_full, written}
 use Rattle.bank_books.specs.Keys.{line_key}
 use Rattle.bank_books.specs.Version.{changes_policy, has_version_for, with_version}
@@ -37,10 +36,8 @@ use Rattle.keyed_rows.proofs.Rows.{total-add_row}
 use Rattle.postings.specs.Correct.{correct_changes, correct_rows, is_of_post, undoing, undoing_legs, undoing_post}
 use Rattle.postings.specs.Post.{post_changes, post_rows}
 use Rattle.postings.specs.Transfer.{transfer_changes, transfer_rows}
-use Rattle.postings.specs.declared.correct.CorrectRows.{CorrectRows}
 use Rattle.rule_tests.specs.declared.cash_book.CashBook.{CashBook}
 use Rattle.rule_tests.specs.declared.ledger.Ledger.{Ledger}
-use Rattle.store_rows.specs.Status.{after_mark}
 use Rattle.bank_meaning.specs.Amounts.{AmountsBound, DifferAtMost, is_drawer_off}
 use Rattle.bank_meaning.specs.Executions.{books_meaning, signature_of}
 use Rattle.bank_meaning.specs.Operations.{meaning_of}
@@ -48,13 +45,12 @@ use Rattle.bank_meaning.specs.PolicyRules.{asker, grounds, leave_of, used_by}
 use Rattle.bank_meaning.specs.Release.{release_changes, release_rows}
 use Rattle.bank_meaning.specs.Requests.{effect, executes, first, repeated}
 use Rattle.bank_meaning.specs.Run.{Marked, if_allowed, is_accepted, step, unless_repeated}
-use Rattle.bank_meaning.specs.Slips.{slip_named, slip_of, taken_by}
+use Rattle.bank_meaning.specs.Slips.{slip_named, slip_of}
 use Rattle.bank_meaning.specs.Sums.{Moves, moves_nothing, moves_of}
 use Rattle.bank_meaning.specs.declared.execution.Execution.{Execution}
 use Rattle.bank_meaning.specs.declared.leave.Leave.{Leave}
 use Rattle.bank_meaning.specs.declared.leave.Leave.TheVariants as leave
 use Rattle.bank_meaning.proofs.RunSums.{one_request}
-use Rattle.bank_meaning.proofs.Steps.{IsStep}
 
 -- ---- amounts without a sign
 

@@ -1,5 +1,5 @@
 -- What the rules of the books tell of the rows, where none denies an operation.
-use Rattle.std.proofs.Common.{◌≡◌, ◌≢◌, ℕ, ℤ, pos, neg_ℤ, ◌+ℤ◌, ◌==◌, ◌&&◌, ◌||◌, Bool, true, false, not, Contains, List, Option, Some, None, refl, ap, arith, sym, ◌∙◌, subst}
+use Rattle.std.proofs.Common.{◌≡◌, ◌≢◌, ℕ, ℤ, pos, neg_ℤ, ◌+ℤ◌, ◌==◌, ◌&&◌, ◌||◌, Bool, true, false, not, Contains, Option, Some, None, refl, ap, arith, sym, ◌∙◌, subst}
 use Rattle.std.specs.Prelude.{◌≤ℤ◌, is_none, is_some, option_and_then, option_map, if◌then◌else◌}
 use Rattle.std.specs.Option.{option_map_or}
 use Rattle.std.specs.Ordering.{int_eq}
@@ -9,15 +9,13 @@ use Rattle.std.proofs.lemmas.Bool.{and_parts, eqb-false, eqb-true, eq-eqb, false
 use Rattle.std.proofs.lemmas.Bool.Decides.{Decides-int_eq}
 use Rattle.bank_policy.proofs.RowsTell.{in_filter}
 use Rattle.bank_policy.specs.HeldRows.{user_row}
-use Rattle.bank_policy.specs.declared.rows.User.{User}
 use Rattle.bank_terms.specs.declared.rule.Rule.{Rule}
 use Rattle.bank_terms.specs.declared.rule.Rule.TheVariants as rule
 use Rattle.bank_books.specs.Balances.{account_balance, account_deltas, account_row, branch_row, teller_row}
-use Rattle.bank_books.specs.Cash.{cash_of, holder_of, place_cash, vault_opening}
+use Rattle.bank_books.specs.Cash.{holder_of, place_cash, vault_opening}
 use Rattle.bank_books.specs.Keys.{account_key, branch_key, teller_key}
 use Rattle.bank_books.specs.Records.{account_record, account_record_of, branch_record, branch_record_of, teller_record, teller_record_of}
 use Rattle.bank_books.specs.WorldLists.{WorldLists}
-use Rattle.bank_books.specs.declared.records.AccountRecord.{AccountRecord}
 use Rattle.bank_books.specs.declared.rows.Account.{Account}
 use Rattle.bank_books.specs.declared.rows.Branch.{Branch}
 use Rattle.bank_books.specs.declared.rows.Entry.{Entry}
@@ -47,10 +45,9 @@ use Rattle.rule_tests.specs.BranchParts.{cash_book_of, ledger_of}
 use Rattle.rule_tests.specs.Rules.{account_keeps_floor, drawer_covers, drawer_is_free, drawer_is_held, drawer_is_held_by, teller_is_of, vault_covers}
 use Rattle.world_reads.specs.BookReads.{entry, is_entry, is_teller_of, roster, undoes_entry, undone}
 use Rattle.world_reads.specs.PolicyReads.{user_record, user_record_of}
-use Rattle.bank_meaning.specs.BooksJudged.{BooksAreJudged, DrawerCovers, HasAccount, HasBranch, HasDrawer, HoldsDrawer, IsBooksJudged, IsCloseDayJudged, IsCorrectJudged, IsDrawerOffJudged, IsDrawerOnJudged, IsMoveJudged, IsNamed, IsNewAccountJudged, IsNotUndone, IsOpJudged, IsPostJudged, IsReleaseJudged, IsTransferJudged, KeepsFloor, PlaceCovers}
+use Rattle.bank_meaning.specs.BooksJudged.{BooksAreJudged, DrawerCovers, HasAccount, HasBranch, HasDrawer, HoldsDrawer, IsCloseDayJudged, IsCorrectJudged, IsDrawerOffJudged, IsDrawerOnJudged, IsMoveJudged, IsNamed, IsNewAccountJudged, IsOpJudged, IsPostJudged, IsReleaseJudged, IsTransferJudged, KeepsFloor, PlaceCovers}
 use Rattle.bank_meaning.specs.PolicyRules.{asker}
 use Rattle.bank_meaning.specs.Requests.{denies, executes}
-use Rattle.bank_meaning.specs.declared.execution.Execution.{Execution}
 use Rattle.bank_meaning.specs.declared.who.Who.{Who}
 use Rattle.bank_meaning.proofs.FirstRule.{none_denies}
 

@@ -1,5 +1,5 @@
 -- What the rules of the books ask of an operation, over the rows of the World: who holds the drawer, who made the entry, what is left in accounts, drawers and vaults.
-use Rattle.std.specs.Prelude.{ℕ, ℤ, pos, neg_ℤ, ◌≡◌, ◌≢◌, ◌≤ℤ◌, ◌+ℤ◌, ⊤, Contains, List, Option, Some, None}
+use Rattle.std.specs.Prelude.{ℕ, ℤ, pos, neg_ℤ, ◌≡◌, ◌≢◌, ◌≤ℤ◌, ◌+ℤ◌, ⊤, Contains, Option, Some, None}
 use Rattle.bank_policy.specs.HeldRows.{user_row}
 use Rattle.bank_policy.specs.declared.rows.User.{User}
 use Rattle.bank_books.specs.Balances.{account_balance, account_row, branch_row, teller_row}
