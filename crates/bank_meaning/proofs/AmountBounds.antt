@@ -275,6 +275,7 @@ effect_lines w x = go (slip_named x == 0) (leave_of (grounds w x))
   where
     after : WorldLists
     after = (books_meaning w x).effect
+
     go : (b : Bool) (l : Leave)
         → (if b then used_by l (asker x.who) after else written (write.Slip (slip_of x (books_meaning w x).reply.bytes)) (used_by l (asker x.who) after)).lines ≡ after.lines
     go true leave.Triple = refl
@@ -288,6 +289,7 @@ step_bound w x branch place is = go (repeated w (executes x)) (first w (executes
   where
     stays : DifferAtMost (amount x.op) (place_cash branch place w.lines) (place_cash branch place w.lines)
     stays = differ_by_none (amount x.op) (place_cash branch place w.lines)
+
     go : (kept : Option (List ℕ)) (r : Option Rule)
         → DifferAtMost (amount x.op) (place_cash branch place w.lines) (place_cash branch place (unless_repeated kept (if_allowed r (effect w (executes x)) w) w).lines)
     go None None =

@@ -163,7 +163,7 @@ keeps_floor w account added known keeps =
     let enough = at_least ((row.opening +ℤ account_deltas row.account w.entries) +ℤ added) row.floor
     (at_row (account_record_of w) (λ o. account_keeps_floor o added) (account_row account w.accounts) row true found.1 keeps) in
     let opening : account_balance w account ≡ row.opening +ℤ account_deltas account w.entries =
-        ap (λ (o : Option Account). option_map_or (λ r. r.opening) o (pos 0) +ℤ account_deltas account w.entries) found.1 in
+    ap (λ (o : Option Account). option_map_or (λ r. r.opening) o (pos 0) +ℤ account_deltas account w.entries) found.1 in
     record {
       row = row;
       there = found.1;
@@ -274,16 +274,18 @@ correctable w c is =
     let today = and_parts _ _ found.1.1 in
     let form = and_parts _ _ today.0 in
     let delta = and_parts (e.account == c.account) (int_eq e.delta c.delta) form.0 in
-    let at = and_parts (e.branch == c.branch) (e.number == c.entry) (find-found (is_entry c.branch c.entry) w.entries e found.1.0).1 in
-    (e, record {
-      there = found.1.0;
-      of_branch = eqb-true e.branch c.branch at.0;
-      not_undone = not-true (undone w c.branch c.entry) parts.0;
-      account = eqb-true e.account c.account delta.0;
-      delta = (Decides-int_eq e.delta c.delta).0 delta.1;
-      form = subst (λ o. other_is_as_named e.form (option_and_then (partner_of w) o) c ≡ true) found.1.0 form.1;
-      today = today.1;
-    })
+    let at = and_parts (e.branch == c.branch) (e.number == c.entry) (find-found (is_entry c.branch c.entry) w.entries e found.1.0).1 in (
+      e,
+      record {
+        there = found.1.0;
+        of_branch = eqb-true e.branch c.branch at.0;
+        not_undone = not-true (undone w c.branch c.entry) parts.0;
+        account = eqb-true e.account c.account delta.0;
+        delta = (Decides-int_eq e.delta c.delta).0 delta.1;
+        form = subst (λ o. other_is_as_named e.form (option_and_then (partner_of w) o) c ≡ true) found.1.0 form.1;
+        today = today.1;
+      },
+    )
 
 is_named : (w : WorldLists) (c : Correct) (e : Entry) → IsCorrectable w c e → IsNamed w c e
 is_named w c e is = record {
@@ -320,7 +322,7 @@ correct_judged w who moment c none =
     let floors = and_parts (account_keeps_floor rows.account (neg_ℤ c.delta)) (account_keeps_floor rows.other c.delta) (not-false _ (none rule.Floor)) in
     let maker : (e.user == asker who) ≡ false = subst (λ o. option_map_or (λ (r : Entry). r.user == asker who) o false ≡ false) found.1.there (none rule.SecondPerson) in
     let day : (e.day == branch.0.day) ≡ true =
-        subst (λ o. option_map_or (λ ledger. e.day == ledger.day) (option_map ledger_of (option_map (branch_record_of w) o)) true ≡ true) branch.1 found.1.today in
+    subst (λ o. option_map_or (λ ledger. e.day == ledger.day) (option_map ledger_of (option_map (branch_record_of w) o)) true ≡ true) branch.1 found.1.today in
     record {
       drawer = drawer;
       row = e;
@@ -417,6 +419,7 @@ place_covered w m branch drawer covers = go (m.source == 0) refl
   where
     added : ℤ
     added = neg_ℤ (pos m.amount)
+
     go : (b : Bool) → (m.source == 0) ≡ b → PlaceCovers w m.source m.branch added
     go true is =
         subst (λ place. PlaceCovers w place m.branch added) (sym (eqb-true m.source 0 is))

@@ -47,8 +47,10 @@ no_effect w x question is = go (is_in_limit (grounds w x)) (slip_named x) (in_li
   where
     after : WorldLists
     after = (books_meaning w x).effect
+
     left : Bool → WorldLists
     left within = used_by (if within then leave.Triple else leave.Release x.who.release) (asker x.who) after
+
     go : (within : Bool) (slip : ℕ) → within ≡ true → slip ≡ 0
         → (if slip == 0 then left within else written (write.Slip (slip_of x (books_meaning w x).reply.bytes)) (left within)) ≡ w
     go within slip reaches none =

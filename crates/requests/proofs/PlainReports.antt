@@ -11,7 +11,6 @@ use Rattle.bank_meaning.specs.declared.who.Who.{Who}
 use Rattle.requests.specs.Laws.{ReportsArePlain}
 use Rattle.requests.specs.Request.{IsReport}
 
-
 operation_plain : (w : WorldLists) (who : Who) (moment : ℕ) (o : Op) → IsReport (asked.Operation o) ↔ ((asked_meaning (asked.Operation o) who moment w).reply.kind ≡ kind.Plain)
 operation_plain w who moment (op.Statement statement) = (λ is. refl, λ is. refl)
 operation_plain w who moment (op.Accounts accounts) = (λ is. refl, λ is. refl)
