@@ -12,7 +12,7 @@ use Rattle.bank_terms.specs.declared.procedure.Procedure.{Procedure}
 use Rattle.bank_terms.specs.declared.rule.Rule.{Rule}
 use Rattle.bank_terms.specs.declared.rule.Rule.TheVariants as rule
 use Rattle.bank_books.specs.WorldLists.{WorldLists}
-use Rattle.certify.proofs.CommandRules.{one_procedure}
+use Rattle.bank_terms.proofs.Procedures.{one_procedure}
 use Rattle.certify.proofs.SomeRows.{any_of, some_passes}
 use Rattle.certify.specs.CommandRows.{certifies_any, is_certifier, is_officer}
 use Rattle.keyed_rows.proofs.Rows.{find-found}

@@ -21,7 +21,7 @@ use Rattle.bank_books.specs.Cash.{cash_entry_total, difference_total, line_count
 use Rattle.bank_books.specs.Keys.{account_key}
 use Rattle.bank_books.specs.WorldLists.{WorldLists}
 use Rattle.bank_books.specs.declared.rows.Account.{Account}
-use Rattle.certify.proofs.CommandRules.{one_procedure}
+use Rattle.bank_terms.proofs.Procedures.{one_procedure}
 use Rattle.counter_ops.specs.Op.{procedure_of}
 use Rattle.counter_ops.specs.Touched.{account_item, branch_item, touched}
 use Rattle.counter_ops.specs.declared.op.Op.{Op}
