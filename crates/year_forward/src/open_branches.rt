@@ -11,7 +11,7 @@ use keyed_rows::find_row;
 
 /// The least number of a branch that is not closed, or none exactly where the bank may begin its next year.
 /// A branch is not closed while an entry, a cash line or a release bears its present day, or a drawer of it
-/// is held or holds cash. It takes no memory, and looks at each row once.
+/// is held or holds cash. It takes no memory.
 pub fn first_open(world: &World, kept: &Kept) -> Option<u32>
     requires { kept.now ≡ kept_of world.now }
     ensures { IsFirstFailing (IsBranchClosed world.now) result }
