@@ -34,6 +34,8 @@ COLUMNS = {
 PATH = os.environ.get("PATH", "/usr/bin:/bin") + ":/usr/sbin:/sbin"
 PACKAGES = {"nginx": "nginx-light", "openssl": "openssl", "curl": "curl"}
 NOBODY = 65534
+# Changes of the front's settings that lift its limits per certificate.
+NO_RATE = [("limit_req zone=by_certificate burst=40 nodelay;", ""), ("limit_conn open_by_certificate 20;", "")]
 
 
 class Wrong(Exception):
