@@ -97,7 +97,7 @@ def become_nobody():
 
 class Files:
     """What a branch needs of this folder and the program, in a temporary folder of an unprivileged user, who this process becomes
-    where it is root's. They are copied before, as that user may not read this folder."""
+    where it is root's. They are copied before, as that user may have no right to read this folder."""
 
     def __init__(self, program):
         os.environ["PATH"] = PATH
@@ -249,8 +249,9 @@ class Branch:
     def restart_by_order(self):
         """Ends the bank, and waits until it is there again, as `systemctl restart bank` does it."""
         def unit(script):
-            environment = {"PATH": PATH, "MAINPID": str(self.bank.pid), "RUNTIME_DIRECTORY": str(self.folder / "run"), "BANK_PORT": str(self.bank_port)}
-            subprocess.run([self.files.top / "units" / script], env=environment, check=True)
+            environment = {"MAINPID": str(self.bank.pid), "RUNTIME_DIRECTORY": str(self.folder / "run"), "BANK_PORT": str(self.bank_port)}
+            subprocess.run([self.files.top / "units" / script], env={"PATH": PATH, **environment}, check=True)
+
         before = self.starts
         unit("drain")
         self.signal_bank(signal.SIGTERM)
@@ -323,7 +324,8 @@ class Branch:
         self.run_bank("run", self.file, "--badges", self.folder / "lists/badges.csv", "--moment", "0")
         self.run_bank("check", self.file, says="books hold\n")
         with contextlib.closing(sqlite3.connect(f"file:{self.file}?mode=ro", uri=True)) as found:
-            return {table: found.execute(f"SELECT {columns} FROM {table} ORDER BY 1, 2").fetchall() for table, columns in COLUMNS.items()}
+            return {table: found.execute(f"SELECT {columns} FROM {table} ORDER BY 1, 2").fetchall()
+                    for table, columns in COLUMNS.items()}
 
     def audit(self):
         """The lines of the audit trail."""
