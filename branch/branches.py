@@ -3,6 +3,7 @@ import contextlib
 import http.client
 import json
 import os
+import random
 import re
 import shutil
 import signal
@@ -34,6 +35,7 @@ COLUMNS = {
 PATH = os.environ.get("PATH", "/usr/bin:/bin") + ":/usr/sbin:/sbin"
 PACKAGES = {"nginx": "nginx-light", "openssl": "openssl", "curl": "curl"}
 NOBODY = 65534
+PORTS, PORTS_LOCK = set(), threading.Lock()
 # Changes of the front's settings that lift its limits per certificate.
 NO_RATE = [("limit_req zone=by_certificate burst=40 nodelay;", ""), ("limit_conn open_by_certificate 20;", "")]
 
@@ -54,13 +56,16 @@ def missing():
     return found + ([] if os.path.exists(echo) else [f"{echo} (package libnginx-mod-http-echo)"])
 
 
-def free_ports(count):
-    """So many ports of 127.0.0.1 that nobody has."""
-    with contextlib.ExitStack() as held:
-        sockets = [held.enter_context(socket.socket()) for _ in range(count)]
-        for each in sockets:
-            each.bind(("127.0.0.1", 0))
-        return [each.getsockname()[1] for each in sockets]
+def free_port():
+    """A port of 127.0.0.1 that nobody has, no other branch here gets, and no connection takes for its own end: Linux takes those
+    from 32768 on."""
+    while True:
+        port = random.randrange(10000, 32768)
+        with contextlib.suppress(OSError), PORTS_LOCK, socket.socket() as tried:
+            tried.bind(("127.0.0.1", port))
+            if port not in PORTS:
+                PORTS.add(port)
+                return port
 
 
 def write_lists(folder):
@@ -142,10 +147,17 @@ class Client:
         self.connection = http.client.HTTPSConnection("localhost", branch.port, timeout=90, context=branch.files.context(who))
         self.fields = {"Bank-Session": str(branch.sessions[who])}
 
-    def ask(self, path, body):
-        """The status and the body of the reply; the status is 0 where none came."""
+    def ask(self, path, body, pause=0.0):
+        """The status and the body of the reply; the status is 0 where none came. The request's body is sent so many seconds after
+        its head."""
+        text = json.dumps(body).encode()
         try:
-            self.connection.request("POST", path, json.dumps(body), self.fields)
+            self.connection.putrequest("POST", path)
+            for name, value in {**self.fields, "Content-Length": str(len(text))}.items():
+                self.connection.putheader(name, value)
+            self.connection.endheaders()
+            time.sleep(pause)
+            self.connection.send(text)
             reply = self.connection.getresponse()
             return reply.status, reply.read().decode()
         except (OSError, http.client.HTTPException):
@@ -160,11 +172,10 @@ class Branch:
     pairs of texts in the front's settings, old and new; the bank's file is in `room`, where one is given.
     """
 
-    def __init__(self, files, name, requests=1000000, changes=(), bank=True, bank_port=None, delay=0.2, room=None):
+    def __init__(self, files, name, requests=1000000, changes=(), bank=True, delay=0.2, room=None):
         self.files, self.requests, self.delay = files, requests, delay
         self.folder = files.top / name
-        self.port, free = free_ports(2)
-        self.bank_port = bank_port or free
+        self.port, self.bank_port = free_port(), free_port()
         self.url = f"https://localhost:{self.port}"
         self.sessions = {}
         self.kept, self.bank, self.starts = False, None, 0
