@@ -1,21 +1,18 @@
 -- A bank that was read and then written anew.
-use Rattle.std.proofs.Common.{◌≡◌, ◌∙◌, Err, Ok, OnErr, Result, ap, inl, inr, subst, sym}
+use Rattle.std.proofs.Common.{◌≡◌, ◌∙◌, ap, inl, inr, subst, sym}
 use Rattle.sqlite.specs.Effect.{Database}
-use Rattle.sqlite.specs.State.{HasCleanDisk, IsRolledBack, IsUnchanged, State, Survives}
-use Rattle.sqlite.specs.Steps.{FailsToCommit}
+use Rattle.sqlite.specs.State.{HasCleanDisk, State, Survives}
 use Rattle.sqlite.specs.Tree.{Trees}
 use Rattle.sqlite.proofs.StateLemmas.{survives_then}
 use Rattle.bank_books.specs.WorldLists.{WorldLists}
-use Rattle.money.specs.declared.fault.Fault.{Fault}
-use Rattle.sql_schema.specs.Faults.{IsNameOf}
 use Rattle.sql_schema.specs.Held.{AreOfWorld, HoldsBank}
 use Rattle.sql_schema.specs.declared.edition.Edition.{Edition}
-use Rattle.sql_schema.proofs.StepLemmas.{early, survived}
+use Rattle.sql_schema.proofs.StepLemmas.{early}
 use Rattle.sql_schema.specs.Steps.{LeavesNone}
 use Rattle.sql_adopt.specs.Adopted.{Finds, IsBankFileIn, IsLeft}
 use Rattle.sql_adopt.specs.Older.{IsOlderFile}
 use Rattle.store_sql.proofs.WorldLemmas.{same_world}
-use Rattle.sql_upgrade.specs.Carried.{Carries, CommitsNone, IsCarriedOver, IsOf}
+use Rattle.sql_upgrade.specs.Carried.{Carries, IsCarriedOver, IsOf}
 
 -- after a read that changed nothing
 pub still_of : (e : Edition) (old mid : State) → IsBankFileIn e old → IsLeft old mid → IsOf e mid
@@ -34,25 +31,6 @@ survives_more old new Commits s = record {
   closes = s.closes;
   crash = λ clean trees may. elim (s.crash clean trees may) [ inl old ↦ inl old | inr none ↦ absurd none ];
 }
-
--- how a transaction ended that was not committed
-abbrev pub HasNotCommitted : State → State → Type 0
-HasNotCommitted old new = IsRolledBack old new ⊎ IsUnchanged old new
-
-pub fails_to_commit : (old new : State) (fault : Fault) → IsNameOf (FailsToCommit old new) fault → HasNotCommitted old new
-fails_to_commit old new fault (e, inl (cause, is, has, undone, told), named) = inl undone
-fails_to_commit old new fault (e, inr (is, idle, same), named) = inr same
-
--- The trees of the last commit are among what a crash may leave, and what commits nothing may leave nothing more.
-pub commits_none : (old mid new : State) → LeavesNone old mid → HasCleanDisk mid → (IsTrue mid.is_open → mid.may_leave mid.committed.trees) → HasNotCommitted mid new → CommitsNone old new
-commits_none old mid new over clean stays (inl undone) is_open =
-    subst (λ (d : Database). old.may_leave d.trees) (sym (undone.undone is_open).1) (survived old mid over clean mid.committed.trees (stays (undone.was_open is_open)))
-commits_none old mid new over clean stays (inr same) is_open =
-    subst (λ (d : Database). old.may_leave d.trees) (sym same.0.committed_is) (survived old mid over clean mid.committed.trees (stays same.0.was_open))
-
-pub handed : {X : Type 0} {E : Type 0} (r : Result X E) (P : Type 0) → P → OnErr r P
-handed (Ok x) P p = tt
-handed (Err e) P p = p
 
 module _ (edition : Edition) (old mid new : State) (w : WorldLists) (read : LeavesNone old mid) (found : HasCleanDisk mid → (e : Edition) → IsOlderFile e old → (edition ≡ e) × Finds e old.now w)
     (left : HasCleanDisk mid → (is : Edition) → IsBankFileIn is old → IsLeft old mid) (written : Survives mid new (λ trees. IsOf edition mid → AreOfWorld w trees)) where
