@@ -50,9 +50,9 @@ IsActed g image opener may_give from to (action.Sample moment) old new errors_ol
 IsActed g image opener may_give from to (action.Init file dir) old new errors_old errors_new left status =
     IsToldOf (IsInited g image opener left) (codes "made") old new errors_old errors_new status
 IsActed g image opener may_give from to (action.Check file) old new errors_old errors_new left status =
-    IsToldOf (IsChecked g image left) (codes "books hold") old new errors_old errors_new status
+    IsToldOf (IsChecked g image opener left) (codes "books hold") old new errors_old errors_new status
 IsActed g image opener may_give from to (action.Upgrade file) old new errors_old errors_new left status =
-    IsToldOf (IsUpgraded g image left) (codes "carried over") old new errors_old errors_new status
+    IsToldOf (IsUpgraded g image opener left) (codes "carried over") old new errors_old errors_new status
 IsActed g image opener may_give from to (action.Run file badges moment) old new errors_old errors_new left status =
     IsRunToEnd (λ served result. IsRun g image opener badges.now moment old served left result) new errors_old errors_new status
 IsActed g image opener may_give from to (action.Serve file badges port requests) old new errors_old errors_new left status =

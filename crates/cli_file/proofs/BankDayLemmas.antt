@@ -1,23 +1,17 @@
 -- From the run of a store to the day of the bank in its file.
-use Rattle.std.proofs.Common.{◌≡◌, ◌∙◌, ℕ, List, [], Option, None, Result, inl, inr, arith, sym, subst}
+use Rattle.std.proofs.Common.{◌≡◌, ℕ, List, [], Option, None, Result, inl, inr, arith, sym, subst}
 use Rattle.sqlite_disk.specs.declared.Disk.{Ghosts}
 use Rattle.sqlite_wal.specs.Recovery.{Image}
 use Rattle.sqlite.specs.declared.FileStore.{FileStore}
-use Rattle.sqlite.specs.Files.{HoldsDatabase, file_state}
+use Rattle.sqlite.specs.Files.{file_state}
 use Rattle.sqlite.specs.Held.{Held}
-use Rattle.sqlite.specs.State.{HasCleanDisk, State}
-use Rattle.sqlite.specs.Tree.{Trees}
+use Rattle.sqlite.specs.State.{HasCleanDisk}
 use Rattle.bank_books.specs.WorldLists.{WorldLists}
-use Rattle.bank_meaning.specs.Sums.{PassesChecks}
 use Rattle.store_rows.specs.Status.{Status, Tells}
 use Rattle.store_cached.specs.Standing.{Suits, below, cached_status, known_version, remembered}
 use Rattle.store_cached.specs.declared.cached.Cached.{Cached}
-use Rattle.store_sql.proofs.WorldLemmas.{same_world}
-use Rattle.sql_schema.specs.Held.{AreOfWorld, HoldsBank}
-use Rattle.sql_schema.proofs.StepLemmas.{early}
-use Rattle.sql_adopt.specs.Adopted.{Adopts}
 use Rattle.counter_api.specs.Day.{IsDay}
-use Rattle.counter_api.specs.Run.{MarkedMessage}
+use Rattle.counter_api.specs.Run.{MarkedMessage, requests_of}
 use Rattle.counter_api.proofs.DayLemmas.{day_of_none, day_of_serve, replied_by_serve}
 use Rattle.counter_api.proofs.RunLemmas.{more_pending}
 use Rattle.counter_clocks.specs.Standing.{gives_its_own, standing_at}
@@ -29,41 +23,12 @@ use Rattle.exit_lines.specs.Streams.{Stream, Streams}
 use Rattle.http_messages.specs.declared.serving.ServeFault.{ServeFault}
 use Rattle.http_messages.specs.declared.serving.Served.{Served}
 use Rattle.cli_file.specs.BankDay.{AreListenedReplied, IsBankDay, IsPortReplied, IsStreamReplied, messages_at, messages_listened, messages_served}
+use Rattle.cli_file.specs.Crash.{IsLeftByCrash}
 use Rattle.cli_file.specs.Files.{BankStore, IsFound, file_status}
 use Rattle.cli_file.specs.Listening.{IsListenedOverFile}
-use Rattle.cli_file.specs.Opened.{IsOpenedFrom}
+use Rattle.cli_file.specs.Opened.{IsBankImage, IsOpenedFrom}
 use Rattle.cli_file.specs.Serving.{IsServedOverFile}
-use Rattle.cli_file.proofs.OpenedLemmas.{opens_as_its_bank}
-
--- ---- a bank that was found passes both checks
-
-pub found_passes : (old new : State) (a : Adopts old new) → PassesChecks a.world
-found_passes old new a =
-    let k = a.held.world.keepable in
-    record {
-      in_order = record {
-        books = record {
-          branches = k.branches.in_order;
-          tellers = k.tellers.ordered.in_order;
-          accounts = k.accounts.in_order;
-          entries = k.entries.ordered.in_order;
-          lines = k.lines.ordered.in_order;
-          proofs = k.proofs.in_order;
-          releases = k.releases.ordered.in_order;
-          slips = k.slips.ordered.in_order;
-        };
-        policy = record {
-          users_in_order = k.policy.users.in_order;
-          sets_in_order = k.policy.sets.in_order;
-          relations_in_order = k.policy.relations.in_order;
-          triples_in_order = k.policy.triples.in_order;
-          certifiers_in_order = k.policy.certifiers.in_order;
-        };
-      };
-      books = a.books;
-      sound = a.policy.0;
-      separated = a.policy.1;
-    }
+use Rattle.cli_file.proofs.CrashLemmas.{acts_once_over_crash, left_by_crash}
 
 -- ---- below a cache that kept nothing as it began
 
@@ -89,27 +54,27 @@ day_below status users began ended ms empty unread day =
 
 module _ {D : Type 0} {g : Ghosts D} (users : List ℕ → Option ℕ) (opened : Held (FileStore D g)) (begun ended : BankStore D g) (ms : List MarkedMessage) (found : IsFound opened begun)
     (day : IsDay users (file_status begun) (file_status ended) ms) (AreReplied : WorldLists → Type 0) (replied : Tells (file_status begun) (file_status ended) AreReplied) where
-  pub bank_day : (image : Image) (w : WorldLists) (db : Trees) → IsOpenedFrom image opened → ∥ HoldsDatabase image db ∥₁ → AreOfWorld w db → HasCleanDisk (file_state ended.conn)
-      → IsBankDay users w ms AreReplied (file_status ended)
-  bank_day image w db from has of clean =
+  pub bank_day : (image : Image) (w : WorldLists) → IsBankImage image w → IsOpenedFrom image opened → HasCleanDisk (file_state ended.conn) → IsBankDay users w ms AreReplied (file_status ended)
+  bank_day image w of from clean =
       let began_clean : HasCleanDisk (file_state begun.conn) = day.honest clean in
-      let opened_clean : HasCleanDisk (file_state opened) = early (file_state opened) (file_state begun.conn) _ found.survives began_clean in
-      let bank = opens_as_its_bank opened image w db from has of opened_clean in
-      let adopts = found.adopts began_clean bank.file in
-      let same : adopts.world ≡ w = sym (adopts.only w bank.holds.now) in
-      let passes : PassesChecks w = subst PassesChecks same (found_passes _ _ adopts) in
-      let holds : (file_status begun).holds w = λ works honest is_open. subst (HoldsBank (file_state begun.conn)) same (adopts.holds is_open) in
-      let alone : (l : WorldLists) → (file_status begun).may_leave l → l ≡ w = λ l (trees, may, is). same_world l adopts.world trees is (adopts.durable trees may) ∙ same in
+      let bank = found.bank image w of from began_clean in
+      let holds : (file_status begun).holds w = λ works honest is_open. bank.holds is_open in
+      let leaves : (left : WorldLists) → (file_status ended).may_leave left → IsLeftByCrash w (requests_of users ms) left =
+          λ left may. elim (day.leaves clean w holds left may) [
+            | inl is ↦ inl is
+            | inr pending ↦ elim (more_pending users (file_status begun).may_leave (λ l. l ≡ w) w ms (λ l was. inl (bank.alone l was)) left pending) [
+              | inl is ↦ inl is
+              | inr is ↦ left_by_crash users w ms left is
+            ]
+          ] in
       record {
-        checked = passes;
-        headline = day.headline w passes;
+        checked = bank.checked;
+        headline = day.headline w bank.checked;
         replied = replied clean w holds;
         holds = day.moved clean w holds;
-        leaves = λ left may. elim (day.leaves clean w holds left may) [
-          | inl is ↦ inl is
-          | inr pending ↦ more_pending users (file_status begun).may_leave (λ l. l ≡ w) w ms (λ l was. inr (alone l was)) left pending
-        ];
-        whole = day.whole clean w holds (λ trees may. (adopts.world, adopts.durable trees may));
+        leaves = leaves;
+        sent_again = λ left may. acts_once_over_crash w (requests_of users ms) left (leaves left may);
+        whole = day.whole clean w holds (λ trees may. (w, bank.durable trees may));
       }
 
 -- ---- a stream, and a port

@@ -1,3 +1,5 @@
+mod ActionLemmas
 mod BankDayLemmas
+mod CrashLemmas
 mod ListLemmas
 mod OpenedLemmas

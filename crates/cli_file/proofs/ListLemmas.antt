@@ -1,13 +1,64 @@
 -- What reading lists comes to, by what the lists state.
-use Rattle.std.proofs.Common.{◌≡◌, ◌∙◌, sym, inl, inr, ℕ, List}
-use Rattle.std.specs.Prelude.{◌⊎◌, Result, Ok, Err}
+use Rattle.std.proofs.Common.{◌≡◌, ◌≤◌, ◌<◌, ◌+◌, ◌∙◌, ◌⊎◌, ◌++◌, sym, ap, subst, inl, inr, refl, arith, ℕ, List, [], Option, Some, None, IfSome, length, take, Result, Ok, Err}
+use Rattle.std.specs.Option.{option_map}
+use Rattle.std.proofs.lemmas.List.{length-take, length-take-le, take_all}
 use Rattle.bank_books.specs.WorldLists.{WorldLists}
 use Rattle.list_opening.specs.Opening.{opening}
 use Rattle.list_opening.specs.declared.list_fault.ListFault.{ListFault}
 use Rattle.list_opening.specs.declared.list_fault.ListFault.TheVariants as of_list
+use Rattle.list_opening.specs.declared.list_fault.ListName.{ListName}
+use Rattle.list_opening.specs.declared.list_fault.ListName.TheVariants as name
+use Rattle.cli_file.specs.Faults.{IsOfFile}
+use Rattle.cli_file.specs.Lists.{AreTextsOf, IsOpeningGathered, IsStatedBy, IsTextOf, in_order}
+use Rattle.cli_file.specs.declared.fault.ActionFault.{ActionFault}
 
--- where they state a World
-pub told_world : (texts : List (List ℕ)) (r : Result WorldLists ListFault) (w : WorldLists) → (r ≡ opening texts) ⊎ (r ≡ Err of_list.Memory)
-    → r ≡ Ok w → (x : List (List ℕ)) × (opening x ≡ Ok w)
-told_world texts r w (inl e) is = (texts, sym e ∙ is)
+-- ---- the bytes of one list
+
+-- a beginning of this length that is shorter than what was asked for is all of it
+whole : (most : ℕ) (left : List ℕ) → length (take (most + 1) left) ≤ most → take (most + 1) left ≡ left
+whole most left short =
+    let length_of : length (take (most + 1) left) ≡ _ = length-take (most + 1) left in
+    take_all (most + 1) left (omega (arith, length_of, short))
+
+pub text_known : (most : ℕ) (known : Option (List ℕ)) (text : List ℕ) → IfSome (option_map (take (most + 1)) known) (λ xs. text ≡ [] ++ xs) → length text ≤ most → IsTextOf known text
+text_known most None text is short = tt
+text_known most (Some left) text is short =
+    let same : text ≡ take (most + 1) left = is in
+    same ∙ whole most left (subst (λ (t : List ℕ). length t ≤ most) same short)
+
+-- ---- the opening lists
+
+-- these texts by the names of their lists
+abbrev pub named : (a b c d e f g h : List ℕ) → ListName → List ℕ
+named a b c d e f g h name.Branches = a
+named a b c d e f g h name.Tellers = b
+named a b c d e f g h name.Accounts = c
+named a b c d e f g h name.Users = d
+named a b c d e f g h name.Sets = e
+named a b c d e f g h name.Relations = f
+named a b c d e f g h name.Triples = g
+named a b c d e f g h name.Certifiers = h
+
+pub texts_known : (known : ListName → Option (List ℕ)) (a b c d e f g h : List ℕ)
+    → IsTextOf (known name.Branches) a → IsTextOf (known name.Tellers) b → IsTextOf (known name.Accounts) c → IsTextOf (known name.Users) d → IsTextOf (known name.Sets) e
+    → IsTextOf (known name.Relations) f → IsTextOf (known name.Triples) g → IsTextOf (known name.Certifiers) h → AreTextsOf known (named a b c d e f g h)
+texts_known known a b c d e f g h ka kb kc kd ke kf kg kh name.Branches = ka
+texts_known known a b c d e f g h ka kb kc kd ke kf kg kh name.Tellers = kb
+texts_known known a b c d e f g h ka kb kc kd ke kf kg kh name.Accounts = kc
+texts_known known a b c d e f g h ka kb kc kd ke kf kg kh name.Users = kd
+texts_known known a b c d e f g h ka kb kc kd ke kf kg kh name.Sets = ke
+texts_known known a b c d e f g h ka kb kc kd ke kf kg kh name.Relations = kf
+texts_known known a b c d e f g h ka kb kc kd ke kf kg kh name.Triples = kg
+texts_known known a b c d e f g h ka kb kc kd ke kf kg kh name.Certifiers = kh
+
+-- what they state is what the lists state
+pub gathered : (known : ListName → Option (List ℕ)) (text : ListName → List ℕ) (r : Result WorldLists ActionFault) → AreTextsOf known text → IsStatedBy (in_order text) r → IsOpeningGathered known r
+gathered known text (Ok w) of is = (text, of, is)
+gathered known text (Err told) of (inl memory) = inl (subst IsOfFile (sym memory) tt)
+gathered known text (Err told) of (inr (why, is, so)) = inr (text, of, why, is, so)
+
+-- ---- one statement of them
+
+pub told_world : (texts : List (List ℕ)) (r : Result WorldLists ListFault) (w : WorldLists) → (r ≡ opening texts) ⊎ (r ≡ Err of_list.Memory) → r ≡ Ok w → opening texts ≡ Ok w
+told_world texts r w (inl e) is = sym e ∙ is
 told_world texts r w (inr e) is = cc

@@ -1,5 +1,5 @@
 -- What the actions over a file come to. The image stands for what the file and its log held before; no clause ties it to a path.
-use Rattle.std.specs.Prelude.{◌≡◌, ℕ, List, IsErrAnd, Result, Ok, Err}
+use Rattle.std.specs.Prelude.{◌≡◌, ◌⊎◌, ℕ, List, IsErrAnd, Result, Ok, Err}
 use Rattle.sqlite_disk.specs.declared.Disk.{Ghosts}
 use Rattle.sqlite_wal.specs.Recovery.{Image}
 use Rattle.sqlite.specs.declared.FileStore.{FileStore}
@@ -30,8 +30,8 @@ module _ {D : Type 0} (g : Ghosts D) (image : Image) where
     pub from : IsOpenedFrom image opened
     pub made : IsMadeIn g opened world left result
 
-  -- It was done so, and this is left of the file; or lists were refused or not read, and the opener is handed back; or the file was not
-  -- opened.
+  -- It was done so, and this is left of the file; or lists were refused or not read, and the opener is handed back, so no file was opened; or
+  -- the file could not be opened.
   abbrev pub IsInited : {O : Type 0} → O → PathLeft O (FileLeft D g) → Result Unit ActionFault → Type 0
   IsInited opener (path.Unopened o) result = (o ≡ opener) × IsErrAnd result (λ told. IsOpeningRead (Err told))
   IsInited opener path.Refused result = IsErrAnd result IsOfFile
@@ -43,11 +43,13 @@ module _ {D : Type 0} (g : Ghosts D) (image : Image) where
     pub from : IsOpenedFrom image opened
     pub checked : IsCheckedIn opened now result
 
-  -- it was done so, and the connection is left; or the file was not opened
-  abbrev pub IsChecked : {O : Type 0} → PathLeft O (FileLeft D g) → Result Unit ActionFault → Type 0
-  IsChecked path.Refused result = IsErrAnd result IsUnopened
-  IsChecked (path.Opened (left.Open conn)) result = IsCheckedFrom conn result
-  IsChecked _ result = ⊥
+  -- It was done so, and the connection is left; or the file was not opened, for what was seen of it, and the opener is handed back; or it
+  -- could not be opened.
+  abbrev pub IsChecked : {O : Type 0} → O → PathLeft O (FileLeft D g) → Result Unit ActionFault → Type 0
+  IsChecked opener (path.Unopened o) result = (o ≡ opener) × IsErrAnd result IsUnopened
+  IsChecked opener path.Refused result = IsErrAnd result IsOfFile
+  IsChecked opener (path.Opened (left.Open conn)) result = IsCheckedFrom conn result
+  IsChecked opener _ result = ⊥
 
   -- the file was opened, and the bank that stood there was carried over, or there was none
   pub record IsUpgradedFrom (left : FileLeft D g) (result : Result Unit ActionFault) : Type 0 where
@@ -55,11 +57,12 @@ module _ {D : Type 0} (g : Ghosts D) (image : Image) where
     pub from : IsOpenedFrom image opened
     pub upgraded : IsUpgradedIn g opened left result
 
-  -- it was done so, and this is left of the file; or the file was not opened
-  abbrev pub IsUpgraded : {O : Type 0} → PathLeft O (FileLeft D g) → Result Unit ActionFault → Type 0
-  IsUpgraded (path.Unopened o) result = ⊥
-  IsUpgraded path.Refused result = IsErrAnd result IsUnopened
-  IsUpgraded (path.Opened left) result = IsUpgradedFrom left result
+  -- It was done so, and this is left of the file; or the file was not opened, for what was seen of it, and the opener is handed back; or it
+  -- could not be opened.
+  abbrev pub IsUpgraded : {O : Type 0} → O → PathLeft O (FileLeft D g) → Result Unit ActionFault → Type 0
+  IsUpgraded opener (path.Unopened o) result = (o ≡ opener) × IsErrAnd result IsUnopened
+  IsUpgraded opener path.Refused result = IsErrAnd result IsOfFile
+  IsUpgraded opener (path.Opened left) result = IsUpgradedFrom left result
 
   -- A list stated badges, the file was opened, and the stream was served to their users over the bank that was found there, if one was.
   pub record IsRunFrom (list : List ℕ) (moment : ℕ) (old new : Streams) (left : FileLeft D g) (result : Result Unit ActionFault) : Type 0 where
@@ -69,11 +72,11 @@ module _ {D : Type 0} (g : Ghosts D) (image : Image) where
     pub from : IsOpenedFrom image opened
     pub served : IsServedIn g (user_of badges) opened moment old new left result
 
-  -- It was done so, and this is left of the file; or the list was refused or not read, and the opener is handed back; or the file was not
-  -- opened; and then nothing was read or written.
+  -- It was done so, and this is left of the file. Or the list was refused or not read, or the file was not opened for what was seen of it, and
+  -- the opener is handed back; or the file could not be opened; and then nothing was read or written.
   abbrev pub IsRun : {O : Type 0} → O → List ℕ → ℕ → Streams → Streams → PathLeft O (FileLeft D g) → Result Unit ActionFault → Type 0
-  IsRun opener list moment old new (path.Unopened o) result = (o ≡ opener) × IsErrAnd result (λ told. AreBadgesRead list (Err told)) × (new ≡ old)
-  IsRun opener list moment old new path.Refused result = IsErrAnd result IsUnopened × (new ≡ old)
+  IsRun opener list moment old new (path.Unopened o) result = (o ≡ opener) × IsErrAnd result (λ told. AreBadgesRead list (Err told) ⊎ IsUnopened told) × (new ≡ old)
+  IsRun opener list moment old new path.Refused result = IsErrAnd result IsOfFile × (new ≡ old)
   IsRun opener list moment old new (path.Opened left) result = IsRunFrom list moment old new left result
 
 module _ {D C : Type 0} (g : Ghosts D) (image : Image) (list : List ℕ) (may_give : C → ℕ → C → Type 0) where
@@ -85,10 +88,10 @@ module _ {D C : Type 0} (g : Ghosts D) (image : Image) (list : List ℕ) (may_gi
     pub from_image : IsOpenedFrom image opened
     pub served : IsListenedIn g (user_of badges) may_give opened port requests output_old output_new from to left result
 
-  -- It was done so, and this is left of the file; or the list was refused or not read, and the opener is handed back; or the file was not
-  -- opened; and then nothing was listened to or written.
+  -- It was done so, and this is left of the file. Or the list was refused or not read, or the file was not opened for what was seen of it, and
+  -- the opener is handed back; or the file could not be opened; and then nothing was listened to or written.
   abbrev pub IsListened : {O : Type 0} → O → ℕ → ℕ → Stream → Stream → C → C → PathLeft O (FileLeft D g) → Result Unit ActionFault → Type 0
   IsListened opener port requests output_old output_new from to (path.Unopened o) result =
-      (o ≡ opener) × IsErrAnd result (λ told. AreBadgesRead list (Err told)) × (output_new ≡ output_old) × (to ≡ from)
-  IsListened opener port requests output_old output_new from to path.Refused result = IsErrAnd result IsUnopened × (output_new ≡ output_old) × (to ≡ from)
+      (o ≡ opener) × IsErrAnd result (λ told. AreBadgesRead list (Err told) ⊎ IsUnopened told) × (output_new ≡ output_old) × (to ≡ from)
+  IsListened opener port requests output_old output_new from to path.Refused result = IsErrAnd result IsOfFile × (output_new ≡ output_old) × (to ≡ from)
   IsListened opener port requests output_old output_new from to (path.Opened left) result = IsListenedFrom port requests output_old output_new from to left result

@@ -1,6 +1,6 @@
 -- What the messages of one stream, or of all connections at a port, come to over a bank in a file: from the World that the file held to what a
 -- crash may leave.
-use Rattle.std.specs.Prelude.{◌≡◌, ◌⊎◌, ℕ, ⊤, List, [], Option, Result}
+use Rattle.std.specs.Prelude.{ℕ, ⊤, List, [], Option, Result}
 use Rattle.std.proofs.Common.{inl, inr}
 use Rattle.bank_books.specs.WorldLists.{WorldLists}
 use Rattle.bank_meaning.specs.Headline.{IsHeadline}
@@ -11,28 +11,36 @@ use Rattle.store_cached.specs.Standing.{cached_status}
 use Rattle.http_messages.specs.declared.serving.ServeFault.{ServeFault}
 use Rattle.http_messages.specs.declared.serving.Served.{Served}
 use Rattle.counter_api.specs.Day.{AreReplied, answered}
-use Rattle.counter_api.specs.Run.{IsPending, MarkedMessage, requests_of}
+use Rattle.counter_api.specs.Run.{MarkedMessage, requests_of}
 use Rattle.counter_clocks.specs.Standing.{gives_its_own, standing_at}
 use Rattle.counter_service.specs.Serving.{IsServedBehindCache, most_messages}
 use Rattle.counter_connections.specs.Connections.{AreAllReplied, At, messages_of}
 use Rattle.counter_connections.specs.Port.{IsPortServed, IsPortServedBehindCache}
 use Rattle.counter_connections.specs.declared.fault.PortFault.{PortFault}
 use Rattle.exit_lines.specs.Streams.{Stream, Streams}
+use Rattle.cli_file.specs.Crash.{ActsOnceOverCrash, IsLeftByCrash}
 
--- The file held this World, these messages had a reply, what went out is said of the World that they began with, and this is what the store stands
--- for at the end.
+-- One day of the bank in a file: of the World that the file held, of these messages, which are all that had a reply, in their order, and of
+-- what is said of the bytes that went out. What it rests on beside proofs: the disk returned what was written, up to the end of the day; the
+-- image of the file and its log stands for what is at the path; a badge is that of the user whom the list of badges names; and a message
+-- bears a moment that the clock gave.
 pub record IsBankDay (users : List ℕ → Option ℕ) (w : WorldLists) (ms : List MarkedMessage) (AreReplied : WorldLists → Type 0) (ended : Status) : Type 0 where
-  -- it passes both checks
+  -- The World that the file held passes both checks: its books hold, and its policy is sound and separated.
   pub checked : PassesChecks w
-  -- each request is carried out exactly where it is held, or the first rule against it is named and nothing changes; no one executes what he
-  -- certifies; the sums agree; the policy is the one in force by last word; and what bears a slip acts once
+  -- Each operation is carried out exactly where all that the policy and the books ask for is held. Any other request changes nothing, and its
+  -- reply names the first rule against it. No one executes what he certifies. The sums agree after each request. The policy is the one in
+  -- force by last word. What bears a slip acts once.
   pub headline : IsHeadline w (requests_of users ms)
-  -- what went out is the replies to them
+  -- What went out on each connection is the replies to its messages, each in the World that the messages before it left.
   pub replied : AreReplied w
+  -- At the end the file stands for the World after all of them,
   pub holds : ended.holds (world_after w (requests_of users ms))
-  -- A crash leaves this World, or one after a request that a fault kept from being answered otherwise: nothing that was answered is undone.
-  pub leaves : (left : WorldLists) → ended.may_leave left → (left ≡ world_after w (requests_of users ms)) ⊎ IsPending users (λ l. l ≡ w) w ms left
-  -- and no part of one
+  -- and a crash leaves that World; or that World and one request more, which a fault kept from being answered otherwise and since which none
+  -- has changed the World. So nothing that was answered is undone.
+  pub leaves : (left : WorldLists) → ended.may_leave left → IsLeftByCrash w (requests_of users ms) left
+  -- What bears a slip acts once, also where it is sent again after a crash.
+  pub sent_again : (left : WorldLists) → ended.may_leave left → ActsOnceOverCrash w (requests_of users ms) left
+  -- Whatever a crash leaves is a World, and no part of one.
   pub whole : ended.leaves_a_world
 
 module _ {S : Type 0} (status : S → Status) (users : List ℕ → Option ℕ) where

@@ -3,19 +3,22 @@ use Rattle.std.specs.Prelude.{◌≡◌, false, IsTrue}
 use Rattle.sqlite_disk.specs.declared.Disk.{Ghosts}
 use Rattle.sqlite_disk.specs.declared.Files.{Files}
 use Rattle.sqlite_wal.specs.Reads.{AreClean}
+use Rattle.sqlite_wal.specs.Recovery.{Image}
 use Rattle.sqlite.specs.declared.FileStore.{FileStore}
 use Rattle.sqlite.specs.Closing.{IsCopied}
 use Rattle.sqlite.specs.Files as closing
 use Rattle.sqlite.specs.Files.{file_state, over_files}
 use Rattle.sqlite.specs.Held.{Held}
 use Rattle.sqlite.specs.State.{HasCleanDisk, KeepsCommit, Survives}
+use Rattle.sqlite.specs.Tree.{Trees}
 use Rattle.bank_books.specs.WorldLists.{WorldLists}
-use Rattle.sql_schema.specs.Held.{AreOfWorld, HoldsSheets, HoldsSheetsIn}
+use Rattle.bank_meaning.specs.Sums.{PassesChecks}
+use Rattle.sql_schema.specs.Held.{AreOfWorld, HoldsBank, HoldsSheets, HoldsSheetsIn}
 use Rattle.sql_schema.specs.Readable.{AreReadable}
 use Rattle.sql_schema.specs.Schema.{newest}
 use Rattle.sql_schema.specs.declared.edition.Edition.{Edition}
 use Rattle.sql_schema.specs.Steps.{LeavesNone}
-use Rattle.book_kept.specs.Sheets.{Sheets}
+use Rattle.book_kept.specs.Sheets.{Sheets, sheets_of}
 use Rattle.sql_create.specs.Blank.{no_schema}
 use Rattle.sql_create.specs.Made.{IsBank, IsBeforehand, IsKeptAs, IsRefusal}
 use Rattle.sql_create.specs.declared.open_fault.OpenFault.{OpenFault}
@@ -24,10 +27,11 @@ use Rattle.sql_adopt.specs.Older.{IsNewestFile, IsOlderFile}
 use Rattle.sql_adopt.specs.Refused.{HoldsSoundBank, HoldsSoundBankIn, IsNamedBy, IsOfOther, IsOfStore, IsRefused, IsRefusedIn}
 use Rattle.sql_adopt.specs.declared.adopt_fault.AdoptFault.{AdoptFault}
 use Rattle.store_rows.specs.Status.{Status}
-use Rattle.store_sql.specs.Bank.{sql_status}
+use Rattle.store_sql.specs.Bank.{MayLeave, sql_status}
 use Rattle.store_sql.specs.declared.sql_store.SqlStore.{SqlStore}
 use Rattle.sql_upgrade.specs.Carried.{Carries, IsCarriedOver}
 use Rattle.cli_file.specs.Faults.{IsOfFile, fault_of_adopting, fault_of_making}
+use Rattle.cli_file.specs.Opened.{HoldTheBank, IsBankImage, IsOpenedFrom}
 use Rattle.cli_file.specs.declared.fault.ActionFault.{ActionFault}
 
 -- the store of a bank in a file
@@ -45,6 +49,19 @@ module _ {D : Type 0} {g : Ghosts D} where
     pub no_fault : store.faults ≡ 0
     pub no_failure : store.failures ≡ 0
 
+  -- The World passes both checks, the file holds it, and a crash leaves it and no other.
+  pub record IsBankKept (w : WorldLists) (conn : Held (FileStore D g)) : Type 0 where
+    pub checked : PassesChecks w
+    pub holds : IsTrue (file_state conn).is_open → HoldsBank (file_state conn) w
+    pub durable : (trees : Trees) → (file_state conn).may_leave trees → AreOfWorld w trees
+    pub alone : (left : WorldLists) → MayLeave (file_state conn) left → left ≡ w
+
+  -- The file holds the World still. What is told of it is its first fault, and where it passes both checks, that the file or memory failed.
+  pub record IsBankRefused (w : WorldLists) (why : AdoptFault) (conn : Held (FileStore D g)) : Type 0 where
+    pub holds : IsTrue (file_state conn).is_open → HoldsBank (file_state conn) w
+    pub named : AreReadable (sheets_of w) → IsNamedBy (sheets_of w) why
+    pub sound : AreReadable (sheets_of w) → PassesChecks w → IsOfStore why
+
   -- Where the tables of the file were those of a bank, they hold a World whose books hold and whose policy is sound and separated, and
   -- hold it still. A crash leaves nothing that it could not leave before.
   pub record IsFound (opened : Held (FileStore D g)) (store : BankStore D g) : Type 0 where
@@ -53,6 +70,8 @@ module _ {D : Type 0} {g : Ghosts D} where
     pub other : HasCleanDisk (file_state store.conn) → IsOfAnother newest (file_state opened) → ⊥
     pub survives : LeavesNone (file_state opened) (file_state store.conn)
     pub begins : IsNewStore store
+    -- So over every image of a bank, the bank of its World was found.
+    pub bank : (image : Image) (w : WorldLists) → IsBankImage image w → IsOpenedFrom image opened → HasCleanDisk (file_state store.conn) → IsBankKept w store.conn
 
   -- Where they were those of a bank, this is the first fault of it, and nothing was changed. One of an earlier edition is told as of another
   -- version. A sound bank is refused for a fault of the file, or for want of memory.
@@ -66,6 +85,8 @@ module _ {D : Type 0} {g : Ghosts D} where
     pub unchanged : HasCleanDisk (file_state left) → IsBankFile (file_state opened) → IsLeft (file_state opened) (file_state left)
     pub idle : left.in_transaction ≡ false
     pub survives : LeavesNone (file_state opened) (file_state left)
+    -- So over every image of a bank, its World is left as it was, and its first fault is told.
+    pub bank : (image : Image) (w : WorldLists) → IsBankImage image w → IsOpenedFrom image opened → HasCleanDisk (file_state left) → IsBankRefused w why left
 
   -- Where the tables of the file were those of a bank in an edition before the newest, as its row says, they held a World whose books hold
   -- and whose policy is sound and separated, and those of the newest edition hold it now. A crash leaves the one or the other, whole.
@@ -116,5 +137,7 @@ module _ {D : Type 0} {g : Ghosts D} where
     pub closed : closing.IsClosed conn left
 
 -- The last commit is in the file itself, as it reads with its log and without, and as a crash leaves it.
-abbrev pub IsClosed : {D : Type 0} (g : Ghosts D) → Held (FileStore D g) → Files D → Type 0
-IsClosed g conn files = AreClean g files.log files.db → IsCopied conn files
+pub record IsClosed {D : Type 0} (g : Ghosts D) (store : BankStore D g) (files : Files D) : Type 0 where
+  pub copied : AreClean g files.log files.db → IsCopied store.conn files
+  -- So the file alone is the bank of the World for which the store stood, unless a fault of the disk had stopped it.
+  pub bank : store.is_stopped ≡ false → (w : WorldLists) → (file_status store).holds w → HoldTheBank g files w

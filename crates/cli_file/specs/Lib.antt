@@ -1,6 +1,7 @@
 pub mod Actions
 pub mod BankDay
 pub mod Checking
+pub mod Crash
 pub mod Faults
 pub mod Files
 pub mod Laws
@@ -8,6 +9,8 @@ pub mod Listening
 pub mod Lists
 pub mod Making
 pub mod Opened
+pub mod Progress
 pub mod Serving
 pub mod Telling
+pub mod Unopened
 pub mod Upgrading

@@ -4,17 +4,15 @@ use Rattle.sqlite_disk.specs.declared.Disk.{Ghosts}
 use Rattle.sqlite_disk.specs.declared.Files.{Files}
 use Rattle.sqlite.specs.declared.FileStore.{FileStore}
 use Rattle.sqlite.specs.Held.{Held}
-use Rattle.sqlite.specs.Files.{HoldsDatabase, file_state}
+use Rattle.sqlite.specs.Files.{file_state}
 use Rattle.sqlite.specs.State.{HasCleanDisk}
-use Rattle.sqlite.specs.Tree.{Trees}
 use Rattle.sqlite_wal.specs.Recovery.{Image}
 use Rattle.bank_books.specs.WorldLists.{WorldLists}
-use Rattle.sql_schema.specs.Held.{AreOfWorld}
 use Rattle.counter_connections.specs.Port.{IsPortServedBehindCache}
 use Rattle.counter_connections.specs.declared.fault.PortFault.{PortFault}
 use Rattle.exit_lines.specs.Streams.{Stream}
 use Rattle.cli_file.specs.BankDay.{AreListenedReplied, IsBankDay, messages_listened}
-use Rattle.cli_file.specs.Opened.{IsOpenedFrom}
+use Rattle.cli_file.specs.Opened.{IsBankImage, IsOpenedFrom}
 use Rattle.cli_file.specs.Faults.{fault_of_port}
 use Rattle.cli_file.specs.Files.{BankStore, IsClosed, IsFound, IsNotClosed, IsNotFound, file_status}
 use Rattle.cli_file.specs.declared.fault.ActionFault.{ActionFault}
@@ -35,20 +33,20 @@ module _ {D C : Type 0} (g : Ghosts D) (users : List ℕ → Option ℕ) (may_gi
     pub served : IsPortServedBehindCache file_status users may_give port requests output_old output_new
         (record { store = begun; clock = from }) (record { store = ended; clock = to }) result
     -- Over every image that holds the bank of a World, all connections are one day of that bank.
-    pub day : (image : Image) (w : WorldLists) (db : Trees) → IsOpenedFrom image opened → ∥ HoldsDatabase image db ∥₁ → AreOfWorld w db → HasCleanDisk (file_state ended.conn)
+    pub day : (image : Image) (w : WorldLists) → IsBankImage image w → IsOpenedFrom image opened → HasCleanDisk (file_state ended.conn)
         → IsBankDay users w
         (messages_listened file_status users may_give port requests output_old output_new (record { store = begun; clock = from }) (record { store = ended; clock = to }) result served)
         (AreListenedReplied file_status users may_give port requests output_old output_new (record { store = begun; clock = from }) (record { store = ended; clock = to }) result served)
         (file_status ended)
 
-  -- It was closed behind that, and the file alone is the bank; or it could not be closed; or no bank was found, and nothing was
+  -- It was closed after that, and the file alone is the bank; or it could not be closed; or no bank was found, and nothing was
   -- listened to or written.
   abbrev pub IsListenedIn : FileLeft D g → Result Unit ActionFault → Type 0
   IsListenedIn (left.Open conn) result =
       (told : ActionFault) × IsNotFound opened told conn × (output_new ≡ output_old) × (to ≡ from) × (result ≡ Err told)
   IsListenedIn (left.Closed files) result =
       (ended : BankStore D g) × (served : Result Unit PortFault) × IsListenedOverFile ended served
-      × IsClosed g ended.conn files × (result ≡ end_of_port served None)
+      × IsClosed g ended files × (result ≡ end_of_port served None)
   IsListenedIn (left.Unclosed rest) result =
       (ended : BankStore D g) × (served : Result Unit PortFault) × (told : ActionFault) × IsListenedOverFile ended served
       × IsNotClosed ended.conn told rest × (result ≡ end_of_port served (Some told))

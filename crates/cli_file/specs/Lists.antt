@@ -1,21 +1,63 @@
--- What reading lists from files comes to. No clause says what a file holds: it is said of some texts.
-use Rattle.std.specs.Prelude.{◌≡◌, ◌⊎◌, ℕ, List, Result, Ok, Err}
+-- What reading lists comes to, by the bytes that they are read from, where those are known. Of a file none are: then it is said of some texts.
+use Rattle.std.specs.Prelude.{◌≡◌, ◌⊎◌, ◌∷◌, ℕ, List, [], Option, None, Result, Ok, Err, IfSome, codes}
 use Rattle.bank_books.specs.WorldLists.{WorldLists}
 use Rattle.list_records.specs.declared.fault.RecordFault.{RecordFault}
 use Rattle.list_opening.specs.Badges.{Badges, badges_of}
 use Rattle.list_opening.specs.Opening.{opening}
 use Rattle.list_opening.specs.declared.list_fault.ListFault.{ListFault}
+use Rattle.list_opening.specs.declared.list_fault.ListName.{ListName}
+use Rattle.list_opening.specs.declared.list_fault.ListName.TheVariants as name
 use Rattle.cli_file.specs.Faults.{IsOfBadges, IsOfFile, fault_of_lists}
 use Rattle.cli_file.specs.declared.fault.ActionFault.{ActionFault}
+use Rattle.cli_file.specs.declared.fault.ActionFault.TheVariants as fault
 
--- the World that eight texts state, or their first bad record; or a file was not read, or memory was refused
+-- it is these bytes, where they are known
+abbrev pub IsTextOf : Option (List ℕ) → List ℕ → Type 0
+IsTextOf known text = IfSome known (λ left. text ≡ left)
+
+-- the file in which a list stands
+abbrev pub file_name : ListName → List ℕ
+file_name name.Branches = codes "branches.csv"
+file_name name.Tellers = codes "tellers.csv"
+file_name name.Accounts = codes "accounts.csv"
+file_name name.Users = codes "users.csv"
+file_name name.Sets = codes "sets.csv"
+file_name name.Relations = codes "relations.csv"
+file_name name.Triples = codes "triples.csv"
+file_name name.Certifiers = codes "certifiers.csv"
+
+-- ---- the opening lists
+
+-- the World that eight texts state, or their first bad record; or memory was refused
+abbrev pub IsStatedBy : List (List ℕ) → Result WorldLists ActionFault → Type 0
+IsStatedBy texts (Ok w) = opening texts ≡ Ok w
+IsStatedBy texts (Err told) = (told ≡ fault.Memory) ⊎ ((why : ListFault) × (opening texts ≡ Err why) × (told ≡ fault_of_lists why))
+
+-- the texts, in the order in which they are judged
+abbrev pub in_order : (ListName → List ℕ) → List (List ℕ)
+in_order text =
+    text name.Branches ∷ text name.Tellers ∷ text name.Accounts ∷ text name.Users ∷ text name.Sets ∷ text name.Relations ∷ text name.Triples ∷ text name.Certifiers ∷ []
+
+-- each list's text, where it is known
+abbrev pub AreTextsOf : (ListName → Option (List ℕ)) → (ListName → List ℕ) → Type 0
+AreTextsOf known text = (list : ListName) → IsTextOf (known list) (text list)
+
+-- the World that the lists state, or their first bad record; or one was not read, or memory was refused
+abbrev pub IsOpeningGathered : (ListName → Option (List ℕ)) → Result WorldLists ActionFault → Type 0
+IsOpeningGathered known (Ok w) = (text : ListName → List ℕ) × AreTextsOf known text × (opening (in_order text) ≡ Ok w)
+IsOpeningGathered known (Err told) =
+    IsOfFile told ⊎ ((text : ListName → List ℕ) × AreTextsOf known text × (why : ListFault) × (opening (in_order text) ≡ Err why) × (told ≡ fault_of_lists why))
+
 abbrev pub IsOpeningRead : Result WorldLists ActionFault → Type 0
-IsOpeningRead (Ok w) = (texts : List (List ℕ)) × (opening texts ≡ Ok w)
-IsOpeningRead (Err told) =
-    IsOfFile told ⊎ ((texts : List (List ℕ)) × (why : ListFault) × (opening texts ≡ Err why) × (told ≡ fault_of_lists why))
+IsOpeningRead = IsOpeningGathered (λ list. None)
 
--- the badges that a text states, or its first bad record; or the list was not read, or memory was refused
+-- ---- the list of badges
+
+-- the badges that it states, or its first bad record; or it was not read, or memory was refused
+abbrev pub AreBadgesGathered : List ℕ → Option (List ℕ) → Result Badges ActionFault → Type 0
+AreBadgesGathered list known (Ok badges) = (text : List ℕ) × IsTextOf known text × (badges_of text ≡ Ok badges)
+AreBadgesGathered list known (Err told) =
+    IsOfFile told ⊎ ((text : List ℕ) × IsTextOf known text × (why : RecordFault) × (badges_of text ≡ Err why) × IsOfBadges list why told)
+
 abbrev pub AreBadgesRead : List ℕ → Result Badges ActionFault → Type 0
-AreBadgesRead list (Ok badges) = (text : List ℕ) × (badges_of text ≡ Ok badges)
-AreBadgesRead list (Err told) =
-    IsOfFile told ⊎ ((text : List ℕ) × (why : RecordFault) × (badges_of text ≡ Err why) × IsOfBadges list why told)
+AreBadgesRead list = AreBadgesGathered list None

@@ -4,18 +4,16 @@ use Rattle.sqlite_disk.specs.declared.Disk.{Ghosts}
 use Rattle.sqlite_disk.specs.declared.Files.{Files}
 use Rattle.sqlite.specs.declared.FileStore.{FileStore}
 use Rattle.sqlite.specs.Held.{Held}
-use Rattle.sqlite.specs.Files.{HoldsDatabase, file_state}
+use Rattle.sqlite.specs.Files.{file_state}
 use Rattle.sqlite.specs.State.{HasCleanDisk}
-use Rattle.sqlite.specs.Tree.{Trees}
 use Rattle.sqlite_wal.specs.Recovery.{Image}
 use Rattle.bank_books.specs.WorldLists.{WorldLists}
-use Rattle.sql_schema.specs.Held.{AreOfWorld}
 use Rattle.http_messages.specs.declared.serving.ServeFault.{ServeFault}
 use Rattle.http_messages.specs.declared.serving.Served.{Served}
 use Rattle.exit_lines.specs.Streams.{Streams}
 use Rattle.counter_service.specs.Serving.{IsServedBehindCache}
 use Rattle.cli_file.specs.BankDay.{IsBankDay, IsStreamReplied, messages_served}
-use Rattle.cli_file.specs.Opened.{IsOpenedFrom}
+use Rattle.cli_file.specs.Opened.{IsBankImage, IsOpenedFrom}
 use Rattle.cli_file.specs.Faults.{fault_of_serving}
 use Rattle.cli_file.specs.Files.{BankStore, IsClosed, IsFound, IsNotClosed, IsNotFound, file_status}
 use Rattle.cli_file.specs.declared.fault.ActionFault.{ActionFault}
@@ -35,17 +33,17 @@ module _ {D : Type 0} (g : Ghosts D) (users : List ℕ → Option ℕ) (opened :
     pub found : IsFound opened begun
     pub served : IsServedBehindCache file_status users begun moment old new ended result
     -- Over every image that holds the bank of a World, the stream is one day of that bank.
-    pub day : (image : Image) (w : WorldLists) (db : Trees) → IsOpenedFrom image opened → ∥ HoldsDatabase image db ∥₁ → AreOfWorld w db → HasCleanDisk (file_state ended.conn)
+    pub day : (image : Image) (w : WorldLists) → IsBankImage image w → IsOpenedFrom image opened → HasCleanDisk (file_state ended.conn)
         → IsBankDay users w (messages_served file_status users begun moment old new ended result served)
         (IsStreamReplied file_status users begun moment old new ended result served) (file_status ended)
 
-  -- It was closed behind that, and the file alone is the bank; or it could not be closed; or no bank was found, and nothing was read or
+  -- It was closed after that, and the file alone is the bank; or it could not be closed; or no bank was found, and nothing was read or
   -- written on the stream.
   abbrev pub IsServedIn : FileLeft D g → Result Unit ActionFault → Type 0
   IsServedIn (left.Open conn) result = (told : ActionFault) × IsNotFound opened told conn × (new ≡ old) × (result ≡ Err told)
   IsServedIn (left.Closed files) result =
       (ended : BankStore D g) × (served : Result Served ServeFault) × IsServedOverFile ended served
-      × IsClosed g ended.conn files × (result ≡ end_of served None)
+      × IsClosed g ended files × (result ≡ end_of served None)
   IsServedIn (left.Unclosed rest) result =
       (ended : BankStore D g) × (served : Result Served ServeFault) × (told : ActionFault) × IsServedOverFile ended served
       × IsNotClosed ended.conn told rest × (result ≡ end_of served (Some told))

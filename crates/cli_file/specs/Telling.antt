@@ -1,32 +1,38 @@
--- How an action is told, and the status.
+-- How an action is reported, and the status. Standard error is seen here through one of its handles: what is shown on a terminal while an
+-- action goes on is written there by another, and stands before these lines.
 use Rattle.std.specs.Prelude.{◌≡◌, ◌⊎◌, ℕ, List, Result, Ok, Err, true, false}
 use Rattle.http_messages.specs.declared.serving.ServeFault.TheVariants.{Write}
 use Rattle.exit_lines.specs.Ends.{IsFailed, IsShown}
-use Rattle.exit_lines.specs.Streams.{Stream}
+use Rattle.exit_lines.specs.Streams.{GetsAll, GetsBeginning, IsWritten, Stream}
 use Rattle.cli_file.specs.Faults.{is_refusal}
 use Rattle.cli_file.specs.declared.fault.ActionFault.{ActionFault}
 
 module _ (output_old output_new errors_old errors_new : Stream) where
-  -- a refusal was told on standard output, and the status is 1; or that could not be written, and the stream is told as broken
-  abbrev pub IsRefusalTold : ℕ → Type 0
-  IsRefusalTold status = ((errors_new ≡ errors_old) × (status ≡ 1)) ⊎ IsFailed Write errors_old errors_new status
+  -- A refusal was reported by a line on standard output, and the status is 1. Or a call of standard output failed, and that was reported: then a
+  -- beginning of the line was written.
+  abbrev pub IsRefusalTold : List ℕ → ℕ → Type 0
+  IsRefusalTold line status =
+      (GetsAll output_old output_new line × (errors_new ≡ errors_old) × (status ≡ 1))
+      ⊎ (GetsBeginning output_old output_new line × IsFailed Write errors_old errors_new status)
 
-  -- any other fault was told on standard error alone, and the status is 3
-  abbrev pub IsFailureTold : ℕ → Type 0
-  IsFailureTold status = (output_new ≡ output_old) × (status ≡ 3)
+  -- any other fault was reported by a line on standard error alone, as far as that took it, and the status is 3
+  abbrev pub IsFailureTold : List ℕ → ℕ → Type 0
+  IsFailureTold line status = (output_new ≡ output_old) × IsWritten errors_old errors_new line × (status ≡ 3)
 
+-- that the line is the one of this fault is seen by reading
 abbrev pub IsFaultTold : ActionFault → Stream → Stream → Stream → Stream → ℕ → Type 0
 IsFaultTold fault output_old output_new errors_old errors_new status =
-    ((is_refusal fault ≡ true) × IsRefusalTold output_old output_new errors_old errors_new status)
-    ⊎ ((is_refusal fault ≡ false) × IsFailureTold output_old output_new errors_old errors_new status)
+    (line : List ℕ)
+    × (((is_refusal fault ≡ true) × IsRefusalTold output_old output_new errors_old errors_new line status)
+    ⊎ ((is_refusal fault ≡ false) × IsFailureTold output_old output_new errors_old errors_new line status))
 
--- an action that is told by a line when it is done
+-- an action that is reported by a line when it is done
 abbrev pub IsSaid : Result Unit ActionFault → List ℕ → Stream → Stream → Stream → Stream → ℕ → Type 0
 IsSaid (Ok done) line output_old output_new errors_old errors_new status = IsShown output_old output_new errors_old errors_new line status
 IsSaid (Err fault) line output_old output_new errors_old errors_new status =
     IsFaultTold fault output_old output_new errors_old errors_new status
 
--- and one of which nothing is told then
+-- and one of which nothing is reported then
 abbrev pub IsEnded : Result Unit ActionFault → Stream → Stream → Stream → Stream → ℕ → Type 0
 IsEnded (Ok done) output_old output_new errors_old errors_new status =
     (output_new ≡ output_old) × (errors_new ≡ errors_old) × (status ≡ 0)

@@ -12,6 +12,6 @@ use Rattle.cli_file.specs.declared.left.FileLeft.TheVariants as left
 abbrev pub IsUpgradedIn : {D : Type 0} (g : Ghosts D) → Held (FileStore D g) → FileLeft D g → Result Unit ActionFault → Type 0
 IsUpgradedIn g opened (left.Open conn) result = (told : ActionFault) × IsNotCarried opened told conn × (result ≡ Err told)
 IsUpgradedIn {D} g opened (left.Closed files) result =
-    (store : BankStore D g) × IsCarried opened store × IsClosed g store.conn files × (result ≡ Ok tt)
+    (store : BankStore D g) × IsCarried opened store × IsClosed g store files × (result ≡ Ok tt)
 IsUpgradedIn {D} g opened (left.Unclosed rest) result =
     (store : BankStore D g) × (told : ActionFault) × IsCarried opened store × IsNotClosed store.conn told rest × (result ≡ Err told)

@@ -29,12 +29,12 @@ pub fn init_file<D: Disk + Drop, O: Opener<D>, P: Write + Drop>(
 ) -> (PathLeft<O, FileLeft<D>>, Result<(), ActionFault<'static>>)
     ensures { IsInited D.Disk O.image opener result.0 result.1 }
 {
-    progress.begin("reading the lists");
+    progress.begin("reading the lists ..\n");
     let world = match read_opening(rt, dir) {
         Ok(world) => world,
         Err(fault) => return (PathLeft::Unopened(opener), Err(fault)),
     };
-    progress.begin("opening the file");
+    progress.begin("opening the file ..\n");
     let conn = match opener.open(rt, file) {
         Ok(conn) => conn,
         Err(fault) => return (PathLeft::Refused, Err(fault)),
@@ -43,44 +43,47 @@ pub fn init_file<D: Disk + Drop, O: Opener<D>, P: Write + Drop>(
     (PathLeft::Opened(left), done)
 }
 
-/// Whether a bank whose books hold and whose policy is sound stands in a file that is there. Nothing is changed.
+/// Whether a bank whose books hold and whose policy is sound stands in a file that is there. Nothing is changed. What is left of
+/// the file is handed back, or the opener where no file was opened.
 pub fn check_file<D: Disk + Drop, O: Opener<D>, P: Write + Drop>(
     rt: &HostRuntime,
     file: &str,
     opener: O,
     progress: &mut Progress<P>,
 ) -> (PathLeft<O, FileLeft<D>>, Result<(), ActionFault<'static>>)
-    ensures { IsChecked D.Disk O.image result.0 result.1 }
+    ensures { IsChecked D.Disk O.image opener result.0 result.1 }
 {
-    progress.begin("opening the file");
+    progress.begin("opening the file ..\n");
     let conn = match open_existing(rt, file, opener) {
         Ok(conn) => conn,
-        Err(fault) => return (PathLeft::Refused, Err(fault)),
+        Err((left, fault)) => return (left, Err(fault)),
     };
     let (conn, done) = check_in(rt.alloc(), conn, progress);
     (PathLeft::Opened(FileLeft::Open(conn)), done)
 }
 
-/// Carries the bank that stands in a file of an older edition, which is there, over to the newest tables.
+/// Carries the bank that stands in a file of an older edition, which is there, over to the newest tables. What is left of the file
+/// is handed back, or the opener where no file was opened.
 pub fn upgrade_file<D: Disk + Drop, O: Opener<D>, P: Write + Drop>(
     rt: &HostRuntime,
     file: &str,
     opener: O,
     progress: &mut Progress<P>,
 ) -> (PathLeft<O, FileLeft<D>>, Result<(), ActionFault<'static>>)
-    ensures { IsUpgraded D.Disk O.image result.0 result.1 }
+    ensures { IsUpgraded D.Disk O.image opener result.0 result.1 }
 {
-    progress.begin("opening the file");
+    progress.begin("opening the file ..\n");
     let conn = match open_existing(rt, file, opener) {
         Ok(conn) => conn,
-        Err(fault) => return (PathLeft::Refused, Err(fault)),
+        Err((left, fault)) => return (left, Err(fault)),
     };
     let (left, done) = upgrade_in(rt.alloc(), conn, progress);
     (PathLeft::Opened(left), done)
 }
 
 /// Serves a stream over the bank that stands in a file that is there, to the users of a list of badges, with one moment for
-/// every message. The list is read before the file is opened.
+/// every message. The list is read before the file is opened. What is left of the file is handed back, or the opener where no
+/// file was opened.
 pub fn run_file<'a, D: Disk + Drop, O: Opener<D>, R: Read, W: Write, P: Write + Drop>(
     rt: &HostRuntime,
     file: &str,
@@ -99,10 +102,10 @@ pub fn run_file<'a, D: Disk + Drop, O: Opener<D>, R: Read, W: Write, P: Write + 
         Ok(list) => list,
         Err(fault) => return (PathLeft::Unopened(opener), Err(fault)),
     };
-    progress.begin("opening the file");
+    progress.begin("opening the file ..\n");
     let conn = match open_existing(rt, file, opener) {
         Ok(conn) => conn,
-        Err(fault) => return (PathLeft::Refused, Err(fault)),
+        Err((left, fault)) => return (left, Err(fault)),
     };
     let gate = BadgeGate(&list);
     let (left, done) = serve_in(rt.alloc(), conn, &gate, moment, input, output, progress);
@@ -110,8 +113,8 @@ pub fn run_file<'a, D: Disk + Drop, O: Opener<D>, R: Read, W: Write, P: Write + 
 }
 
 /// Serves a port over the bank that stands in a file that is there, to the users of a list of badges, with the moments that a
-/// clock gives, until so many messages are counted. The list is read before the file is opened, and the port is had behind
-/// that.
+/// clock gives, until so many messages are counted. The list is read before the file is opened, and the port is had after
+/// that. What is left of the file is handed back, or the opener where no file was opened.
 pub fn serve_file<'a, D: Disk + Drop, O: Opener<D>, C: Clock, W: Write, P: Write + Drop>(
     rt: &HostRuntime,
     file: &str,
@@ -131,10 +134,10 @@ pub fn serve_file<'a, D: Disk + Drop, O: Opener<D>, C: Clock, W: Write, P: Write
         Ok(list) => list,
         Err(fault) => return (PathLeft::Unopened(opener), Err(fault)),
     };
-    progress.begin("opening the file");
+    progress.begin("opening the file ..\n");
     let conn = match open_existing(rt, file, opener) {
         Ok(conn) => conn,
-        Err(fault) => return (PathLeft::Refused, Err(fault)),
+        Err((left, fault)) => return (left, Err(fault)),
     };
     let gate = BadgeGate(&list);
     let (left, done) = listen_in(rt, conn, &gate, clock, port, requests, output, progress);

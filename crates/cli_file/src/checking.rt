@@ -18,7 +18,7 @@ pub fn check_in<D: Disk + Drop, P: Write + Drop>(
     requires { conn.in_transaction ≡ false }
     ensures { IsCheckedIn conn result.0 result.1 }
 {
-    progress.begin("reading the bank and checking its books");
+    progress.begin("reading the bank and checking its books ..\n");
     match find(alloc, conn) {
         Ok(store) => (store.into_connection(), Ok(())),
         Err((fault, conn)) => (conn, Err(fault)),

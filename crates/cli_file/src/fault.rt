@@ -10,6 +10,8 @@ use policy_check::PolicyFault;
 use sql_adopt::AdoptFault;
 use sql_create::OpenFault;
 use sqlite::{Error, ErrorCode};
+use std::io;
+use std::io::ErrorKind;
 use thiserror::Error;
 
 /// Why an action is not carried out, or not to its end. Its text is the line that tells it.
@@ -112,6 +114,17 @@ impl<'a> ActionFault<'a> {
         match error {
             Error::SqliteFailure(ErrorCode::OutOfMemory) => ActionFault::Memory,
             _ => ActionFault::NotRead,
+        }
+    }
+
+    /// Why a file can't be read, or looked at.
+    pub(crate) fn of_io(error: &io::Error) -> ActionFault<'a>
+        ensures { IsOfFile result }
+    {
+        if error.kind() == ErrorKind::OutOfMemory {
+            ActionFault::Memory
+        } else {
+            ActionFault::NotRead
         }
     }
 

@@ -68,7 +68,7 @@ pub(crate) fn make<D: Disk + Drop>(
 pub(crate) fn close<D: Disk + Drop>(
     store: BankFile<D>,
 ) -> Result<Files<D>, (ActionFault<'static>, FileStore<D>)>
-    ensures { MatchResult result (IsClosed D.Disk store.conn) (λ e. IsNotClosed store.conn e.0 e.1) }
+    ensures { MatchResult result (IsClosed D.Disk store) (λ e. IsNotClosed store.conn e.0 e.1) }
 {
     match store.into_connection().close_files() {
         Ok(files) => Ok(files),

@@ -5,13 +5,13 @@ ghost use Rattle.cli_file.specs.Laws.{OpensAgain, OpensAsItsBank};
 use crate::file::FileConnection;
 use sqlite_disk::Disk;
 
-/// An image of a file and its log that holds the trees of a World's bank opens as the bank of that World: of which the clauses of
-/// every action over the file speak.
+/// An image of a file and its log that holds the bank of a World opens as that bank: of which the clauses of every action
+/// over the file speak.
 pub fn image_opens_as_its_bank<D: Disk + Drop>(_conn: &FileConnection<D>)
     ensures { OpensAsItsBank _conn.now }
 {}
 
-/// A bank that was closed opens again: of the two files that were handed back, and of whatever a crash leaves of them.
+/// A bank that was closed opens again as it was: the two files that were handed back, and whatever a crash leaves of them.
 pub fn closed_bank_opens_again<D: Disk + Drop>(_conn: &FileConnection<D>)
     ensures { OpensAgain _conn.now }
 {}

@@ -18,7 +18,7 @@ pub enum FileLeft<D: Disk + Drop> {
 pub enum PathLeft<O: Drop, L: Drop> {
     /// The opener, as it was given: no file was opened.
     Unopened(O),
-    /// Nothing: the file could not be opened.
+    /// Nothing: the opener was used, and could not open the file.
     Refused,
     /// What is left of the open file.
     Opened(L),

@@ -45,7 +45,7 @@ pub fn listen_in<D: Disk + Drop, G: Gate, C: Clock, W: Write, P: Write + Drop>(
         clock.old clock.new result.0 result.1 }
 {
     let alloc = rt.alloc();
-    progress.begin("reading the bank and checking its books");
+    progress.begin("reading the bank and checking its books ..\n");
     let store = match find(alloc, conn) {
         Ok(store) => store,
         Err((fault, conn)) => return (FileLeft::Open(conn), Err(fault)),
@@ -53,7 +53,7 @@ pub fn listen_in<D: Disk + Drop, G: Gate, C: Clock, W: Write, P: Write + Drop>(
     let (store, served) = serve_port_behind_cache(
         rt, alloc, port, store, gate, clock, requests, output,
     );
-    progress.begin("writing the log into the file");
+    progress.begin("writing the log into the file ..\n");
     match close(store) {
         Ok(files) => (FileLeft::Closed(files), ended(served, None)),
         Err((fault, left)) => (FileLeft::Unclosed(left), ended(served, Some(fault))),

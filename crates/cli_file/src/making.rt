@@ -20,12 +20,12 @@ pub fn make_in<D: Disk + Drop, P: Write + Drop>(
     requires { conn.in_transaction ≡ false }
     ensures { IsMadeIn D.Disk conn world.now result.0 result.1 }
 {
-    progress.begin("checking the books and writing the tables");
+    progress.begin("checking the books and writing the tables ..\n");
     let store = match make(alloc, conn, world) {
         Ok(store) => store,
         Err((fault, conn)) => return (FileLeft::Open(conn), Err(fault)),
     };
-    progress.begin("writing the log into the file");
+    progress.begin("writing the log into the file ..\n");
     match close(store) {
         Ok(files) => (FileLeft::Closed(files), Ok(())),
         Err((fault, left)) => (FileLeft::Unclosed(left), Err(fault)),

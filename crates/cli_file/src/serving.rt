@@ -43,13 +43,13 @@ pub fn serve_in<D: Disk + Drop, G: Gate, R: Read, W: Write, P: Write + Drop>(
         (streams_at R.remaining W.contents input.old output.old)
         (streams_at R.remaining W.contents input.new output.new) result.0 result.1 }
 {
-    progress.begin("reading the bank and checking its books");
+    progress.begin("reading the bank and checking its books ..\n");
     let store = match find(alloc, conn) {
         Ok(store) => store,
         Err((fault, conn)) => return (FileLeft::Open(conn), Err(fault)),
     };
     let (store, served) = serve_behind_cache(alloc, store, gate, moment, input, output);
-    progress.begin("writing the log into the file");
+    progress.begin("writing the log into the file ..\n");
     match close(store) {
         Ok(files) => (FileLeft::Closed(files), ended(served, None)),
         Err((fault, left)) => (FileLeft::Unclosed(left), ended(served, Some(fault))),

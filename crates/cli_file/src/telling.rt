@@ -1,14 +1,18 @@
 ghost use Rattle.exit_lines.specs.Streams.{stream_at};
-ghost use Rattle.cli_file.specs.Telling.{IsEnded, IsFaultTold, IsSaid};
+ghost use Rattle.cli_file.specs.Telling.{IsEnded, IsFaultTold, IsRefusalTold, IsSaid};
 
 use crate::fault::ActionFault;
-use exit_lines::{DONE, FAILED, ServeFault, fail, show};
+use arrayvec::ArrayString;
+use exit_lines::{DONE, FAILED, show, tell};
 use money::Tallied;
-use std::io;
+use std::fmt::Write as _;
 use std::io::Write;
 
 /// The status of a program that refuses books, a policy or lists that were handed in.
 pub const REFUSED: u8 = 1;
+
+/// Room for the line of any fault, in bytes: below 100, and the path of a list, which the system keeps below 4,096.
+const LINE_ROOM: usize = 4_224;
 
 /// Says that an action was done, by this line on standard output, or why it was not; and answers the status.
 pub fn say_done<W: Write, E: Write>(
@@ -27,7 +31,7 @@ pub fn say_done<W: Write, E: Write>(
     }
 }
 
-/// Tells why an action did not come to its end, if it did not; and answers the status.
+/// Reports why an action did not come to its end, if it did not; and answers the status.
 pub fn end<W: Write, E: Write>(
     done: Result<(), ActionFault<'_>>,
     output: &mut Tallied<W>,
@@ -43,8 +47,8 @@ pub fn end<W: Write, E: Write>(
     }
 }
 
-/// Tells a fault by its line: a refusal on standard output, with status 1, and every other on standard error, with
-/// status 3. A refusal that can't be written is a broken stream.
+/// Reports a fault by its line: a refusal on standard output, with status 1, and every other on standard error, with
+/// status 3. It takes no memory.
 fn tell_fault<W: Write, E: Write>(
     fault: ActionFault<'_>,
     output: &mut Tallied<W>,
@@ -54,18 +58,26 @@ fn tell_fault<W: Write, E: Write>(
         (stream_at W.contents output.old) (stream_at W.contents output.new)
         (stream_at E.contents errors.old) (stream_at E.contents errors.new) result }
 {
-    if !fault.is_refusal() {
-        let _ = write_line(errors, fault);
-        return FAILED;
+    let mut line: ArrayString<LINE_ROOM> = ArrayString::new();
+    let _ = writeln!(line, "{fault}");
+    if fault.is_refusal() {
+        return refuse(output, errors, line.as_str());
     }
-    match write_line(output, fault) {
-        Ok(()) => REFUSED,
-        Err(_) => fail(errors, ServeFault::Write),
-    }
+    tell(errors, line.as_str());
+    FAILED
 }
 
-/// Writes the line of a fault. It takes no memory.
-fn write_line<W: Write>(writer: &mut Tallied<W>, fault: ActionFault<'_>) -> io::Result<()> {
-    writeln!(writer, "{fault}")?;
-    writer.flush()
+/// Shows the line of a refusal, and answers the status. Where a call of standard output fails, that is a broken stream.
+fn refuse<W: Write, E: Write>(
+    output: &mut Tallied<W>,
+    errors: &mut Tallied<E>,
+    line: &str,
+) -> u8
+    ensures { IsRefusalTold (stream_at W.contents output.old) (stream_at W.contents output.new)
+        (stream_at E.contents errors.old) (stream_at E.contents errors.new) line.now result }
+{
+    match show(output, errors, line) {
+        DONE => REFUSED,
+        failed => failed,
+    }
 }

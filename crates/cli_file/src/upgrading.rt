@@ -19,12 +19,12 @@ pub fn upgrade_in<D: Disk + Drop, P: Write + Drop>(
     requires { conn.in_transaction ≡ false }
     ensures { IsUpgradedIn D.Disk conn result.0 result.1 }
 {
-    progress.begin("reading the bank, checking its books and writing its tables anew");
+    progress.begin("reading the bank, checking its books and writing its tables anew ..\n");
     let store = match carry_over(alloc, conn) {
         Ok(store) => store,
         Err((fault, conn)) => return (FileLeft::Open(conn), Err(fault)),
     };
-    progress.begin("writing the log into the file");
+    progress.begin("writing the log into the file ..\n");
     match close(store) {
         Ok(files) => (FileLeft::Closed(files), Ok(())),
         Err((fault, left)) => (FileLeft::Unclosed(left), Err(fault)),
