@@ -1,6 +1,7 @@
 -- From the run of a store to the day of the bank in its file.
 use Rattle.std.proofs.Common.{◌≡◌, ℕ, List, [], Option, None, Result, inl, inr, arith, sym, subst}
 use Rattle.sqlite_disk.specs.declared.Disk.{Ghosts}
+use Rattle.sqlite_disk.specs.declared.Files.{Files}
 use Rattle.sqlite_wal.specs.Recovery.{Image}
 use Rattle.sqlite.specs.declared.FileStore.{FileStore}
 use Rattle.sqlite.specs.Files.{file_state}
@@ -24,10 +25,11 @@ use Rattle.http_messages.specs.declared.serving.ServeFault.{ServeFault}
 use Rattle.http_messages.specs.declared.serving.Served.{Served}
 use Rattle.cli_file.specs.BankDay.{AreListenedReplied, IsBankDay, IsPortReplied, IsStreamReplied, messages_at, messages_listened, messages_served}
 use Rattle.cli_file.specs.Crash.{IsLeftByCrash}
-use Rattle.cli_file.specs.Files.{BankStore, IsFound, file_status}
-use Rattle.cli_file.specs.Listening.{IsListenedOverFile}
+use Rattle.cli_file.specs.Files.{BankStore, IsClosed, IsFound, file_status}
+use Rattle.cli_file.specs.Listening.{IsListenedAndClosed, IsListenedOverFile, end_of_port}
 use Rattle.cli_file.specs.Opened.{IsBankImage, IsOpenedFrom}
-use Rattle.cli_file.specs.Serving.{IsServedOverFile}
+use Rattle.cli_file.specs.Serving.{IsServedAndClosed, IsServedOverFile, end_of}
+use Rattle.cli_file.specs.declared.fault.ActionFault.{ActionFault}
 use Rattle.cli_file.proofs.CrashLemmas.{acts_once_over_crash, left_by_crash}
 
 -- ---- below a cache that kept nothing as it began
@@ -163,3 +165,29 @@ over_port g users may_give opened port requests output_old output_new from to be
       (listened_day file_status users may_give port requests output_old output_new (record { store = begun; clock = from }) (record { store = ended; clock = to }) result served) _
       (listened_replied file_status users may_give port requests output_old output_new (record { store = begun; clock = from }) (record { store = ended; clock = to }) result served);
 }
+
+-- ---- closed
+
+module _ {D : Type 0} (g : Ghosts D) (opened : Held (FileStore D g)) (files : Files D) where
+  pub stream_closed : (users : List ℕ → Option ℕ) (moment : ℕ) (old new : Streams) (ended : BankStore D g) (exit : Result Served ServeFault) (result : Result Unit ActionFault)
+      → IsServedOverFile g users opened moment old new ended exit → IsClosed g ended files → result ≡ end_of exit None → IsServedAndClosed g users opened moment old new files result
+  stream_closed users moment old new ended exit result over closed reported = record {
+    ended = ended;
+    exit = exit;
+    over = over;
+    closed = closed;
+    bank = λ image w of from works reads. closed.bank works _ (over.day image w of from (closed.copied reads).was_clean).holds reads;
+    reported = reported;
+  }
+
+  pub port_closed : {C : Type 0} (users : List ℕ → Option ℕ) (may_give : C → ℕ → C → Type 0) (port requests : ℕ) (output_old output_new : Stream) (from to : C) (ended : BankStore D g) (exit : Result Unit PortFault)
+      (result : Result Unit ActionFault) → IsListenedOverFile g users may_give opened port requests output_old output_new from to ended exit → IsClosed g ended files → result ≡ end_of_port exit None
+      → IsListenedAndClosed g users may_give opened port requests output_old output_new from to files result
+  port_closed users may_give port requests output_old output_new from to ended exit result over closed reported = record {
+    ended = ended;
+    exit = exit;
+    over = over;
+    closed = closed;
+    bank = λ image w of opens works reads. closed.bank works _ (over.day image w of opens (closed.copied reads).was_clean).holds reads;
+    reported = reported;
+  }

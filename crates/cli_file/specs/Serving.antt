@@ -1,5 +1,5 @@
 -- A stream served over the bank in an open file, from the file as it was opened to what is left of it.
-use Rattle.std.specs.Prelude.{◌≡◌, ℕ, List, Option, Some, None, Result, Ok, Err}
+use Rattle.std.specs.Prelude.{◌≡◌, false, ℕ, List, Option, Some, None, Result, Ok, Err}
 use Rattle.sqlite_disk.specs.declared.Disk.{Ghosts}
 use Rattle.sqlite_disk.specs.declared.Files.{Files}
 use Rattle.sqlite.specs.declared.FileStore.{FileStore}
@@ -8,12 +8,14 @@ use Rattle.sqlite.specs.Files.{file_state}
 use Rattle.sqlite.specs.State.{HasCleanDisk}
 use Rattle.sqlite_wal.specs.Recovery.{Image}
 use Rattle.bank_books.specs.WorldLists.{WorldLists}
+use Rattle.bank_meaning.specs.Run.{world_after}
+use Rattle.counter_api.specs.Run.{requests_of}
 use Rattle.http_messages.specs.declared.serving.ServeFault.{ServeFault}
 use Rattle.http_messages.specs.declared.serving.Served.{Served}
 use Rattle.exit_lines.specs.Streams.{Streams}
 use Rattle.counter_service.specs.Serving.{IsServedBehindCache}
 use Rattle.cli_file.specs.BankDay.{IsBankDay, IsStreamReplied, messages_served}
-use Rattle.cli_file.specs.Opened.{IsBankImage, IsOpenedFrom}
+use Rattle.cli_file.specs.Opened.{HoldTheBank, IsBankImage, IsOpenedFrom}
 use Rattle.cli_file.specs.Faults.{fault_of_serving}
 use Rattle.cli_file.specs.Files.{BankStore, IsClosed, IsFound, IsNotClosed, IsNotFound, file_status}
 use Rattle.cli_file.specs.declared.fault.ActionFault.{ActionFault}
@@ -37,13 +39,21 @@ module _ {D : Type 0} (g : Ghosts D) (users : List ℕ → Option ℕ) (opened :
         → IsBankDay users w (messages_served file_status users begun moment old new ended result served)
         (IsStreamReplied file_status users begun moment old new ended result served) (file_status ended)
 
-  -- It was closed after that, and the file alone is the bank; or it could not be closed; or no bank was found, and nothing was read or
-  -- written on the stream.
+  -- It was closed after that: over every image of a bank, the file alone is the bank of the World after the day, also after a crash, and the next
+  -- day begins with it; unless a fault of the disk had stopped the store.
+  pub record IsServedAndClosed (files : Files D) (result : Result Unit ActionFault) : Type 0 where
+    pub ended : BankStore D g
+    pub exit : Result Served ServeFault
+    pub over : IsServedOverFile ended exit
+    pub closed : IsClosed g ended files
+    pub bank : (image : Image) (w : WorldLists) → IsBankImage image w → IsOpenedFrom image opened → ended.is_stopped ≡ false
+        → HoldTheBank g files (world_after w (requests_of users (messages_served file_status users over.begun moment old new ended exit over.served)))
+    pub reported : result ≡ end_of exit None
+
+  -- It was served and closed; or it could not be closed; or no bank was found, and nothing was read or written on the stream.
   abbrev pub IsServedIn : FileLeft D g → Result Unit ActionFault → Type 0
   IsServedIn (left.Open conn) result = (told : ActionFault) × IsNotFound opened told conn × (new ≡ old) × (result ≡ Err told)
-  IsServedIn (left.Closed files) result =
-      (ended : BankStore D g) × (served : Result Served ServeFault) × IsServedOverFile ended served
-      × IsClosed g ended files × (result ≡ end_of served None)
+  IsServedIn (left.Closed files) result = IsServedAndClosed files result
   IsServedIn (left.Unclosed rest) result =
       (ended : BankStore D g) × (served : Result Served ServeFault) × (told : ActionFault) × IsServedOverFile ended served
       × IsNotClosed ended.conn told rest × (result ≡ end_of served (Some told))

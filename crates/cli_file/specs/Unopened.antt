@@ -10,7 +10,7 @@ use Rattle.cli_file.specs.declared.opening.Look.{Look}
 
 -- it has no bytes, and no log stands beside it
 abbrev pub holds_no_bank : Look → Bool
-holds_no_bank look = look.len == 0 && not look.has_log
+holds_no_bank look = (look.len == 0) && not look.has_log
 
 -- It was not opened, for what was seen of it, and the opener is handed back; or the opener failed.
 abbrev pub IsUnopenedFor : {D O : Type 0} {g : Ghosts D} → O → PathLeft O (FileLeft D g) → ActionFault → Type 0

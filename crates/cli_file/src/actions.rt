@@ -32,7 +32,7 @@ pub fn init_file<D: Disk + Drop, O: Opener<D>, P: Write + Drop>(
     progress.begin("reading the lists ..\n");
     let world = match read_opening(rt, dir) {
         Ok(world) => world,
-        Err(fault) => return (PathLeft::Unopened(opener), Err(fault)),
+        Err(bad) => return (PathLeft::Unopened(opener), Err(bad)),
     };
     progress.begin("opening the file ..\n");
     let conn = match opener.open(rt, file) {

@@ -8,6 +8,7 @@ use std::alloc::{AllocError, Global};
 use std::fs;
 
 /// A folder of the machine in which the opening lists stand. What its files hold is not known.
+#[derive(Drop)]
 pub(crate) struct Folder<'a> {
     pub rt: &'a HostRuntime,
     pub dir: &'a str,
