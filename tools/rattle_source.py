@@ -6,18 +6,23 @@ from typing import NamedTuple
 NO_CODE = re.compile(r"//[^\n]*|/\*.*?\*/|b?\"(?:\\.|[^\"\\])*\"|b?'(?:\\[^'\n]+|\\'|[^'\\\n])'", re.S)
 HEAD = re.compile(r"\bfn\s+(?P<fn>\w+)|\bimpl\b|\bmod\s+(?P<mod>\w+)\s*(?=\{)|\btrait\s+(?P<trait>\w+)")
 CLAUSE = re.compile(r"\b(requires|ensures|ghost)\b[^{}]*$")
+# What begins a clause of a function.
+PROMISE = re.compile(r"\b(?:requires|ensures)\b")
 CLOSED_BY = {"(": ")", "{": "}", "<": ">", "[": "]"}
 
 
 class Function(NamedTuple):
     """A function with a body. `name` is its path below the crate; `head` is where its `fn` stands, and `start` and `end` are
-    where its body does. It stands alone where it is neither a trait's nor of an impl of one, nor in a cycle of calls."""
+    where its body does. It stands alone where it is neither a trait's nor of an impl of one, nor in a cycle of calls. In an
+    impl of a trait, it is the method `of_trait`, as `Tally::share`. It has a clause where its head has one."""
 
     name: str
     head: int
     start: int
     end: int
     stands_alone: bool
+    of_trait: str
+    has_clause: bool
 
 
 def blanked(text):
@@ -25,8 +30,8 @@ def blanked(text):
     return NO_CODE.sub(lambda found: re.sub(r"[^\n]", " ", found[0]), text)
 
 
-def behind(code, at):
-    """The place behind the bracket that closes the one at `at`."""
+def after_bracket(code, at):
+    """The place after the bracket that closes the one at `at`."""
     opens, closes, depth = code[at], CLOSED_BY[code[at]], 0
     while at < len(code):
         is_arrow = code[at] == ">" and code[at - 1] in "-="
@@ -37,24 +42,26 @@ def behind(code, at):
     raise ValueError("a bracket is not closed")
 
 
-def body_of(code, at):
-    """Where the body of the function stands whose name ends at `at`, or none where it has none."""
+def end_of_head(code, at):
+    """Where the head of the function ends whose name ends at `at`: at its body, or at the `;` of one that has none."""
     while code[at].isspace():
         at += 1
     if code[at] == "<":
-        at = behind(code, at)
-    at = behind(code, code.index("(", at))
+        at = after_bracket(code, at)
+    at = after_bracket(code, code.index("(", at))
     while True:
         found = re.compile(r"[{;[]").search(code, at)
-        if not found or found[0] == ";":
-            return None
-        if found[0] == "[":
-            at = behind(code, found.start())
-            continue
-        end = behind(code, found.start())
-        if not CLAUSE.search(code, at, found.start()):
-            return found.start(), end
-        at = end
+        if not found:
+            return len(code)
+        if found[0] == ";" or found[0] == "{" and not CLAUSE.search(code, at, found.start()):
+            return found.start()
+        at = after_bracket(code, found.start())
+
+
+def body_of(code, at):
+    """Where the body of the function stands whose name ends at `at`, or none where it has none."""
+    start = end_of_head(code, at)
+    return (start, after_bracket(code, start)) if code[start : start + 1] == "{" else None
 
 
 def last_words(path):
@@ -71,13 +78,22 @@ def name_of_impl(header):
     """The name under which the prover lists the functions of a block: `impl Write for Tallied<W>` as `TalliedWrite`."""
     header = header[len("impl") :].strip()
     if header.startswith("<"):
-        header = header[behind(header, 0) :]
+        header = header[after_bracket(header, 0) :]
     header = re.split(r"\bwhere\b", header)[0]
     of, is_trait, what = header.partition(" for ")
     shown = what if is_trait else of
     kind = re.split(r"::|<", shown.strip().lstrip("&").strip())
     kind = last_words(shown).partition("<")[0] if len(kind) == 1 else re.split(r"::", shown.partition("<")[0].strip())[-1]
     return kind + (last_words(of) if is_trait else "")
+
+
+def trait_of(header):
+    """The name of the trait that a block is an impl of, or an empty one."""
+    header = header[len("impl") :].strip()
+    if header.startswith("<"):
+        header = header[after_bracket(header, 0) :]
+    of, is_trait, _ = header.partition(" for ")
+    return re.split(r"::", of.partition("<")[0].strip())[-1] if is_trait else ""
 
 
 def module_of(path):
@@ -98,7 +114,7 @@ def functions(text, path, homes):
     """The functions of a file of src/, in the order in which they stand. A type's own are listed in its module."""
     code, found, module = blanked(text), [], module_of(path)
 
-    def walk(at, end, above, is_free):
+    def walk(at, end, above, is_free, trait):
         while True:
             head = HEAD.search(code, at, end)
             if not head:
@@ -107,21 +123,39 @@ def functions(text, path, homes):
             if head["fn"]:
                 body = body_of(code, at)
                 if body:
-                    name, attributes = "::".join([*above, head["fn"]]), code[code.rfind("}", 0, head.start()) + 1 : head.start()]
-                    found.append(Function(name, head.start(), *body, is_free and "#[cycle" not in attributes))
+                    name = "::".join([*above, head["fn"]])
+                    attributes = code[code.rfind("}", 0, head.start()) + 1 : head.start()]
+                    of_trait = trait and f"{trait}::{head['fn']}"
+                    has_clause = bool(PROMISE.search(code, head.start(), body[0]))
+                    stands_alone = is_free and "#[cycle" not in attributes
+                    found.append(Function(name, head.start(), *body, stands_alone, of_trait, has_clause))
                     at = body[1]
                 continue
             opened = code.find("{", head.start(), end)
             if opened < 0:
                 return
-            at = behind(code, opened)
+            at = after_bracket(code, opened)
             header = code[head.start() : opened]
             name = head["mod"] or head["trait"] or name_of_impl(header)
             is_own = header.startswith("impl") and " for " not in header
             is_kept_free = is_own or head["mod"] is not None
-            walk(opened + 1, at - 1, [*(homes.get(name, above) if is_own else above), name], is_free and is_kept_free)
+            named = [*(homes.get(name, above) if is_own else above), name]
+            of = trait_of(header) if header.startswith("impl") else ""
+            walk(opened + 1, at - 1, named, is_free and is_kept_free, of)
 
-    walk(0, len(code), module, True)
+    walk(0, len(code), module, True, "")
+    return found
+
+
+def promised(text):
+    """The methods of the traits of a file that have a clause where they are declared, as `Tally::share`."""
+    code, found = blanked(text), set()
+    for trait in re.finditer(r"\btrait\s+(\w+)", code):
+        opened = code.index("{", trait.end())
+        for method in re.finditer(r"\bfn\s+(\w+)", code[opened : after_bracket(code, opened)]):
+            end = opened + method.end()
+            if PROMISE.search(code, end, end_of_head(code, end)):
+                found.add(f"{trait[1]}::{method[1]}")
     return found
 
 
@@ -140,7 +174,7 @@ def changed_functions(old, new, path, homes):
 
 
 def copied(text, made, path, homes, name, copy, pairs):
-    """The text `made`, which some functions of the text were changed to, with a copy of one of the functions behind it, by
+    """The text `made`, which some functions of the text were changed to, with a copy of one of the functions after it, by
     another name and with these changes, each of an old text to a new one; or none where that can't be done."""
     was = next((it for it in functions(text, path, homes) if it.name == name), None)
     now = next((it for it in functions(made, path, homes) if it.name == name), None)

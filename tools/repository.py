@@ -37,7 +37,7 @@ def words_of_all():
 
 
 def below(uses, names):
-    """These crates and all that they stand on, each behind those that it uses; the kit's libraries are left out."""
+    """These crates and all that they stand on, each after those that it uses; the kit's libraries are left out."""
     order = []
 
     def visit(crate):
@@ -63,7 +63,7 @@ def shared_by_tests(uses):
 
 
 def copy_crates(folder, names):
-    """Copies the repository with these crates alone, and without the mistakes that their contracts have to refuse, into a
+    """Copies the repository with these crates alone, and without the mutants that their contracts have to refuse, into a
     folder that isn't there yet."""
     def left_out(within, found):
         of_crates = set(found) - set(names) if within == os.path.join(TOP, "crates") else set()
@@ -84,7 +84,7 @@ def source_of(crate):
 
 
 def words_of_check(uses, crate, source, libraries, home):
-    """The words of the prover's check of a crate that begins with this file. FOLDER/crates/NAME of the libraries has each
+    """The arguments of the prover's check of a crate that begins with this file. FOLDER/crates/NAME of the libraries has each
     crate below it, built; those of the benches, which the gate does not build, are read as they stand, and may use what is
     passed to the crate."""
     built = {it: f"{libraries}/crates/{it}/out/rlib" for it in below(uses, [crate]) if it not in (crate, *BENCHES)}

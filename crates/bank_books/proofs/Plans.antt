@@ -1,5 +1,6 @@
 -- What a plan makes of a World, write by write.
 use Rattle.std.proofs.Common.{◌≡◌, ℕ, ◌+◌, if◌then◌else◌, ◌≤◌, Bool, true, false, not, ◌||◌, nat_lt, List, [], ◌∷◌, ◌++◌, refl, ap, subst, sym, ◌∙◌, arith}
+use Rattle.std.proofs.Math.Bool.{or-false}
 use Rattle.std.proofs.lemmas.List.Folds.{list_any-append}
 use Rattle.bank_books.specs.Effects.{all_written, applied, in_full, written}
 use Rattle.bank_books.specs.Version.{changes_policy, has_version_for, is_of_policy, with_version}
@@ -27,15 +28,11 @@ written-with_version true (write.Slip row) w = refl
 written-with_version true (write.Session s) w = refl
 written-with_version true (write.Policy p) w = refl
 
-or_false : (b : Bool) → (b || false) ≡ b
-or_false true = refl
-or_false false = refl
-
 still : (rows : List RowWrite) (row : RowWrite) → is_of_policy row ≡ false → changes_policy (rows ++ row ∷ []) ≡ changes_policy rows
 still rows row not_of_policy =
     list_any-append is_of_policy rows (row ∷ [])
     ∙ ap (λ b. changes_policy rows || (b || false)) not_of_policy
-    ∙ or_false (changes_policy rows)
+    ∙ or-false (changes_policy rows)
 
 in_full-append : (rows : List RowWrite) (row : RowWrite) (w : WorldLists) → is_of_policy row ≡ false → in_full (rows ++ row ∷ []) w ≡ written row (in_full rows w)
 in_full-append rows row w not_of_policy =

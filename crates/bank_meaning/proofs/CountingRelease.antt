@@ -5,7 +5,7 @@ use Rattle.std.specs.Option.{option_map_or}
 use Rattle.std.specs.Cmp.Lexicographic.{pointwise}
 use Rattle.std.specs.Cmp.Rules.{signed_items}
 use Rattle.std.specs.Ordering.{int_eq}
-use Rattle.std.proofs.lemmas.Bool.{and_parts, eq-eqb, eqb-false, eqb-true, ne_eqb, not-true}
+use Rattle.std.proofs.lemmas.Bool.{and_from, and_parts, eq-eqb, eqb-false, eqb-true, ne_eqb, not-true}
 use Rattle.bank_policy.specs.HeldRows.{standing, triples_of}
 use Rattle.bank_policy.specs.Tests.{current, is_held_for}
 use Rattle.bank_policy.specs.declared.rows.Standing.{Standing}
@@ -19,17 +19,13 @@ use Rattle.bank_books.specs.Records.{branch_record_of}
 use Rattle.bank_books.specs.WorldLists.{WorldLists}
 use Rattle.bank_books.specs.declared.rows.Branch.{Branch}
 use Rattle.bank_books.specs.declared.rows.Release.{Release}
-use Rattle.certify.proofs.CommandRules.{one_procedure}
+use Rattle.bank_terms.proofs.Procedures.{one_procedure}
 use Rattle.counter_ops.specs.Rows.{row_of}
 use Rattle.counter_ops.specs.declared.op.Op.{Op}
 use Rattle.world_reads.specs.BookReads.{release}
 use Rattle.counter_ops.specs.Touched.{amount, touched}
 use Rattle.bank_meaning.specs.Laws.{Released}
 use Rattle.bank_meaning.specs.NamedRelease.{counts, is_active, is_giver_for, is_of_today, is_same_operation, release_grounds_of}
-
-both : (a b : Bool) → a ≡ true → b ≡ true → (a && b) ≡ true
-both true b is other = other
-both false b is other = absurd cc
 
 not_so : (b : Bool) → b ≡ false → not b ≡ true
 not_so true is = absurd cc
@@ -45,7 +41,7 @@ same_told row other is =
 
 pub same_tested : (row other : OperationRow) → row ≡ other → is_same_operation row other ≡ true
 same_tested row other same =
-    both (number_of row.form == number_of other.form) (pointwise int_eq row.members other.members) (eq-eqb (number_of row.form) (number_of other.form) (ap (λ r. number_of r.form) same))
+    and_from (number_of row.form == number_of other.form) (pointwise int_eq row.members other.members) (eq-eqb (number_of row.form) (number_of other.form) (ap (λ r. number_of r.form) same))
     ((signed_items row.members other.members).1 (ap (λ r. r.members) same))
 
 -- ---- the day
@@ -103,11 +99,11 @@ module _ (w : WorldLists) (user number : ℕ) (op : Op) (moment : ℕ) where
   tested_row : (r : Released w user number op moment) → counts (release_grounds_of w moment r.row) user (row_of op) (touched op) (amount op) ≡ true
   tested_row r =
       let g = release_grounds_of w moment r.row in
-      both (not r.row.used) (is_same_operation r.row.operation (row_of op) && (is_of_today g && is_giver_for g user (touched op) (amount op))) (not_so r.row.used r.unused)
-      (both (is_same_operation r.row.operation (row_of op)) (is_of_today g && is_giver_for g user (touched op) (amount op)) (same_tested r.row.operation (row_of op) r.operation)
-      (both (is_of_today g) (is_giver_for g user (touched op) (amount op)) (today_tested w r.row.day (branch_row r.row.branch w.branches) r.branch r.branch_there r.today)
-      (both (not (r.row.giver == user)) (is_active g.giver && is_held_for g.held (touched op) (amount op)) (not_so (r.row.giver == user) (ne_eqb r.row.giver user r.other))
-      (both (is_active g.giver) (is_held_for g.held (touched op) (amount op)) (active_tested (standing w.policy r.row.giver) r.giver r.giver_there r.active)
+      and_from (not r.row.used) (is_same_operation r.row.operation (row_of op) && (is_of_today g && is_giver_for g user (touched op) (amount op))) (not_so r.row.used r.unused)
+      (and_from (is_same_operation r.row.operation (row_of op)) (is_of_today g && is_giver_for g user (touched op) (amount op)) (same_tested r.row.operation (row_of op) r.operation)
+      (and_from (is_of_today g) (is_giver_for g user (touched op) (amount op)) (today_tested w r.row.day (branch_row r.row.branch w.branches) r.branch r.branch_there r.today)
+      (and_from (not (r.row.giver == user)) (is_active g.giver && is_held_for g.held (touched op) (amount op)) (not_so (r.row.giver == user) (ne_eqb r.row.giver user r.other))
+      (and_from (is_active g.giver) (is_held_for g.held (touched op) (amount op)) (active_tested (standing w.policy r.row.giver) r.giver r.giver_there r.active)
       (up_to_holds (current moment (triples_of w.policy r.row.giver procedure.Release)) (touched op) r.limit (amount op)
       ((held_by_rows w.policy r.row.giver procedure.Release (touched op) r.limit moment).0 r.held) r.enough)))))
 

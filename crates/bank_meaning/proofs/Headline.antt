@@ -1,7 +1,7 @@
 -- The laws of one request and of lists of them, as one record.
 use Rattle.std.proofs.Common.{◌≡◌, ◌≢◌, ◌↔◌, ℕ, ◌<◌, zero, suc, true, List, [], ◌∷◌, Some, None, take, ap, arith, sym, subst, ◌∙◌, add-one}
 use Rattle.std.specs.Prelude.{slice_get}
-use Rattle.std.proofs.lemmas.List.Elements.{All-tail}
+use Rattle.std.proofs.lemmas.List.Elements.{All-head, All-tail}
 use Rattle.bank_books.specs.WorldLists.{WorldLists}
 use Rattle.store_rows.specs.Status.{after_mark}
 use Rattle.bank_meaning.specs.Headline.{Headline, IsMadeRightly, IsTreatedRightly}
@@ -14,6 +14,9 @@ use Rattle.bank_meaning.specs.Sums.{AreProper, IsProper, PassesChecks}
 use Rattle.bank_meaning.specs.declared.execution.Execution.{Execution}
 use Rattle.bank_meaning.specs.declared.request.Request.{Request}
 use Rattle.bank_meaning.proofs.ActsOnce.{each_acts_once}
+use Rattle.bank_meaning.proofs.AmountBounds.{amounts_bound}
+use Rattle.bank_meaning.proofs.BooksJudged.{books_are_judged}
+use Rattle.bank_meaning.proofs.CommandsJudged.{commands_are_judged}
 use Rattle.bank_meaning.proofs.AllowedRequest.{no_one_executes_what_he_certifies}
 use Rattle.bank_meaning.proofs.FirstRule.{first_by_place}
 use Rattle.bank_meaning.proofs.JudgedPolicy.{allowed_exactly_when_held}
@@ -23,8 +26,8 @@ use Rattle.bank_meaning.proofs.RunSums.{sums_always_agree}
 
 -- ---- one request
 
-made_rightly : (w : WorldLists) (q : Request) → PassesChecks w → IsMadeRightly w q (step w q)
-made_rightly w q checks = record {
+made_rightly : (w : WorldLists) (q : Request) → PassesChecks w → IsProper q → IsMadeRightly w q (step w q)
+made_rightly w q checks proper = record {
   named = first_by_place.2 w q;
   carried_out = λ fresh allowed. (
     ap (λ o. unless_repeated o (if_allowed (first w q) (effect w q) w) w) fresh ∙ ap (λ r. if_allowed r (effect w q) w) allowed,
@@ -39,12 +42,16 @@ made_rightly w q checks = record {
     ap (λ o. told_again o (told (first w q) (reply_text w q))) is,
   );
   held = λ x same. subst (λ r. first w r ≡ None ↔ IsHeld w x) (sym same) (allowed_exactly_when_held w x);
+  judged = λ x same is. books_are_judged w x (subst (λ r. first w r ≡ None) same is);
+  within = λ x same. amounts_bound w x checks (subst IsProper same proper);
   apart = λ x same is. no_one_executes_what_he_certifies w x checks.separated (subst (λ r. first w r ≡ None) same is);
+  commanded = λ c asks is. (commands_are_judged w).command q c asks is;
+  listed = λ asks is. (commands_are_judged w).listing q asks is;
 }
 
-treated : (w : WorldLists) (m : Marked) → PassesChecks w → IsTreatedRightly w m (after_request w m)
-treated w m checks = record {
-  made = λ is. subst (λ v. IsMadeRightly w m.request v) (sym (ap (λ mark. after_mark mark (step w m.request) w) is)) (made_rightly w m.request checks);
+treated : (w : WorldLists) (m : Marked) → PassesChecks w → (m.mark ≡ None → IsProper m.request) → IsTreatedRightly w m (after_request w m)
+treated w m checks proper = record {
+  made = λ is. subst (λ v. IsMadeRightly w m.request v) (sym (ap (λ mark. after_mark mark (step w m.request) w) is)) (made_rightly w m.request checks (proper is));
   unmade = λ fault is. ap (λ mark. after_mark mark (step w m.request) w) is;
 }
 
@@ -55,7 +62,7 @@ treated_along : (w : WorldLists) (ms : List Marked) (n : ℕ) (m : Marked) → P
 treated_along w [] n m checks proper is = let none : None ≡ Some m = is in absurd cc
 treated_along w (first ∷ ms) zero m checks proper is =
     let same : first ≡ m = cc in
-    subst (λ (z : Marked). IsTreatedRightly w z (after_request w first)) same (treated w first checks)
+    subst (λ (z : Marked). IsTreatedRightly w z (after_request w first)) same (treated w first checks (All-head (λ m. m.mark ≡ None → IsProper m.request) first ms proper))
 treated_along w (first ∷ ms) (suc n) m checks proper is =
     treated_along (after_request w first) ms n m ((sums_always_agree w (first ∷ ms) checks proper).checks 1) (All-tail (λ m. m.mark ≡ None → IsProper m.request) first ms proper) is
 
@@ -64,15 +71,15 @@ treated_along w (first ∷ ms) (suc n) m checks proper is =
 kept_along : (w : WorldLists) (ms : List Marked) (n k : ℕ) (x : Execution) → slice_get ms n ≡ Some (record { request = executes x; mark = None }) → slip_named x ≢ 0
     → is_accepted (world_after w (take n ms)) (record { request = executes x; mark = None }) ≡ true → n < k
     → IsKeptReply (world_after w (take k ms)) x (reply_text (world_after w (take n ms)) (executes x))
-kept_along w [] n k x there slip accepted behind = absurd cc
-kept_along w (first ∷ ms) zero zero x there slip accepted behind = absurd (omega (arith, behind))
-kept_along w (first ∷ ms) zero (suc k) x there slip accepted behind =
+kept_along w [] n k x there slip accepted later = absurd cc
+kept_along w (first ∷ ms) zero zero x there slip accepted later = absurd (omega (arith, later))
+kept_along w (first ∷ ms) zero (suc k) x there slip accepted later =
     let same : first ≡ record { request = executes x; mark = None } = cc in
     let left : step w (executes x) ≡ after_request w first = sym (ap (after_request w) same) in
     subst (λ (v : WorldLists). IsKeptReply (world_after v (take k ms)) x (reply_text w (executes x))) left (replies_are_kept w x (take k ms) slip accepted)
-kept_along w (first ∷ ms) (suc n) zero x there slip accepted behind = absurd (omega (arith, behind))
-kept_along w (first ∷ ms) (suc n) (suc k) x there slip accepted behind =
-    kept_along (after_request w first) ms n k x there slip accepted (omega (arith, behind))
+kept_along w (first ∷ ms) (suc n) zero x there slip accepted later = absurd (omega (arith, later))
+kept_along w (first ∷ ms) (suc n) (suc k) x there slip accepted later =
+    kept_along (after_request w first) ms n k x there slip accepted (omega (arith, later))
 
 pub headline : Headline
 headline w ms checks proper = record {
@@ -80,5 +87,5 @@ headline w ms checks proper = record {
   sums = sums_always_agree w ms checks proper;
   policy = last_word.0 w ms checks proper;
   acts_once = each_acts_once w ms;
-  kept = λ n k x is behind. kept_along w ms n k x is.there is.slip is.accepted behind;
+  kept = λ n k x is later. kept_along w ms n k x is.there is.slip is.accepted later;
 }

@@ -72,7 +72,7 @@ tested_user w who known =
 identified_passed : (w : WorldLists) (q : Execution) → (denies rule.Identity w (executes q) ≡ false → IsIdentified w q.who) × (IsIdentified w q.who → denies rule.Identity w (executes q) ≡ false)
 identified_passed w q = passed (is_identified (grounds w q).standing q.who.session) (told_user w q.who.user q.who.session q.who.release q.who.slip) (tested_user w q.who)
 
-known_passed : (w : WorldLists) (who : Who) → (not (is_identified (standing_of_asker who w) who.session) ≡ false → IsIdentified w who) × (IsIdentified w who → not (is_identified (standing_of_asker who w) who.session) ≡ false)
+pub known_passed : (w : WorldLists) (who : Who) → (not (is_identified (standing_of_asker who w) who.session) ≡ false → IsIdentified w who) × (IsIdentified w who → not (is_identified (standing_of_asker who w) who.session) ≡ false)
 known_passed w who = passed (is_identified (standing_of_asker who w) who.session) (told_user w who.user who.session who.release who.slip) (tested_user w who)
 
 told_active : (w : WorldLists) (user : ℕ) (o : Option Standing) → standing w.policy user ≡ o → is_active o ≡ true → MayOpen w (Some user)

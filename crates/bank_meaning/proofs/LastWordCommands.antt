@@ -15,7 +15,7 @@ use Rattle.bank_policy.specs.declared.policy_write.TripleKey.{TripleKey}
 use Rattle.bank_policy.specs.declared.rows.Certifier.{Certifier}
 use Rattle.bank_policy.specs.declared.rows.Relation.{Relation}
 use Rattle.bank_policy.specs.declared.rows.Triple.{Triple}
-use Rattle.policy_check.proofs.GroupOrder.{number_of-small}
+use Rattle.bank_terms.proofs.Procedures.{at_most_thirteen}
 use Rattle.policy_check.specs.Soundness.{IsNumber, IsPolicySound}
 use Rattle.policy_commands.specs.Ranges.{IsPolicyOp}
 use Rattle.policy_commands.specs.declared.policy_op.PolicyOp.{PolicyOp}
@@ -192,7 +192,7 @@ revoked p who k sound within = record {
       let first = and_parts (t.user == user) (number_of t.procedure == number_of procedure) parts.0 in
       let number = each_of (λ x. IsNumber x.set) p.triples sound.triples.numbers t there in
       ap not
-      (triple_test t.user (number_of t.procedure) t.set k.user (number_of k.procedure) k.set number.1 within.1 (number_of-small t.procedure) (number_of-small k.procedure)
+      (triple_test t.user (number_of t.procedure) t.set k.user (number_of k.procedure) k.set number.1 within.1 (at_most_thirteen t.procedure) (at_most_thirteen k.procedure)
       ∙ ap (λ n. ((k.user == n && number_of k.procedure == number_of t.procedure) && k.set == t.set)) (eqb-true t.user user first.0)
       ∙ ap (λ n. ((k.user == user && number_of k.procedure == n) && k.set == t.set)) (eqb-true _ _ first.1)
       ∙ ap (λ n. ((k.user == user && is_same k.procedure procedure) && k.set == n)) (eqb-true t.set set parts.1)));
@@ -213,7 +213,7 @@ dismissed p who c = record {
       (λ r there passes.
       let parts = and_parts (r.user == user) (number_of r.procedure == number_of procedure) passes in
       ap not
-      (certifier_test r.user (number_of r.procedure) c.user (number_of c.procedure) (number_of-small r.procedure) (number_of-small c.procedure)
+      (certifier_test r.user (number_of r.procedure) c.user (number_of c.procedure) (at_most_thirteen r.procedure) (at_most_thirteen c.procedure)
       ∙ ap (λ n. (c.user == n && number_of c.procedure == number_of r.procedure)) (eqb-true r.user user parts.0)
       ∙ ap (λ n. (c.user == user && number_of c.procedure == n)) (eqb-true _ _ parts.1)));
   users = λ user. refl;

@@ -1,15 +1,14 @@
 -- What is found of rows that have one more, or fewer, or that are made anew; and that rows in order are told by those that are there.
-use Rattle.std.proofs.Common.{◌≡◌, ◌≢◌, ℕ, ◌==◌, ◌≤◌, suc, List, [], ◌∷◌, map, Bool, true, false, cond, not, unwrap_or, Option, Some, None, Contains, inl, inr, refl, ap, arith, sym, subst, ◌∙◌}
+use Rattle.std.proofs.Common.{◌≡◌, ℕ, ◌==◌, ◌≤◌, suc, List, [], ◌∷◌, map, Bool, true, false, cond, not, unwrap_or, Option, Some, None, Contains, inl, inr, refl, ap, arith, sym, subst, ◌∙◌}
 use Rattle.std.specs.Prelude.{nat_le, option_map, if◌then◌else◌}
 use Rattle.std.specs.List.{filter, find, list_any}
 use Rattle.std.specs.List.Sorted.{IsNonDecreasingBy}
 use Rattle.std.proofs.lemmas.Bool.{cases_eq, eq-eqb, false≢true, ne_eqb, or_parts}
-use Rattle.keyed_rows.proofs.DistinctKeys.{apart-from_AreDistinct}
 use Rattle.keyed_rows.specs.Changed.{change_rows}
 use Rattle.keyed_rows.specs.Ordered.{AreDistinct, add_row}
 use Rattle.book_laws.proofs.ChangedRows.{changed_same}
 use Rattle.rule_tests.proofs.RuleTests.{passed_by}
-use Rattle.keyed_rows.proofs.Rows.{Contains-cons_cases, Contains-head, Contains-tail, find-add_row, find-found, find_of_key, found_row, none_passes}
+use Rattle.keyed_rows.proofs.Rows.{Contains-cons_cases, Contains-head, Contains-tail, find-add_row, find-found, find_of_key, first_apart, found_row, none_passes, none_there, rest_in_order}
 use Rattle.bank_meaning.specs.InForce.{said_if}
 
 -- ---- one row more
@@ -99,13 +98,6 @@ found_changed {X = X} key k made same xs n =
 
 -- ---- rows in order
 
-rest_in_order : {X : Type 0} (key : X → ℕ) (x : X) (xs : List X) → IsNonDecreasingBy key (x ∷ xs) → IsNonDecreasingBy key xs
-rest_in_order key x xs order = λ i j d le within. order (suc i) (suc j) d (omega (arith, le)) (omega (arith, within))
-
--- the first row has no key of a row behind it
-first_apart : {X : Type 0} (key : X → ℕ) (x : X) (xs : List X) (y : X) → AreDistinct (map key (x ∷ xs)) → Contains xs y → key x ≢ key y
-first_apart key x xs y distinct (k, within, is) same = apart-from_AreDistinct key (x ∷ xs) 0 (suc k) y distinct (omega arith) (omega arith) (same ∙ ap key (sym is))
-
 -- no row behind the first has a lower key
 first_lowest : {X : Type 0} (key : X → ℕ) (x : X) (xs : List X) (y : X) → IsNonDecreasingBy key (x ∷ xs) → Contains xs y → key x ≤ key y
 first_lowest key x xs y order (k, within, is) = subst (λ z. key x ≤ key z) is (order 0 (suc k) y (omega arith) (omega arith))
@@ -133,9 +125,6 @@ still_behind key x xs y ys distinct same among z there =
       | inl first ↦ absurd (first_apart key x xs z distinct there (ap key (same ∙ first)))
       | inr behind ↦ behind
     ]
-
-none_there : {X : Type 0} {x : X} → Contains [] x → ⊥
-none_there (k, within, is) = omega arith
 
 -- Two lists of the same rows, each in order of distinct keys, are one.
 pub same_rows : {X : Type 0} (key : X → ℕ) (xs ys : List X) → IsNonDecreasingBy key xs → IsNonDecreasingBy key ys → AreDistinct (map key xs) → AreDistinct (map key ys)

@@ -1,6 +1,9 @@
 pub mod ActsOnce
 pub mod AllowedRequest
+pub mod AmountBounds
+pub mod BooksJudged
 pub mod CommandSteps
+pub mod CommandsJudged
 pub mod CountingRelease
 pub mod FirstRule
 pub mod GivenRelease
@@ -20,6 +23,7 @@ pub mod OpenedAccount
 pub mod OperationSteps
 pub mod PolicyFirst
 pub mod PolicyLemmas
+pub mod Questions
 pub mod Retries
 pub mod RunSums
 pub mod SessionSteps

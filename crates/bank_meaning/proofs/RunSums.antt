@@ -32,7 +32,7 @@ Proper m = m.mark ≡ None → IsProper m.request
 abbrev moves_if : Bool → Moves → Moves
 moves_if accepted m = if accepted then m else moves_nothing
 
-one_request : (w : WorldLists) (m : Marked) → PassesChecks w → Proper m → IsStep w (after_request w m) (moves_if (is_accepted w m) (moves m.request))
+pub one_request : (w : WorldLists) (m : Marked) → PassesChecks w → Proper m → IsStep w (after_request w m) (moves_if (is_accepted w m) (moves m.request))
 one_request w m checks proper = go m.mark (repeated w m.request) (first w m.request) refl refl refl
   where
     go : (mark : Option Fault) (kept : Option (List ℕ)) (r : Option Rule) → m.mark ≡ mark → repeated w m.request ≡ kept → first w m.request ≡ r

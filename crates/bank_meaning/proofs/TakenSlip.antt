@@ -1,5 +1,5 @@
 -- What is left of an operation with its slip: the books hold with that, too, and it moves nothing.
-use Rattle.std.proofs.Common.{◌≡◌, ◌≢◌, ℕ, ◌+◌, ◌*◌, ◌^◌, ◌<◌, ◌≤◌, ◌==◌, ◌&&◌, zero, suc, Bool, true, false, not, is_none, List, None, Contains, refl, ap, arith, sym, subst, ◌∙◌}
+use Rattle.std.proofs.Common.{◌≡◌, ◌≢◌, ℕ, ◌^◌, ◌<◌, ◌≤◌, ◌==◌, ◌&&◌, zero, suc, Bool, true, false, not, is_none, List, None, Contains, refl, ap, arith, sym, subst, ◌∙◌}
 use Rattle.std.specs.Prelude.{if◌then◌else◌, nat_le}
 use Rattle.std.proofs.lemmas.Bool.{and_from, eq-eqb, eqb-false, false≢true, leb-false}
 use Rattle.bank_terms.specs.Limits.{max_key, max_slips}
@@ -12,6 +12,7 @@ use Rattle.bank_books.specs.SlipRow.{SlipRow}
 use Rattle.bank_books.specs.WorldLists.{WorldLists}
 use Rattle.bank_books.specs.declared.row_write.RowWrite.TheVariants as write
 use Rattle.book_laws.specs.Next.{IsNextSlip}
+use Rattle.keyed_rows.proofs.DistinctKeys.{key_parts}
 use Rattle.book_laws.proofs.BooksSplit.{books_parts}
 use Rattle.keyed_rows.proofs.Rows.{none_passes}
 use Rattle.book_laws.proofs.SlipAdded.{slip_keeps_books}
@@ -38,9 +39,6 @@ at_least_one (suc n) is = omega arith
 
 fits : (n : ℕ) → n ≤ max_key → n < 2 ^ 32
 fits n is = omega arith
-
-key_parts : (b n b' n' : ℕ) → n < 2 ^ 32 → n' < 2 ^ 32 → 2 ^ 32 * b + n ≡ 2 ^ 32 * b' + n' → (b ≡ b') × (n ≡ n')
-key_parts b n b' n' small small' same = (omega arith, omega arith)
 
 named_small : (b : Bool) (n : ℕ) → n ≤ max_key → (if b then n else 0) ≤ max_key
 named_small true n is = is

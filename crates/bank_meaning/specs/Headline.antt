@@ -5,6 +5,10 @@ use Rattle.bank_terms.specs.declared.rule.Rule.{Rule}
 use Rattle.bank_books.specs.WorldLists.{WorldLists}
 use Rattle.counter_ops.specs.Op.{procedure_of}
 use Rattle.policy_check.specs.Separation.{Certifies}
+use Rattle.policy_commands.specs.declared.policy_op.PolicyOp.{PolicyOp}
+use Rattle.bank_meaning.specs.Amounts.{IsWithinAmount}
+use Rattle.bank_meaning.specs.BooksJudged.{IsBooksJudged}
+use Rattle.bank_meaning.specs.CommandsJudged.{IsCommandJudged, IsListingJudged}
 use Rattle.bank_meaning.specs.LastWord.{HasLastWord}
 use Rattle.bank_meaning.specs.Laws.{IsFirstRule, IsHeld}
 use Rattle.bank_meaning.specs.Meaning.{json}
@@ -16,21 +20,27 @@ use Rattle.bank_meaning.specs.Run.{Marked, is_accepted, reply, world_after}
 use Rattle.bank_meaning.specs.Slips.{slip_named}
 use Rattle.bank_meaning.specs.Sums.{AreProper, PassesChecks, SumsAgree}
 use Rattle.bank_meaning.specs.declared.execution.Execution.{Execution}
+use Rattle.bank_meaning.specs.declared.request.Asked.TheVariants as asked
 use Rattle.bank_meaning.specs.declared.request.Request.{Request}
 
 -- A request that is made, in the World that those before it left, and the World after it.
 pub record IsMadeRightly (w : WorldLists) (q : Request) (after : WorldLists) : Type 0 where
-  -- the rule that is named is the first that denies
+  -- the rule that is reported is the first that denies
   pub named : IsFirstRule w q
-  -- what repeats none is carried out where no rule denies it; else it changes nothing, and is told that rule
+  -- What repeats none is carried out where no rule denies it. Else it changes nothing, and that rule is reported.
   pub carried_out : repeated w q ≡ None → first w q ≡ None → (after ≡ effect w q) × (reply w q ≡ Ok (reply_text w q))
   pub denied : (r : Rule) → repeated w q ≡ None → first w q ≡ Some r → (after ≡ w) × (reply w q ≡ Err r)
   -- a repeat changes nothing, and gets the reply that was kept
   pub again : (kept : List ℕ) → repeated w q ≡ Some kept → (after ≡ w) × (reply w q ≡ Ok (json kept))
   -- no rule denies an operation exactly where all of it is held
   pub held : (x : Execution) → q ≡ executes x → (first w q ≡ None ↔ IsHeld w x)
-  -- Clark and Wilson's rule E4
+  -- and then it is asked for by whom, and where, the books want it; it moves its amount at most
+  pub judged : (x : Execution) → q ≡ executes x → first w q ≡ None → IsBooksJudged w x
+  pub within : (x : Execution) → q ≡ executes x → IsWithinAmount w x
+  -- Clark and Wilson's rule E4: who executes a procedure does not certify it, and who commands is who may
   pub apart : (x : Execution) → q ≡ executes x → first w q ≡ None → ¬ Certifies w.policy (asker x.who) (procedure_of x.op)
+  pub commanded : (c : PolicyOp) → q.asked ≡ asked.Command c → first w q ≡ None → IsCommandJudged w q.who c
+  pub listed : q.asked ≡ asked.Listing → first w q ≡ None → IsListingJudged w q.who
 
 -- One with its mark: what a fault kept from being made changes nothing.
 pub record IsTreatedRightly (w : WorldLists) (m : Marked) (after : WorldLists) : Type 0 where
@@ -49,7 +59,7 @@ pub record IsHeadline (w : WorldLists) (requests : List Marked) : Type 0 where
   pub sums : SumsAgree w requests
   pub policy : HasLastWord w requests
   pub acts_once : ActsOnce w requests
-  -- what bears the slip of an accepted operation gets its reply, wherever it comes behind
+  -- what bears the slip of an accepted operation gets its reply, wherever it comes after that
   pub kept : (n k : ℕ) (x : Execution) → IsAcceptedAt w requests n x → n < k → IsKeptReply (world_after w (take k requests)) x (reply_text (world_after w (take n requests)) (executes x))
 
 -- of every World that passes both checks, and of every list of proper requests with any marks

@@ -1,7 +1,10 @@
 pub mod Accounts
+pub mod Amounts
 pub mod Balance
+pub mod BooksJudged
 pub mod CloseDay
 pub mod Commands
+pub mod CommandsJudged
 pub mod Correct
 pub mod Denial
 pub mod DrawerOff
@@ -22,6 +25,7 @@ pub mod Order
 pub mod PolicyRules
 pub mod Post
 pub mod Proof
+pub mod Questions
 pub mod Release
 pub mod Repeats
 pub mod Requests

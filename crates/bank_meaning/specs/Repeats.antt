@@ -50,6 +50,10 @@ pub record IsSentAgain (x y : Execution) : Type 0 where
   pub number : slip_named y ≡ slip_named x
   pub operation : row_of y.op ≡ row_of x.op
 
+-- Sent again by a user who is known, it bears the slip of the first, and so gets its reply.
+abbrev pub SentAgainBearsItsSlip : Type 0
+SentAgainBearsItsSlip = (v : WorldLists) (x y : Execution) → IsSentAgain x y → denies rule.Identity v (executes y) ≡ false → BearsSlipOf v x y
+
 -- in this World it was carried out, or repeated, alone: that is what is left, and what is replied
 pub record IsAlone (w : WorldLists) (x : Execution) (left : WorldLists) (text : ReplyText) : Type 0 where
   pub world : left ≡ step w (executes x)

@@ -1,11 +1,15 @@
-//! What holds of every World, of every decision, of releases, of a new account, of sessions, and along every list of requests. The functions change nothing; their contracts are the laws.
+//! What holds of every World, of every decision, of the rows that it goes by, of amounts, of releases, of a new account, of sessions, and along every list of requests. The functions change nothing; their contracts are the laws.
 
+ghost use Rattle.bank_meaning.specs.Amounts.{AmountsBound};
+ghost use Rattle.bank_meaning.specs.BooksJudged.{BooksAreJudged};
+ghost use Rattle.bank_meaning.specs.CommandsJudged.{CommandsAreJudged};
 ghost use Rattle.bank_meaning.specs.Headline.{Headline};
 ghost use Rattle.bank_meaning.specs.LastWord.{LastWord};
 ghost use Rattle.bank_meaning.specs.Laws.{AllowedExactlyWhenHeld, DeniedBeforeTheBooks, FirstByPlace, IdentityIsJudged, NewAccountKeepsBooks, PolicyIsJudged, ReleaseKeepsBooks, ReleasesAreUsedOnce, SessionsChangeNoMore};
 ghost use Rattle.bank_meaning.specs.Once.{EachActsOnce};
 ghost use Rattle.bank_meaning.specs.Order.{IsInOrder};
-ghost use Rattle.bank_meaning.specs.Repeats.{RepliesAreKept, RetriesActOnce, SlipsStay};
+ghost use Rattle.bank_meaning.specs.Questions.{QuestionsChangeNothing};
+ghost use Rattle.bank_meaning.specs.Repeats.{RepliesAreKept, RetriesActOnce, SentAgainBearsItsSlip, SlipsStay};
 ghost use Rattle.bank_meaning.specs.Sums.{NoOneExecutesWhatHeCertifies, SumsAlwaysAgree};
 
 use bank_books::World;
@@ -53,6 +57,34 @@ pub fn identity_is_judged()
 /// but the present day of that release's branch was looked at.
 pub fn denied_before_the_books()
     ensures { DeniedBeforeTheBooks }
+{}
+
+/// What no rule denies is asked for by whom and where it has to be. Who posts, transfers, corrects, moves the cash of a drawer or
+/// puts it off holds that drawer, at a teller of the branch that is named; nobody holds one that is put on, and none of the branch
+/// is held where a day is closed. What is corrected was entered by somebody else on the branch's present day, is no correction,
+/// has not been undone, and is as it is named. Accounts stay at their floors, drawers and vaults at zero or above. An account that
+/// is opened is new, and a release is given to somebody else.
+pub fn books_are_judged()
+    ensures { BooksAreJudged }
+{}
+
+/// Of every World that passes both checks, and of every proper operation: its amount, in cents, is the most by which it moves the
+/// balance of a branch, a teller or an account, and the cash of a drawer or a vault, but for a drawer that is put off; the most
+/// that a release lets another move; and the most that a new account may go below zero.
+pub fn amounts_bound()
+    ensures { AmountsBound }
+{}
+
+/// A balance, a statement, a list of accounts, a proof or the listing of the policy that is asked for leaves the World, whole.
+pub fn questions_change_nothing()
+    ensures { QuestionsChangeNothing }
+{}
+
+/// A command that no rule denies is asked for by a user who is known and not suspended: by an officer to appoint, dismiss, enrol,
+/// suspend or restore; by a certifier of the procedure to certify, withdraw, grant or revoke; by any certifier to define a set. The
+/// policy is listed to officers alone.
+pub fn commands_are_judged()
+    ensures { CommandsAreJudged }
 {}
 
 /// An operation is allowed exactly when its user is known, some one triple of his holds all that it
@@ -119,6 +151,12 @@ pub fn replies_are_kept()
     ensures { RepliesAreKept }
 {}
 
+/// What a user who is known sends again with the same slip, in whatever session, at whatever moment and by whatever release, is what
+/// gets the reply that was kept.
+pub fn sent_again_bears_its_slip()
+    ensures { SentAgainBearsItsSlip }
+{}
+
 /// Of every World: a slip that a user has stays his after any requests with any marks, with its operation and its reply.
 pub fn slips_stay()
     ensures { SlipsStay }
@@ -133,8 +171,9 @@ pub fn retries_act_once()
 {}
 
 /// Of every World that passes both checks, and of every list of proper requests with any marks: each is treated rightly in the
-/// World that those before it leave. It is carried out exactly where all of it is held and no rule of the books denies it; else it
-/// changes nothing, and the first rule against it is named; no one executes what he certifies. The sums agree, the policy
+/// World that those before it leave. It is carried out exactly where all of it is held and no rule of the books denies it, and then
+/// by whom and where it has to be; else it changes nothing, and the first rule against it is named. It moves its amount at most. No
+/// one executes what he certifies, and only who may commands and has the policy listed. The sums agree, the policy
 /// is the one in force by last word, and what bears a slip acts once and is replied what it was replied at first.
 pub fn headline()
     ensures { Headline }

@@ -1,8 +1,8 @@
 //! What each request means in a World: the rules against it in their order, its effect and its reply.
-//! `laws` has what holds along every list of requests: when an operation is allowed, that both checks pass,
-//! that sums agree, that no one executes what he certifies, and that the policy is the one by last word.
-//! The code here is data alone: `Request`, `Execution`, `Who`, `ReplyKind`. Requests are carried out in
-//! `decide`.
+//! `laws` has what holds along every list of requests: when an operation is allowed, who holds the drawer,
+//! who may command, that amounts bound what is moved, that checks pass and sums agree,
+//! and that the policy is the one by last word. The code here is data alone: `Request`, `Execution`, `Who`,
+//! `ReplyKind`. Requests are carried out in `decide`.
 #![tactic(auto)]
 
 mod execution;

@@ -1,5 +1,5 @@
 ghost use Rattle.std.specs.Prelude.{◌≡◌};
-ghost use Rattle.bank_terms.specs.Procedure.{name_of, number_of, procedure_named, takes_slip};
+ghost use Rattle.bank_terms.specs.Procedure.{name_of, number_of, procedure_named, procedures, takes_slip};
 
 /// The procedures that users may be given leave to carry out: the transformation procedures of
 /// Clark and Wilson's model, in the order of their numbers, 1 to 13.
@@ -34,6 +34,27 @@ pub enum Procedure {
 }
 
 impl Procedure {
+    /// All thirteen, in the order of their numbers.
+    pub fn all() -> [Procedure; 13]
+        ensures { result ≡ procedures }
+    {
+        [
+            Procedure::Post,
+            Procedure::Transfer,
+            Procedure::Correct,
+            Procedure::DrawerOn,
+            Procedure::DrawerOff,
+            Procedure::MoveCash,
+            Procedure::NewAccount,
+            Procedure::Release,
+            Procedure::Balance,
+            Procedure::Statement,
+            Procedure::Accounts,
+            Procedure::Proof,
+            Procedure::CloseDay,
+        ]
+    }
+
     /// Its number, 1 to 13.
     pub fn number(self) -> u8
         ensures { result ≡ number_of self }

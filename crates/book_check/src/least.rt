@@ -4,15 +4,17 @@ ghost use Rattle.book_check.specs.Least.{HoldsOfBranch, IsFirstFailing, lesser_o
 /// What is asked of a kept row, which is judged beside the row that the books give, and the branch
 /// that is told where it fails.
 pub(crate) trait Condition<T> {
+    /// What it asks of a kept row, beside the row that the books give.
     ghost holds: { Self → T → T → Type 0 };
 
+    /// The branch of a kept row.
     ghost branch_of: { Self → T → ℕ };
 
     /// Whether it holds of the row.
     fn holds(&self, row: &T, computed: &T) -> bool
         ensures { IsTrue result ↔ holds self.now row.now computed.now };
 
-    /// The branch that is told where it fails of the row.
+    /// The branch that is reported where it fails of the row.
     fn branch_of(&self, row: &T) -> u32
         ensures { result ≡ branch_of self.now row.now };
 }

@@ -8,8 +8,8 @@ use Rattle.std.proofs.lemmas.Bool.Decides.{nat_tests}
 use Rattle.std.proofs.lemmas.List.{reverse-append}
 use Rattle.keyed_rows.specs.Ordered.{add_row}
 use Rattle.book_laws.proofs.LastRow.{or_else}
-use Rattle.keyed_rows.proofs.Rows.{Contains-head, Contains-tail}
-use Rattle.book_kept.proofs.Rising.{first_lowest, rest_in_order}
+use Rattle.keyed_rows.proofs.Rows.{Contains-head, Contains-tail, rest_in_order}
+use Rattle.book_kept.proofs.Rising.{first_lowest}
 
 find-append : {X : Type 0} (p : X → Bool) (xs ys : List X) → find p (xs ++ ys) ≡ or_else (find p xs) (find p ys)
 find-append p [] ys = refl

@@ -10,8 +10,8 @@ use Rattle.keyed_rows.specs.Ordered.{add_row}
 use Rattle.bank_policy.specs.PolicyKeys.{set_key}
 use Rattle.bank_policy.specs.SetRow.{SetRow}
 use Rattle.bank_policy.specs.declared.rows.Member.{Member}
-use Rattle.keyed_rows.proofs.Rows.{Contains-cons_cases, Contains-head, Contains-tail}
-use Rattle.book_kept.proofs.Rising.{Rises, Rises-append, first_lowest, none_there, rest_in_order}
+use Rattle.keyed_rows.proofs.Rows.{Contains-cons_cases, Contains-head, Contains-tail, none_there, rest_in_order}
+use Rattle.book_kept.proofs.Rising.{Rises, Rises-append, first_lowest}
 use Rattle.book_kept.specs.Changes.{add_rows}
 use Rattle.book_kept.specs.Named.{IsFree}
 use Rattle.book_kept.specs.Records.{member_row, member_rows}

@@ -3,6 +3,7 @@ use Rattle.std.proofs.Common.{◌≡◌, ℕ, ◌+◌, ◌*◌, ◌^◌, ◌<◌
 use Rattle.std.specs.List.{count_by}
 use Rattle.std.proofs.lemmas.Bool.{eq-eqb}
 use Rattle.keyed_rows.specs.Ordered.{add_row}
+use Rattle.keyed_rows.proofs.DistinctKeys.{key_parts}
 use Rattle.keyed_rows.proofs.Rows.{Contains-add_row_cases, count-add_row, count_named}
 use Rattle.book_kept.specs.Named.{IsFree}
 
@@ -13,9 +14,6 @@ AreCounted {X} group number xs = (x : X) → Contains xs x → number x ≤ coun
 -- it bears the next number
 abbrev pub IsNextNumber : {X : Type 0} → (X → ℕ) → (X → ℕ) → X → List X → Type 0
 IsNextNumber group number e xs = number e ≡ count_by (λ r. group r == group e) xs + 1
-
-key_parts : (b n b' n' : ℕ) → n < 2 ^ 32 → n' < 2 ^ 32 → 2 ^ 32 * b + n ≡ 2 ^ 32 * b' + n' → (b ≡ b') × (n ≡ n')
-key_parts b n b' n' small small' same = (omega arith, omega arith)
 
 past : (n m c : ℕ) → n ≤ c → m ≡ c + 1 → n ≡ m → ⊥
 past n m c low next same = omega arith

@@ -3,20 +3,13 @@ use Rattle.std.proofs.Common.{◌≡◌, ◌≢◌, ℕ, ◌<◌, ◌≤◌, zer
 use Rattle.std.specs.List.Sorted.{IsNonDecreasingBy}
 use Rattle.std.proofs.lemmas.List.Elements.{Contains-append_cases, Contains-get_or}
 use Rattle.keyed_rows.specs.Ordered.{AreDistinct}
-use Rattle.keyed_rows.proofs.Rows.{Contains-head, Contains-map_source, Contains-tail, none_of_key}
-use Rattle.book_kept.proofs.RowLemmas.{first_apart}
+use Rattle.keyed_rows.proofs.Rows.{Contains-head, Contains-map_source, Contains-tail, first_apart, none_of_key, rest_in_order}
 use Rattle.book_kept.specs.Keepable.{IsOrdered}
 
 -- each lies below those behind it
 abbrev pub Rises : {X : Type 0} → (X → ℕ) → List X → Type 0
 Rises key [] = Unit {0}
 Rises {X} key (x ∷ xs) = ((y : X) → Contains xs y → key x < key y) × Rises key xs
-
-pub none_there : {X : Type 0} {x : X} → Contains [] x → ⊥
-none_there (k, within, is) = omega arith
-
-pub rest_in_order : {X : Type 0} (key : X → ℕ) (x : X) (xs : List X) → IsNonDecreasingBy key (x ∷ xs) → IsNonDecreasingBy key xs
-rest_in_order key x xs order = λ i j d low within. order (suc i) (suc j) d (omega (arith, low)) (omega (arith, within))
 
 -- no row has a lower key than the first
 pub first_lowest : {X : Type 0} (key : X → ℕ) (x : X) (xs : List X) (y : X) → IsNonDecreasingBy key (x ∷ xs) → Contains (x ∷ xs) y → key x ≤ key y

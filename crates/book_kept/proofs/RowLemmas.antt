@@ -1,17 +1,16 @@
 -- Rows in order of their keys, and what is made of each: with one more, with one in place of another, with some made anew or taken away.
-use Rattle.std.proofs.Common.{◌≡◌, ◌≢◌, ℕ, suc, List, [], ◌∷◌, map, Bool, true, false, cond, refl, ap, ap₂, arith, sym, ◌∙◌, subst, ◌==◌, Some, None, Option, Contains}
+use Rattle.std.proofs.Common.{◌≡◌, ◌≢◌, ℕ, List, [], ◌∷◌, map, Bool, true, false, cond, refl, ap, ap₂, sym, ◌∙◌, subst, ◌==◌, Some, None, Option, Contains}
 use Rattle.std.specs.Prelude.{nat_le, if◌then◌else◌, option_map}
 use Rattle.std.specs.List.{filter, find}
 use Rattle.std.proofs.lemmas.Bool.{eq-eqb, eqb-true, false≢true, ne_eqb}
 use Rattle.std.proofs.lemmas.List.Kept.{IsNonDecreasingBy-filter}
 use Rattle.keyed_rows.proofs.AddRow.{IsNonDecreasingBy-add_row}
-use Rattle.keyed_rows.proofs.DistinctKeys.{apart-from_AreDistinct}
 use Rattle.keyed_rows.proofs.MadeRows.{IsNonDecreasingBy-made, key-changed}
 use Rattle.keyed_rows.specs.Changed.{change_rows}
 use Rattle.keyed_rows.specs.Ordered.{AreDistinct, add_row}
 use Rattle.bank_policy.proofs.RowsTell.{from_filter}
 use Rattle.book_laws.proofs.ChangedRows.{map-changed}
-use Rattle.keyed_rows.proofs.Rows.{AreDistinct-add_row, Contains-head, Contains-map, Contains-tail, found_by_key, found_row, map-map, none_of_key}
+use Rattle.keyed_rows.proofs.Rows.{AreDistinct-add_row, Contains-head, Contains-map, Contains-tail, first_apart, found_by_key, found_row, map-map, none_of_key}
 use Rattle.book_kept.specs.Keepable.{IsOrdered}
 use Rattle.book_kept.specs.Named.{IsFree}
 use Rattle.book_kept.specs.Sheets.{set_row}
@@ -75,9 +74,6 @@ IsOrdered-changed key k made same xs was = record {
 }
 
 -- the first row has no key of a row behind it
-pub first_apart : {X : Type 0} (key : X → ℕ) (x : X) (xs : List X) (y : X) → AreDistinct (map key (x ∷ xs)) → Contains xs y → key x ≢ key y
-first_apart key x xs y distinct (k, within, is) same = apart-from_AreDistinct key (x ∷ xs) 0 (suc k) y distinct (omega arith) (omega arith) (same ∙ ap key (sym is))
-
 AreDistinct-filter : {X : Type 0} (key : X → ℕ) (p : X → Bool) (xs : List X) → AreDistinct (map key xs) → AreDistinct (map key (filter p xs))
 AreDistinct-filter key p [] distinct = tt
 AreDistinct-filter {X = X} key p (x ∷ xs) distinct = go (p x) (AreDistinct-filter key p xs distinct.1)

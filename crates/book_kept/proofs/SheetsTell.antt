@@ -10,10 +10,10 @@ use Rattle.bank_policy.specs.declared.rows.Member.{Member}
 use Rattle.bank_books.specs.Keys.{account_key, branch_key, entry_key, teller_key}
 use Rattle.bank_books.specs.WorldLists.{WorldLists}
 use Rattle.bank_books.specs.Records.{account_record_of, branch_record_of, entry_record_of}
-use Rattle.keyed_rows.proofs.Rows.{Contains-cons_cases, Contains-head, Contains-tail, map-made, map-map}
+use Rattle.keyed_rows.proofs.Rows.{Contains-cons_cases, Contains-head, Contains-tail, first_apart, map-made, map-map, none_there}
 use Rattle.book_kept.proofs.MemberRows.{each_placed, members_rise}
-use Rattle.book_kept.proofs.Rising.{IsOrdered-from_rising, IsOrdered-map, Rises-from_order, none_there}
-use Rattle.book_kept.proofs.RowLemmas.{first_apart, map_same}
+use Rattle.book_kept.proofs.Rising.{IsOrdered-from_rising, IsOrdered-map, Rises-from_order}
+use Rattle.book_kept.proofs.RowLemmas.{map_same}
 use Rattle.book_kept.specs.Laws.{SheetsAreOrdered, SheetsTellWorld}
 use Rattle.book_kept.specs.Records.{kept_teller_of, kept_user_of, member_row, member_rows, slip_count_of}
 use Rattle.book_kept.specs.Sheets.{Sheets, account_no, branch_no, entry_no, member_no, sheets_of, teller_no, user_no, slip_no}

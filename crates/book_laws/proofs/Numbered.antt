@@ -5,6 +5,7 @@ use Rattle.std.proofs.lemmas.Bool.{and_left, and_parts, eq-eqb, eqb-true, false_
 use Rattle.std.proofs.lemmas.List.Sums.{sum_by-cons}
 use Rattle.keyed_rows.specs.Ordered.{AreDistinct, add_row}
 use Rattle.bank_books.specs.Numbering.{AreNumbered}
+use Rattle.keyed_rows.proofs.DistinctKeys.{key_parts}
 use Rattle.keyed_rows.proofs.Rows.{Contains-add_row_cases, Contains-head, Contains-tail, count-add_row, count_named, count_none, count_other, count_some, none_of_key}
 
 one_more : (n c c' : ℕ) → n ≡ c + 1 → c' ≡ c + 1 → n ≤ c'
@@ -71,9 +72,6 @@ AreNumbered-add_row {X = X} key group number e xs k old next = record {
     once_of n false is = subst (λ c. c ≤ 1) (sym (count_other key (λ r. group r == k && number r == n) e xs is)) (old.once n)
 
 -- ---- keys
-
-key_parts : (b n b' n' : ℕ) → n < 2 ^ 32 → n' < 2 ^ 32 → 2 ^ 32 * b + n ≡ 2 ^ 32 * b' + n' → (b ≡ b') × (n ≡ n')
-key_parts b n b' n' small small' same = (omega arith, omega arith)
 
 too_many : (first rest all : ℕ) → first ≡ 1 → 1 ≤ rest → all ≡ first + rest → all ≤ 1 → ⊥
 too_many first rest all one some is most = omega arith

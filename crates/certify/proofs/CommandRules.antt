@@ -1,11 +1,8 @@
 -- What the rules tell of the policy, where none denies a command.
-use Rattle.std.proofs.Common.{◌≡◌, ◌≢◌, ℕ, ◌==◌, ◌&&◌, Bool, true, false, not, map, refl, ap, sym, ◌∙◌, Option, Some, None, Contains, get_or, ◌∷◌}
+use Rattle.std.proofs.Common.{◌≡◌, ◌≢◌, ℕ, ◌==◌, ◌&&◌, Bool, true, false, not, map, refl, ap, sym, ◌∙◌, Option, Some, None, Contains}
 use Rattle.std.specs.Prelude.{is_none, is_some, option_map}
 use Rattle.std.specs.Option.{option_map_or}
 use Rattle.std.proofs.lemmas.Bool.{eq-eqb, eqb-true, false≢true}
-use Rattle.bank_terms.specs.Procedure.{number_of, procedures}
-use Rattle.bank_terms.specs.declared.procedure.Procedure.{Procedure}
-use Rattle.bank_terms.specs.declared.procedure.Procedure.TheVariants as procedure
 use Rattle.keyed_rows.specs.Ordered.{AreDistinct, HasRow}
 use Rattle.bank_policy.specs.HeldRows.{standing, standing_of, user_row}
 use Rattle.bank_policy.specs.Policy.{PolicyLists}
@@ -42,29 +39,6 @@ not_false false is = cc
 pub not_true : (b : Bool) → not b ≡ true → b ≡ false
 not_true true is = cc
 not_true false is = refl
-
--- ---- procedures, by their numbers
-
-abbrev with_number : ℕ → Procedure
-with_number n = get_or (procedure.Post ∷ procedures) n procedure.Post
-
-numbered : (p : Procedure) → with_number (number_of p) ≡ p
-numbered procedure.Post = refl
-numbered procedure.Transfer = refl
-numbered procedure.Correct = refl
-numbered procedure.DrawerOn = refl
-numbered procedure.DrawerOff = refl
-numbered procedure.MoveCash = refl
-numbered procedure.NewAccount = refl
-numbered procedure.Release = refl
-numbered procedure.Balance = refl
-numbered procedure.Statement = refl
-numbered procedure.Accounts = refl
-numbered procedure.Proof = refl
-numbered procedure.CloseDay = refl
-
-pub one_procedure : (p q : Procedure) → number_of p ≡ number_of q → p ≡ q
-one_procedure p q same = sym (numbered p) ∙ ap with_number same ∙ numbered q
 
 -- ---- users, by what is asked of their rows
 

@@ -1,15 +1,10 @@
 -- Rows of which some are taken away: those that stay were there, are as distinct, and no more of them pass a test.
-use Rattle.std.proofs.Common.{◌≡◌, ◌≢◌, ℕ, ◌+◌, ◌≤◌, suc, List, [], ◌∷◌, map, Bool, true, false, cond, not, refl, ap, arith, sym, ◌∙◌, Contains}
+use Rattle.std.proofs.Common.{◌≡◌, ℕ, ◌+◌, ◌≤◌, List, [], ◌∷◌, map, Bool, true, false, cond, not, refl, arith, sym}
 use Rattle.std.specs.List.{count_by, filter}
 use Rattle.std.proofs.lemmas.List.Filters.{sum_by-filter_both}
-use Rattle.keyed_rows.proofs.DistinctKeys.{apart-from_AreDistinct}
 use Rattle.keyed_rows.specs.Ordered.{AreDistinct}
 use Rattle.bank_policy.proofs.RowsTell.{from_filter}
-use Rattle.keyed_rows.proofs.Rows.{none_of_key}
-
--- the first row has no key of a row behind it
-first_apart : {X : Type 0} (key : X → ℕ) (x : X) (xs : List X) (y : X) → AreDistinct (map key (x ∷ xs)) → Contains xs y → key x ≢ key y
-first_apart key x xs y distinct (k, within, is) same = apart-from_AreDistinct key (x ∷ xs) 0 (suc k) y distinct (omega arith) (omega arith) (same ∙ ap key (sym is))
+use Rattle.keyed_rows.proofs.Rows.{first_apart, none_of_key}
 
 pub AreDistinct-filter : {X : Type 0} (key : X → ℕ) (p : X → Bool) (xs : List X) → AreDistinct (map key xs) → AreDistinct (map key (filter p xs))
 AreDistinct-filter key p [] distinct = tt

@@ -22,7 +22,8 @@ use Rattle.policy_check.specs.Separation.{Certifies, HasCertified, Holds, IsCert
 use Rattle.policy_check.specs.Soundness.{IsPolicySound, IsUser}
 use Rattle.policy_commands.specs.declared.policy_op.Enrolment.{Enrolment}
 use Rattle.policy_commands.specs.declared.policy_op.PolicyOp.TheVariants as asked
-use Rattle.certify.proofs.CommandRules.{IsPassed, not_false, not_officer, one_procedure, passed, user_missing}
+use Rattle.certify.proofs.CommandRules.{IsPassed, not_false, not_officer, passed, user_missing}
+use Rattle.bank_terms.proofs.Procedures.{one_procedure}
 use Rattle.certify.proofs.SomeRows.{any_added, any_filter, any_of, any_weaker, each_of, none_passes, some_of, some_passes}
 use Rattle.certify.specs.CommandRows.{command_rows, executes, has_certified, is_certifier}
 use Rattle.certify.specs.Commands.{change_of, names_officer}

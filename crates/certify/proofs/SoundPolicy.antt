@@ -24,12 +24,12 @@ use Rattle.bank_policy.specs.declared.rows.User.{User}
 use Rattle.book_laws.proofs.ChangedRows.{HasRow-changed, each_changed, map-changed}
 use Rattle.keyed_rows.proofs.Rows.{AreDistinct-add_row, Contains-add_row, HasRow-add_row}
 use Rattle.rule_tests.proofs.RuleTests.{one_fits}
-use Rattle.policy_check.proofs.GroupOrder.{number_of-small}
+use Rattle.bank_terms.proofs.Procedures.{at_most_thirteen, one_procedure}
 use Rattle.policy_check.specs.Soundness.{AreUsersSound, HasFewOfEachProcedure, HasFewOfEachUser, IsNumber, IsPolicySound, IsRelated, IsSet, IsSetSound, IsSpan, IsUser, IsUserSound}
 use Rattle.policy_commands.specs.Ranges.{IsEnrolment, IsTriple}
 use Rattle.policy_commands.specs.declared.policy_op.Enrolment.{Enrolment}
 use Rattle.policy_commands.specs.declared.policy_op.PolicyOp.TheVariants as asked
-use Rattle.certify.proofs.CommandRules.{IsPassed, not_false, not_true, one_procedure, passed, user_missing, user_there}
+use Rattle.certify.proofs.CommandRules.{IsPassed, not_false, not_true, passed, user_missing, user_there}
 use Rattle.certify.proofs.SomeRows.{all_added, all_of, any_of, each_of, none_passes, some_passes}
 use Rattle.certify.proofs.SoundTables.{certifier_of_key, certifiers_fewer, certifiers_still, counted, few_more, relation_of_key, relations_fewer, relations_still, triple_of_key, triples_fewer, triples_still}
 use Rattle.certify.specs.CommandRows.{command_rows, has_relation, has_set, has_triple}
@@ -100,7 +100,7 @@ granted p by t sound within passes =
         distinct =
             AreDistinct-add_row triple_key t p.triples was.distinct (λ r there same.
             let number = each_of (λ x. IsNumber x.set) p.triples was.numbers r there in
-            let parts = triple_of_key r.user (number_of r.procedure) r.set t.user (number_of t.procedure) t.set same number.1 within.set.1 (number_of-small r.procedure) (number_of-small t.procedure) in
+            let parts = triple_of_key r.user (number_of r.procedure) r.set t.user (number_of t.procedure) t.set same number.1 within.set.1 (at_most_thirteen r.procedure) (at_most_thirteen t.procedure) in
             none_passes (λ x. is_triple_of t.user t.procedure x && x.set == t.set) p.triples free.0 r there
             (and_from (r.user == t.user && number_of r.procedure == number_of t.procedure) (r.set == t.set)
             (and_from (r.user == t.user) (number_of r.procedure == number_of t.procedure) (eq-eqb _ _ parts.0) (eq-eqb _ _ parts.1)) (eq-eqb _ _ parts.2)));
@@ -130,7 +130,7 @@ appointed p by c sound passes =
       certifiers = record {
         distinct =
             AreDistinct-add_row certifier_key c p.certifiers sound.certifiers.distinct (λ r there same.
-            let parts = certifier_of_key r.user (number_of r.procedure) c.user (number_of c.procedure) same (number_of-small r.procedure) (number_of-small c.procedure) in
+            let parts = certifier_of_key r.user (number_of r.procedure) c.user (number_of c.procedure) same (at_most_thirteen r.procedure) (at_most_thirteen c.procedure) in
             none_passes (λ x. x.user == c.user && number_of x.procedure == number_of c.procedure) p.certifiers passes.state r there
             (and_from (r.user == c.user) (number_of r.procedure == number_of c.procedure) (eq-eqb _ _ parts.0) (eq-eqb _ _ parts.1)));
         users = all_added certifier_key c p.certifiers (λ r. HasRow user_key p.users r.user) (user_there p c.user passes.known) sound.certifiers.users;

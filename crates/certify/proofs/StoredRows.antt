@@ -10,9 +10,9 @@ use Rattle.bank_policy.specs.declared.policy_write.RelationKey.{RelationKey}
 use Rattle.bank_policy.specs.declared.policy_write.TripleKey.{TripleKey}
 use Rattle.bank_policy.specs.declared.rows.Certifier.{Certifier}
 use Rattle.bank_policy.specs.declared.rows.Triple.{Triple}
+use Rattle.bank_terms.proofs.Procedures.{among_all}
 use Rattle.bank_terms.specs.Procedure.{number_of, procedures}
 use Rattle.bank_terms.specs.declared.procedure.Procedure.{Procedure}
-use Rattle.bank_terms.specs.declared.procedure.Procedure.TheVariants as procedure
 use Rattle.policy_commands.specs.declared.policy_op.PolicyOp.TheVariants as asked
 use Rattle.certify.specs.CommandRows.{certifies_any, command_rows, executes, has_certified, has_relation, has_set, has_triple, is_certifier, is_officer, of_certifier, of_officer}
 use Rattle.certify.specs.StoredRows.{appoint_rows, certify_rows, grant_rows, has_one_by, is_among, is_held_on, revoke_rows, withdraw_rows}
@@ -83,19 +83,7 @@ either_any test x xs (y ∷ ys) = ap (λ b. (test y x || list_any (test y) xs) |
     apart false false c d = refl
 
 of_some_number : (is_his : Bool) (p : Procedure) → list_any (λ q. is_his && number_of p == number_of q) procedures ≡ is_his
-of_some_number true procedure.Post = refl
-of_some_number true procedure.Transfer = refl
-of_some_number true procedure.Correct = refl
-of_some_number true procedure.DrawerOn = refl
-of_some_number true procedure.DrawerOff = refl
-of_some_number true procedure.MoveCash = refl
-of_some_number true procedure.NewAccount = refl
-of_some_number true procedure.Release = refl
-of_some_number true procedure.Balance = refl
-of_some_number true procedure.Statement = refl
-of_some_number true procedure.Accounts = refl
-of_some_number true procedure.Proof = refl
-of_some_number true procedure.CloseDay = refl
+of_some_number true p = among_all p
 of_some_number false p = refl
 
 some_procedure : (user : ℕ) (rows : List Certifier) →

@@ -175,22 +175,7 @@ fn certifies_any<P: PolicyReads>(alloc: Global, store: &mut P, user: u32) -> Res
     ensures read { MayRead (P.status store.old) (P.status store.new) result (λ w is. is ≡ certifies_any w.policy user) }
     ensures counted { (P.status store.new).fault_count ≡ count_after (mark_of result) (P.status store.old).fault_count }
 {
-    let procedures = [
-        Procedure::Post,
-        Procedure::Transfer,
-        Procedure::Correct,
-        Procedure::DrawerOn,
-        Procedure::DrawerOff,
-        Procedure::MoveCash,
-        Procedure::NewAccount,
-        Procedure::Release,
-        Procedure::Balance,
-        Procedure::Statement,
-        Procedure::Accounts,
-        Procedure::Proof,
-        Procedure::CloseDay,
-    ];
-    certifies_one_of(alloc, store, user, &procedures)
+    certifies_one_of(alloc, store, user, &Procedure::all())
 }
 
 /// Whether a user is a certifier of one of these procedures. No more of them are asked about than it

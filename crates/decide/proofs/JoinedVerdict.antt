@@ -1,7 +1,8 @@
 -- What the policy and the books say of an operation, joined.
-use Rattle.std.proofs.Common.{◌≡◌, ◌&&◌, ◌||◌, Bool, true, false, List, [], ◌∷◌, Some, None, Ok, ap, sym, subst, ◌∙◌, refl, inl, inr, arith}
+use Rattle.std.proofs.Common.{◌≡◌, ◌&&◌, ◌||◌, true, List, [], ◌∷◌, Some, None, Ok, ap, sym, subst, ◌∙◌, refl, arith}
 use Rattle.std.specs.Prelude.{if◌then◌else◌, IsSome}
 use Rattle.std.proofs.lemmas.Bool.{le-leb, not-false}
+use Rattle.std.proofs.Math.Bool.{and-true}
 use Rattle.std.specs.Global.{Vec}
 use Rattle.bank_terms.specs.declared.rule.Rule.{Rule}
 use Rattle.bank_terms.specs.declared.rule.Rule.TheVariants as rule
@@ -26,7 +27,6 @@ use Rattle.bank_meaning.specs.declared.execution.Execution.{Execution}
 use Rattle.bank_meaning.specs.declared.leave.Leave.{Leave}
 use Rattle.bank_meaning.specs.declared.leave.Leave.TheVariants as leave
 use Rattle.op_prepare.specs.declared.prepared.Prepared.{Prepared}
-use Rattle.bank_meaning.proofs.FirstRule.{none}
 use Rattle.bank_meaning.proofs.PolicyLemmas.{books_decide, leave_given}
 
 -- where the policy gives leave, what the books say is all that is said
@@ -68,13 +68,9 @@ no_amount (op.Accounts o) is = refl
 no_amount (op.Proof o) is = refl
 no_amount (op.CloseDay o) is = cc
 
-and_true : (b : Bool) → (b && true) ≡ b
-and_true true = refl
-and_true false = refl
-
 held_for_none : (rows : List HeldTriple) (items : List Cdi) → is_held_for rows items 0 ≡ is_held rows items
 held_for_none [] items = refl
-held_for_none (r ∷ rs) items = ap (λ b. b || is_held_for rs items 0) (ap (λ b. holds r.members items && b) (le-leb 0 r.triple.limit (omega arith)) ∙ and_true (holds r.members items)) ∙ ap (λ b. holds r.members items || b) (held_for_none rs items)
+held_for_none (r ∷ rs) items = ap (λ b. b || is_held_for rs items 0) (ap (λ b. holds r.members items && b) (le-leb 0 r.triple.limit (omega arith)) ∙ and-true (holds r.members items)) ∙ ap (λ b. holds r.members items || b) (held_for_none rs items)
 
 by_triple : (w : WorldLists) (x : Execution) → is_report x.op ≡ true → first_of_policy (grounds w x) ≡ None → leave_of (grounds w x) ≡ leave.Triple
 by_triple w x report passes =

@@ -1,5 +1,6 @@
 -- A plan that changes no policy, and one more change: that a release is used up.
-use Rattle.std.proofs.Common.{◌≡◌, ℕ, List, [], ◌∷◌, ◌++◌, Bool, true, false, not, refl, ap, ◌∙◌}
+use Rattle.std.proofs.Common.{◌≡◌, ℕ, List, [], ◌∷◌, ◌++◌, false, not, refl, ap, ◌∙◌}
+use Rattle.std.proofs.Math.Bool.{or-false}
 use Rattle.std.specs.Prelude.{◌||◌, nat_lt}
 use Rattle.std.proofs.lemmas.List.Folds.{list_any-append}
 use Rattle.bank_terms.specs.Limits.{max_version}
@@ -13,13 +14,9 @@ use Rattle.bank_books.proofs.Plans.{applied-append}
 use Rattle.bank_meaning.specs.PolicyRules.{used_by}
 use Rattle.bank_meaning.specs.declared.leave.Leave.TheVariants as leave
 
-or_false : (b : Bool) → (b || false) ≡ b
-or_false true = refl
-or_false false = refl
-
 -- one more change, which is none of the policy, leaves it to the others whether the policy is changed
 pub same_behind : (plan : List RowWrite) (row : RowWrite) → is_of_policy row ≡ false → changes_policy (plan ++ row ∷ []) ≡ changes_policy plan
-same_behind plan row none = list_any-append is_of_policy plan (row ∷ []) ∙ ap (λ b. changes_policy plan || (b || false)) none ∙ or_false (changes_policy plan)
+same_behind plan row none = list_any-append is_of_policy plan (row ∷ []) ∙ ap (λ b. changes_policy plan || (b || false)) none ∙ or-false (changes_policy plan)
 
 -- a slip that is taken behind it
 pub taken_behind : (plan : List RowWrite) (row : SlipRow) → changes_policy plan ≡ false → (w : WorldLists) → applied (plan ++ write.Slip row ∷ []) w ≡ written (write.Slip row) (applied plan w)

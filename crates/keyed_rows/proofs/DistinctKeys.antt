@@ -1,5 +1,5 @@
 -- Which keys are distinct, by their places in the list.
-use Rattle.std.proofs.Common.{◌≡◌, ◌≢◌, ◌==◌, ℕ, ◌+◌, ◌<◌, ◌≤◌, zero, suc, ◌||◌, List, [], ◌∷◌, length, get_or, map, Bool, true, false, leb, ltb, IsTrue, refl, ap, arith, sym, ◌∙◌}
+use Rattle.std.proofs.Common.{◌≡◌, ◌≢◌, ◌==◌, ℕ, ◌+◌, ◌*◌, ◌^◌, ◌<◌, ◌≤◌, zero, suc, ◌||◌, List, [], ◌∷◌, length, get_or, map, Bool, true, false, leb, ltb, IsTrue, refl, ap, arith, sym, ◌∙◌}
 use Rattle.std.specs.List.{IsAllAdjacentAnswer, list_any}
 use Rattle.std.specs.List.Sorted.{IsNonDecreasingBy}
 use Rattle.std.proofs.lemmas.Bool.Decides.{nat_tests}
@@ -81,3 +81,7 @@ in_order_by_neighbours key (x ∷ xs) false (k, below, some) = (
       let falls = exceeds _ _ (some x) in
       absurd (omega (arith, falls, order k (k + 1) x (omega arith) below)),
 )
+
+-- a key that is made of two numbers tells both, where the second is of 32 bits
+pub key_parts : (b n b' n' : ℕ) → n < 2 ^ 32 → n' < 2 ^ 32 → 2 ^ 32 * b + n ≡ 2 ^ 32 * b' + n' → (b ≡ b') × (n ≡ n')
+key_parts b n b' n' small small' same = (omega arith, omega arith)

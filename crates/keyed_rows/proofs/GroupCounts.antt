@@ -7,9 +7,7 @@ use Rattle.std.proofs.lemmas.Bool.{false≢true}
 use Rattle.std.proofs.lemmas.List.{get_or-drop}
 use Rattle.std.proofs.lemmas.List.Sums.{length-filter}
 use Rattle.std.proofs.lemmas.Slice.Zip.{length-zip, get_or-zip}
-
-in_tail : {X : Type 0} (group : X → ℕ) (x : X) (xs : List X) → IsNonDecreasingBy group (x ∷ xs) → IsNonDecreasingBy group xs
-in_tail group x xs order i j d before below = order (suc i) (suc j) d (omega arith) (omega arith)
+use Rattle.keyed_rows.proofs.Rows.{rest_in_order}
 
 one_more : (a b c d : ℕ) → c ≡ a → d ≡ b → c ≡ suc d → a ≡ 1 + b
 one_more a b c d left right step = omega arith
@@ -43,7 +41,7 @@ pub small_from_apart : {X : Type 0} (group : X → ℕ) (xs : List X) (most u : 
     → ((i j : ℕ) (d : X) → j ≡ i + most → j < length xs → group (get_or xs i d) ≢ group (get_or xs j d)) → count_by (λ x. group x == u) xs ≤ most
 small_from_apart group [] most u order apart = omega arith
 small_from_apart group (x ∷ xs) most u order apart =
-    go (group x == u) refl (small_from_apart group xs most u (in_tail group x xs order) (λ i j d at below. apart (suc i) (suc j) d (omega arith) (omega arith)))
+    go (group x == u) refl (small_from_apart group xs most u (rest_in_order group x xs order) (λ i j d at below. apart (suc i) (suc j) d (omega arith) (omega arith)))
   where
     go : (b : Bool) → (group x == u) ≡ b → count_by (λ y. group y == u) xs ≤ most → count_by (λ y. group y == u) (x ∷ xs) ≤ most
     go true is rest = few_before (λ y. group y == u) (x ∷ xs) most
@@ -61,11 +59,11 @@ many_between group (x ∷ xs) zero (suc b) u d order before below first last =
     let low = order 0 1 d (omega arith) (omega arith) in
     let high = order 1 (suc b) d (omega arith) below in
     let next : group (get_or xs 0 d) ≡ u = omega (arith, low, high, first, last) in
-    let rest = many_between group xs 0 b u d (in_tail group x xs order) (omega arith) (omega arith) next last in
+    let rest = many_between group xs 0 b u d (rest_in_order group x xs order) (omega arith) (omega arith) next last in
     omega (arith, rest, counted (λ y. group y == u) x xs (is_group u (group x) first))
 many_between group (x ∷ xs) (suc a) zero u d order before below first last = absurd (omega arith)
 many_between group (x ∷ xs) (suc a) (suc b) u d order before below first last =
-    go (group x == u) refl (many_between group xs a b u d (in_tail group x xs order) (omega arith) (omega arith) first last)
+    go (group x == u) refl (many_between group xs a b u d (rest_in_order group x xs order) (omega arith) (omega arith) first last)
   where
     go : (t : Bool) → (group x == u) ≡ t → b + 1 ≤ a + count_by (λ y. group y == u) xs → suc b + 1 ≤ suc a + count_by (λ y. group y == u) (x ∷ xs)
     go true is rest = omega (arith, rest, counted (λ y. group y == u) x xs is)

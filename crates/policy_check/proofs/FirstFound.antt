@@ -13,7 +13,7 @@ use Rattle.policy_check.specs.Soundness.{IsNumber}
 use Rattle.bank_terms.specs.declared.procedure.Procedure.{Procedure}
 use Rattle.bank_policy.specs.declared.rows.Triple.{Triple}
 use Rattle.bank_policy.specs.declared.rows.User.{User}
-use Rattle.policy_check.proofs.GroupOrder.{number_of-small}
+use Rattle.bank_terms.proofs.Procedures.{at_most_thirteen}
 
 -- x stands at the first place where P holds
 abbrev pub IsFirst : {X : Type 0} → (X → Type 0) → List X → X → Type 0
@@ -73,7 +73,7 @@ least_break policy row numbers order first = (
       let small : y.set ≤ 999999999 = omega (arith, (numbers there.0 y there.2).1, ap (λ (r : Triple). r.set) there.3) in
       let moved : IsBefore y.user y.procedure row.user row.procedure =
       subst (λ u. IsBefore u y.procedure row.user row.procedure) (sym there.4.0) (subst (λ p. IsBefore user p row.user row.procedure) (sym there.4.1) less) in
-      not_before row.user (number_of row.procedure) row.set y.user (number_of y.procedure) y.set least (number_of-small y.procedure) small moved,
+      not_before row.user (number_of row.procedure) row.set y.user (number_of y.procedure) y.set least (at_most_thirteen y.procedure) small moved,
 )
 
 -- what is made of the value that was found, if one was

@@ -3,26 +3,10 @@ use Rattle.std.proofs.Common.{ℕ, ◌+◌, ◌*◌, ◌^◌, ◌≤◌, List, g
 use Rattle.std.specs.List.Sorted.{IsNonDecreasingBy}
 use Rattle.bank_policy.specs.PolicyKeys.{relation_key, triple_key}
 use Rattle.bank_terms.specs.Procedure.{number_of}
+use Rattle.bank_terms.proofs.Procedures.{at_most_thirteen}
 use Rattle.policy_check.specs.Soundness.{IsNumber}
-use Rattle.bank_terms.specs.declared.procedure.Procedure.{Procedure}
-use Rattle.bank_terms.specs.declared.procedure.Procedure.TheVariants.{Post, Transfer, Correct, DrawerOn, DrawerOff, MoveCash, NewAccount, Release, Balance, Statement, Accounts, Proof, CloseDay}
 use Rattle.bank_policy.specs.declared.rows.Relation.{Relation}
 use Rattle.bank_policy.specs.declared.rows.Triple.{Triple}
-
-pub number_of-small : (procedure : Procedure) → number_of procedure ≤ 13
-number_of-small Post = omega arith
-number_of-small Transfer = omega arith
-number_of-small Correct = omega arith
-number_of-small DrawerOn = omega arith
-number_of-small DrawerOff = omega arith
-number_of-small MoveCash = omega arith
-number_of-small NewAccount = omega arith
-number_of-small Release = omega arith
-number_of-small Balance = omega arith
-number_of-small Statement = omega arith
-number_of-small Accounts = omega arith
-number_of-small Proof = omega arith
-number_of-small CloseDay = omega arith
 
 procedure_first : (p s q t : ℕ) → 2 ^ 32 * p + s ≤ 2 ^ 32 * q + t → t ≤ 999999999 → p ≤ q
 procedure_first p s q t below small = omega arith
@@ -37,4 +21,4 @@ relations_by_procedure rows numbers order i j d before below =
 pub triples_by_user : (rows : List Triple) → All (λ row. IsNumber row.set) rows → IsNonDecreasingBy triple_key rows → IsNonDecreasingBy (λ row. row.user) rows
 triples_by_user rows numbers order i j d before below =
     user_first _ (number_of (get_or rows i d).procedure) (get_or rows i d).set _ (number_of (get_or rows j d).procedure) (get_or rows j d).set
-    (order i j d before below) (number_of-small (get_or rows j d).procedure) (numbers j d below).1
+    (order i j d before below) (at_most_thirteen (get_or rows j d).procedure) (numbers j d below).1

@@ -1,4 +1,5 @@
 pub mod Fields
+pub mod Laws
 pub mod Request
 pub mod RouterRows
 pub mod Routes

@@ -7,6 +7,7 @@
 
 mod fields;
 mod gate;
+pub mod laws;
 mod routes;
 mod stated;
 

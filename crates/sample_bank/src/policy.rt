@@ -218,21 +218,7 @@ fn add_certifiers(policy: &mut Policy) -> Result<(), AllocError>
     requires { policy.old.certifiers ≡ [] }
     ensures { OnOk result (policy.new ≡ record policy.old { certifiers = certifiers }) }
 {
-    let procedures = [
-        Procedure::Post,
-        Procedure::Transfer,
-        Procedure::Correct,
-        Procedure::DrawerOn,
-        Procedure::DrawerOff,
-        Procedure::MoveCash,
-        Procedure::NewAccount,
-        Procedure::Release,
-        Procedure::Balance,
-        Procedure::Statement,
-        Procedure::Accounts,
-        Procedure::Proof,
-        Procedure::CloseDay,
-    ];
+    let procedures = Procedure::all();
     write_certifiers(policy, 2, &procedures)?;
     write_certifiers(policy, 3, &procedures)
 }

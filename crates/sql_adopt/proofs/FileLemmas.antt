@@ -1,5 +1,5 @@
 -- Tables that are known to hold a World are those of a bank: what a store leaves may be adopted.
-use Rattle.std.proofs.Common.{◌≡◌, ◌<◌, ◌-◌, ℕ, zero, suc, List, [], ◌∷◌, map, length, Contains, refl, sym, subst, arith}
+use Rattle.std.proofs.Common.{◌≡◌, ◌≢◌, ◌∙◌, ◌<◌, ◌-◌, ℕ, zero, suc, List, [], ◌∷◌, map, length, Contains, refl, sym, ap, subst, arith}
 use Rattle.std.proofs.lemmas.List.{length-drop}
 use Rattle.std.proofs.lemmas.List.Sorted.{Contains-permutation, IsPermutation-sym}
 use Rattle.sqlite.specs.Order.{Row}
@@ -8,7 +8,7 @@ use Rattle.sqlite.specs.Tree.{Trees}
 use Rattle.keyed_rows.proofs.Rows.{Contains-map, Contains-map_source}
 use Rattle.bank_books.specs.SlipRow.{SlipRow}
 use Rattle.bank_books.specs.WorldLists.{WorldLists}
-use Rattle.sql_schema.specs.Cells.{TripleFitsIn, bank_cells_in, triple_cells_in}
+use Rattle.sql_schema.specs.Cells.{TripleFitsIn, bank_cells_in, edition_number, triple_cells_in}
 use Rattle.bank_policy.specs.PolicyKeys.{triple_key}
 use Rattle.bank_policy.specs.declared.rows.Triple.{Triple}
 use Rattle.sql_schema.specs.declared.edition.Edition.{Edition}
@@ -19,7 +19,9 @@ use Rattle.sql_schema.specs.HeldRows.{HoldsRows, all_but_rowid, all_of_it}
 use Rattle.sql_schema.specs.Schema.{newest}
 use Rattle.book_kept.specs.Sheets.{Sheets, sheets_of}
 use Rattle.sql_whole.specs.Whole.{IsKeptTable}
-use Rattle.sql_adopt.specs.Adopted.{IsBankFile}
+use Rattle.sql_adopt.specs.Adopted.{HoldsBankIn, IsBankFile, IsBankFileIn, IsOfAnother}
+use Rattle.sql_adopt.specs.Older.{IsNewestFile, IsOlderFile}
+use Rattle.sql_adopt.proofs.TakenLemmas.{number_in, same_number}
 
 module _ {X : Type 0} (cells : X → Row) (key : X → ℕ) (Fits : X → Type 0) (rows : List X) (tree : List Row) where
   -- a row of the tree shows what the cells of some row are
@@ -87,10 +89,45 @@ kept_sheets e db s holds in_releases inside = kept_beside_rowid _ _ _ _ _ (λ x.
 kept_sheets e db s holds in_slips inside = kept_slips e s.slips (db 25) inside (holds in_slips)
 kept_sheets e db s holds in_slip_counts inside = kept_counts e s (db 27) inside (holds in_slip_counts)
 
--- what holds a World, with nothing uncommitted, is a bank's file
-pub bank_is_file : (s : State) (w : WorldLists) → HoldsBank s w → IsBankFile s
-bank_is_file s w bank = record {
+-- what holds a World, with nothing uncommitted, is a bank's file in its edition
+bank_is_file_in : (e : Edition) (s : State) (w : WorldLists) → HoldsBankIn e s w → IsBankFileIn e s
+bank_is_file_in e s w bank = record {
   schema = bank.now.schema;
-  kept = kept_sheets newest s.now.trees (sheets_of w) bank.now.world.rows;
+  kept = kept_sheets e s.now.trees (sheets_of w) bank.now.world.rows;
   settled = bank.settled;
+}
+
+pub bank_is_file : (s : State) (w : WorldLists) → HoldsBank s w → IsBankFile s
+bank_is_file s w bank = bank_is_file_in newest s w (record { now = bank.now; settled = bank.settled })
+
+pub newest_bank_is_file : (s : State) (w : WorldLists) → HoldsBank s w → IsNewestFile s
+newest_bank_is_file s w bank = record { file = bank_is_file s w bank; version = w.version; row = bank.now.world.rows in_bank }
+
+-- ---- the row of the bank names the edition
+
+one_edition : (e other : Edition) → edition_number e ≡ edition_number other → other ≡ e
+one_edition First First same = refl
+one_edition First Second same = absurd (omega (arith, same))
+one_edition First Third same = absurd (omega (arith, same))
+one_edition Second First same = absurd (omega (arith, same))
+one_edition Second Second same = refl
+one_edition Second Third same = absurd (omega (arith, same))
+one_edition Third First same = absurd (omega (arith, same))
+one_edition Third Second same = absurd (omega (arith, same))
+one_edition Third Third same = refl
+
+pub older_bank_is_file : (e : Edition) (s : State) (w : WorldLists) → e ≢ newest → HoldsBankIn e s w → IsOlderFile e s
+older_bank_is_file e s w older bank = record {
+  older = older;
+  file = bank_is_file_in e s w bank;
+  row = λ other policy is. one_edition e other (same_number e other (ap (number_in 2) (sym is ∙ bank.now.world.rows in_bank)));
+}
+
+pub other_bank_is_file : (e edition : Edition) (s : State) (w : WorldLists) → e ≢ edition → HoldsBankIn e s w → IsOfAnother edition s
+other_bank_is_file e edition s w differs bank = record {
+  is = e;
+  file = bank_is_file_in e s w bank;
+  version = w.version;
+  row = bank.now.world.rows in_bank;
+  differs = λ same. differs (sym (one_edition e edition same));
 }

@@ -10,9 +10,8 @@ use Rattle.keyed_rows.specs.Ordered.{AreDistinct}
 use Rattle.bank_policy.specs.PolicyKeys.{set_key}
 use Rattle.bank_policy.specs.SetRow.{SetRow}
 use Rattle.bank_policy.specs.declared.rows.Member.{Member}
-use Rattle.keyed_rows.proofs.Rows.{Contains-head}
+use Rattle.keyed_rows.proofs.Rows.{Contains-head, first_apart}
 use Rattle.book_kept.proofs.MemberRows.{each_placed, member_source}
-use Rattle.book_kept.proofs.RowLemmas.{first_apart}
 use Rattle.book_kept.specs.Records.{member_row, member_rows}
 use Rattle.book_kept.specs.declared.records.MemberRow.{MemberRow}
 use Rattle.sql_adopt.specs.Told.{AreInFront, AreSetsOf}

@@ -52,7 +52,7 @@ abbrev first_row : List Row → Row
 first_row [] = []
 first_row (r ∷ rows) = r
 
-abbrev number_in : ℕ → List Row → ℤ
+abbrev pub number_in : ℕ → List Row → ℤ
 number_in place rows = cells.int_of (column (first_row rows) place)
 
 -- a table that has the row of a bank is found to have it
@@ -105,7 +105,7 @@ sheets_are_read e db s books tables version h row b p =
 
 -- ---- tables of another edition
 
-same_number : (e edition : Edition) → pos (edition_number edition) ≡ pos (edition_number e) → edition_number e ≡ edition_number edition
+pub same_number : (e edition : Edition) → pos (edition_number edition) ≡ pos (edition_number e) → edition_number e ≡ edition_number edition
 same_number e edition is = cc
 
 told_other : (e edition : Edition) (db : Trees) (version : ℕ) → IsBankRow e db version → edition_number e ≢ edition_number edition → (fault : AdoptFault) → IsRefusedIn edition db fault → IsOfOther fault

@@ -28,6 +28,11 @@ pub record IsBankFileIn (e : Edition) (s : State) : Type 0 where
 abbrev pub IsBankFile : State → Type 0
 IsBankFile = IsBankFileIn newest
 
+-- Between calls the tables hold this World as an edition lays it out: the last commit has it too.
+pub record HoldsBankIn (e : Edition) (s : State) (w : WorldLists) : Type 0 where
+  pub now : HoldsWorldIn e s.now w
+  pub settled : s.committed ≡ s.now
+
 -- The one row of the bank, of this edition, with this number for the version of its policy.
 abbrev pub IsBankNumber : Edition → Trees → ℤ → Type 0
 IsBankNumber e db policy = db 0 ≡ bank_row_cells (record { id = pos 1; version = pos (edition_number e); policy = policy }) ∷ []

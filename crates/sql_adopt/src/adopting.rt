@@ -7,6 +7,7 @@ ghost use Rattle.sql_schema.specs.Held.{HoldsSheets, HoldsSheetsIn};
 ghost use Rattle.sql_schema.specs.Readable.{AreReadable};
 ghost use Rattle.sql_schema.specs.Schema.{newest};
 ghost use Rattle.sql_schema.specs.Steps.{LeavesNone};
+ghost use Rattle.sql_schema.specs.declared.edition.Edition.{Edition as TheEdition};
 ghost use Rattle.book_kept.specs.Sheets.{Sheets};
 ghost use Rattle.sql_adopt.specs.Adopted.{Adopts, Finds, IsBankFile, IsBankFileIn, IsLeft, IsOfAnother};
 ghost use Rattle.sql_adopt.specs.Refused.{HoldsSoundBank, HoldsSoundBankIn, IsNamedBy, IsOfOther, IsOfStore, IsRefused, IsRefusedIn};
@@ -37,7 +38,7 @@ pub fn read_bank<S: Alter>(
     ensures other { HasCleanDisk (state S.Store conn.new) → IsOfAnother edition (state S.Store conn.old) → IsErrAnd result IsOfOther }
     ensures sound { HasCleanDisk (state S.Store conn.new) → IsBankFileIn edition (state S.Store conn.old) → HoldsSoundBankIn edition (state S.Store conn.old).now → IfErr result IsOfStore }
     ensures named { HasCleanDisk (state S.Store conn.new) → IsBankFileIn edition (state S.Store conn.old) → (s : Sheets) → HoldsSheetsIn edition (state S.Store conn.old).now.trees s → AreReadable s → IfErr result (IsNamedBy s) }
-    ensures left { HasCleanDisk (state S.Store conn.new) → IsBankFileIn edition (state S.Store conn.old) → IsLeft (state S.Store conn.old) (state S.Store conn.new) }
+    ensures left { HasCleanDisk (state S.Store conn.new) → (is : TheEdition) → IsBankFileIn is (state S.Store conn.old) → IsLeft (state S.Store conn.old) (state S.Store conn.new) }
     ensures kept { IfOk result (λ bank. (bank.kept ≡ kept_of bank.world) × IsKeepable bank.world) }
     ensures open { HasCleanDisk (state S.Store conn.new) → OnOk result (IsTrue (state S.Store conn.old).is_open) }
     ensures survives { LeavesNone (state S.Store conn.old) (state S.Store conn.new) }
@@ -55,7 +56,7 @@ pub fn adopt_bank<S: Alter>(alloc: Global, conn: &mut Connection<S>) -> Result<(
     ensures other { HasCleanDisk (state S.Store conn.new) → IsOfAnother newest (state S.Store conn.old) → IsErrAnd result IsOfOther }
     ensures sound { HasCleanDisk (state S.Store conn.new) → IsBankFile (state S.Store conn.old) → HoldsSoundBank (state S.Store conn.old).now → IfErr result IsOfStore }
     ensures named { HasCleanDisk (state S.Store conn.new) → IsBankFile (state S.Store conn.old) → (s : Sheets) → HoldsSheets (state S.Store conn.old).now.trees s → AreReadable s → IfErr result (IsNamedBy s) }
-    ensures left { HasCleanDisk (state S.Store conn.new) → IsBankFile (state S.Store conn.old) → IsLeft (state S.Store conn.old) (state S.Store conn.new) }
+    ensures left { HasCleanDisk (state S.Store conn.new) → (is : TheEdition) → IsBankFileIn is (state S.Store conn.old) → IsLeft (state S.Store conn.old) (state S.Store conn.new) }
     ensures survives { LeavesNone (state S.Store conn.old) (state S.Store conn.new) }
 {
     read_bank(alloc, conn, Edition::Third)?;

@@ -12,7 +12,7 @@ ghost use Rattle.sql_schema.specs.Held.{HoldsSheetsIn};
 ghost use Rattle.sql_schema.specs.Readable.{AreReadable};
 ghost use Rattle.sql_schema.specs.Schema.{newest};
 ghost use Rattle.sql_schema.specs.declared.edition.Edition.{Edition as TheEdition};
-ghost use Rattle.sql_schema.specs.Steps.{LeavesNone};
+ghost use Rattle.sql_schema.specs.Steps.{LeavesNone, WasOpen};
 ghost use Rattle.book_kept.specs.Sheets.{Sheets};
 ghost use Rattle.sql_whole.specs.BankRow.{IsBankTable};
 ghost use Rattle.sql_whole.specs.Whole.{HasBankTables, OnReadable, Reads};
@@ -87,6 +87,7 @@ fn told_edition<S: Alter>(tx: &mut Transaction<'_, S>) -> Result<Edition, AdoptF
     ensures refused { (e : TheEdition) → e ≢ newest → RefusesFor e (state S.Store tx.old.conn.now) (state S.Store tx.new.conn.now) result }
     ensures other { HasCleanDisk (state S.Store tx.new.conn.now) → (e : TheEdition) → HasBankTables e (state S.Store tx.old.conn.now) → (version : ℕ) → IsBankRow newest (state S.Store tx.old.conn.now).now.trees version → IsErrAnd result IsOfOther }
     ensures takes { (e : TheEdition) → e ≢ newest → OnReadable e (state S.Store tx.old.conn.now) (state S.Store tx.new.conn.now) (IfErr result IsOfStore) }
+    ensures open { WasOpen (state S.Store tx.old.conn.now) (state S.Store tx.new.conn.now) result }
     ensures survives { LeavesNone (state S.Store tx.old.conn.now) (state S.Store tx.new.conn.now) }
 {
     match bank_row(tx) {
@@ -106,7 +107,7 @@ fn older_inside<S: Alter>(
     ensures refused { (e : TheEdition) → e ≢ newest → BearsNoOther e (state S.Store tx.old.conn.now).now.trees → RefusesFor e (state S.Store tx.old.conn.now) (state S.Store tx.new.conn.now) result }
     ensures other { HasCleanDisk (state S.Store tx.new.conn.now) → (e : TheEdition) → HasBankTables e (state S.Store tx.old.conn.now) → (version : ℕ) → IsBankRow newest (state S.Store tx.old.conn.now).now.trees version → IsErrAnd result IsOfOther }
     ensures takes { (e : TheEdition) → e ≢ newest → BearsNoOther e (state S.Store tx.old.conn.now).now.trees → OnReadable e (state S.Store tx.old.conn.now) (state S.Store tx.new.conn.now) (IfOk result (λ file. IsSome file.rows.policy) × IfErr result IsOfStore) }
-    ensures open { HasCleanDisk (state S.Store tx.new.conn.now) → (e : TheEdition) → HasBankTables e (state S.Store tx.old.conn.now) → OnOk result (IsTrue (state S.Store tx.old.conn.now).is_open) }
+    ensures open { WasOpen (state S.Store tx.old.conn.now) (state S.Store tx.new.conn.now) result }
     ensures survives { LeavesNone (state S.Store tx.old.conn.now) (state S.Store tx.new.conn.now) }
 {
     let edition = told_edition(tx)?;
@@ -126,7 +127,8 @@ fn read_older_file<S: Alter>(
     ensures refused { HasCleanDisk (state S.Store conn.new) → (e : TheEdition) → IsOlderFile e (state S.Store conn.old) → IfErr result (IsRefusedIn e (state S.Store conn.old).now.trees) }
     ensures other { HasCleanDisk (state S.Store conn.new) → IsNewestFile (state S.Store conn.old) → IsErrAnd result IsOfOther }
     ensures takes { HasCleanDisk (state S.Store conn.new) → (e : TheEdition) → IsOlderFile e (state S.Store conn.old) → (s : Sheets) → HoldsSheetsIn e (state S.Store conn.old).now.trees s → AreReadable s → IfOk result (λ file. IsSome file.rows.policy) × IfErr result IsOfStore }
-    ensures left { HasCleanDisk (state S.Store conn.new) → (e : TheEdition) → IsOlderFile e (state S.Store conn.old) → IsLeft (state S.Store conn.old) (state S.Store conn.new) }
+    ensures left { HasCleanDisk (state S.Store conn.new) → (is : TheEdition) → IsBankFileIn is (state S.Store conn.old) → IsLeft (state S.Store conn.old) (state S.Store conn.new) }
+    ensures open { HasCleanDisk (state S.Store conn.new) → OnOk result (IsTrue (state S.Store conn.old).is_open) }
     ensures sound { HasCleanDisk (state S.Store conn.new) → (e : TheEdition) → IsOlderFile e (state S.Store conn.old) → OnOk result (IsDatabase (state S.Store conn.old).now) }
     ensures survives { LeavesNone (state S.Store conn.old) (state S.Store conn.new) }
 {
@@ -135,6 +137,7 @@ fn read_older_file<S: Alter>(
     let mut tx = conn.transaction();
     let rows = older_inside(alloc, &mut tx);
     tx.rollback();
+    let _left = conn.schema();
     rows
 }
 
@@ -153,7 +156,8 @@ pub fn read_older_bank<S: Alter>(
     ensures other { HasCleanDisk (state S.Store conn.new) → IsNewestFile (state S.Store conn.old) → IsErrAnd result IsOfOther }
     ensures sound { HasCleanDisk (state S.Store conn.new) → (e : TheEdition) → IsOlderFile e (state S.Store conn.old) → HoldsSoundBankIn e (state S.Store conn.old).now → IfErr result IsOfStore }
     ensures named { HasCleanDisk (state S.Store conn.new) → (e : TheEdition) → IsOlderFile e (state S.Store conn.old) → (s : Sheets) → HoldsSheetsIn e (state S.Store conn.old).now.trees s → AreReadable s → IfErr result (IsNamedBy s) }
-    ensures left { HasCleanDisk (state S.Store conn.new) → (e : TheEdition) → IsOlderFile e (state S.Store conn.old) → IsLeft (state S.Store conn.old) (state S.Store conn.new) }
+    ensures left { HasCleanDisk (state S.Store conn.new) → (is : TheEdition) → IsBankFileIn is (state S.Store conn.old) → IsLeft (state S.Store conn.old) (state S.Store conn.new) }
+    ensures open { HasCleanDisk (state S.Store conn.new) → OnOk result (IsTrue (state S.Store conn.old).is_open) }
     ensures kept { IfOk result (λ older. (older.bank.kept ≡ kept_of older.bank.world) × IsKeepable older.bank.world) }
     ensures survives { LeavesNone (state S.Store conn.old) (state S.Store conn.new) }
 {

@@ -5,8 +5,9 @@ ghost use Rattle.sql_schema.specs.Held.{HoldsSheets};
 ghost use Rattle.sql_schema.specs.Readable.{AreReadable};
 ghost use Rattle.sql_schema.specs.Schema.{newest};
 ghost use Rattle.sql_schema.specs.Steps.{LeavesNone};
+ghost use Rattle.sql_schema.specs.declared.edition.Edition.{Edition};
 ghost use Rattle.book_kept.specs.Sheets.{Sheets};
-ghost use Rattle.sql_adopt.specs.Adopted.{Adopts, IsBankFile, IsLeft, IsOfAnother};
+ghost use Rattle.sql_adopt.specs.Adopted.{Adopts, IsBankFile, IsBankFileIn, IsLeft, IsOfAnother};
 ghost use Rattle.sql_adopt.specs.Refused.{HoldsSoundBank, IsNamedBy, IsOfOther, IsOfStore, IsRefused};
 
 use crate::adopt_fault::AdoptFault;
@@ -29,7 +30,7 @@ pub fn adopt<S: Alter>(
     ensures sound { IfErr result (λ e. HasCleanDisk (state S.Store e.1) → IsBankFile (state S.Store conn) → HoldsSoundBank (state S.Store conn).now → IsOfStore e.0) }
     ensures named { IfErr result (λ e. HasCleanDisk (state S.Store e.1) → IsBankFile (state S.Store conn) → (s : Sheets) → HoldsSheets (state S.Store conn).now.trees s → AreReadable s → IsNamedBy s e.0) }
     ensures other { MatchResult result (λ store. HasCleanDisk (state S.Store store.conn) → IsOfAnother newest (state S.Store conn) → ⊥) (λ e. HasCleanDisk (state S.Store e.1) → IsOfAnother newest (state S.Store conn) → IsOfOther e.0) }
-    ensures unchanged { IfErr result (λ e. HasCleanDisk (state S.Store e.1) → IsBankFile (state S.Store conn) → IsLeft (state S.Store conn) (state S.Store e.1)) }
+    ensures unchanged { IfErr result (λ e. HasCleanDisk (state S.Store e.1) → (is : Edition) → IsBankFileIn is (state S.Store conn) → IsLeft (state S.Store conn) (state S.Store e.1)) }
     ensures mode { IfErr result (λ e. e.1.in_transaction ≡ false) }
     ensures survives { MatchResult result (λ store. LeavesNone (state S.Store conn) (state S.Store store.conn)) (λ e. LeavesNone (state S.Store conn) (state S.Store e.1)) }
 {

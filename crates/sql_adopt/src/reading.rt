@@ -7,6 +7,7 @@ ghost use Rattle.sql_schema.specs.Cells.{edition_number};
 ghost use Rattle.sql_schema.specs.Held.{HoldsSheetsIn};
 ghost use Rattle.sql_schema.specs.Readable.{AreReadable};
 ghost use Rattle.sql_schema.specs.Steps.{LeavesNone, WasOpen};
+ghost use Rattle.sql_schema.specs.declared.edition.Edition.{Edition as TheEdition};
 ghost use Rattle.book_kept.specs.Sheets.{Sheets};
 ghost use Rattle.sql_whole.specs.PolicyTables.{ArePolicyTables};
 ghost use Rattle.sql_whole.specs.BookRows.{AreBookRows};
@@ -90,7 +91,7 @@ fn bank_version<S: Alter>(tx: &mut Transaction<'_, S>, edition: Edition) -> Resu
     ensures refused { RefusesFor edition (state S.Store tx.old.conn.now) (state S.Store tx.new.conn.now) result }
     ensures other { TellsOther edition (state S.Store tx.old.conn.now) (state S.Store tx.new.conn.now) result }
     ensures takes { OnReadable edition (state S.Store tx.old.conn.now) (state S.Store tx.new.conn.now) (IfErr result IsOfStore) }
-    ensures open { HasCleanDisk (state S.Store tx.new.conn.now) → OnOk result (IsTrue (state S.Store tx.old.conn.now).is_open) }
+    ensures open { WasOpen (state S.Store tx.old.conn.now) (state S.Store tx.new.conn.now) result }
     ensures survives { LeavesNone (state S.Store tx.old.conn.now) (state S.Store tx.new.conn.now) }
 {
     let row = told_row(tx, edition)?;
@@ -149,7 +150,7 @@ pub(crate) fn rows_inside<S: Alter>(
     ensures refused { RefusesFor edition (state S.Store tx.old.conn.now) (state S.Store tx.new.conn.now) result }
     ensures other { TellsOther edition (state S.Store tx.old.conn.now) (state S.Store tx.new.conn.now) result }
     ensures takes { OnReadable edition (state S.Store tx.old.conn.now) (state S.Store tx.new.conn.now) (IfOk result (λ rows. IsSome rows.policy) × IfErr result IsOfStore) }
-    ensures open { HasCleanDisk (state S.Store tx.new.conn.now) → OnOk result (IsTrue (state S.Store tx.old.conn.now).is_open) }
+    ensures open { WasOpen (state S.Store tx.old.conn.now) (state S.Store tx.new.conn.now) result }
     ensures survives { LeavesNone (state S.Store tx.old.conn.now) (state S.Store tx.new.conn.now) }
 {
     let version = bank_version(tx, edition)?;
@@ -174,7 +175,7 @@ pub(crate) fn read_file<S: Alter>(
     ensures refused { HasCleanDisk (state S.Store conn.new) → IsBankFileIn edition (state S.Store conn.old) → IfErr result (IsRefusedIn edition (state S.Store conn.old).now.trees) }
     ensures other { HasCleanDisk (state S.Store conn.new) → IsOfAnother edition (state S.Store conn.old) → IsErrAnd result IsOfOther }
     ensures takes { HasCleanDisk (state S.Store conn.new) → IsBankFileIn edition (state S.Store conn.old) → (s : Sheets) → HoldsSheetsIn edition (state S.Store conn.old).now.trees s → AreReadable s → IfOk result (λ rows. IsSome rows.policy) × IfErr result IsOfStore }
-    ensures left { HasCleanDisk (state S.Store conn.new) → IsBankFileIn edition (state S.Store conn.old) → IsLeft (state S.Store conn.old) (state S.Store conn.new) }
+    ensures left { HasCleanDisk (state S.Store conn.new) → (is : TheEdition) → IsBankFileIn is (state S.Store conn.old) → IsLeft (state S.Store conn.old) (state S.Store conn.new) }
     ensures open { HasCleanDisk (state S.Store conn.new) → OnOk result (IsTrue (state S.Store conn.old).is_open) }
     ensures sound { HasCleanDisk (state S.Store conn.new) → OnOk result (IsDatabase (state S.Store conn.old).now) }
     ensures survives { LeavesNone (state S.Store conn.old) (state S.Store conn.new) }
@@ -184,5 +185,6 @@ pub(crate) fn read_file<S: Alter>(
     let mut tx = conn.transaction();
     let rows = rows_inside(alloc, &mut tx, edition);
     tx.rollback();
+    let _left = conn.schema();
     rows
 }

@@ -2,6 +2,7 @@
 use Rattle.std.proofs.Common.{◌≡◌, ◌==◌, ◌&&◌, ◌||◌, ℕ, ℤ, pos, negsuc, Bool, true, false, Option, Some, None, refl, ap, arith, sym, ◌∙◌, int_cmp, is_eq}
 use Rattle.std.specs.Prelude.{nat_le, nat_lt}
 use Rattle.std.specs.Ordering.{is_ge, is_gt}
+use Rattle.std.proofs.Math.Bool.{and-false, and-true, or-false}
 use Rattle.std.proofs.lemmas.Bool.Decides.{nat_tests}
 use Rattle.sqlite.specs.declared.types.Value.{Value}
 use Rattle.sqlite.specs.declared.types.Value.TheVariants.{Int}
@@ -21,10 +22,6 @@ told b = from_truth (Some b)
 told_back : (b : Bool) → is_true (told b) ≡ b
 told_back true = refl
 told_back false = refl
-
-and_true : (b : Bool) → (b && true) ≡ b
-and_true true = refl
-and_true false = refl
 
 either_told : (p q : Bool) → binary Or (told p) (told q) ≡ told (p || q)
 unfolding binary
@@ -80,14 +77,6 @@ never true true = refl
 never true false = refl
 never false c = refl
 
-pub or_false : (b : Bool) → (b || false) ≡ b
-or_false true = refl
-or_false false = refl
-
-pub and_false : (b : Bool) → (b && false) ≡ false
-and_false true = refl
-and_false false = refl
-
 -- ---- behind one column, two and three
 
 abbrev one_asked : ℕ → ℤ → Value
@@ -135,25 +124,25 @@ from_row : (k : Columns) (n : ℤ) (a : ℕ) (b : Bool) → from_and (Some k) n 
 from_row k n a b = ap (λ t. t && (nat_lt k.first a || (k.first == a && b))) (ap is_true (from_told a (pos k.first)) ∙ told_back _ ∙ from_is a k.first) ∙ not_before k.first a b
 
 pub past_one : (o : Option Columns) (n : ℤ) (a : ℕ) → (is_true (one_asked a (part_of o n).first) && true) ≡ are_past o (record { first = a; second = 0; third = 0 })
-past_one None n a = and_true _ ∙ ap is_true (above_told a (negsuc 0)) ∙ told_back _ ∙ above_none a
+past_one None n a = and-true _ ∙ ap is_true (above_told a (negsuc 0)) ∙ told_back _ ∙ above_none a
 past_one (Some k) n a =
-    and_true _ ∙ ap is_true (above_told a (pos k.first)) ∙ told_back _ ∙ above_is a k.first
-    ∙ sym ((λ i. nat_lt k.first a || (k.first == a && (none_below k.second i || (k.second == 0 && none_below k.third i)))) ∙ ap (λ b. nat_lt k.first a || b) (never (k.first == a) (k.second == 0)) ∙ or_false (nat_lt k.first a))
+    and-true _ ∙ ap is_true (above_told a (pos k.first)) ∙ told_back _ ∙ above_is a k.first
+    ∙ sym ((λ i. nat_lt k.first a || (k.first == a && (none_below k.second i || (k.second == 0 && none_below k.third i)))) ∙ ap (λ b. nat_lt k.first a || b) (never (k.first == a) (k.second == 0)) ∙ or-false (nat_lt k.first a))
 
 two_past : (o : Option Columns) (n : ℤ) (a b : ℕ) → (is_true (two_asked a b (part_of o n).first (pos (part_of o n).second)) && true) ≡ are_past o (record { first = a; second = b; third = 0 })
-two_past None n a b = and_true _ ∙ ap is_true (two_told a b (negsuc 0) (pos 0)) ∙ told_back _ ∙ ap (λ t. t || (same a (negsuc 0) && above b (pos 0))) (above_none a)
+two_past None n a b = and-true _ ∙ ap is_true (two_told a b (negsuc 0) (pos 0)) ∙ told_back _ ∙ ap (λ t. t || (same a (negsuc 0) && above b (pos 0))) (above_none a)
 two_past (Some k) n a b =
-    and_true _ ∙ ap is_true (two_told a b (pos k.first) (pos k.second)) ∙ told_back _ ∙ (λ i. above_is a k.first i || (same_is a k.first i && above_is b k.second i))
-    ∙ sym ((λ i. nat_lt k.first a || (k.first == a && (nat_lt k.second b || (k.second == b && none_below k.third i)))) ∙ (λ i. nat_lt k.first a || (k.first == a && (ap (λ t. nat_lt k.second b || t) (and_false (k.second == b)) ∙ or_false (nat_lt k.second b)) i)))
+    and-true _ ∙ ap is_true (two_told a b (pos k.first) (pos k.second)) ∙ told_back _ ∙ (λ i. above_is a k.first i || (same_is a k.first i && above_is b k.second i))
+    ∙ sym ((λ i. nat_lt k.first a || (k.first == a && (nat_lt k.second b || (k.second == b && none_below k.third i)))) ∙ (λ i. nat_lt k.first a || (k.first == a && (ap (λ t. nat_lt k.second b || t) (and-false (k.second == b)) ∙ or-false (nat_lt k.second b)) i)))
 
 pub past_two : (o : Option Columns) (n : ℤ) (a b : ℕ) → from_and o n a (is_true (two_asked a b (part_of o n).first (pos (part_of o n).second)) && true) ≡ are_past o (record { first = a; second = b; third = 0 })
 past_two None n a b = ap (from_and None n a) (two_past None n a b) ∙ from_no_row n a true
 past_two (Some k) n a b = ap (from_and (Some k) n a) (two_past (Some k) n a b) ∙ from_row k n a (nat_lt k.second b || (k.second == b && nat_lt k.third 0))
 
 three_past : (o : Option Columns) (n : ℤ) (a b c : ℕ) → (is_true (three_asked a b c (part_of o n).first (pos (part_of o n).second) (pos (part_of o n).third)) && true) ≡ are_past o (record { first = a; second = b; third = c })
-three_past None n a b c = and_true _ ∙ ap is_true (three_told a b c (negsuc 0) (pos 0) (pos 0)) ∙ told_back _ ∙ ap (λ t. t || (same a (negsuc 0) && (above b (pos 0) || (same b (pos 0) && above c (pos 0))))) (above_none a)
+three_past None n a b c = and-true _ ∙ ap is_true (three_told a b c (negsuc 0) (pos 0) (pos 0)) ∙ told_back _ ∙ ap (λ t. t || (same a (negsuc 0) && (above b (pos 0) || (same b (pos 0) && above c (pos 0))))) (above_none a)
 three_past (Some k) n a b c =
-    and_true _ ∙ ap is_true (three_told a b c (pos k.first) (pos k.second) (pos k.third)) ∙ told_back _
+    and-true _ ∙ ap is_true (three_told a b c (pos k.first) (pos k.second) (pos k.third)) ∙ told_back _
     ∙ (λ i. above_is a k.first i || (same_is a k.first i && (above_is b k.second i || (same_is b k.second i && above_is c k.third i))))
 
 pub past_three : (o : Option Columns) (n : ℤ) (a b c : ℕ) → from_and o n a (is_true (three_asked a b c (part_of o n).first (pos (part_of o n).second) (pos (part_of o n).third)) && true) ≡ are_past o (record { first = a; second = b; third = c })

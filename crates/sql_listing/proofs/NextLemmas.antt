@@ -13,7 +13,7 @@ use Rattle.book_kept.specs.Sheets.{Sheets}
 use Rattle.book_kept.specs.declared.records.MemberRow.{MemberRow}
 use Rattle.sql_schema.specs.Held.{HoldsTables}
 use Rattle.sql_schema.specs.Held.Sheet.{members as in_members, relations as in_relations, triples as in_triples}
-use Rattle.sql_schema.proofs.ProcedureNumbers.{small_number}
+use Rattle.bank_terms.proofs.Procedures.{small_number}
 use Rattle.world_reads.specs.PolicyListing.{is_row_behind}
 use Rattle.world_reads.specs.declared.policy_row.PolicyKey.{PolicyKey}
 use Rattle.world_reads.specs.declared.policy_row.PolicyKey.TheVariants as key
@@ -21,19 +21,19 @@ use Rattle.world_reads.specs.declared.policy_row.PolicyRow.{PolicyRow}
 use Rattle.sql_listing.specs.Columns.{FitsKey, columns_at, is_less, is_past, kind_at, or_first}
 use Rattle.sql_listing.specs.Lines.{line_of, lines_behind, lines_in, lines_of}
 use Rattle.sql_listing.specs.declared.kinds.LineKind.TheVariants as kind
-use Rattle.sql_listing.proofs.ColumnTests.{and_false, or_false}
+use Rattle.std.proofs.Math.Bool.{and-false, or-false}
 use Rattle.sql_listing.proofs.LineLemmas.{first_of_all}
 
 -- ---- columns as one number
 
 by_one : (n a : ℕ) → nat_lt n a ≡ is_less (record { first = n; second = 0; third = 0 }) (record { first = a; second = 0; third = 0 })
-by_one n a = sym (ap (λ t. nat_lt n a || t) (and_false (n == a)) ∙ or_false (nat_lt n a))
+by_one n a = sym (ap (λ t. nat_lt n a || t) (and-false (n == a)) ∙ or-false (nat_lt n a))
 
 two_less : (n m a b : ℕ) → m < 2 ^ 32 → b < 2 ^ 32 → nat_lt (2 ^ 32 * n + m) (2 ^ 32 * a + b) ≡ (nat_lt n a || (n == a && nat_lt m b))
 two_less n m a b p q = grind (arith, nat_tests)
 
 without_third : (n m a b : ℕ) → (nat_lt n a || (n == a && nat_lt m b)) ≡ is_less (record { first = n; second = m; third = 0 }) (record { first = a; second = b; third = 0 })
-without_third n m a b = sym (ap (λ t. nat_lt n a || (n == a && t)) (ap (λ t. nat_lt m b || t) (and_false (m == b)) ∙ or_false (nat_lt m b)))
+without_third n m a b = sym (ap (λ t. nat_lt n a || (n == a && t)) (ap (λ t. nat_lt m b || t) (and-false (m == b)) ∙ or-false (nat_lt m b)))
 
 by_two : (n m a b : ℕ) → m < 2 ^ 32 → b < 2 ^ 32 → nat_lt (2 ^ 32 * n + m) (2 ^ 32 * a + b) ≡ is_less (record { first = n; second = m; third = 0 }) (record { first = a; second = b; third = 0 })
 by_two n m a b p q = two_less n m a b p q ∙ without_third n m a b

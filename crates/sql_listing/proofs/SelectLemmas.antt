@@ -22,7 +22,7 @@ use Rattle.sql_schema.specs.Held.{HoldsTables}
 use Rattle.sql_schema.specs.Held.Sheet.{certifiers as in_certifiers, members as in_members, relations as in_relations, triples as in_triples, users as in_users}
 use Rattle.sql_schema.specs.HeldRows.{all_but_rowid, all_of_it}
 use Rattle.sql_schema.specs.Schema.{bank_schema}
-use Rattle.sql_schema.proofs.ProcedureNumbers.{small_number}
+use Rattle.bank_terms.proofs.Procedures.{small_number}
 use Rattle.sql_schema.proofs.ReadLemmas.{answered, in_order, in_order_of_fitting, is_at_least, no_offset, rises_by_one, rises_by_three, rises_by_two, rising_key}
 use Rattle.sql_schema.proofs.ScanLemmas.{passes, scan}
 use Rattle.sql_listing.specs.Columns.{at_most, is_past, part_of}

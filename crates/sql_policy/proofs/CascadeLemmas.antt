@@ -2,6 +2,7 @@
 use Rattle.std.proofs.Common.{◌≡◌, ◌≢◌, inl, inr, ℕ, zero, suc, ℤ, pos, List, [], ◌∷◌, ◌++◌, drop, length, length-append, not, Bool, true, false, cond, Some, Ok, refl, ap, arith, sym, ◌∙◌, subst, ◌==◌, ◌&&◌, ◌||◌, is_eq}
 use Rattle.std.specs.List.{list_any}
 use Rattle.std.proofs.lemmas.Bool.{and_parts, eq-eqb, false≢true, true≢false}
+use Rattle.std.proofs.Math.Bool.{and-true}
 use Rattle.sqlite.specs.declared.types.Value.TheVariants.{Null, Int}
 use Rattle.sqlite.specs.Edit.{edit_of}
 use Rattle.sqlite.specs.Order.{Row}
@@ -125,12 +126,8 @@ no_null : (how : Collation) (n : ℕ) → equal how (Int (pos n)) Null ≡ false
 unfolding binary
 no_null how n = refl
 
-and_true : (b : Bool) → (b && true) ≡ b
-and_true true = refl
-and_true false = refl
-
 both_equal : (o : Order) (a b m n : ℕ) → (equal (first_key o).collation (Int (pos a)) (Int (pos m)) && (equal (first_key (later o)).collation (Int (pos b)) (Int (pos n)) && true)) ≡ (a == m && b == n)
-both_equal o a b m n = λ i. equal_is (first_key o).collation a m i && (and_true (equal (first_key (later o)).collation (Int (pos b)) (Int (pos n))) ∙ equal_is (first_key (later o)).collation b n) i
+both_equal o a b m n = λ i. equal_is (first_key o).collation a m i && (and-true (equal (first_key (later o)).collation (Int (pos b)) (Int (pos n))) ∙ equal_is (first_key (later o)).collation b n) i
 
 -- a triple against a relation, and back
 blind_child : (t r : Row) → agree plain (2 ∷ 3 ∷ []) t (1 ∷ 2 ∷ []) r ≡ agree plain (2 ∷ 3 ∷ []) (Null ∷ drop 1 t) (1 ∷ 2 ∷ []) (Null ∷ drop 1 r)

@@ -1,5 +1,5 @@
 -- What the statements on the certifiers do.
-use Rattle.std.proofs.Common.{◌≡◌, ◌/◌, ◌<◌, ◌+◌, ◌*◌, ◌^◌, ◌≤◌, ℕ, pos, List, [], ◌∷◌, map, filter, drop, length, not, codes, true, false, Ok, inl, inr, refl, sym, ◌∙◌, subst, ◌==◌}
+use Rattle.std.proofs.Common.{◌≡◌, ◌/◌, ◌<◌, ◌+◌, ◌*◌, ◌^◌, ◌≤◌, ℕ, pos, List, [], ◌∷◌, map, filter, drop, length, not, codes, true, false, Ok, refl, sym, ◌∙◌, subst, ◌==◌}
 use Rattle.std.specs.List.{find}
 use Rattle.sqlite.specs.declared.types.Value.TheVariants.{Null, Int}
 use Rattle.sqlite.specs.Command.TheVariants.{Delete, Insert, Select}
@@ -16,7 +16,6 @@ use Rattle.sqlite.specs.Query.{output}
 use Rattle.sqlite.proofs.Callers.{IsPlain, command_of}
 use Rattle.sqlite_rules.specs.Edit.{next_rowid}
 use Rattle.sqlite_schema.specs.Rules.{agree}
-use Rattle.sqlite_schema.specs.declared.schema.Index.{Index}
 use Rattle.sqlite_tied.specs.Compute.{everything}
 use Rattle.sqlite_value.specs.Keys.{plain}
 use Rattle.keyed_rows.specs.Changed.{delete_rows}
@@ -42,7 +41,7 @@ use Rattle.sql_schema.proofs.ReadLemmas.{alone, answered, by_two, no_limit, no_o
 use Rattle.sql_schema.proofs.ScanLemmas.{passes, scan}
 use Rattle.sql_schema.proofs.WriteLemmas.{cast_int, cast_null, inserts}
 use Rattle.sql_schema.proofs.KeyTests.{at_most_one, few_mapped, two_parts}
-use Rattle.sql_schema.proofs.ProcedureNumbers.{small_number}
+use Rattle.bank_terms.proofs.Procedures.{small_number}
 use Rattle.sql_policy.specs.Tests.{is_certifier_of}
 use Rattle.sql_policy.specs.Texts.{add_certifier_text, certifier_text, remove_certifier_text}
 

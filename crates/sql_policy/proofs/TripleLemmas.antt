@@ -1,5 +1,5 @@
 -- What the statements on the triples do.
-use Rattle.std.proofs.Common.{◌≡◌, ◌/◌, ◌<◌, ◌+◌, ◌*◌, ◌^◌, ◌≤◌, ℕ, pos, List, [], ◌∷◌, map, filter, drop, length, not, codes, true, false, Ok, inl, inr, refl, ap, arith, sym, ◌∙◌, subst, ◌==◌}
+use Rattle.std.proofs.Common.{◌≡◌, ◌/◌, ◌<◌, ◌+◌, ◌*◌, ◌^◌, ◌≤◌, ℕ, pos, List, [], ◌∷◌, map, filter, drop, length, not, codes, true, false, Ok, refl, ap, arith, sym, ◌∙◌, subst, ◌==◌}
 use Rattle.std.specs.List.{find}
 use Rattle.std.specs.Prelude.{option_map, slice_get}
 use Rattle.std.proofs.lemmas.Bool.{and_parts, eqb-true}
@@ -19,7 +19,6 @@ use Rattle.sqlite.specs.Query.{output}
 use Rattle.sqlite.proofs.Callers.{IsPlain, command_of}
 use Rattle.sqlite_rules.specs.Edit.{next_rowid}
 use Rattle.sqlite_schema.specs.Rules.{agree}
-use Rattle.sqlite_schema.specs.declared.schema.Index.{Index}
 use Rattle.sqlite_tied.specs.Compute.{everything}
 use Rattle.sqlite_value.specs.Keys.{plain}
 use Rattle.keyed_rows.specs.Changed.{delete_rows}
@@ -46,7 +45,7 @@ use Rattle.sql_schema.proofs.ReadLemmas.{alone, answered, answers, by_one, by_th
 use Rattle.sql_schema.proofs.ScanLemmas.{passes, scan}
 use Rattle.sql_schema.proofs.WriteLemmas.{cast_int, cast_null, inserts}
 use Rattle.sql_schema.proofs.KeyTests.{at_most_one, few_mapped, length-mapped, three_parts, three_parts_of}
-use Rattle.sql_schema.proofs.ProcedureNumbers.{small_number}
+use Rattle.bank_terms.proofs.Procedures.{small_number}
 use Rattle.sql_policy.specs.Tests.{is_triple_at, is_triple_by, is_triple_numbered}
 use Rattle.sql_policy.specs.Texts.{add_triple_text, remove_triple_text, triple_text, triples_text, user_triples_text}
 

@@ -8,10 +8,9 @@ use Rattle.bank_policy.specs.HeldRows.{HeldTriple}
 use Rattle.bank_policy.specs.Tests.{is_within}
 use Rattle.bank_policy.specs.declared.rows.Member.{Member}
 use Rattle.bank_books.specs.declared.records.AccountRecord.{AccountRecord}
-use Rattle.keyed_rows.proofs.Rows.{find-found}
+use Rattle.keyed_rows.proofs.Rows.{find-found, first_apart}
 use Rattle.book_kept.specs.Keepable.{IsOrdered}
 use Rattle.book_kept.specs.Sheets.{account_no}
-use Rattle.book_kept.proofs.RowLemmas.{first_apart}
 use Rattle.world_reads.specs.BookReads.{is_account_of}
 use Rattle.sql_reads.specs.LeastShown.{is_held_above, is_shown_by, least_by, lower}
 use Rattle.sql_reads.proofs.LeastLemmas.{least_of}

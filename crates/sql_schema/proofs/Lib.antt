@@ -9,7 +9,6 @@ pub mod MemberLemmas
 pub mod NamedTables
 pub mod PickLemmas
 pub mod PickedRows
-pub mod ProcedureNumbers
 pub mod ReadLemmas
 pub mod ReadableLemmas
 pub mod RowsRead

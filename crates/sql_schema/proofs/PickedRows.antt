@@ -1,8 +1,9 @@
 -- Rows that pass a test: how many there are, in which order they come, and the first.
-use Rattle.std.proofs.Common.{not, ◌≡◌, ◌≤◌, ◌<◌, ◌+◌, ◌*◌, ◌^◌, ◌==◌, ◌&&◌, ℕ, ◌++◌, pos, Contains, List, [], ◌∷◌, map, filter, take, length, slice_get, Bool, true, false, cond, Some, refl, sym, ap, arith, ◌∙◌, subst, int_cmp}
+use Rattle.std.proofs.Common.{not, ◌≡◌, ◌≤◌, ◌<◌, ◌+◌, ◌*◌, ◌^◌, ◌==◌, ◌&&◌, ℕ, pos, Contains, List, [], ◌∷◌, map, filter, take, length, slice_get, Bool, true, false, cond, Some, refl, sym, ap, arith, ◌∙◌, subst, int_cmp}
 use Rattle.std.specs.Prelude.{option_map, nat_le, nat_lt}
 use Rattle.std.specs.List.{find, list_any}
 use Rattle.std.specs.Ordering.{is_le}
+use Rattle.std.proofs.Math.Bool.{and-true}
 use Rattle.std.proofs.lemmas.Bool.Decides.{nat_tests}
 use Rattle.sqlite.specs.declared.types.Value.TheVariants.{Int}
 use Rattle.sqlite.specs.Order.{Row}
@@ -75,10 +76,6 @@ truth_back : (b : Bool) → is_true (from_truth (Some b)) ≡ b
 truth_back true = refl
 truth_back false = refl
 
-and_true : (b : Bool) → (b && true) ≡ b
-and_true true = refl
-and_true false = refl
-
 -- the column is the parameter or below it
 abbrev pub is_at_most : ℕ → ℕ → Term
 is_at_most place parameter = op2 (Compare Le Binary) (col 1 place) (col 0 parameter)
@@ -91,7 +88,7 @@ unfolding binary
 at_most m n = truth_back _ ∙ ap is_le (value_cmp-Int (pos m) (pos n)) ∙ up_to m n
 
 pub within : (m low high : ℕ) → (is_true (binary (Compare Ge Binary) (Int (pos m)) (Int (pos low))) && (is_true (binary (Compare Le Binary) (Int (pos m)) (Int (pos high))) && true)) ≡ (nat_le low m && nat_le m high)
-within m low high = λ i. at_least m low i && (and_true _ ∙ at_most m high) i
+within m low high = λ i. at_least m low i && (and-true _ ∙ at_most m high) i
 
 pub equal_and_above : (a b m n : ℕ) → (is_true (binary (Compare Eq Binary) (Int (pos a)) (Int (pos m))) && (is_true (binary (Compare Gt Binary) (Int (pos b)) (Int (pos n))) && true)) ≡ (a == m && nat_lt n b)
-equal_and_above a b m n = λ i. equals a m i && (and_true _ ∙ above b n) i
+equal_and_above a b m n = λ i. equals a m i && (and-true _ ∙ above b n) i

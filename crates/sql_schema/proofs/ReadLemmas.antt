@@ -2,6 +2,7 @@
 use Rattle.std.proofs.Common.{◌≡◌, ℕ, ◌≤◌, ◌<◌, ◌+◌, ◌*◌, ◌^◌, pos, negsuc, List, [], ◌∷◌, map, filter, length, Bool, true, false, refl, ap, arith, ◌∙◌, subst, ◌==◌, ◌&&◌, Some, IsPermutation, IsSorted, inl, inr, is_eq, int_cmp, Less, Equal}
 use Rattle.std.specs.Prelude.{nat_le, nat_lt}
 use Rattle.std.specs.Ordering.{is_ge, is_gt, ordering_then}
+use Rattle.std.proofs.Math.Bool.{and-true}
 use Rattle.std.proofs.lemmas.Bool.Decides.{nat_tests}
 use Rattle.std.proofs.lemmas.List.Sorted.{IsPermutation-trans}
 use Rattle.sqlite.specs.declared.types.Value.TheVariants.{Int}
@@ -78,10 +79,6 @@ truth_back : (b : Bool) → is_true (from_truth (Some b)) ≡ b
 truth_back true = refl
 truth_back false = refl
 
-and_true : (b : Bool) → (b && true) ≡ b
-and_true true = refl
-and_true false = refl
-
 pub equals : (m n : ℕ) → is_true (binary (Compare Eq Binary) (Int (pos m)) (Int (pos n))) ≡ (m == n)
 unfolding binary
 equals m n = truth_back _ ∙ ap is_eq (value_cmp-Int (pos m) (pos n)) ∙ same_pos m n
@@ -101,7 +98,7 @@ unfolding binary
 above m n = truth_back _ ∙ ap is_gt (value_cmp-Int (pos m) (pos n)) ∙ from_above m n
 
 pub one_equals : (m n : ℕ) → (is_true (binary (Compare Eq Binary) (Int (pos m)) (Int (pos n))) && true) ≡ (m == n)
-one_equals m n = and_true _ ∙ equals m n
+one_equals m n = and-true _ ∙ equals m n
 
 pub two_equal : (a b m n : ℕ) → (is_true (binary (Compare Eq Binary) (Int (pos a)) (Int (pos m))) && (is_true (binary (Compare Eq Binary) (Int (pos b)) (Int (pos n))) && true)) ≡ (a == m && b == n)
 two_equal a b m n = λ i. equals a m i && one_equals b n i

@@ -1,31 +1,27 @@
 -- A bank that was read and then written anew.
 use Rattle.std.proofs.Common.{◌≡◌, ◌∙◌, Err, Ok, OnErr, Result, ap, inl, inr, subst, sym}
 use Rattle.sqlite.specs.Effect.{Database}
-use Rattle.sqlite.specs.State.{HasCleanDisk, IsRolledBack, KeepsCommit, State, Survives}
+use Rattle.sqlite.specs.State.{HasCleanDisk, IsRolledBack, IsUnchanged, State, Survives}
+use Rattle.sqlite.specs.Steps.{FailsToCommit}
 use Rattle.sqlite.specs.Tree.{Trees}
 use Rattle.sqlite.proofs.StateLemmas.{survives_then}
 use Rattle.bank_books.specs.WorldLists.{WorldLists}
+use Rattle.money.specs.declared.fault.Fault.{Fault}
+use Rattle.sql_schema.specs.Faults.{IsNameOf}
 use Rattle.sql_schema.specs.Held.{AreOfWorld, HoldsBank}
 use Rattle.sql_schema.specs.declared.edition.Edition.{Edition}
-use Rattle.sql_schema.proofs.StepLemmas.{early}
+use Rattle.sql_schema.proofs.StepLemmas.{early, survived}
 use Rattle.sql_schema.specs.Steps.{LeavesNone}
 use Rattle.sql_adopt.specs.Adopted.{Finds, IsBankFileIn, IsLeft}
 use Rattle.sql_adopt.specs.Older.{IsOlderFile}
 use Rattle.store_sql.proofs.WorldLemmas.{same_world}
-use Rattle.sql_upgrade.specs.Carried.{Carries, IsCarriedOver, IsOf}
+use Rattle.sql_upgrade.specs.Carried.{Carries, CommitsNone, IsCarriedOver, IsOf}
 
 -- after a read that changed nothing
 pub still_of : (e : Edition) (old mid : State) → IsBankFileIn e old → IsLeft old mid → IsOf e mid
 still_of e old mid file left = record {
   schema = λ is_open. ap (λ (d : Database). d.schema) (left.now is_open) ∙ file.schema;
   settled = left.settled;
-}
-
-pub left_then : (old mid new : State) → IsLeft old mid → IsLeft mid new → IsLeft old new
-left_then old mid new first second = record {
-  was_open = λ is_open. first.was_open (second.was_open is_open);
-  now = λ is_open. second.now is_open ∙ first.now (second.was_open is_open);
-  settled = second.settled;
 }
 
 -- what commits nothing may leave anything more
@@ -39,25 +35,30 @@ survives_more old new Commits s = record {
   crash = λ clean trees may. elim (s.crash clean trees may) [ inl old ↦ inl old | inr none ↦ absurd none ];
 }
 
--- a transaction that was rolled back leaves what was there before it
-pub left_undone : (e : Edition) (old mid new : State) → IsOf e old → KeepsCommit old mid → IsRolledBack mid new → IsLeft old new
-left_undone e old mid new is kept undone = record {
-  was_open = λ is_open. kept.was_open (undone.was_open is_open);
-  now = λ is_open.
-      let was_open = undone.was_open is_open in
-      (undone.undone is_open).0 ∙ kept.committed was_open ∙ is.settled (kept.was_open was_open);
-  settled = λ is_open. (undone.undone is_open).1 ∙ sym (undone.undone is_open).0;
-}
+-- how a transaction ended that was not committed
+abbrev pub HasNotCommitted : State → State → Type 0
+HasNotCommitted old new = IsRolledBack old new ⊎ IsUnchanged old new
+
+pub fails_to_commit : (old new : State) (fault : Fault) → IsNameOf (FailsToCommit old new) fault → HasNotCommitted old new
+fails_to_commit old new fault (e, inl (cause, is, has, undone, told), named) = inl undone
+fails_to_commit old new fault (e, inr (is, idle, same), named) = inr same
+
+-- The trees of the last commit are among what a crash may leave, and what commits nothing may leave nothing more.
+pub commits_none : (old mid new : State) → LeavesNone old mid → HasCleanDisk mid → (IsTrue mid.is_open → mid.may_leave mid.committed.trees) → HasNotCommitted mid new → CommitsNone old new
+commits_none old mid new over clean stays (inl undone) is_open =
+    subst (λ (d : Database). old.may_leave d.trees) (sym (undone.undone is_open).1) (survived old mid over clean mid.committed.trees (stays (undone.was_open is_open)))
+commits_none old mid new over clean stays (inr same) is_open =
+    subst (λ (d : Database). old.may_leave d.trees) (sym same.0.committed_is) (survived old mid over clean mid.committed.trees (stays same.0.was_open))
 
 pub handed : {X : Type 0} {E : Type 0} (r : Result X E) (P : Type 0) → P → OnErr r P
 handed (Ok x) P p = tt
 handed (Err e) P p = p
 
 module _ (edition : Edition) (old mid new : State) (w : WorldLists) (read : LeavesNone old mid) (found : HasCleanDisk mid → (e : Edition) → IsOlderFile e old → (edition ≡ e) × Finds e old.now w)
-    (left : HasCleanDisk mid → (e : Edition) → IsOlderFile e old → IsLeft old mid) (written : Survives mid new (λ trees. IsOf edition mid → AreOfWorld w trees)) where
+    (left : HasCleanDisk mid → (is : Edition) → IsBankFileIn is old → IsLeft old mid) (written : Survives mid new (λ trees. IsOf edition mid → AreOfWorld w trees)) where
   -- the file is in the edition in which it was read
   pub is_of : HasCleanDisk mid → (e : Edition) → IsOlderFile e old → IsOf edition mid
-  is_of clean e older = subst (λ x. IsOf x mid) (sym (found clean e older).0) (still_of e old mid older.file (left clean e older))
+  is_of clean e older = subst (λ x. IsOf x mid) (sym (found clean e older).0) (still_of e old mid older.file (left clean e older.file))
 
   pub carried_over : Survives old new (λ trees. HasCleanDisk new → (e : Edition) → IsOlderFile e old → IsCarriedOver e old trees)
   carried_over =
@@ -67,13 +68,13 @@ module _ (edition : Edition) (old mid new : State) (w : WorldLists) (read : Leav
       record { world = w; found = (found was_clean e older).1; holds = it (is_of was_clean e older) })
       read written
 
-  pub carries : HasCleanDisk new → (e : Edition) → IsOlderFile e old → (IsOf edition mid → HoldsBank new w) → (IsOf edition mid → (trees : Trees) → new.may_leave trees → trees ≡ new.committed.trees) → Carries e old new
+  pub carries : HasCleanDisk new → (e : Edition) → IsOlderFile e old → (IsOf edition mid → HoldsBank new w) → ((trees : Trees) → new.may_leave trees → trees ≡ new.committed.trees) → Carries e old new
   carries clean e older made settled =
       let was_clean = early mid new _ written clean in
       let of = is_of was_clean e older in
       let holds = made of in
       let durable : (trees : Trees) → new.may_leave trees → AreOfWorld w trees =
-      λ trees may. subst (AreOfWorld w) (sym (settled of trees may ∙ ap (λ (d : Database). d.trees) holds.settled)) holds.now.world in
+      λ trees may. subst (AreOfWorld w) (sym (settled trees may ∙ ap (λ (d : Database). d.trees) holds.settled)) holds.now.world in
       record {
         world = w;
         found = (found was_clean e older).1;

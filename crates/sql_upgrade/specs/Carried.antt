@@ -24,6 +24,10 @@ pub record IsCarriedOver (e : Edition) (old : State) (trees : Trees) : Type 0 wh
   pub found : Finds e old.now world
   pub holds : AreOfWorld world trees
 
+-- Nothing was committed: if the connection is open, its last commit is one that a crash could leave before.
+abbrev pub CommitsNone : State → State → Type 0
+CommitsNone old new = IsTrue new.is_open → old.may_leave new.committed.trees
+
 -- If the connection is open, its tables are those of this edition, with nothing uncommitted in them.
 pub record IsOf (e : Edition) (s : State) : Type 0 where
   pub schema : IsTrue s.is_open → s.now.schema ≡ schema_of e

@@ -8,8 +8,7 @@ ghost use Rattle.book_kept.specs.Keepable.{IsKeepable};
 ghost use Rattle.sql_schema.specs.Held.{AreOfWorld, HoldsBank, HoldsWorld};
 ghost use Rattle.sql_schema.specs.Schema.{newest, schema_of};
 ghost use Rattle.sql_schema.specs.Steps.{LeavesNone};
-ghost use Rattle.sql_adopt.specs.Adopted.{IsLeft};
-ghost use Rattle.sql_upgrade.specs.Carried.{IsOf};
+ghost use Rattle.sql_upgrade.specs.Carried.{CommitsNone, IsOf};
 ghost use Rattle.sql_upgrade.specs.Left.{HasSchema};
 ghost use Rattle.sql_upgrade.specs.Proceeds.{Proceeds};
 
@@ -56,8 +55,8 @@ pub(crate) fn carry_bank<S: Alter>(
     requires keepable { IsKeepable world.now }
     ensures mode { conn.new.in_transaction ≡ false }
     ensures made { HasCleanDisk (state S.Store conn.new) → IsOf edition (state S.Store conn.old) → OnOk result (HoldsBank (state S.Store conn.new) world.now) }
-    ensures open { HasCleanDisk (state S.Store conn.new) → IsOf edition (state S.Store conn.old) → OnOk result (IsTrue (state S.Store conn.new).is_open) }
-    ensures unmade { HasCleanDisk (state S.Store conn.new) → IsOf edition (state S.Store conn.old) → OnErr result (IsLeft (state S.Store conn.old) (state S.Store conn.new)) }
+    ensures open { HasCleanDisk (state S.Store conn.new) → OnOk result (IsTrue (state S.Store conn.new).is_open) }
+    ensures unmade { HasCleanDisk (state S.Store conn.new) → OnErr result (CommitsNone (state S.Store conn.old) (state S.Store conn.new)) }
     ensures crash { Survives (state S.Store conn.old) (state S.Store conn.new) (λ trees. IsOf edition (state S.Store conn.old) → AreOfWorld world.now trees) }
 {
     let mut tx = conn.transaction();

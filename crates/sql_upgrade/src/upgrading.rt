@@ -1,4 +1,4 @@
-ghost use Rattle.std.specs.Prelude.{◌≡◌, false, IfErr, IfOk, IsErrAnd, MatchResult, OnErr, OnOk};
+ghost use Rattle.std.specs.Prelude.{◌≡◌, false, IfErr, IfOk, IsErrAnd, IsTrue, MatchResult, OnErr, OnOk};
 ghost use Rattle.sqlite.specs.Held.{state};
 ghost use Rattle.sqlite.specs.State.{HasCleanDisk, Survives};
 ghost use Rattle.sql_schema.specs.Held.{HoldsSheetsIn};
@@ -6,7 +6,7 @@ ghost use Rattle.sql_schema.specs.Readable.{AreReadable};
 ghost use Rattle.sql_schema.specs.declared.edition.Edition.{Edition as TheEdition};
 ghost use Rattle.sql_schema.specs.Steps.{LeavesNone};
 ghost use Rattle.book_kept.specs.Sheets.{Sheets};
-ghost use Rattle.sql_adopt.specs.Adopted.{IsLeft};
+ghost use Rattle.sql_adopt.specs.Adopted.{IsBankFileIn, IsLeft};
 ghost use Rattle.sql_adopt.specs.Older.{IsNewestFile, IsOlderFile};
 ghost use Rattle.sql_adopt.specs.Refused.{HoldsSoundBankIn, IsNamedBy, IsOfOther, IsOfStore, IsRefusedIn};
 ghost use Rattle.sql_upgrade.specs.Carried.{Carries, IsCarriedOver};
@@ -27,15 +27,22 @@ fn upgrade_bank<S: Alter>(alloc: Global, conn: &mut Connection<S>) -> Result<(),
     ensures other { HasCleanDisk (state S.Store conn.new) → IsNewestFile (state S.Store conn.old) → IsErrAnd result IsOfOther }
     ensures sound { HasCleanDisk (state S.Store conn.new) → (e : TheEdition) → IsOlderFile e (state S.Store conn.old) → HoldsSoundBankIn e (state S.Store conn.old).now → IfErr result IsOfStore }
     ensures named { HasCleanDisk (state S.Store conn.new) → (e : TheEdition) → IsOlderFile e (state S.Store conn.old) → (s : Sheets) → HoldsSheetsIn e (state S.Store conn.old).now.trees s → AreReadable s → IfErr result (IsNamedBy s) }
-    ensures unchanged { HasCleanDisk (state S.Store conn.new) → (e : TheEdition) → IsOlderFile e (state S.Store conn.old) → OnErr result (IsLeft (state S.Store conn.old) (state S.Store conn.new)) }
+    ensures open { HasCleanDisk (state S.Store conn.new) → OnOk result (IsTrue (state S.Store conn.new).is_open) }
+    ensures unchanged { HasCleanDisk (state S.Store conn.new) → (is : TheEdition) → IsBankFileIn is (state S.Store conn.old) → OnErr result (IsLeft (state S.Store conn.old) (state S.Store conn.new)) }
     ensures untouched { IfErr result (λ fault. (IsOfStore fault → ⊥) → LeavesNone (state S.Store conn.old) (state S.Store conn.new)) }
     ensures crash { Survives (state S.Store conn.old) (state S.Store conn.new) (λ trees. HasCleanDisk (state S.Store conn.new) → (e : TheEdition) → IsOlderFile e (state S.Store conn.old) → IsCarriedOver e (state S.Store conn.old) trees) }
 {
+    // With its schema, and that nothing is begun in it, a connection tells that its state is one that it can be in.
+    let _schema = conn.schema();
     let older = read_older_bank(alloc, conn)?;
     let bank = &older.bank;
     match carry_bank(alloc, conn, older.edition, &bank.world, &bank.kept) {
         Ok(()) => Ok(()),
-        Err(fault) => Err(AdoptFault::Fault(fault)),
+        Err(fault) => {
+            let _left = conn.schema();
+            let _idle = conn.is_autocommit();
+            Err(AdoptFault::Fault(fault))
+        }
     }
 }
 
@@ -51,12 +58,13 @@ pub fn upgrade<S: Alter>(
 ) -> Result<SqlStore<S>, (AdoptFault, Connection<S>)>
     requires { conn.in_transaction ≡ false }
     ensures carries { IfOk result (λ store. HasCleanDisk (state S.Store store.conn) → (e : TheEdition) → IsOlderFile e (state S.Store conn) → Carries e (state S.Store conn) (state S.Store store.conn)) }
+    ensures open { IfOk result (λ store. HasCleanDisk (state S.Store store.conn) → IsTrue (state S.Store store.conn).is_open) }
     ensures works { IfOk result (λ store. (store.is_stopped ≡ false) × (store.faults ≡ 0) × (store.failures ≡ 0)) }
     ensures refused { IfErr result (λ x. HasCleanDisk (state S.Store x.1) → (e : TheEdition) → IsOlderFile e (state S.Store conn) → IsRefusedIn e (state S.Store conn).now.trees x.0) }
     ensures sound { IfErr result (λ x. HasCleanDisk (state S.Store x.1) → (e : TheEdition) → IsOlderFile e (state S.Store conn) → HoldsSoundBankIn e (state S.Store conn).now → IsOfStore x.0) }
     ensures named { IfErr result (λ x. HasCleanDisk (state S.Store x.1) → (e : TheEdition) → IsOlderFile e (state S.Store conn) → (s : Sheets) → HoldsSheetsIn e (state S.Store conn).now.trees s → AreReadable s → IsNamedBy s x.0) }
     ensures other { MatchResult result (λ store. HasCleanDisk (state S.Store store.conn) → IsNewestFile (state S.Store conn) → ⊥) (λ x. HasCleanDisk (state S.Store x.1) → IsNewestFile (state S.Store conn) → IsOfOther x.0) }
-    ensures unchanged { IfErr result (λ x. HasCleanDisk (state S.Store x.1) → (e : TheEdition) → IsOlderFile e (state S.Store conn) → IsLeft (state S.Store conn) (state S.Store x.1)) }
+    ensures unchanged { IfErr result (λ x. HasCleanDisk (state S.Store x.1) → (is : TheEdition) → IsBankFileIn is (state S.Store conn) → IsLeft (state S.Store conn) (state S.Store x.1)) }
     ensures untouched { IfErr result (λ x. (IsOfStore x.0 → ⊥) → LeavesNone (state S.Store conn) (state S.Store x.1)) }
     ensures mode { IfErr result (λ x. x.1.in_transaction ≡ false) }
     ensures crash { MatchResult result (λ store. Survives (state S.Store conn) (state S.Store store.conn) (λ trees. HasCleanDisk (state S.Store store.conn) → (e : TheEdition) → IsOlderFile e (state S.Store conn) → IsCarriedOver e (state S.Store conn) trees)) (λ x. Survives (state S.Store conn) (state S.Store x.1) (λ trees. HasCleanDisk (state S.Store x.1) → (e : TheEdition) → IsOlderFile e (state S.Store conn) → IsCarriedOver e (state S.Store conn) trees)) }

@@ -15,7 +15,7 @@ use Rattle.sql_schema.specs.declared.edition.Edition.TheVariants.{First, Second,
 use Rattle.sql_schema.specs.HeldRows.{all_but_rowid, all_of_it}
 use Rattle.sql_schema.specs.Schema.{certifiers_table, grants_table, members_table, relations_table, sets_table, triples_table, users_table}
 use Rattle.sql_schema.specs.Told.{told_by_columns, told_by_key}
-use Rattle.sql_schema.proofs.ProcedureNumbers.{small_number}
+use Rattle.bank_terms.proofs.Procedures.{small_number}
 use Rattle.sql_schema.proofs.ReadLemmas.{rises_by_one, rises_by_three, rises_by_two, rising_key}
 use Rattle.sql_schema.proofs.NamedTables.{certifiers_there, members_there, relations_there, sets_there, triples_there, users_there}
 use Rattle.sql_whole.specs.Texts.{all_users_text, all_sets_text, all_members_text, all_relations_text, all_certifiers_text, first_triples_text, grants_text}

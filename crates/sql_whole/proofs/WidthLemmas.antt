@@ -1,6 +1,6 @@
 -- How many columns a row has that is typed and in which none is missing.
 use Rattle.std.proofs.Common.{◌≡◌, ◌≤◌, ◌<◌, ◌+◌, ℕ, zero, suc, List, [], ◌∷◌, length, drop, Bool, true, false, not, ◌&&◌, ◌||◌, Option, Some, inl, inr, refl, sym, ap, arith, ◌∙◌}
-use Rattle.std.proofs.lemmas.Bool.{cases_order}
+use Rattle.std.proofs.lemmas.Bool.{and_parts, cases_order}
 use Rattle.std.proofs.lemmas.List.{get_or_past}
 use Rattle.sqlite.specs.declared.types.Value.{Value}
 use Rattle.sqlite.specs.declared.types.Value.TheVariants.{Null, Int, Real, Text, Blob}
@@ -12,17 +12,12 @@ use Rattle.sqlite_sql.specs.Ops.{is_null}
 use Rattle.sqlite_value.specs.Order.{column}
 use Rattle.sql_schema.specs.Told.{columns_from}
 
-both : (a b : Bool) → (a && b) ≡ true → (a ≡ true) × (b ≡ true)
-both true true h = (refl, refl)
-both true false h = absurd cc
-both false b h = absurd cc
-
 -- a typed row has no more columns than its table
 pub no_wider : (key : Option ℕ) (at : ℕ) (columns : List Column) (values : Row) → are_typed key at columns values ≡ true → length values ≤ length columns
 no_wider key at [] [] h = omega arith
 no_wider key at [] (v ∷ vs) h = absurd cc
 no_wider key at (c ∷ cs) [] h = omega arith
-no_wider key at (c ∷ cs) (v ∷ vs) h = let rest : length vs ≤ length cs = no_wider key (at + 1) cs vs (both _ _ h).1 in omega (arith, rest)
+no_wider key at (c ∷ cs) (v ∷ vs) h = let rest : length vs ≤ length cs = no_wider key (at + 1) cs vs (and_parts _ _ h).1 in omega (arith, rest)
 
 -- the last column may not be missing
 abbrev pub ends_needed : Option ℕ → ℕ → List Column → Bool
@@ -42,12 +37,12 @@ needed false true v need h is = let no : not (is_null v) ≡ false = ap (λ x. n
 pub no_narrower : (key : Option ℕ) (at : ℕ) (columns : List Column) (row : Row) → ends_needed key at columns ≡ true → are_present key at columns row ≡ true → at + length columns < length row
 no_narrower key at [] row need h = absurd cc
 no_narrower key at (c ∷ []) row need h =
-    let short : length row ≤ at + 1 → at + 1 < length row = λ h'. absurd (needed (is_key key at) c.not_null (column row (at + 1)) need (both _ _ h).0 (null_past row (at + 1) h')) in
+    let short : length row ≤ at + 1 → at + 1 < length row = λ h'. absurd (needed (is_key key at) c.not_null (column row (at + 1)) need (and_parts _ _ h).0 (null_past row (at + 1) h')) in
     elim (cases_order (length row) (at + 1)) [
       | inl same ↦ short (omega (arith, same))
       | inr other ↦ elim other [ inl less ↦ short (omega (arith, less)) | inr more ↦ more ]
     ]
-no_narrower key at (c ∷ d ∷ cs) row need h = let rest : at + 1 + length (d ∷ cs) < length row = no_narrower key (at + 1) (d ∷ cs) row need (both _ _ h).1 in omega (arith, rest)
+no_narrower key at (c ∷ d ∷ cs) row need h = let rest : at + 1 + length (d ∷ cs) < length row = no_narrower key (at + 1) (d ∷ cs) row need (and_parts _ _ h).1 in omega (arith, rest)
 
 -- ---- a row by its columns
 
@@ -80,6 +75,6 @@ columns_by_key [] more columns is typed some = absurd (omega (arith, is))
 columns_by_key (id ∷ []) more columns is typed some = absurd (omega (arith, is))
 columns_by_key (id ∷ v ∷ row) more [] is typed some = absurd (omega (arith, some))
 columns_by_key (id ∷ v ∷ row) more (c ∷ cs) is typed some =
-    let null : v ≡ Null = null_is v (both _ _ typed).0 in
+    let null : v ≡ Null = null_is v (and_parts _ _ typed).0 in
     ap (λ x. id ∷ x ∷ columns_from 2 more (id ∷ v ∷ row)) (sym null)
     ∙ ap (λ r. id ∷ v ∷ r) (shift id (v ∷ row) 1 more ∙ shift v row 0 more ∙ all_columns row more (omega (arith, is)))

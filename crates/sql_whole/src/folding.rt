@@ -11,7 +11,7 @@ use sql_schema::Edition;
 use sqlite::{Alter, Connection, Error, Row};
 use std::alloc::Global;
 
-/// What is made of rows that are taken one after another.
+/// What is made of rows that are taken one after another. A start that streams its tables will read them by it.
 pub trait Fold<T>: Sized {
     ghost use Rattle.std.specs.Prelude.{◌∷◌, ◌++◌, [], List, OnOk};
 
@@ -35,7 +35,7 @@ fn take_row<T: WholeRow + Drop, F: Fold<T>>(
     fold.take(read)
 }
 
-/// Takes all rows of a table into a fold, one at a time, by the query for the whole table.
+/// Takes all rows of a table into a fold, one at a time, by the query for the whole table. A start that streams its tables will call it.
 pub(crate) fn fold_table<S: Alter, T: WholeRow + Drop, F: Fold<T>>(
     alloc: Global,
     conn: &mut Connection<S>,

@@ -69,7 +69,7 @@ impl Fold<EntryRecord> for EntryParts {
     }
 }
 
-/// What all entries do to their accounts: the table is read once, one row at a time.
+/// What all entries do to their accounts: the table is read once, one row at a time. A start that streams its tables will call it.
 pub fn entry_parts<S: Alter>(
     alloc: Global,
     conn: &mut Connection<S>,

@@ -68,7 +68,9 @@ fn write_all<S: Alter>(
 /// The entry that begins these changes, with the line of its cash at the drawer of its teller, and the changes behind both. None where they
 /// begin otherwise.
 fn posting_of(plan: &[RowWrite]) -> Option<(&Entry, &CashLine, &[RowWrite])>
-    ensures { IfSome result (λ it. plan.now ≡ write.Entry it.0.now ∷ write.Line it.1.now ∷ it.2.now) }
+    ensures begin { IfSome result (λ it. plan.now ≡ write.Entry it.0.now ∷ write.Line it.1.now ∷ it.2.now) }
+    ensures drawer { IfSome result (λ it. it.1.now.place ≡ it.0.now.teller) }
+    ensures branch { IfSome result (λ it. it.1.now.branch ≡ it.0.now.branch) }
 {
     match plan {
         [RowWrite::Entry(entry), RowWrite::Line(line), rest @ ..]

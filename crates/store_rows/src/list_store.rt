@@ -1,11 +1,11 @@
 ghost use Rattle.std.specs.Prelude.{◌≡◌, ◌↔◌, ◌⊎◌, false, IfOk, IsTrue, OnErr, OnOk, Ok, Err};
 ghost use Rattle.std.specs.Rc.{rc_slice_items};
 ghost use Rattle.bank_books.specs.Effects.{applied};
-ghost use Rattle.bank_books.specs.Records.{account_record, branch_record, teller_record};
+ghost use Rattle.bank_books.specs.Records.{account_record, branch_record, slip_count, teller_record};
 ghost use Rattle.bank_books.specs.Version.{has_version_for};
 ghost use Rattle.bank_books.specs.WorldLists.{WorldLists};
 ghost use Rattle.bank_policy.specs.HeldRows.{relations_of, triples_of};
-ghost use Rattle.world_reads.specs.BookReads.{drawer, entries_of, entry, entry_at, next_shown, next_teller, release, roster, shown, undone, vault};
+ghost use Rattle.world_reads.specs.BookReads.{drawer, entries_of, entry, entry_at, next_shown, next_teller, release, roster, shown, slip, undone, vault};
 ghost use Rattle.world_reads.specs.PolicyListing.{next_policy, policy_rows};
 ghost use Rattle.world_reads.specs.PolicyReads.{is_certifier, is_set, set_count, triple_count, user_record};
 ghost use Rattle.store_rows.specs.ListStore.{ReadsList, list_status};
@@ -205,12 +205,16 @@ impl BookReads for ListStore {
 }
 
 impl SlipReads for ListStore {
-    fn slip(&mut self, alloc: Global, user: u32, number: u32) -> Result<Option<Slip>, Fault> {
+    fn slip(&mut self, alloc: Global, user: u32, number: u32) -> Result<Option<Slip>, Fault>
+        ensures { ReadsList self.old self.new result (λ w row. row ≡ slip w user number) }
+    {
         let row = slip(alloc, &self.world, user, number);
         self.counted(row)
     }
 
-    fn slips(&mut self, _alloc: Global, user: u32) -> Result<u64, Fault> {
+    fn slips(&mut self, _alloc: Global, user: u32) -> Result<u64, Fault>
+        ensures { ReadsList self.old self.new result (λ w n. n ≡ slip_count user w.slips) }
+    {
         Ok(slip_count(&self.world, user))
     }
 }

@@ -5,12 +5,10 @@ use Rattle.sqlite.specs.declared.types.Value.{Value}
 use Rattle.sqlite.specs.declared.types.Value.TheVariants.{Blob, Int, Text}
 use Rattle.sqlite.specs.Order.{Row}
 use Rattle.sqlite_value.specs.Order.{column}
+use Rattle.bank_terms.proofs.Procedures.{of_its_number, procedure_with}
 use Rattle.bank_terms.specs.Limits.{max_moment}
-use Rattle.bank_terms.specs.Procedure.{number_of}
 use Rattle.bank_terms.specs.declared.item.Kind.{Kind}
 use Rattle.bank_terms.specs.declared.item.Kind.TheVariants as kind
-use Rattle.bank_terms.specs.declared.procedure.Procedure.{Procedure}
-use Rattle.bank_terms.specs.declared.procedure.Procedure.TheVariants as procedure
 use Rattle.bank_policy.specs.declared.rows.Certifier.{Certifier}
 use Rattle.bank_policy.specs.declared.rows.Relation.{Relation}
 use Rattle.bank_policy.specs.declared.rows.Triple.{Triple}
@@ -70,26 +68,6 @@ kind_back kind.History = refl
 kind_back kind.Drawer = refl
 kind_back kind.Vault = refl
 
-abbrev pub procedure_of : ℕ → Procedure
-procedure_of n =
-    cond (n == 1) procedure.Post (cond (n == 2) procedure.Transfer (cond (n == 3) procedure.Correct (cond (n == 4) procedure.DrawerOn (cond (n == 5) procedure.DrawerOff (cond (n == 6) procedure.MoveCash
-    (cond (n == 7) procedure.NewAccount (cond (n == 8) procedure.Release (cond (n == 9) procedure.Balance (cond (n == 10) procedure.Statement (cond (n == 11) procedure.Accounts (cond (n == 12) procedure.Proof procedure.CloseDay)))))))))))
-
-procedure_back : (p : Procedure) → procedure_of (number_of p) ≡ p
-procedure_back procedure.Post = refl
-procedure_back procedure.Transfer = refl
-procedure_back procedure.Correct = refl
-procedure_back procedure.DrawerOn = refl
-procedure_back procedure.DrawerOff = refl
-procedure_back procedure.MoveCash = refl
-procedure_back procedure.NewAccount = refl
-procedure_back procedure.Release = refl
-procedure_back procedure.Balance = refl
-procedure_back procedure.Statement = refl
-procedure_back procedure.Accounts = refl
-procedure_back procedure.Proof = refl
-procedure_back procedure.CloseDay = refl
-
 abbrev pub entry_form_of : ℕ → EntryForm
 entry_form_of n = cond (n == 1) entry.Post (cond (n == 2) entry.TransferLeg entry.Correction)
 
@@ -135,32 +113,32 @@ pub member_tells : (m : MemberRow) → member_back (member_cells m) ≡ m
 member_tells m = λ i. record m { member = record m.member { kind = kind_back m.member.kind i } }
 
 abbrev pub relation_back : Row → Relation
-relation_back r = record { procedure = procedure_of (nat_of (column r 0)); set = nat_of (column r 1); by = nat_of (column r 2) }
+relation_back r = record { procedure = procedure_with (nat_of (column r 0)); set = nat_of (column r 1); by = nat_of (column r 2) }
 
 pub relation_tells : (r : Relation) → relation_back (relation_cells r) ≡ r
-relation_tells r = λ i. record r { procedure = procedure_back r.procedure i }
+relation_tells r = λ i. record r { procedure = of_its_number r.procedure i }
 
 abbrev pub triple_back : Row → Triple
-triple_back r = record { user = nat_of (column r 0); procedure = procedure_of (nat_of (column r 1)); set = nat_of (column r 2); limit = nat_of (column r 3); first = nat_of (column r 4); last = nat_of (column r 5) }
+triple_back r = record { user = nat_of (column r 0); procedure = procedure_with (nat_of (column r 1)); set = nat_of (column r 2); limit = nat_of (column r 3); first = nat_of (column r 4); last = nat_of (column r 5) }
 
 pub triple_tells : (t : Triple) → triple_back (triple_cells t) ≡ t
-triple_tells t = λ i. record t { procedure = procedure_back t.procedure i }
+triple_tells t = λ i. record t { procedure = of_its_number t.procedure i }
 
 abbrev pub triple_back_in : Edition → Row → Triple
-triple_back_in First r = record { user = nat_of (column r 0); procedure = procedure_of (nat_of (column r 1)); set = nat_of (column r 2); limit = nat_of (column r 3); first = 0; last = max_moment }
+triple_back_in First r = record { user = nat_of (column r 0); procedure = procedure_with (nat_of (column r 1)); set = nat_of (column r 2); limit = nat_of (column r 3); first = 0; last = max_moment }
 triple_back_in Second r = triple_back r
 triple_back_in Third r = triple_back r
 
 pub triple_tells_in : (e : Edition) (t : Triple) → TripleFitsIn e t → triple_back_in e (triple_cells_in e t) ≡ t
-triple_tells_in First t fits = λ i. record t { procedure = procedure_back t.procedure i; first = sym fits.1 i; last = sym fits.2 i }
+triple_tells_in First t fits = λ i. record t { procedure = of_its_number t.procedure i; first = sym fits.1 i; last = sym fits.2 i }
 triple_tells_in Second t fits = triple_tells t
 triple_tells_in Third t fits = triple_tells t
 
 abbrev pub certifier_back : Row → Certifier
-certifier_back r = record { user = nat_of (column r 0); procedure = procedure_of (nat_of (column r 1)) }
+certifier_back r = record { user = nat_of (column r 0); procedure = procedure_with (nat_of (column r 1)) }
 
 pub certifier_tells : (c : Certifier) → certifier_back (certifier_cells c) ≡ c
-certifier_tells c = λ i. record c { procedure = procedure_back c.procedure i }
+certifier_tells c = λ i. record c { procedure = of_its_number c.procedure i }
 
 abbrev pub branch_back : Row → BranchRecord
 branch_back r = record {
@@ -246,7 +224,7 @@ release_back r = record {
   branch = nat_of (column r 3);
   day = nat_of (column r 4);
   operation = record {
-    form = procedure_of (nat_of (column r 5));
+    form = procedure_with (nat_of (column r 5));
     members = int_of (column r 6) ∷ int_of (column r 7) ∷ int_of (column r 8) ∷ int_of (column r 9) ∷ int_of (column r 10) ∷ int_of (column r 11) ∷ int_of (column r 12) ∷ int_of (column r 13) ∷ [];
   };
   used = truth_of (column r 14);
@@ -265,21 +243,21 @@ eight (a ∷ b ∷ c ∷ d ∷ e ∷ f ∷ g ∷ h ∷ []) long = refl
 eight (a ∷ b ∷ c ∷ d ∷ e ∷ f ∷ g ∷ h ∷ x ∷ xs) long = absurd (omega (arith, long))
 
 pub release_tells : (r : Release) → ReleaseFits r → release_back (release_cells r) ≡ r
-release_tells r fits = λ i. record r { operation = record r.operation { form = procedure_back r.operation.form i; members = eight r.operation.members fits.members i }; used = truth_back r.used i }
+release_tells r fits = λ i. record r { operation = record r.operation { form = of_its_number r.operation.form i; members = eight r.operation.members fits.members i }; used = truth_back r.used i }
 
 abbrev pub slip_back : Row → SlipRow
 slip_back r = record {
   user = nat_of (column r 0);
   number = nat_of (column r 1);
   operation = record {
-    form = procedure_of (nat_of (column r 2));
+    form = procedure_with (nat_of (column r 2));
     members = int_of (column r 3) ∷ int_of (column r 4) ∷ int_of (column r 5) ∷ int_of (column r 6) ∷ int_of (column r 7) ∷ int_of (column r 8) ∷ int_of (column r 9) ∷ int_of (column r 10) ∷ [];
   };
   reply = bytes_of (column r 11);
 }
 
 pub slip_tells : (s : SlipRow) → SlipFits s → slip_back (slip_cells s) ≡ s
-slip_tells s fits = λ i. record s { operation = record s.operation { form = procedure_back s.operation.form i; members = eight s.operation.members fits.members i } }
+slip_tells s fits = λ i. record s { operation = record s.operation { form = of_its_number s.operation.form i; members = eight s.operation.members fits.members i } }
 
 abbrev pub slip_count_back : Row → SlipCount
 slip_count_back r = record { user = nat_of (column r 0); slips = nat_of (column r 2) }

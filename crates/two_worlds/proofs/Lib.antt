@@ -3,6 +3,7 @@ pub mod DrawerSum
 pub mod Forms
 pub mod Grown
 pub mod Judged
+pub mod Local
 pub mod Missing
 pub mod Places
 pub mod Plans

@@ -18,7 +18,7 @@ use Rattle.bank_terms.specs.declared.rule.Rule.TheVariants as rule
 use Rattle.bank_books.specs.Books.{Books}
 use Rattle.bank_books.specs.WorldLists.{WorldLists}
 use Rattle.bank_books.specs.declared.rows.Release.{Release}
-use Rattle.certify.proofs.CommandRules.{one_procedure}
+use Rattle.bank_terms.proofs.Procedures.{one_procedure}
 use Rattle.counter_ops.specs.Releasable.{branch_of, op_of}
 use Rattle.counter_ops.specs.Rows.{row_of}
 use Rattle.counter_ops.specs.declared.op.Op.{Op}

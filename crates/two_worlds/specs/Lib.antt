@@ -1,5 +1,6 @@
 pub mod Agree
 pub mod Along
 pub mod Laws
+pub mod Local
 pub mod View
 pub mod Views

@@ -3,6 +3,7 @@
 
 ghost use Rattle.two_worlds.specs.Along.{TwoWorldsAlong};
 ghost use Rattle.two_worlds.specs.Laws.{TwoWorlds, Undisturbed};
+ghost use Rattle.two_worlds.specs.Local.{AgreementIsLocal, DeniedIsOutside};
 ghost use Rattle.two_worlds.specs.Views.{MissingIsNothing, ViewsGoByTurn};
 
 /// Two banks that agree on the row of a user, on his triples and the relations of a procedure with their sets, on the release
@@ -25,6 +26,18 @@ pub fn two_worlds_along()
 /// no slip where it bears one of the same user.
 pub fn undisturbed()
     ensures { Undisturbed }
+{}
+
+/// Agreement asks for no more than it names. A bank agrees with what it was where it has one more account, which the operation does
+/// not touch, nor its home, and which the user does not list; one more user who has no part in it; one more triple of another user
+/// or for another procedure; one more relation of another procedure.
+pub fn agreement_is_local()
+    ensures { AgreementIsLocal }
+{}
+
+/// Who is denied by relations, by triples or by their limit asks for what is outside of them.
+pub fn denied_is_outside()
+    ensures { DeniedIsOutside }
 {}
 
 /// Nothing is said of an item that is not there.

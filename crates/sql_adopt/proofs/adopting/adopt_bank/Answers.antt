@@ -1,4 +1,5 @@
 use Rattle.sqlite.specs.Held.{state}
+use Rattle.sql_schema.specs.Schema.{newest}
 use Rattle.sql_schema.proofs.StepLemmas.{survived}
 use Rattle.sql_schema.proofs.StepLemmas.{handed_on}
 use Rattle.sql_adopt.specs.Refused.{IsNamedBy, IsOfStore, IsRefused}
@@ -10,7 +11,7 @@ pub returns-clause-adopts : goal.returns-clause-adopts
 returns-clause-adopts g c clean file =
     let old = state g.S.Store c.args.conn.now in
     let new = state g.S.Store c.read_bank.new.conn in
-    adopted old new c.in_ok-read_bank.field-0.world file (c.in_ok-read_bank.ensures.found clean file) (c.in_ok-read_bank.ensures.left clean file)
+    adopted old new c.in_ok-read_bank.field-0.world file (c.in_ok-read_bank.ensures.found clean file) (c.in_ok-read_bank.ensures.left clean newest file)
     (λ trees may. g.met.S.Store.settled c.args.conn.now.store trees (c.in_ok-read_bank.ensures.open clean) (survived old new c.read_bank.ensures.survives clean trees may))
 
 pub returns-in_err-read_bank-clause-refused : goal.returns-in_err-read_bank-clause-refused

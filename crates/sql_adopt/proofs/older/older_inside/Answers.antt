@@ -3,7 +3,7 @@ use Rattle.std.specs.Prelude.{IsSome, ⊤}
 use Rattle.sqlite.specs.Held.{state}
 use Rattle.sql_schema.specs.Held.{HoldsSheetsIn}
 use Rattle.sql_schema.specs.Readable.{AreReadable}
-use Rattle.sql_schema.proofs.StepLemmas.{early}
+use Rattle.sql_schema.proofs.StepLemmas.{early, none_ok}
 use Rattle.book_kept.specs.Sheets.{Sheets}
 use Rattle.sql_adopt.specs.Adopted.{AreFileRows}
 use Rattle.sql_adopt.specs.Refused.{IsOfStore, IsRefusedIn}
@@ -70,11 +70,22 @@ returns-clause-takes g c e older bears clean has s holds readable =
       tt,
     )
 
-pub returns-clause-open : goal.returns-clause-open
-returns-clause-open g c clean e has =
+pub returns-in_err-edition-clause-open : goal.returns-in_err-edition-clause-open
+returns-in_err-edition-clause-open g c clean = (none_ok c.from_residual.result _ c.from_residual.ensures.0, (c.in_err-edition.ensures.open clean).1)
+
+pub returns-in_err-rows-clause-open : goal.returns-in_err-rows-clause-open
+returns-in_err-rows-clause-open g c clean =
     let s1 = state g.S.Store c.told_edition.new.tx.conn.now in
     let s2 = state g.S.Store c.rows_inside.new.tx.conn.now in
-    (c.in_ok-edition.ensures.whole e (early s1 s2 _ c.rows_inside.ensures.survives clean) has).1.0.was_open
+    let was_open = (c.in_ok-edition.ensures.open (early s1 s2 _ c.rows_inside.ensures.survives clean)).0 in
+    (none_ok c.from_residual-in_err-rows.result _ c.from_residual-in_err-rows.ensures.0, λ _. was_open)
+
+pub returns-clause-open : goal.returns-clause-open
+returns-clause-open g c clean =
+    let s1 = state g.S.Store c.told_edition.new.tx.conn.now in
+    let s2 = state g.S.Store c.rows_inside.new.tx.conn.now in
+    let was_open = (c.in_ok-edition.ensures.open (early s1 s2 _ c.rows_inside.ensures.survives clean)).0 in
+    (was_open, λ _. was_open)
 
 pub returns-in_err-edition-clause-other : goal.returns-in_err-edition-clause-other
 returns-in_err-edition-clause-other g c clean e has version row =

@@ -3,7 +3,7 @@ use Rattle.std.proofs.Common.{◌≡◌, ◌≢◌, ℕ, Result, Ok, Err, IfErr,
 use Rattle.std.specs.Prelude.{IsSome}
 use Rattle.sqlite.specs.Effect.{IsDatabase}
 use Rattle.sqlite.specs.Held.{state}
-use Rattle.sqlite.specs.State.{HasCleanDisk, KeepsCommit}
+use Rattle.sqlite.specs.State.{HasCleanDisk, IsLive}
 use Rattle.sqlite.specs.Tree.{Trees}
 use Rattle.sql_schema.specs.Held.{HoldsSheetsIn}
 use Rattle.sql_schema.specs.Readable.{AreReadable}
@@ -14,7 +14,7 @@ use Rattle.sql_whole.specs.Whole.{HasBankTables}
 use Rattle.sql_adopt.specs.Adopted.{AreFileRows, IsBankFileIn, IsBankRow, IsLeft}
 use Rattle.sql_adopt.specs.Older.{BearsNoOther}
 use Rattle.sql_adopt.specs.Refused.{IsOfOther, IsOfStore, IsRefusedIn}
-use Rattle.sql_adopt.proofs.LeftLemmas.{left_by}
+use Rattle.sql_adopt.proofs.LeftLemmas.{left_by, trees_kept}
 use Rattle.sql_adopt.proofs.older.read_older_file.Goals as goal
 
 on_ok : {X E A B : Type 0} (r : Result X E) → (A → B) → OnOk r A → OnOk r B
@@ -72,21 +72,21 @@ returns-clause-other g c clean other = told other.file other.version other.row
         c.older_inside-rows.ensures.other was_clean newest has version same
 
 pub returns-clause-left : goal.returns-clause-left
-returns-clause-left g c clean e older = told older.file older.row
-  where
-    told : IsBankFileIn e (state g.S.Store c.args.conn.now) → BearsNoOther e (state g.S.Store c.args.conn.now).now.trees → IsLeft (state g.S.Store c.args.conn.now) (state g.S.Store c.conn-1.given.0)
-    told file bears =
-        let inside = state g.S.Store c.transaction-tx.result.conn.now in
-        let read = state g.S.Store c.older_inside-rows.new.tx.conn.now in
-        let has : HasBankTables e inside = search rules in
-        let was_clean : HasCleanDisk read = search rules in
-        let trees : (state g.S.Store c.args.conn.now).now.trees ≡ inside.now.trees = search rules in
-        let keeps : KeepsCommit inside read = (c.older_inside-rows.ensures.whole e (subst (BearsNoOther e) trees bears) was_clean has).1 in
-        let was_open : IsTrue inside.is_open → IsTrue (state g.S.Store c.args.conn.now).is_open = search rules in
-        let committed : inside.committed ≡ (state g.S.Store c.args.conn.now).committed = search rules in
-        let end : state g.S.Store c.conn-1.given.0 ≡ state g.S.Store c.rollback.new.self.0 = search rules in
-        subst (IsLeft (state g.S.Store c.args.conn.now)) (sym end)
-        (left_by (state g.S.Store c.args.conn.now) inside read _ was_open committed keeps (c.rollback.ensures.undone (subst HasCleanDisk end clean)) file.settled)
+returns-clause-left g c clean is file =
+    let old = state g.S.Store c.args.conn.now in
+    let begun = state g.S.Store c.transaction-tx.result.conn.now in
+    let read = state g.S.Store c.older_inside-rows.new.tx.conn.now in
+    let was_clean : HasCleanDisk read = search rules in
+    let began : IsTrue begun.is_open → IsTrue old.is_open = search rules in
+    let committed : begun.committed ≡ old.committed = search rules in
+    let end : state g.S.Store c.conn-1.given.0 ≡ state g.S.Store c.rollback.new.self.0 = search rules in
+    let stayed = (c.older_inside-rows.ensures.open was_clean).1 in
+    let trees : IsTrue read.is_open → read.committed.trees ≡ begun.committed.trees =
+    λ is_open. trees_kept begun read c.older_inside-rows.ensures.survives was_clean (g.met.S.Store.stays c.older_inside-rows.new.tx.conn.now.store is_open)
+    (λ db may. g.met.S.Store.settled c.transaction-tx.result.conn.now.store db (stayed is_open) may)
+    in
+    subst (IsLeft old) (sym end)
+    (left_by is old begun read _ file began stayed committed trees (c.rollback.ensures.undone (subst HasCleanDisk end clean)) c.schema-schema.ensures.live (subst IsLive end c.schema-left.ensures.live))
 
 pub returns-clause-sound : goal.returns-clause-sound
 returns-clause-sound g c clean e older = told older.file
@@ -98,4 +98,4 @@ returns-clause-sound g c clean e older = told older.file
         let was_clean : HasCleanDisk (state g.S.Store c.older_inside-rows.new.tx.conn.now) = search rules in
         let was_open : IsTrue inside.is_open → IsTrue (state g.S.Store c.args.conn.now).is_open = search rules in
         let sound : IsTrue (state g.S.Store c.args.conn.now).is_open → IsDatabase (state g.S.Store c.args.conn.now).now = search rules in
-        on_ok c.older_inside-rows.result (λ alive. sound (was_open alive)) (c.older_inside-rows.ensures.open was_clean e has)
+        on_ok c.older_inside-rows.result (λ alive. sound (was_open alive)) (c.older_inside-rows.ensures.open was_clean).0

@@ -1,6 +1,6 @@
 use Rattle.sqlite.specs.Held.{state}
 use Rattle.sql_schema.specs.Held.Sheet.{bank as in_bank}
-use Rattle.sql_schema.proofs.StepLemmas.{early}
+use Rattle.sql_schema.proofs.StepLemmas.{always_ok, early, none_ok}
 use Rattle.sql_whole.specs.Faults.{IsOfDatabase}
 use Rattle.sql_adopt.specs.Adopted.{IsBankNumber}
 use Rattle.sql_adopt.proofs.ReadingLemmas.{asked_gave, asked_then, asked_there, range_refused, reads_version, store_refused}
@@ -66,3 +66,20 @@ returns-in-Err-clause-other g c clean e has version row differs =
     let s1 = state g.S.Store c.told_row.new.tx.conn.now in
     let s2 = state g.S.Store c.ask_tables.new.tx.conn.now in
     absurd (c.in_ok-row.ensures.other (early s1 s2 _ c.ask_tables.ensures.survives clean) e has version row differs)
+
+pub returns-in_err-row-clause-open : goal.returns-in_err-row-clause-open
+returns-in_err-row-clause-open g c clean = (none_ok c.from_residual.result _ c.from_residual.ensures.0, (c.in_err-row.ensures.open clean).1)
+
+pub returns-in-Ok-clause-open : goal.returns-in-Ok-clause-open
+returns-in-Ok-clause-open g c clean =
+    let s1 = state g.S.Store c.told_row.new.tx.conn.now in
+    let s2 = state g.S.Store c.ask_tables.new.tx.conn.now in
+    let was_open = (c.in_ok-row.ensures.open (early s1 s2 _ c.ask_tables.ensures.survives clean)).0 in
+    (always_ok c.version_in.result _ was_open, λ _. was_open)
+
+pub returns-in-Err-clause-open : goal.returns-in-Err-clause-open
+returns-in-Err-clause-open g c clean =
+    let s1 = state g.S.Store c.told_row.new.tx.conn.now in
+    let s2 = state g.S.Store c.ask_tables.new.tx.conn.now in
+    let was_open = (c.in_ok-row.ensures.open (early s1 s2 _ c.ask_tables.ensures.survives clean)).0 in
+    (tt, λ _. was_open)

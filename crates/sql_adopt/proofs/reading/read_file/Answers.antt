@@ -1,27 +1,31 @@
 -- What search finds for itself, asked for here so that a mistake is refused soon.
 use Rattle.std.proofs.Common.{◌≡◌, ◌≢◌, ℕ, IsErrAnd, IsTrue, rules, subst, sym}
 use Rattle.sqlite.specs.Held.{state}
-use Rattle.sqlite.specs.State.{HasCleanDisk, KeepsCommit}
+use Rattle.sqlite.specs.State.{HasCleanDisk, IsLive}
 use Rattle.sql_schema.specs.Cells.{edition_number}
 use Rattle.sql_schema.specs.declared.edition.Edition.{Edition}
 use Rattle.sql_whole.specs.Whole.{HasBankTables}
 use Rattle.sql_adopt.specs.Adopted.{IsBankFileIn, IsBankRow, IsLeft}
 use Rattle.sql_adopt.specs.Refused.{IsOfOther}
-use Rattle.sql_adopt.proofs.LeftLemmas.{left_by}
+use Rattle.sql_adopt.proofs.LeftLemmas.{left_by, trees_kept}
 use Rattle.sql_adopt.proofs.reading.read_file.Goals as goal
 
 pub returns-clause-left : goal.returns-clause-left
-returns-clause-left g c clean file =
+returns-clause-left g c clean is file =
+    let old = state g.S.Store c.args.conn.now in
     let begun = state g.S.Store c.transaction-tx.result.conn.now in
     let read = state g.S.Store c.rows_inside-rows.new.tx.conn.now in
-    let has : HasBankTables c.args.edition begun = search rules in
     let was_clean : HasCleanDisk read = search rules in
-    let keeps : KeepsCommit begun read = (c.rows_inside-rows.ensures.whole was_clean has).1 in
-    let was_open : IsTrue begun.is_open → IsTrue (state g.S.Store c.args.conn.now).is_open = search rules in
-    let committed : begun.committed ≡ (state g.S.Store c.args.conn.now).committed = search rules in
+    let began : IsTrue begun.is_open → IsTrue old.is_open = search rules in
+    let committed : begun.committed ≡ old.committed = search rules in
     let end : state g.S.Store c.conn-1.given.0 ≡ state g.S.Store c.rollback.new.self.0 = search rules in
-    subst (IsLeft (state g.S.Store c.args.conn.now)) (sym end)
-    (left_by (state g.S.Store c.args.conn.now) begun read _ was_open committed keeps (c.rollback.ensures.undone (subst HasCleanDisk end clean)) file.settled)
+    let stayed = (c.rows_inside-rows.ensures.open was_clean).1 in
+    let trees : IsTrue read.is_open → read.committed.trees ≡ begun.committed.trees =
+    λ is_open. trees_kept begun read c.rows_inside-rows.ensures.survives was_clean (g.met.S.Store.stays c.rows_inside-rows.new.tx.conn.now.store is_open)
+    (λ db may. g.met.S.Store.settled c.transaction-tx.result.conn.now.store db (stayed is_open) may)
+    in
+    subst (IsLeft old) (sym end)
+    (left_by is old begun read _ file began stayed committed trees (c.rollback.ensures.undone (subst HasCleanDisk end clean)) c.schema-schema.ensures.live (subst IsLive end c.schema-left.ensures.live))
 
 pub returns-clause-other : goal.returns-clause-other
 returns-clause-other g c clean other = told other.is other.file other.version other.row other.differs

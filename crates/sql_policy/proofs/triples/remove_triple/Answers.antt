@@ -7,7 +7,7 @@ use Rattle.bank_terms.specs.Procedure.{number_of}
 use Rattle.bank_policy.specs.PolicyKeys.{triple_key, triple_number}
 use Rattle.sql_schema.proofs.StepLemmas.{write_steps}
 use Rattle.sql_policy.specs.Texts.{remove_triple_text}
-use Rattle.sql_schema.proofs.ProcedureNumbers.{small_number}
+use Rattle.bank_terms.proofs.Procedures.{small_number}
 use Rattle.sql_policy.proofs.TripleLemmas.{removes_triple}
 use Rattle.sql_policy.proofs.triples.remove_triple.Goals as goal
 

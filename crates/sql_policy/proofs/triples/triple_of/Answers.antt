@@ -4,7 +4,7 @@ use Rattle.bank_terms.specs.Procedure.{number_of}
 use Rattle.bank_policy.specs.PolicyKeys.{triple_key, triple_number}
 use Rattle.sql_schema.specs.Held.Sheet.{triples as in_triples}
 use Rattle.sql_schema.proofs.PickedRows.{found_fits}
-use Rattle.sql_schema.proofs.ProcedureNumbers.{small_number}
+use Rattle.bank_terms.proofs.Procedures.{small_number}
 use Rattle.sql_policy.proofs.TripleLemmas.{selects_triple, triple_is}
 use Rattle.sql_policy.proofs.triples.triple_of.Goals as goal
 

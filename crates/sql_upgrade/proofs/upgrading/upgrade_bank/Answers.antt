@@ -1,10 +1,11 @@
-use Rattle.std.proofs.Common.{subst, sym}
+use Rattle.std.proofs.Common.{◌≡◌, IsTrue, rules}
 use Rattle.sqlite.specs.Held.{state}
 use Rattle.sql_schema.proofs.StepLemmas.{handed_on}
 use Rattle.sql_adopt.specs.Refused.{IsNamedBy, IsOfStore, IsRefusedIn}
 use Rattle.sql_adopt.proofs.TakenLemmas.{handed_other}
-use Rattle.sql_upgrade.proofs.CarryLemmas.{carried_over, carries, is_of, left_then, survives_more}
-use Rattle.sql_schema.proofs.StepLemmas.{early}
+use Rattle.sql_upgrade.proofs.CarryLemmas.{carried_over, carries, survives_more}
+use Rattle.sql_schema.proofs.StepLemmas.{early, survived}
+use Rattle.sql_adopt.proofs.LeftLemmas.{left_with}
 use Rattle.sql_upgrade.proofs.upgrading.upgrade_bank.Goals as goal
 
 pub returns-in-Ok-clause-carries : goal.returns-in-Ok-clause-carries
@@ -14,7 +15,7 @@ returns-in-Ok-clause-carries g c clean e file =
     let new = state g.S.Store c.carry_bank.new.conn in
     carries c.in_ok-older.older.edition old mid new c.in_ok-older.older.bank.world c.read_older_bank.ensures.survives c.in_ok-older.ensures.found c.in_ok-older.ensures.left c.carry_bank.ensures.crash clean e file
     (c.in-Ok.ensures.made clean)
-    (λ of trees may. g.met.S.Store.settled c.carry_bank.new.conn.store trees (c.in-Ok.ensures.open clean of) may)
+    (λ trees may. g.met.S.Store.settled c.carry_bank.new.conn.store trees (c.in-Ok.ensures.open clean) may)
 
 pub returns-in_err-older-clause-refused : goal.returns-in_err-older-clause-refused
 returns-in_err-older-clause-refused g c clean e file =
@@ -33,13 +34,17 @@ returns-in_err-older-clause-other g c clean other =
     handed_other c.from_residual.result c.in_err-older.field-0.0 c.from_residual.ensures.1 (c.in_err-older.ensures.other clean other)
 
 pub returns-clause-unchanged : goal.returns-clause-unchanged
-returns-clause-unchanged g c clean e file =
+returns-clause-unchanged g c clean is file =
     let old = state g.S.Store c.args.conn.now in
     let mid = state g.S.Store c.read_older_bank.new.conn in
     let new = state g.S.Store c.carry_bank.new.conn in
     let was_clean = early mid new _ c.carry_bank.ensures.crash clean in
-    left_then old mid new (c.in_ok-older.ensures.left was_clean e file)
-    (c.in-Err.ensures.unmade clean (is_of c.in_ok-older.older.edition old mid new c.in_ok-older.older.bank.world c.read_older_bank.ensures.survives c.in_ok-older.ensures.found c.in_ok-older.ensures.left c.carry_bank.ensures.crash was_clean e file))
+    let was_open : IsTrue old.is_open = c.in_ok-older.ensures.open was_clean in
+    let trees : IsTrue new.is_open → new.committed.trees ≡ old.committed.trees =
+    λ is_open. g.met.S.Store.settled c.args.conn.now.store new.committed.trees was_open (survived old mid c.read_older_bank.ensures.survives was_clean new.committed.trees (c.in-Err.ensures.unmade clean is_open))
+    in
+    let idle : IsTrue c.is_autocommit-idle.result = search rules in
+    left_with is old new file (λ _. was_open) (c.is_autocommit-idle.ensures.settled idle) trees c.schema-schema.ensures.live c.schema-left.ensures.live
 
 pub returns-in_err-older-clause-crash : goal.returns-in_err-older-clause-crash
 returns-in_err-older-clause-crash g c = survives_more (state g.S.Store c.args.conn.now) (state g.S.Store c.read_older_bank.new.conn) _ c.read_older_bank.ensures.survives

@@ -17,7 +17,7 @@ behind first mid last plan rest x y result is two over after clean inside w hold
 
 pub returns-in_ok-write_posting-in-Some-clause-moves : goal.returns-in_ok-write_posting-in-Some-clause-moves
 returns-in_ok-write_posting-in-Some-clause-moves g c =
-    behind _ _ _ c.args.plan.now _ _ _ c.write_all.result c.in-Some.ensures c.in_ok-write_posting-in-Some.ensures.moves c.write_all.ensures.survives c.write_all.ensures.moves
+    behind _ _ _ c.args.plan.now _ _ _ c.write_all.result c.in-Some.ensures.begin c.in_ok-write_posting-in-Some.ensures.moves c.write_all.ensures.survives c.write_all.ensures.moves
 
 pub returns-in_ok-write_legs-in-Some-legs_of-clause-moves : goal.returns-in_ok-write_legs-in-Some-legs_of-clause-moves
 returns-in_ok-write_legs-in-Some-legs_of-clause-moves g c =

@@ -1,0 +1,353 @@
+"""A branch in a temporary folder, from nothing: certificates, a bank that is started again when it ends, the front, and clients."""
+import contextlib
+import http.client
+import json
+import os
+import random
+import re
+import shutil
+import signal
+import socket
+import sqlite3
+import ssl
+import subprocess
+import tempfile
+import threading
+import time
+from pathlib import Path
+
+HERE = Path(__file__).resolve().parent
+PROGRAM = HERE.parent / "crates/bank_cli/out/bank_cli"
+TELLERS = ["amy", "ben", "cai", "dot", "eli", "fay"]
+# An officer, two certifiers and a supervisor, by their badges; the tellers are users 7 to 12.
+OTHERS = {"olga": 1, "carl": 2, "cora": 3, "sue": 13}
+USERS = {**OTHERS, **{badge: 7 + i for i, badge in enumerate(TELLERS)}}
+PROCEDURES = ("post transfer correct drawer-on drawer-off move-cash new-account release balance statement accounts proof "
+              "close-day").split()
+# The columns that hold no moment, so that two runs can be compared row by row.
+COLUMNS = {
+    "accounts": "*", "branches": "*", "tellers": "*", "users": "*", "slip_counts": "*", "proofs": "*", "releases": "*",
+    "slips": "user_no, slip, form, member1, member2, member3, member4, CAST(reply AS TEXT)",
+    "entries": "branch, number, account, turn, teller, delta, day, user_no, form, partner, undoes, balance_after",
+    "lines": "branch, number, place, amount, form, day, user_no",
+}
+# Debian has nginx where only root looks.
+PATH = os.environ.get("PATH", "/usr/bin:/bin") + ":/usr/sbin:/sbin"
+PACKAGES = {"nginx": "nginx-light", "openssl": "openssl", "curl": "curl"}
+NOBODY = 65534
+PORTS, PORTS_LOCK = set(), threading.Lock()
+# Changes of the front's settings that lift its limits per certificate.
+NO_RATE = [("limit_req zone=by_certificate burst=40 nodelay;", ""), ("limit_conn open_by_certificate 20;", "")]
+
+
+class Wrong(Exception):
+    """What was found is not what is wanted."""
+
+
+def require(found, wanted, what):
+    if found != wanted:
+        raise Wrong(f"{what}: {found!r}, and not {wanted!r}")
+
+
+def missing():
+    """What a branch lacks on this machine, each with the package of Debian that has it."""
+    echo = re.search(r"^load_module (\S+);", (HERE / "front/nginx.conf").read_text(), re.MULTILINE)[1]
+    found = [f"{it} (package {package})" for it, package in PACKAGES.items() if not shutil.which(it, path=PATH)]
+    return found + ([] if os.path.exists(echo) else [f"{echo} (package libnginx-mod-http-echo)"])
+
+
+def free_port():
+    """A port of 127.0.0.1 that nobody has, no other branch here gets, and no connection takes for its own end: Linux takes those
+    from 32768 on."""
+    while True:
+        port = random.randrange(10000, 32768)
+        with contextlib.suppress(OSError), PORTS_LOCK, socket.socket() as tried:
+            tried.bind(("127.0.0.1", port))
+            if port not in PORTS:
+                PORTS.add(port)
+                return port
+
+
+def write_lists(folder):
+    """The opening lists of a branch with six tellers, each with a drawer of their own."""
+    folder.mkdir()
+
+    def put(name, heading, records):
+        lines = [heading, *(",".join(map(str, record)) for record in records)]
+        (folder / f"{name}.csv").write_text("\n".join(lines) + "\n")
+
+    count = len(TELLERS)
+    put("accounts", "account,home,balance,floor", [(101 + i, 1, 50000, 0) for i in range(count)])
+    put("branches", "branch,balance,cash", [(1, 50000 * count, 1000000)])
+    put("tellers", "teller,branch,balance", [(11 + i, 1, 50000) for i in range(count)])
+    put("users", "user,name,officer", [(number, badge.capitalize(), int(badge == "olga")) for badge, number in USERS.items()])
+    put("badges", "badge,user", USERS.items())
+    put("certifiers", "user,procedure", [(user, name) for user in (2, 3) for name in PROCEDURES])
+    put("sets", "set,kind,low,high", [
+        (1, "account", 101, 100 + count), (1, "teller", 11, 10 + count), (1, "branch", 1, 1), (1, "history", 1, 1),
+        (1, "drawer", 11, 10 + count), (1, "vault", 1, 1), (2, "account", 101, 100 + count)])
+    put("relations", "procedure,set,by", [(name, 2 if name == "accounts" else 1, 2) for name in PROCEDURES])
+    limits = {"post": 999999, "transfer": 999999, "drawer-on": 100000, "drawer-off": 0, "balance": 0, "statement": 0}
+    put("triples", "user,procedure,set,limit", [
+        *((USERS[badge], name, 1, limit) for badge in TELLERS for name, limit in limits.items()),
+        *((USERS[badge], "accounts", 2, 0) for badge in TELLERS),
+        (13, "proof", 1, 0), (13, "close-day", 1, 0)])
+
+
+def become_nobody():
+    os.setgroups([])
+    os.setgid(NOBODY)
+    os.setuid(NOBODY)
+
+
+class Files:
+    """What a branch needs of this folder and the program, in a temporary folder of an unprivileged user, who this process becomes
+    where it is root's. They are copied before, as that user may have no right to read this folder."""
+
+    def __init__(self, program):
+        os.environ["PATH"] = PATH
+        self.top = Path(tempfile.mkdtemp(prefix="branch-"))
+        shutil.copy(program, self.top / "bank_cli")
+        shutil.copy(HERE / "certificates", self.top)
+        for folder in ("front", "page", "units"):
+            shutil.copytree(HERE / folder, self.top / folder)
+        if os.geteuid() == 0:
+            for folder, _, names in os.walk(self.top):
+                for path in (folder, *(os.path.join(folder, name) for name in names)):
+                    os.chown(path, NOBODY, NOBODY)
+            become_nobody()
+        os.environ["HOME"] = str(self.top)
+
+    def make_certificates(self):
+        self.certificates("begin", "localhost")
+        for badge in [*USERS, "lost", "unlisted"]:
+            self.certificates("teller", badge)
+
+    def certificates(self, command, *arguments):
+        subprocess.run([self.top / "certificates", command, self.top / "ca", *arguments], check=True, capture_output=True)
+
+    def serial(self, name):
+        """The serial number of a teller's certificate."""
+        command = ["openssl", "x509", "-noout", "-serial", "-in", self.top / "ca/tellers" / f"{name}.pem"]
+        return subprocess.run(command, check=True, capture_output=True, text=True).stdout.strip().partition("=")[2]
+
+    def context(self, who, protocols=()):
+        """What a client needs for TLS that shows the certificate of a badge."""
+        context = ssl.create_default_context(cafile=self.top / "ca/front/authority.pem")
+        context.load_cert_chain(self.top / f"ca/tellers/{who}.pem", self.top / f"ca/tellers/{who}.key")
+        if protocols:
+            context.set_alpn_protocols(protocols)
+        return context
+
+
+class Client:
+    """A teller who keeps one connection to the front, and makes another where that was ended."""
+
+    def __init__(self, branch, who):
+        self.connection = http.client.HTTPSConnection("localhost", branch.port, timeout=90, context=branch.files.context(who))
+        self.fields = {"Bank-Session": str(branch.sessions[who])}
+
+    def ask(self, path, body, pause=0.0):
+        """The status and the body of the reply; the status is 0 where none came. The request's body is sent so many seconds after
+        its head."""
+        text = json.dumps(body).encode()
+        try:
+            self.connection.putrequest("POST", path)
+            for name, value in {**self.fields, "Content-Length": str(len(text))}.items():
+                self.connection.putheader(name, value)
+            self.connection.endheaders()
+            time.sleep(pause)
+            self.connection.send(text)
+            reply = self.connection.getresponse()
+            return reply.status, reply.read().decode()
+        except (OSError, http.client.HTTPException):
+            self.connection.close()
+            return 0, ""
+
+
+class Branch:
+    """A front and a bank. The bank is started again when it ends, as systemd does it.
+
+    `requests` is how many the bank serves before it ends by itself, `delay` the seconds until it is started again, `changes` are
+    pairs of texts in the front's settings, old and new; the bank's file is in `room`, where one is given.
+    """
+
+    def __init__(self, files, name, requests=1000000, changes=(), bank=True, delay=0.2, room=None):
+        self.files, self.requests, self.delay = files, requests, delay
+        self.folder = files.top / name
+        self.port, self.bank_port = free_port(), free_port()
+        self.url = f"https://localhost:{self.port}"
+        self.sessions = {}
+        self.kept, self.bank, self.starts = False, None, 0
+        for part in ("etc", "log", "run"):
+            (self.folder / part).mkdir(parents=True)
+        self.write_settings(changes)
+        self.nginx = ["nginx", "-p", self.folder, "-c", self.folder / "etc/nginx.conf", "-e", self.folder / "log/error.log"]
+        tested = subprocess.run([*self.nginx, "-t"], capture_output=True, text=True)
+        require((tested.returncode, "[warn]" in tested.stderr), (0, False), f"nginx -t said {tested.stderr!r}")
+        self.front = subprocess.Popen([*self.nginx, "-g", "daemon off;"], stdin=subprocess.DEVNULL, stderr=subprocess.DEVNULL)
+        self.await_front()
+        write_lists(self.folder / "lists")
+        self.file = (room or self.folder) / "bank"
+        if bank:
+            self.run_bank("init", self.file, self.folder / "lists", says="made\n")
+            self.keep()
+            for badge in TELLERS:
+                self.begin(badge)
+
+    def write_settings(self, changes):
+        """The front's settings, with the folders and ports of this branch."""
+        etc = self.folder / "etc"
+        for file in [*(self.files.top / "ca/front").iterdir(), *(self.files.top / "front").iterdir()]:
+            shutil.copy(file, etc)
+        shutil.copytree(self.files.top / "page", etc / "page")
+        (etc / "origins.map").write_text(f'"{self.url}" own;\n')
+        swaps = [*changes, ("/run/bank/", f"{self.folder}/run/"), ("/etc/bank-front", str(etc)),
+                 ("/var/log/bank-front", str(self.folder / "log")), ("/run/bank-front", str(self.folder / "run")),
+                 ("0.0.0.0:443", f"127.0.0.1:{self.port}"), ("8475", str(self.bank_port))]
+        for file in etc.glob("*.conf"):
+            text = file.read_text()
+            for old, new in swaps:
+                text = text.replace(old, new)
+            file.write_text(text)
+
+    def await_front(self):
+        end = time.time() + 20
+        while time.time() < end:
+            with contextlib.suppress(ConnectionError), socket.create_connection(("127.0.0.1", self.port)):
+                return
+            time.sleep(0.05)
+        raise Wrong("the front does not listen")
+
+    def run_bank(self, *arguments, says=""):
+        ran = subprocess.run([self.files.top / "bank_cli", *arguments], capture_output=True, text=True, stdin=subprocess.DEVNULL)
+        require((ran.returncode, ran.stdout, ran.stderr), (0, says, ""), f"bank_cli {arguments[0]}")
+
+    # ---- the bank, as systemd keeps it
+
+    def keep(self):
+        self.kept = True
+        started = threading.Event()
+        self.keeper = threading.Thread(target=self._keep, args=(started,), daemon=True)
+        self.keeper.start()
+        require(started.wait(60), True, "the bank has said that it listens")
+
+    def _keep(self, started):
+        while self.kept:
+            arguments = ["serve", self.file, "--badges", self.folder / "lists/badges.csv", "--port", str(self.bank_port)]
+            self.bank = subprocess.Popen([self.files.top / "bank_cli", *arguments, "--requests", str(self.requests)],
+                                         stdin=subprocess.DEVNULL, stdout=subprocess.PIPE, stderr=subprocess.DEVNULL)
+            if self.bank.stdout.readline() == b"listening %d\n" % self.bank_port:
+                self.starts += 1
+                started.set()
+            self.bank.wait()
+            self.bank.stdout.close()
+            if self.kept:
+                time.sleep(self.delay)
+
+    def end_bank(self, how=signal.SIGKILL):
+        """Ends the bank for good."""
+        self.kept = False
+        while self.keeper.is_alive(): # it may be starting another
+            with contextlib.suppress(ProcessLookupError):
+                self.bank.send_signal(how)
+            self.keeper.join(0.2)
+
+    def signal_bank(self, how):
+        with contextlib.suppress(ProcessLookupError):
+            self.bank.send_signal(how)
+
+    def restart_by_order(self):
+        """Ends the bank, and waits until it is there again, as `systemctl restart bank` does it."""
+        def unit(script):
+            environment = {"MAINPID": str(self.bank.pid), "RUNTIME_DIRECTORY": str(self.folder / "run"), "BANK_PORT": str(self.bank_port)}
+            subprocess.run([self.files.top / "units" / script], env={"PATH": PATH, **environment}, check=True)
+
+        before = self.starts
+        unit("drain")
+        self.signal_bank(signal.SIGTERM)
+        end = time.time() + 60
+        while self.starts == before:
+            require(time.time() < end, True, "the bank has started again")
+            time.sleep(0.02)
+        unit("ready")
+
+    # ---- asking by curl
+
+    def curl(self, who, *more, version="--http1.1"):
+        """The arguments of a curl that shows the certificate of a badge."""
+        ca = self.files.top / "ca"
+        shown = ["--cert", ca / f"tellers/{who}.pem", "--key", ca / f"tellers/{who}.key"] if who else []
+        return ["curl", "-sS", version, "--max-time", "90", "--cacert", ca / "front/authority.pem", *shown, *more]
+
+    def ask(self, who, path, body=None, fields=(), version="--http1.1", more=()):
+        """The status and the body of the reply; the status is 0 where none came."""
+        if isinstance(body, dict):
+            body = json.dumps(body)
+        command = self.curl(who, "-w", "\n%{http_code}", *more, version=version)
+        if who in self.sessions:
+            command += ["-H", f"Bank-Session: {self.sessions[who]}"]
+        for field in fields:
+            command += ["-H", field]
+        given = ["--data-binary", "@-"] if body is not None else []
+        ran = subprocess.run([*command, *given, f"{self.url}{path}"], capture_output=True, text=True, input=body)
+        text, _, status = ran.stdout.rpartition("\n")
+        return int(status), text
+
+    def begin(self, who, drawer=True):
+        """Opens a session for a badge; a teller puts their drawer on, too."""
+        status, text = self.ask(who, "/session", "")
+        require(status, 200, f"session of {who}: {text}")
+        self.sessions[who] = json.loads(text)["session"]
+        if drawer and who in TELLERS:
+            status, text = self.ask(who, "/do/drawer-on", {"branch": 1, "cash": 1000, "teller": 11 + TELLERS.index(who)})
+            require(status, 200, f"drawer of {who}: {text}")
+
+    def post_of(self, who, delta=1, account=None):
+        """The body of a post at a teller's own drawer."""
+        i = TELLERS.index(who)
+        return {"account": account or 101 + i, "branch": 1, "delta": delta, "teller": 11 + i}
+
+    # ---- asking by bytes
+
+    @contextlib.contextmanager
+    def connected(self, who, protocols=()):
+        """A connection by TLS with the certificate of a badge."""
+        with socket.create_connection(("127.0.0.1", self.port), 20) as bare:
+            with self.files.context(who, protocols).wrap_socket(bare, server_hostname="localhost") as client:
+                yield client
+
+    def exchanged(self, who, given, seconds=1.5, protocols=()):
+        """What comes back for these bytes until the front ends the connection, or is silent for so long."""
+        got = b""
+        with self.connected(who, protocols) as client:
+            client.settimeout(seconds)
+            with contextlib.suppress(OSError):
+                client.sendall(given)
+                while piece := client.recv(65536):
+                    got += piece
+        return got
+
+    # ---- looking
+
+    def rows(self):
+        """All rows of the bank's file without their moments, once its log is taken in and its books are checked."""
+        self.run_bank("run", self.file, "--badges", self.folder / "lists/badges.csv", "--moment", "0")
+        self.run_bank("check", self.file, says="books hold\n")
+        with contextlib.closing(sqlite3.connect(f"file:{self.file}?mode=ro", uri=True)) as found:
+            return {table: found.execute(f"SELECT {columns} FROM {table} ORDER BY 1, 2").fetchall()
+                    for table, columns in COLUMNS.items()}
+
+    def audit(self):
+        """The lines of the audit trail."""
+        return [json.loads(line) for line in (self.folder / "log/audit.log").read_text().splitlines()]
+
+    def reload(self):
+        self.front.send_signal(signal.SIGHUP)
+        time.sleep(1)
+
+    def close(self):
+        if self.kept:
+            self.end_bank()
+        self.front.send_signal(signal.SIGTERM)
+        self.front.wait()
