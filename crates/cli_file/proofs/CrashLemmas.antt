@@ -115,7 +115,7 @@ joined w (m ∷ a) b = joined (after_request w m) a b
 kept_after : (w : WorldLists) (ms later : List Marked) (n : ℕ) (x : Execution) → slice_get ms n ≡ Some (record { request = executes x; mark = None }) → slip_named x ≢ 0
     → is_accepted (world_after w (take n ms)) (record { request = executes x; mark = None }) ≡ true
     → IsKeptReply (world_after (world_after w ms) later) x (reply_text (world_after w (take n ms)) (executes x))
-kept_after w [] later n x there slip accepted = let none : None ≡ Some (record { request = executes x; mark = None }) = there in absurd cc
+kept_after w [] later n x there slip accepted = absurd cc
 kept_after w (first ∷ ms) later zero x there slip accepted =
     let same : first ≡ record { request = executes x; mark = None } = cc in
     let stepped : step w (executes x) ≡ after_request w first = sym (ap (after_request w) same) in

@@ -1,6 +1,8 @@
 -- What reading lists comes to, by what the lists state.
 use Rattle.std.proofs.Common.{◌≡◌, ◌≤◌, ◌<◌, ◌+◌, ◌∙◌, ◌⊎◌, ◌++◌, sym, ap, subst, inl, inr, refl, arith, ℕ, List, [], Option, Some, None, IfSome, length, take, Result, Ok, Err}
+use Rattle.std.specs.Io.Take.{take_remaining}
 use Rattle.std.specs.Option.{option_map}
+use Rattle.std.specs.declared.io.Take.{Take}
 use Rattle.std.proofs.lemmas.List.{length-take, length-take-le, take_all}
 use Rattle.bank_books.specs.WorldLists.{WorldLists}
 use Rattle.list_opening.specs.Opening.{opening}
@@ -20,11 +22,21 @@ whole most left short =
     let length_of : length (take (most + 1) left) ≡ _ = length-take (most + 1) left in
     take_all (most + 1) left (omega (arith, length_of, short))
 
-pub text_known : (most : ℕ) (known : Option (List ℕ)) (text : List ℕ) → IfSome (option_map (take (most + 1)) known) (λ xs. text ≡ [] ++ xs) → length text ≤ most → IsTextOf known text
-text_known most None text is short = tt
-text_known most (Some left) text is short =
-    let same : text ≡ take (most + 1) left = is in
+text_of_known : (most n : ℕ) (known : Option (List ℕ)) (before text : List ℕ) → n ≡ most + 1 → before ≡ [] → IfSome (option_map (take n) known) (λ xs. text ≡ before ++ xs) → length text ≤ most
+    → IsTextOf known text
+text_of_known most n None before text limit none is short = tt
+text_of_known most n (Some left) before text limit none is short =
+    let same : text ≡ take (most + 1) left = is ∙ ap (λ (b : List ℕ). b ++ take n left) none ∙ ap (λ (k : ℕ). take k left) limit in
     same ∙ whole most left (subst (λ (t : List ℕ). length t ≤ most) same short)
+
+pub text_known : {R : Type 0} (most : ℕ) (remaining : R → Option (List ℕ)) (reader : R) (taken : Take R) (before text : List ℕ) → taken.limit ≡ most + 1 → taken.inner ≡ reader → before ≡ []
+    → IfSome (take_remaining remaining taken) (λ xs. text ≡ before ++ xs) → length text ≤ most → IsTextOf (remaining reader) text
+text_known {R} most remaining reader taken before text limit inner none is short =
+    subst (λ (r : R). IsTextOf (remaining r) text) inner (text_of_known most taken.limit (remaining taken.inner) before text limit none is short)
+
+-- the text is seen through a slice
+pub seen_text : (known : Option (List ℕ)) (seen text : List ℕ) → seen ≡ text → IsTextOf known text → IsTextOf known seen
+seen_text known seen text same is = subst (IsTextOf known) (sym same) is
 
 -- ---- the opening lists
 
