@@ -251,7 +251,7 @@ module _ {S : Type 0} (answers stops breaks : S → MessageParts → List ℕ �
     reply,
     reads_last breaks old mid new w ms out rest reply none run a,
     (fewer, run.lasting),
-    stops_within old.written mid.written new.written w out reply run.written some keeps,
+    wrote_all old.written mid.written new.written w out reply run.written some keeps,
   )
   ended_err most old mid new w ms out Memory none run (fewer, never) keeps = absurd never
 

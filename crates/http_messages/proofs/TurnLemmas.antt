@@ -88,7 +88,7 @@ module _ {S : Type 0} (answers stops breaks : S → MessageParts → List ℕ �
       inr (y.0, kept_beginning old.written kept new.written y.0 keeps y.2, inl (drop (r.len + n) bytes, handled stops old new bytes headers r n _ y.0 more takes within b refl y.1))
   turn_err old new kept bytes headers r n m more Report takes within b is keeps x =
       let y = subst (λ p. IsTurnOf answers stops breaks old.engine new.engine p kept new.written (Err Report)) is x in
-      (y.0, kept_beginning old.written kept new.written y.0 keeps y.2, drop (r.len + n) bytes, handled breaks old new bytes headers r n _ y.0 more takes within b refl y.1)
+      (y.0, kept_Appends old.written kept new.written y.0 keeps y.2, drop (r.len + n) bytes, handled breaks old new bytes headers r n _ y.0 more takes within b refl y.1)
   turn_err old new kept bytes headers r n m more Read takes within b is keeps x = absurd x
   turn_err old new kept bytes headers r n m more Cut takes within b is keeps x = absurd x
   turn_err old new kept bytes headers r n m more Memory takes within b is keeps x = absurd x

@@ -78,6 +78,12 @@ module _ {S : Type 0} (answers : S → MessageParts → List ℕ → S → Type 
       (before : List WholeMessage) × (last : WholeMessage) × (rest : List ℕ) × (replies : List ℕ) × (reply : List ℕ)
       × ReadsLast way old new before last rest replies reply × GoesOn most before × StopsWithin old.written new.written replies reply
 
+  -- the reply to a message broke, after these bytes of it: that message is the last that was answered
+  abbrev pub BreaksInReply : (S → MessageParts → List ℕ → S → Type 0) → ℕ → Point S → Point S → Type 0
+  BreaksInReply way most old new =
+      (before : List WholeMessage) × (last : WholeMessage) × (rest : List ℕ) × (replies : List ℕ) × (begun : List ℕ)
+      × ReadsLast way old new before last rest replies begun × GoesOn most before × Appends old.written new.written (replies ++ begun)
+
   -- the reply to bytes that begin no message stopped
   abbrev pub StopsInRefusal : ℕ → Point S → Point S → Type 0
   StopsInRefusal most old new =
@@ -101,5 +107,5 @@ module _ {S : Type 0} (answers stops breaks : S → MessageParts → List ℕ �
       × GoesOn most ms × IsPartial rest × ¬ (AreLineEnds rest) × IsAtEnd new.left × Appends old.written new.written out
   IsExit most old new (Err Write) =
       StopsInReply answers answers most old new ⊎ (StopsInReply answers stops most old new ⊎ StopsInRefusal answers most old new)
-  IsExit most old new (Err Report) = StopsInReply answers breaks most old new
+  IsExit most old new (Err Report) = BreaksInReply answers breaks most old new
   IsExit most old new (Err Memory) = new ≡ old

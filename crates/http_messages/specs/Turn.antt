@@ -65,5 +65,5 @@ module _ {S : Type 0} (answers stops breaks : S → MessageParts → List ℕ �
       ⊎ ((reply : List ℕ) × AppendsBeginning old.written new.written reply
       × (((rest : List ℕ) × Handles stops old new rest reply) ⊎ (OnlyReads old new × IsRefusal new.held reply)))
   IsTurn old new (Err Report) =
-      (reply : List ℕ) × AppendsBeginning old.written new.written reply × (rest : List ℕ) × Handles breaks old new rest reply
+      (begun : List ℕ) × Appends old.written new.written begun × (rest : List ℕ) × Handles breaks old new rest begun
   IsTurn old new (Err Memory) = ⊥

@@ -39,7 +39,7 @@ pub trait Engine {
     // The same of a reply that begins with these bytes. An engine that has its whole reply before it writes takes `answers`.
     ghost stops: { Self → MessageParts → List ℕ → Self → Type 0 };
 
-    // From the first engine, a reply that begins with these bytes may break after its head, which leaves the second.
+    // From the first engine, a reply may break after these bytes, which leaves the second. They are all that was written of it.
     ghost breaks: { Self → MessageParts → List ℕ → Self → Type 0 };
 
     /// Answers a message by one reply, as `Message::reply` writes it.
