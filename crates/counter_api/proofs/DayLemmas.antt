@@ -61,8 +61,8 @@ day_of_run how users old new ms out run = record {
 pub day_of_none : (users : List ℕ → Option ℕ) (s : Status) → IsDay users s s []
 day_of_none users s = day_of_run IsWhole users s s [] [] (none_ran IsWhole refl users s)
 
--- what keeps the store behind it
-day_kept : (users : List ℕ → Option ℕ) (old mid new : Status) (ms : List MarkedMessage) (mark : Option Fault) → IsDay users old mid ms → Keeps mid new mark → IsDay users old new ms
+-- what keeps the store after it
+pub day_kept : (users : List ℕ → Option ℕ) (old mid new : Status) (ms : List MarkedMessage) (mark : Option Fault) → IsDay users old mid ms → Keeps mid new mark → IsDay users old new ms
 day_kept users old mid new ms mark here keeps = record {
   honest = λ h. here.honest (keeps.answers.honest h);
   moved = λ clean w held. keeps.kept _ (here.moved (keeps.answers.honest clean) w held);

@@ -206,16 +206,16 @@ module _ {E S C : Type 0} (store : E → S) (clock : E → C) (status : S → St
   exits most old new (Err Write) one (inr (inr (ms, rest, out, reply, r, on, refused, stops))) =
       let told = reads old new ms rest out one r in
       (inr (ms, rest, told.0.0, out, reply, told.0.1, on, refused, stops), told.1)
-  exits most old new (Err Report) one (before, last, rest, replies, reply, r, on, (n, fits, wrote)) =
+  exits most old new (Err Report) one (before, last, rest, replies, sent, r, on, wrote) =
       let run = all_ran old.engine r.mid before replies one r.answered in
-      let told = tells_broken r.mid new.engine (message_parts last) reply run.one r.reached in (
+      let told = tells_broken r.mid new.engine (message_parts last) sent run.one r.reached in (
         (
           before,
           last,
           rest,
           run.run,
           replies,
-          take n reply,
+          sent,
           record {
             bytes = r.bytes;
             taken = r.taken;
@@ -225,15 +225,7 @@ module _ {E S C : Type 0} (store : E → S) (clock : E → C) (status : S → St
             clock = clock r.mid;
             given = run.given;
             ran = run.ran;
-            broken = record {
-              moment = told.1.moment;
-              fault = told.1.fault;
-              given = told.1.given;
-              report = told.1.report;
-              kept = told.1.kept;
-              cause = told.1.cause;
-              begun = λ clean w held. shorter n _ reply (told.1.begun clean w held);
-            };
+            broken = told.1;
             bounded = r.bounded;
           },
           on,

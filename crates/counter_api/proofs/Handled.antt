@@ -8,6 +8,7 @@ use Rattle.money.specs.declared.fault.Fault.TheVariants.{Memory}
 use Rattle.http_messages.specs.Parts.{MessageParts}
 use Rattle.store_rows.specs.Status.{Answers, Keeps, Status, Tells, after_mark, mark_of}
 use Rattle.bank_meaning.specs.Meaning.{ReplyText}
+use Rattle.bank_meaning.specs.Requests.{first}
 use Rattle.bank_meaning.specs.Run.{reply, step, world_after}
 use Rattle.bank_meaning.specs.Sums.{IsProper}
 use Rattle.bank_meaning.specs.declared.request.Request.{Request}
@@ -76,6 +77,8 @@ module _ (users : List ℕ → Option ℕ) (old new : Status) (m : MessageParts)
       report = subst (λ (s : Result Request MessageFault). IsOkAnd s (λ q. IsReport q.asked)) (sym is) d.report;
       kept = d.kept;
       cause = d.cause;
+      headed = d.headed;
+      allowed = λ clean w held. subst (λ (s : Result Request MessageFault). IsOkAnd s (λ q. first w q ≡ None)) (sym is) (d.allowed clean w held);
       begun = λ clean w held. subst (λ (s : Result Request MessageFault). BeginsWith (framed m (response_to w s None)) bytes) (sym is) (d.begun clean w held);
     },
   )

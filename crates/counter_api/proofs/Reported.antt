@@ -68,11 +68,11 @@ module _ (a b e : Status) (before after : Option (List ℕ)) (m : MessageParts) 
   same_step mark on clean w held = step_is_none w q c (fresh (on.answers.honest clean) w held) (reported (on.answers.honest clean) w held)
 
   pub report_carried : (how : Sent) → IsStreamed b e before after m c how → CountsBreak b e c how → IsCarried a e before after m q (Ok (outcome.Report how))
-  report_carried sent.Whole (on, bytes, out, went_out) counts =
+  report_carried sent.Whole (on, bytes, out, headed, went_out) counts =
       (bytes, out, carried IsWhole bytes (keeps_then a b e None kept on) (sent_is sent.Whole bytes on went_out) (same_step None on))
-  report_carried sent.Stopped (on, bytes, out, went_out) counts =
+  report_carried sent.Stopped (on, bytes, out, headed, went_out) counts =
       (bytes, out, carried BeginsWith bytes (keeps_then a b e None kept on) (sent_is sent.Stopped bytes on went_out) (same_step None on))
-  report_carried (sent.Broken fault) (on, bytes, out, went_out) counts = (
+  report_carried (sent.Broken fault) (on, bytes, out, headed, went_out) counts = (
     bytes,
     out,
     record {
@@ -81,6 +81,8 @@ module _ (a b e : Status) (before after : Option (List ℕ)) (m : MessageParts) 
       cause = λ clean w held.
           let is = reported (on.answers.honest clean) w held in
           rose_then 0 1 a.fault_count b.fault_count e.fault_count kept.answers.counted (counts clean w (kept.kept w held) is.counted);
+      headed = headed;
+      allowed = λ clean w held. (reported (on.answers.honest clean) w held).allowed;
       begun = sent_is (sent.Broken fault) bytes on went_out;
     },
   )

@@ -10,7 +10,7 @@ use Rattle.http_messages.specs.declared.serving.ServeFault.{ServeFault}
 use Rattle.http_messages.specs.declared.serving.ServeFault.TheVariants.{Cut, Memory, Read, Report, Write}
 use Rattle.reports.specs.Report.{BeginsWith}
 use Rattle.store_rows.specs.Status.{Status}
-use Rattle.counter_api.specs.Answers.{CounterAnswers, CounterBreaks, IsBroken}
+use Rattle.counter_api.specs.Answers.{CounterAnswers, CounterBreaks}
 use Rattle.counter_api.specs.Run.{IsAnswered, IsWhole}
 use Rattle.counter_api.specs.Turn.{AnswersOne, IsTurn, OnlyReads, Side, TakesMessage}
 use Rattle.counter_api.specs.declared.counter.Counter.{Counter}
@@ -35,18 +35,6 @@ answered_shorter users may_give old new from to m sent n a = record {
     leaves = a.handled.leaves;
     whole = a.handled.whole;
   };
-}
-
-broken_shorter : {C : Type 0} (users : List ℕ → Option ℕ) (may_give : C → ℕ → C → Type 0) (old new : Status) (from to : C) (m : MessageParts) (sent : List ℕ) (n : ℕ)
-    → IsBroken users may_give old new from to m sent → IsBroken users may_give old new from to m (take n sent)
-broken_shorter users may_give old new from to m sent n b = record {
-  moment = b.moment;
-  fault = b.fault;
-  given = b.given;
-  report = b.report;
-  kept = b.kept;
-  cause = b.cause;
-  begun = λ clean w held. shorter n _ sent (b.begun clean w held);
 }
 
 module _ {S G C : Type 0} (status : S → Status) (users : G → List ℕ → Option ℕ) (may_give : C → ℕ → C → Type 0) where
@@ -84,7 +72,7 @@ module _ {S G C : Type 0} (status : S → Status) (users : G → List ℕ → Op
       let told = tells status users may_give BeginsWith old.engine old.engine new.engine (message_parts h.message) reply (as_before status users may_give old.engine) h.answered in
       (inl (h.message, rest, take n reply, takes _ old new rest reply h, answered_shorter _ _ _ _ _ _ _ reply n told.1, wrote), told.0)
   counter_turn old new (Err Write) clean (inr (reply, some, inr (x, refusal))) = (inr (only old new x, reply, refusal, some), same old new x)
-  counter_turn old new (Err Report) clean (reply, (n, fits, wrote), rest, h) =
-      let told = tells_broken status users may_give old.engine old.engine new.engine (message_parts h.message) reply (as_before status users may_give old.engine) h.answered in
-      ((h.message, rest, take n reply, takes _ old new rest reply h, broken_shorter _ _ _ _ _ _ _ reply n told.1, wrote), told.0)
+  counter_turn old new (Err Report) clean (sent, wrote, rest, h) =
+      let told = tells_broken status users may_give old.engine old.engine new.engine (message_parts h.message) sent (as_before status users may_give old.engine) h.answered in
+      ((h.message, rest, sent, takes _ old new rest sent h, told.1, wrote), told.0)
   counter_turn old new (Err Memory) clean turn = absurd turn

@@ -4,8 +4,10 @@ use Rattle.money.specs.declared.fault.Fault.{Fault}
 use Rattle.http_messages.specs.Parts.{MessageParts}
 use Rattle.reports.specs.Report.{BeginsWith}
 use Rattle.store_rows.specs.Status.{Keeps, RoseBy, Status, Tells}
+use Rattle.bank_meaning.specs.Requests.{first}
 use Rattle.requests.specs.Request.{IsReport, request_of}
 use Rattle.counter_api.specs.Run.{IsAnswered, reply_to}
+use Rattle.counter_api.specs.Sent.{HasHead}
 use Rattle.counter_api.specs.declared.counter.Counter.{Counter}
 
 -- The message was answered over its bank, at a moment of its clock, and these bytes stand so to its reply; the bank, the clock and
@@ -16,9 +18,9 @@ pub record CounterAnswers {S G C : Type 0} (how : List ℕ → List ℕ → Type
   pub same_clock : new.clock.ghost_name ≡ old.clock.ghost_name
   pub same_gate : new.gate ≡ old.gate
 
--- The message bore a moment that the clock gave, and asks for a report; and a fault kept its reply from being given whole: these
--- bytes are a beginning of the reply, of each World that the store stood for. It stands for the same World, and where there is
--- one it counted the fault.
+-- The message bore a moment that the clock gave, and asks for a report; and a fault kept its reply from being given whole, once its
+-- head had gone out: these bytes are a beginning of the reply, of each World that the store stood for, and no rule denies what was
+-- asked there. It stands for the same World, and where there is one it counted the fault.
 pub record IsBroken {C : Type 0} (users : List ℕ → Option ℕ) (may_give : C → ℕ → C → Type 0) (old new : Status) (from to : C) (message : MessageParts) (sent : List ℕ) : Type 0 where
   pub moment : ℕ
   pub fault : Fault
@@ -27,6 +29,8 @@ pub record IsBroken {C : Type 0} (users : List ℕ → Option ℕ) (may_give : C
   pub kept : Keeps old new (Some fault)
   -- want of memory counts, too
   pub cause : Tells old new (λ w. RoseBy 1 old.fault_count new.fault_count)
+  pub headed : HasHead message sent
+  pub allowed : Tells old new (λ w. IsOkAnd (request_of users moment message) (λ r. first w r ≡ None))
   pub begun : Tells old new (λ w. BeginsWith (reply_to users w (record { message = message; moment = moment; mark = None })) sent)
 
 -- its reply broke so; the bank, the clock and the gate are the same references

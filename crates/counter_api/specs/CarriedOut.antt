@@ -9,6 +9,7 @@ use Rattle.bank_terms.specs.declared.rule.Rule.{Rule}
 use Rattle.http_messages.specs.Parts.{MessageParts}
 use Rattle.store_rows.specs.Status.{Answers, Keeps, RoseBy, StaysWhole, Status, Tells, mark_of}
 use Rattle.bank_meaning.specs.Meaning.{ReplyText, json}
+use Rattle.bank_meaning.specs.Requests.{first}
 use Rattle.bank_meaning.specs.Run.{reply}
 use Rattle.bank_meaning.specs.declared.request.Request.{Request}
 use Rattle.decide.specs.OneRequest.{LeavesBoth, Moves, Replies, Settles}
@@ -16,7 +17,7 @@ use Rattle.reports.specs.Report.{BeginsWith}
 use Rattle.requests.specs.Request.{IsReport}
 use Rattle.counter_api.specs.Response.{ResponseParts, denied_parts, done_parts}
 use Rattle.counter_api.specs.Run.{FindsRoom, IsResponse, IsWhole, RefusesRequest, framed, told_parts}
-use Rattle.counter_api.specs.Sent.{CountsBySent}
+use Rattle.counter_api.specs.Sent.{CountsBySent, HasHead}
 use Rattle.counter_api.specs.declared.counter.Outcome.{Outcome}
 use Rattle.counter_api.specs.declared.counter.Outcome.TheVariants as outcome
 use Rattle.counter_api.specs.declared.sent.Sent.TheVariants as sent
@@ -46,12 +47,15 @@ IsResponded (Err fault) response = response ≡ Err fault
 abbrev pub IsSent : (List ℕ → List ℕ → Type 0) → MessageParts → Result ReplyText Rule → List ℕ → Type 0
 IsSent how m reply bytes = how (framed m (told_parts reply)) bytes
 
--- A fault broke the reply to a request off, which asks for a report: what went out is a beginning of it, of each World that the
--- store stood for. It stands for the same World, and counted the fault: want of memory counts, too.
+-- A fault broke the reply to a request off, which asks for a report and which no rule denies, once its head had gone out: what went
+-- out is a beginning of it, of each World that the store stood for. It stands for the same World, and counted the fault: want of
+-- memory counts, too.
 pub record BreaksOff (old new : Status) (r : Request) (m : MessageParts) (fault : Fault) (bytes : List ℕ) : Type 0 where
   pub report : IsReport r.asked
   pub kept : Keeps old new (Some fault)
   pub cause : Tells old new (λ w. RoseBy 1 old.fault_count new.fault_count)
+  pub headed : HasHead m bytes
+  pub allowed : Tells old new (λ w. first w r ≡ None)
   pub begun : Tells old new (λ w. BeginsWith (framed m (told_parts (reply w r))) bytes)
 
 -- A request was carried out, and its response is still to be written; or it is answered by a report, and so much of that went out.

@@ -4,10 +4,12 @@ use Rattle.std.specs.Io.KnownBytes.{Appends}
 use Rattle.money.specs.declared.fault.Fault.{Fault}
 use Rattle.http_messages.specs.Parts.{MessageParts}
 use Rattle.store_rows.specs.Status.{Keeps, RoseBy, Status, Tells}
+use Rattle.bank_meaning.specs.Requests.{first}
 use Rattle.reports.specs.Report.{BeginsWith}
 use Rattle.requests.specs.Request.{IsReport, request_of}
 use Rattle.counter_api.specs.Response.{ResponseParts, faulted_parts}
 use Rattle.counter_api.specs.Run.{IsHandled, IsWhole, framed, reply_to}
+use Rattle.counter_api.specs.Sent.{HasHead}
 use Rattle.counter_api.specs.declared.counter.Outcome.{Outcome}
 use Rattle.counter_api.specs.declared.counter.Outcome.TheVariants as outcome
 use Rattle.counter_api.specs.declared.sent.Sent.TheVariants as sent
@@ -17,11 +19,13 @@ abbrev pub as_outcome : Result ResponseParts Fault → Result Outcome Fault
 as_outcome (Ok response) = Ok (outcome.Told response)
 as_outcome (Err fault) = Err fault
 
--- of a message whose reply a fault broke off
+-- of a message whose reply a fault broke off, once its head had gone out
 pub record IsBrokenOff (users : List ℕ → Option ℕ) (old new : Status) (message : MessageParts) (moment : ℕ) (fault : Fault) (bytes : List ℕ) : Type 0 where
   pub report : IsOkAnd (request_of users moment message) (λ r. IsReport r.asked)
   pub kept : Keeps old new (Some fault)
   pub cause : Tells old new (λ w. RoseBy 1 old.fault_count new.fault_count)
+  pub headed : HasHead message bytes
+  pub allowed : Tells old new (λ w. IsOkAnd (request_of users moment message) (λ r. first w r ≡ None))
   pub begun : Tells old new (λ w. BeginsWith (reply_to users w (record { message = message; moment = moment; mark = None })) bytes)
 
 -- Its response, or the fault that takes its place, is still to be written; or it is answered by a report, and so much of that went out.

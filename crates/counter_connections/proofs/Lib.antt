@@ -1,2 +1,3 @@
 mod ConnectionLemmas
+mod PortLemmas
 mod StreamLemmas

@@ -1,11 +1,15 @@
 -- A port of the machine, served over any store.
-use Rattle.std.specs.Prelude.{◌≡◌, ◌⊎◌, ℕ, List, [], ◌∷◌, codes, decimal, Option, None, Result, Err}
+use Rattle.std.specs.Prelude.{◌≡◌, ◌⊎◌, ℕ, ⊤, List, [], ◌∷◌, codes, decimal, Option, None, Result, Err}
 use Rattle.std.specs.List.{concat}
+use Rattle.std.proofs.Common.{inl, inr}
+use Rattle.bank_books.specs.WorldLists.{WorldLists}
 use Rattle.store_cached.specs.Standing.{below, cached_status, known_version, remembered}
 use Rattle.store_cached.specs.declared.cached.Cached.{Cached}
 use Rattle.exit_lines.specs.Streams.{GetsAll, GetsBeginning, Stream}
-use Rattle.store_rows.specs.Status.{Status}
-use Rattle.counter_connections.specs.Connections.{AreAllServed, At}
+use Rattle.store_rows.specs.Status.{Status, Tells}
+use Rattle.counter_api.specs.Day.{IsDay}
+use Rattle.counter_api.specs.Run.{MarkedMessage}
+use Rattle.counter_connections.specs.Connections.{AreAllReplied, AreAllServed, At, messages_of}
 use Rattle.counter_connections.specs.declared.fault.PortFault.{PortFault}
 use Rattle.counter_connections.specs.declared.fault.PortFault.TheVariants.{Broken, Memory}
 
@@ -26,9 +30,22 @@ module _ {S C : Type 0} (status : S → Status) (users : List ℕ → Option ℕ
       (GetsAll output_old output_new (listening_line port) × IsListenedTo requests old new result)
       ⊎ (((output_new ≡ output_old) ⊎ GetsBeginning output_old output_new (listening_line port)) × (new ≡ old) × (result ≡ Err Broken))
 
+  -- the messages of all connections that were replied to, in their order
+  abbrev pub port_messages : (port requests : ℕ) (output_old output_new : Stream) (old new : At S C) (result : Result Unit PortFault) → IsPortServed port requests output_old output_new old new result
+      → List MarkedMessage
+  port_messages port requests output_old output_new old new result (inl is) = messages_of status users may_give requests old is.1.served.exits new is.1.served.served
+  port_messages port requests output_old output_new old new result (inr is) = []
+
+  -- and what went out on each is the replies to its messages, in the World that those before it left
+  abbrev pub IsPortAnswered : (port requests : ℕ) (output_old output_new : Stream) (old new : At S C) (result : Result Unit PortFault) → IsPortServed port requests output_old output_new old new result
+      → WorldLists → Type 0
+  IsPortAnswered port requests output_old output_new old new result (inl is) w = AreAllReplied status users may_give requests old is.1.served.exits new is.1.served.served w
+  IsPortAnswered port requests output_old output_new old new result (inr is) w = ⊤
+
 module _ {S C : Type 0} (status : S → Status) (users : List ℕ → Option ℕ) (may_give : C → ℕ → C → Type 0) where
   -- It was served so over a cache that kept nothing yet, with the store opened below it; and the store left is what was below the
-  -- cache as that ended.
+  -- cache as that ended. Of the store itself, by its own words and not by the cache's: all connections are one run of it, and what
+  -- went out is the replies.
   pub record IsPortServedThroughCache (port requests : ℕ) (output_old output_new : Stream) (old new : At S C) (result : Result Unit PortFault) : Type 0 where
     pub began : Cached S
     pub ended : Cached S
@@ -38,6 +55,12 @@ module _ {S C : Type 0} (status : S → Status) (users : List ℕ → Option ℕ
     pub served : IsPortServed (cached_status status) users may_give port requests output_old output_new
         (record { store = began; clock = old.clock }) (record { store = ended; clock = new.clock }) result
     pub uncovered : new.store ≡ below ended
+    pub day : IsDay users (status old.store) (status new.store)
+        (port_messages (cached_status status) users may_give port requests output_old output_new
+        (record { store = began; clock = old.clock }) (record { store = ended; clock = new.clock }) result served)
+    pub replied : Tells (status old.store) (status new.store)
+        (IsPortAnswered (cached_status status) users may_give port requests output_old output_new
+        (record { store = began; clock = old.clock }) (record { store = ended; clock = new.clock }) result served)
 
   -- It was served through a cache; or memory was refused for that, and nothing was done.
   abbrev pub IsPortServedBehindCache : ℕ → ℕ → Stream → Stream → At S C → At S C → Result Unit PortFault → Type 0

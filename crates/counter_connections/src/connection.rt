@@ -38,13 +38,32 @@ pub(crate) fn serve_connection<M: time::Clock, S: Store, G: Gate, C: Clock>(
     ensures most { IfOk result (λ served. served.messages ≤ most) }
 {
     set_waits(stream);
-    let reader = Limited::new(stream, machine, MAX_READING);
-    let writer = Limited::new(stream, machine, MAX_WRITING);
-    let served = serve_streams(alloc, reader, writer, bank, gate, clock, most);
+    let served = serve_client(machine, alloc, stream, bank, gate, clock, most);
     if served.is_ok() {
         part(machine, stream);
     }
     served
+}
+
+/// Serves a client by one value, which what he sends is read from and what is for him is written to, so that no reply of his can go
+/// to another. It may be read from for 120 seconds, and written to for 180.
+fn serve_client<K: Read + Write + Copy, M: time::Clock, S: Store, G: Gate, C: Clock>(
+    machine: &M,
+    alloc: Global,
+    client: K,
+    bank: &mut Bank<S>,
+    gate: &G,
+    clock: &mut C,
+    most: u32,
+) -> Result<Served, ServeFault>
+    ensures connection { IsConnection S.status (G.users gate.now) C.may_give most
+        (record { store = bank.old.store; clock = clock.old }) (begun (K.remaining client) (K.contents client))
+        (record { store = bank.new.store; clock = clock.new }) result }
+    ensures most { IfOk result (λ served. served.messages ≤ most) }
+{
+    let reader = Limited::new(client, machine, MAX_READING);
+    let writer = Limited::new(client, machine, MAX_WRITING);
+    serve_streams(alloc, reader, writer, bank, gate, clock, most)
 }
 
 /// Bounds how long a read or a write of a connection may wait, and has what is written go out at once. What the system does not
@@ -58,7 +77,7 @@ fn set_waits(stream: &TcpStream) {
 
 /// Serves messages of a reader, with their replies gathered before a writer, so many at most. Where memory is refused for the
 /// gathering, nothing is read.
-pub(crate) fn serve_streams<R: Read + Drop, W: Write + Drop, S: Store, G: Gate, C: Clock>(
+fn serve_streams<R: Read + Drop, W: Write + Drop, S: Store, G: Gate, C: Clock>(
     alloc: Global,
     reader: R,
     writer: W,

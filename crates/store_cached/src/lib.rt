@@ -7,6 +7,7 @@
 mod book_reads;
 mod cached;
 mod entry;
+pub mod laws;
 mod lending;
 mod policy_cache;
 mod policy_reads;

@@ -1,8 +1,9 @@
-use Rattle.std.proofs.Common.{◌≡◌, ℕ, List, ◌++◌, true, false, sym, ap, ◌∙◌}
+use Rattle.std.proofs.Common.{◌≡◌, ℕ, List, ◌++◌, true, false, refl, sym, ap, ◌∙◌}
 use Rattle.std.proofs.KnownBytes.{Appends-trans}
 use Rattle.http_heads.specs.Framing.{asks_head}
 use Rattle.reports.specs.Report.{text_of}
-use Rattle.counter_api.proofs.Replies.{body_begun, head_begun, head_of, keeps_same, rose_by_one, with_body, without_body}
+use Rattle.counter_api.specs.Sent.{report_head}
+use Rattle.counter_api.proofs.Replies.{body_begun, head_begun, keeps_same, rose_by_one, with_body, without_body}
 use Rattle.counter_api.proofs.sent.streamed.Goals as goal
 
 pub returns-in-Err-clause-streamed : goal.returns-in-Err-clause-streamed
@@ -13,6 +14,7 @@ returns-in-Err-clause-streamed g c =
       keeps_same _ _ (ap (λ b. g.S.Stands.status b.store) (sym c.release.ensures)),
       _,
       begun.2,
+      tt,
       λ clean w held counted. head_begun m (text_of w contents) c.length.result begun.0 (c.length.ensures ∙ counted.length),
     )
 
@@ -24,6 +26,7 @@ returns-then-asks_head-clause-streamed g c =
       keeps_same _ _ (ap (λ b. g.S.Stands.status b.store) (sym c.release-then-asks_head.ensures)),
       _,
       c.in-Ok.ensures.whole,
+      tt,
       λ clean w held counted. sym (without_body m (text_of w contents) c.length.result (c.length.ensures ∙ counted.length) asks),
     )
 
@@ -36,7 +39,8 @@ returns-in-Ok-write-clause-streamed g c =
       c.in-Ok-write.ensures.kept,
       _,
       Appends-trans _ _ _ _ _ c.in-Ok.ensures.whole written.1,
-      λ clean w held counted. sym (with_body m (text_of w contents) c.length.result (c.length.ensures ∙ counted.length) asks ∙ ap (λ l. head_of m c.length.result ++ l) (written.2 clean w held counted)),
+      tt,
+      λ clean w held counted. sym (with_body m (text_of w contents) c.length.result (c.length.ensures ∙ counted.length) asks ∙ ap (λ l. report_head m c.length.result ++ l) (written.2 clean w held counted)),
     )
 
 pub returns-in-Err-Write-clause-streamed : goal.returns-in-Err-Write-clause-streamed
@@ -48,6 +52,7 @@ returns-in-Err-Write-clause-streamed g c =
       rw c.in-Err-Write.field-0-is at c.in-Err-Write.ensures.kept,
       _,
       Appends-trans _ _ _ _ _ c.in-Ok.ensures.whole written.1,
+      tt,
       λ clean w held counted. body_begun m (text_of w contents) written.0 c.length.result (c.length.ensures ∙ counted.length) asks (written.2 clean w held counted),
     )
 
@@ -60,6 +65,7 @@ returns-in-Err-Store-clause-streamed g c =
       rw c.in-Err-Store.field-0-is at c.in-Err-Store.ensures.kept,
       _,
       Appends-trans _ _ _ _ _ c.in-Ok.ensures.whole written.1,
+      (c.length.result, (written.0, refl)),
       λ clean w held counted. body_begun m (text_of w contents) written.0 c.length.result (c.length.ensures ∙ counted.length) asks (written.2 clean w held counted),
     )
 

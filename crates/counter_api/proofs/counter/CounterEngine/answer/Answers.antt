@@ -51,13 +51,15 @@ returns-in-Ok-Report-Broken-clause-answered g c =
           report = done.2.report;
           kept = done.2.kept;
           cause = done.2.cause;
+          headed = done.2.headed;
+          allowed = done.2.allowed;
           begun = done.2.begun;
         };
         same_bank = refl;
         same_clock = refl;
         same_gate = refl;
       },
-      all_begun _ _ done.0 done.1,
+      done.1,
     )
 
 pub returns-clause-answered : goal.returns-clause-answered
