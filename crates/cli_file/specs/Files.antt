@@ -1,5 +1,5 @@
 -- A bank in a file: found, made, and closed. What is said of the file holds where its disk returned what was written.
-use Rattle.std.specs.Prelude.{◌≡◌, false, IsTrue}
+use Rattle.std.specs.Prelude.{◌≡◌, ◌≢◌, false, IsTrue}
 use Rattle.sqlite_disk.specs.declared.Disk.{Ghosts}
 use Rattle.sqlite_disk.specs.declared.Files.{Files}
 use Rattle.sqlite_wal.specs.Reads.{AreClean}
@@ -22,7 +22,7 @@ use Rattle.book_kept.specs.Sheets.{Sheets, sheets_of}
 use Rattle.sql_create.specs.Blank.{no_schema}
 use Rattle.sql_create.specs.Made.{IsBank, IsBeforehand, IsKeptAs, IsRefusal}
 use Rattle.sql_create.specs.declared.open_fault.OpenFault.{OpenFault}
-use Rattle.sql_adopt.specs.Adopted.{Adopts, IsBankFile, IsLeft, IsOfAnother}
+use Rattle.sql_adopt.specs.Adopted.{Adopts, HoldsBankIn, IsBankFile, IsBankFileIn, IsLeft, IsOfAnother}
 use Rattle.sql_adopt.specs.Older.{IsNewestFile, IsOlderFile}
 use Rattle.sql_adopt.specs.Refused.{HoldsSoundBank, HoldsSoundBankIn, IsNamedBy, IsOfOther, IsOfStore, IsRefused, IsRefusedIn}
 use Rattle.sql_adopt.specs.declared.adopt_fault.AdoptFault.{AdoptFault}
@@ -31,7 +31,7 @@ use Rattle.store_sql.specs.Bank.{MayLeave, sql_status}
 use Rattle.store_sql.specs.declared.sql_store.SqlStore.{SqlStore}
 use Rattle.sql_upgrade.specs.Carried.{Carries, IsCarriedOver}
 use Rattle.cli_file.specs.Faults.{IsOfFile, fault_of_adopting, fault_of_making}
-use Rattle.cli_file.specs.Opened.{HoldTheBank, IsBankImage, IsOpenedFrom}
+use Rattle.cli_file.specs.Opened.{HoldTheBank, IsBankImage, IsBankImageIn, IsOpenedFrom}
 use Rattle.cli_file.specs.declared.fault.ActionFault.{ActionFault}
 
 -- the store of a bank in a file
@@ -56,11 +56,17 @@ module _ {D : Type 0} {g : Ghosts D} where
     pub durable : (trees : Trees) → (file_state conn).may_leave trees → AreOfWorld w trees
     pub alone : (left : WorldLists) → MayLeave (file_state conn) left → left ≡ w
 
-  -- The file holds the World still. What is told of it is its first fault, and where it passes both checks, that the file or memory failed.
-  pub record IsBankRefused (w : WorldLists) (why : AdoptFault) (conn : Held (FileStore D g)) : Type 0 where
-    pub holds : IsTrue (file_state conn).is_open → HoldsBank (file_state conn) w
+  -- The file holds the World still, in the tables of this edition. What is reported of it is its first fault, and where it passes both checks,
+  -- that the file or memory failed.
+  pub record IsBankRefused (e : Edition) (w : WorldLists) (why : AdoptFault) (conn : Held (FileStore D g)) : Type 0 where
+    pub holds : IsTrue (file_state conn).is_open → HoldsBankIn e (file_state conn) w
     pub named : AreReadable (sheets_of w) → IsNamedBy (sheets_of w) why
     pub sound : AreReadable (sheets_of w) → PassesChecks w → IsOfStore why
+
+  -- The file holds the World still, in the tables of this edition, and is reported as of another version, unless the file or memory failed.
+  pub record IsBankOfOther (e : Edition) (w : WorldLists) (why : AdoptFault) (conn : Held (FileStore D g)) : Type 0 where
+    pub holds : IsTrue (file_state conn).is_open → HoldsBankIn e (file_state conn) w
+    pub other : IsOfOther why
 
   -- Where the tables of the file were those of a bank, they hold a World whose books hold and whose policy is sound and separated, and
   -- hold it still. A crash leaves nothing that it could not leave before.
@@ -70,8 +76,9 @@ module _ {D : Type 0} {g : Ghosts D} where
     pub other : HasCleanDisk (file_state store.conn) → IsOfAnother newest (file_state opened) → ⊥
     pub survives : LeavesNone (file_state opened) (file_state store.conn)
     pub begins : IsNewStore store
-    -- So over every image of a bank, the bank of its World was found.
+    -- So over every image of a bank, the bank of its World was found; and over none of an earlier edition was one found.
     pub bank : (image : Image) (w : WorldLists) → IsBankImage image w → IsOpenedFrom image opened → HasCleanDisk (file_state store.conn) → IsBankKept w store.conn
+    pub older : (e : Edition) (image : Image) (w : WorldLists) → e ≢ newest → IsBankImageIn e image w → IsOpenedFrom image opened → HasCleanDisk (file_state store.conn) → ⊥
 
   -- Where they were those of a bank, this is the first fault of it, and nothing was changed. One of an earlier edition is told as of another
   -- version. A sound bank is refused for a fault of the file, or for want of memory.
@@ -82,11 +89,13 @@ module _ {D : Type 0} {g : Ghosts D} where
     pub sound : HasCleanDisk (file_state left) → IsBankFile (file_state opened) → HoldsSoundBank (file_state opened).now → IsOfStore why
     pub named : HasCleanDisk (file_state left) → IsBankFile (file_state opened) → (s : Sheets) → HoldsSheets (file_state opened).now.trees s → AreReadable s → IsNamedBy s why
     pub other : HasCleanDisk (file_state left) → IsOfAnother newest (file_state opened) → IsOfOther why
-    pub unchanged : HasCleanDisk (file_state left) → IsBankFile (file_state opened) → IsLeft (file_state opened) (file_state left)
+    pub unchanged : HasCleanDisk (file_state left) → (e : Edition) → IsBankFileIn e (file_state opened) → IsLeft (file_state opened) (file_state left)
     pub idle : left.in_transaction ≡ false
     pub survives : LeavesNone (file_state opened) (file_state left)
-    -- So over every image of a bank, its World is left as it was, and its first fault is told.
-    pub bank : (image : Image) (w : WorldLists) → IsBankImage image w → IsOpenedFrom image opened → HasCleanDisk (file_state left) → IsBankRefused w why left
+    -- So over every image of a bank, its World is left as it was, and its first fault is reported; and one of an earlier edition is left as it
+    -- was, and reported as of another version, unless the file or memory failed.
+    pub bank : (image : Image) (w : WorldLists) → IsBankImage image w → IsOpenedFrom image opened → HasCleanDisk (file_state left) → IsBankRefused newest w why left
+    pub older : (e : Edition) (image : Image) (w : WorldLists) → e ≢ newest → IsBankImageIn e image w → IsOpenedFrom image opened → HasCleanDisk (file_state left) → IsBankOfOther e w why left
 
   -- Where the tables of the file were those of a bank in an edition before the newest, as its row says, they held a World whose books hold
   -- and whose policy is sound and separated, and those of the newest edition hold it now. A crash leaves the one or the other, whole.
@@ -94,7 +103,10 @@ module _ {D : Type 0} {g : Ghosts D} where
     pub carries : HasCleanDisk (file_state store.conn) → (e : Edition) → IsOlderFile e (file_state opened) → Carries e (file_state opened) (file_state store.conn)
     pub other : HasCleanDisk (file_state store.conn) → IsNewestFile (file_state opened) → ⊥
     pub crash : Survives (file_state opened) (file_state store.conn) (λ trees. HasCleanDisk (file_state store.conn) → (e : Edition) → IsOlderFile e (file_state opened) → IsCarriedOver e (file_state opened) trees)
+    pub is_open : HasCleanDisk (file_state store.conn) → IsTrue (file_state store.conn).is_open
     pub begins : IsNewStore store
+    -- So over every image of a bank in an earlier edition, the tables of the newest hold its World.
+    pub bank : (e : Edition) (image : Image) (w : WorldLists) → e ≢ newest → IsBankImageIn e image w → IsOpenedFrom image opened → HasCleanDisk (file_state store.conn) → IsBankKept w store.conn
 
   -- Where they were those of a bank in an edition before the newest, this is the first fault of it, and one of the newest edition is told
   -- as of another version. What the connection shows is as it was, and only for a fault of the file, or for want of memory, may a crash find
@@ -106,10 +118,14 @@ module _ {D : Type 0} {g : Ghosts D} where
     pub sound : HasCleanDisk (file_state left) → (e : Edition) → IsOlderFile e (file_state opened) → HoldsSoundBankIn e (file_state opened).now → IsOfStore why
     pub named : HasCleanDisk (file_state left) → (e : Edition) → IsOlderFile e (file_state opened) → (s : Sheets) → HoldsSheetsIn e (file_state opened).now.trees s → AreReadable s → IsNamedBy s why
     pub other : HasCleanDisk (file_state left) → IsNewestFile (file_state opened) → IsOfOther why
-    pub unchanged : HasCleanDisk (file_state left) → (e : Edition) → IsOlderFile e (file_state opened) → IsLeft (file_state opened) (file_state left)
+    pub unchanged : HasCleanDisk (file_state left) → (e : Edition) → IsBankFileIn e (file_state opened) → IsLeft (file_state opened) (file_state left)
     pub untouched : (IsOfStore why → ⊥) → LeavesNone (file_state opened) (file_state left)
     pub idle : left.in_transaction ≡ false
     pub crash : Survives (file_state opened) (file_state left) (λ trees. HasCleanDisk (file_state left) → (e : Edition) → IsOlderFile e (file_state opened) → IsCarriedOver e (file_state opened) trees)
+    -- So over every image of a bank in an earlier edition, its World is left as it was, and its first fault is reported; and one of the newest
+    -- is left as it was, and reported as of another version, unless the file or memory failed.
+    pub bank : (e : Edition) (image : Image) (w : WorldLists) → e ≢ newest → IsBankImageIn e image w → IsOpenedFrom image opened → HasCleanDisk (file_state left) → IsBankRefused e w why left
+    pub present : (image : Image) (w : WorldLists) → IsBankImage image w → IsOpenedFrom image opened → HasCleanDisk (file_state left) → IsBankOfOther newest w why left
 
   -- The file held no table, and holds the World, whose books hold and whose policy is sound and separated.
   pub record IsMade (opened : Held (FileStore D g)) (w : WorldLists) (store : BankStore D g) : Type 0 where

@@ -1,4 +1,4 @@
-use Rattle.cli_file.proofs.OpenedLemmas.{found_bank, refused_bank}
+use Rattle.cli_file.proofs.OpenedLemmas.{found_bank, found_older, refused_bank, refused_older}
 use Rattle.cli_file.proofs.file.find.Goals as goal
 
 pub returns-in-Ok : goal.returns-in-Ok
@@ -9,6 +9,7 @@ returns-in-Ok g c = record {
   survives = c.in-Ok.ensures.survives;
   begins = record { works = c.in-Ok.ensures.works.0; no_fault = c.in-Ok.ensures.works.1; no_failure = c.in-Ok.ensures.works.2 };
   bank = found_bank c.args.conn c.in-Ok.store.conn c.in-Ok.ensures.adopts c.in-Ok.ensures.survives;
+  older = found_older c.args.conn c.in-Ok.store.conn c.in-Ok.ensures.other c.in-Ok.ensures.survives;
 }
 
 pub returns-in-Err : goal.returns-in-Err
@@ -23,4 +24,5 @@ returns-in-Err g c = record {
   idle = c.in-Err.ensures.mode;
   survives = c.in-Err.ensures.survives;
   bank = refused_bank c.args.conn c.in-Err.conn c.in-Err.fault c.in-Err.ensures.sound c.in-Err.ensures.named c.in-Err.ensures.unchanged c.in-Err.ensures.survives;
+  older = refused_older c.args.conn c.in-Err.conn c.in-Err.fault c.in-Err.ensures.other c.in-Err.ensures.unchanged c.in-Err.ensures.survives;
 }
