@@ -62,13 +62,13 @@ module _ {D : Type 0} {g : Ghosts D} (users : List ℕ → Option ℕ) (opened :
       let bank = found.bank image w of from began_clean in
       let holds : (file_status begun).holds w = λ works honest is_open. bank.holds is_open in
       let leaves : (left : WorldLists) → (file_status ended).may_leave left → IsLeftByCrash w (requests_of users ms) left =
-          λ left may. elim (day.leaves clean w holds left may) [
-            | inl is ↦ inl is
-            | inr pending ↦ elim (more_pending users (file_status begun).may_leave (λ l. l ≡ w) w ms (λ l was. inl (bank.alone l was)) left pending) [
-              | inl is ↦ inl is
-              | inr is ↦ left_by_crash users w ms left is
-            ]
-          ] in
+      λ left may. elim (day.leaves clean w holds left may) [
+        | inl is ↦ inl is
+        | inr pending ↦ elim (more_pending users (file_status begun).may_leave (λ l. l ≡ w) w ms (λ l was. inl (bank.alone l was)) left pending) [
+          | inl is ↦ inl is
+          | inr is ↦ left_by_crash users w ms left is
+        ]
+      ] in
       record {
         checked = bank.checked;
         headline = day.headline w bank.checked;

@@ -56,10 +56,7 @@ pub trait OpeningLists {
 }
 
 /// The World that the eight opening lists state. All are read before one is judged.
-pub fn opening_of<L: OpeningLists>(
-    alloc: Global,
-    lists: &L,
-) -> Result<World, ActionFault<'static>>
+pub fn opening_of<L: OpeningLists>(alloc: Global, lists: &L) -> Result<World, ActionFault<'static>>
     ensures { IsOpeningGathered (L.known lists.now) result }
 {
     let branches = lists.read(alloc, ListName::Branches)?;

@@ -68,11 +68,7 @@ fn tell_fault<W: Write, E: Write>(
 }
 
 /// Shows the line of a refusal, and answers the status. Where a call of standard output fails, that is a broken stream.
-fn refuse<W: Write, E: Write>(
-    output: &mut Tallied<W>,
-    errors: &mut Tallied<E>,
-    line: &str,
-) -> u8
+fn refuse<W: Write, E: Write>(output: &mut Tallied<W>, errors: &mut Tallied<E>, line: &str) -> u8
     ensures { IsRefusalTold (stream_at W.contents output.old) (stream_at W.contents output.new)
         (stream_at E.contents errors.old) (stream_at E.contents errors.new) line.now result }
 {
