@@ -1,7 +1,7 @@
-ghost use Rattle.std.specs.Prelude.{◌≡◌, true, false, IfErr, IfOk, IsErrAnd};
+ghost use Rattle.std.specs.Prelude.{◌≡◌, false, IfErr, IfOk, IsErrAnd};
 ghost use Rattle.cli_file.specs.Faults.{IsOfFile};
 ghost use Rattle.cli_file.specs.Opened.{IsOpenedFrom};
-ghost use Rattle.cli_file.specs.Unopened.{IsUnopenedFor, holds_no_bank};
+ghost use Rattle.cli_file.specs.Unopened.{IsUnopenedFor};
 
 use crate::fault::ActionFault;
 use crate::file::FileConnection;
@@ -53,17 +53,8 @@ impl<S: Start> Opener<FileFrom<S>> for Machine<S> {
     }
 }
 
-/// How a file is seen before it is opened.
-#[derive(Clone, Copy, Debug, Drop)]
-struct Look {
-    /// How many bytes it has.
-    len: u64,
-    /// Whether a log stands beside it, or may.
-    has_log: bool,
-}
-
-/// Opens a file that is there. One of no bytes, with no log beside it, is no bank and is not opened: an open would make a
-/// database of it. Where no file was opened, the opener is handed back.
+/// Opens a file that is there. One of no bytes is no bank and is not opened: an open would make a database of it, and write
+/// over a log that stands beside it. Where no file was opened, the opener is handed back.
 pub fn open_existing<D: Disk + Drop, O: Opener<D>>(
     rt: &HostRuntime,
     path: &str,
@@ -73,27 +64,26 @@ pub fn open_existing<D: Disk + Drop, O: Opener<D>>(
     ensures idle { IfOk result (λ conn. conn.in_transaction ≡ false) }
     ensures refused { IfErr result (λ e. IsUnopenedFor opener e.0 e.1) }
 {
-    match look_at(rt, path) {
-        Ok(look) => open_seen(rt, path, look, opener),
+    match len_of(rt, path) {
+        Ok(len) => open_seen(rt, path, len, opener),
         Err(fault) => Err((PathLeft::Unopened(opener), fault)),
     }
 }
 
-/// Opens a file that is seen so. It is told to be no bank exactly where it has no bytes and no log stands beside it: the
-/// rows of a bank whose maker was stopped may stand in the log alone.
+/// Opens a file of this length, in bytes. It is reported to be no bank exactly where it has none.
 fn open_seen<D: Disk + Drop, O: Opener<D>>(
     rt: &HostRuntime,
     path: &str,
-    look: Look,
+    len: u64,
     opener: O,
 ) -> Result<FileConnection<D>, (PathLeft<O, FileLeft<D>>, ActionFault<'static>)>
     ensures opened { IfOk result (IsOpenedFrom O.image) }
     ensures idle { IfOk result (λ conn. conn.in_transaction ≡ false) }
     ensures refused { IfErr result (λ e. IsUnopenedFor opener e.0 e.1) }
-    ensures empty { holds_no_bank look ≡ true → IsErrAnd result (λ e. e.1 ≡ ActionFault.NotABank) }
-    ensures only { IfErr result (λ e. e.1 ≡ ActionFault.NotABank → holds_no_bank look ≡ true) }
+    ensures empty { len ≡ 0 → IsErrAnd result (λ e. e.1 ≡ ActionFault.NotABank) }
+    ensures only { IfErr result (λ e. e.1 ≡ ActionFault.NotABank → len ≡ 0) }
 {
-    if look.len == 0 && !look.has_log {
+    if len == 0 {
         return Err((PathLeft::Unopened(opener), ActionFault::NotABank));
     }
     match opener.open(rt, path) {
@@ -102,18 +92,12 @@ fn open_seen<D: Disk + Drop, O: Opener<D>>(
     }
 }
 
-/// Looks at a file that is there, and whether a log stands beside it. What the machine says of them is believed.
-fn look_at(rt: &HostRuntime, path: &str) -> Result<Look, ActionFault<'static>>
+/// How many bytes a file has that is there. What the machine says of it is believed.
+fn len_of(rt: &HostRuntime, path: &str) -> Result<u64, ActionFault<'static>>
     ensures { IfErr result IsOfFile }
 {
-    let Ok(log) = format!(in rt.alloc(); "{path}-wal") else {
-        return Err(ActionFault::Memory);
-    };
     match fs::metadata(rt, path) {
-        Ok(seen) => Ok(Look {
-            len: seen.len(),
-            has_log: !matches!(fs::exists(rt, log.as_str()), Ok(false)),
-        }),
+        Ok(seen) => Ok(seen.len()),
         Err(error) => Err(ActionFault::of_io(&error)),
     }
 }
