@@ -35,6 +35,8 @@ COLUMNS = {
 PATH = os.environ.get("PATH", "/usr/bin:/bin") + ":/usr/sbin:/sbin"
 PACKAGES = {"nginx": "nginx-light", "openssl": "openssl", "curl": "curl"}
 NOBODY = 65534
+# For so many seconds a test waits for what has to come: a busy machine takes its time.
+PATIENCE = 60
 PORTS, PORTS_LOCK = set(), threading.Lock()
 # Changes of the front's settings that lift its limits per certificate.
 NO_RATE = [("limit_req zone=by_certificate burst=40 nodelay;", ""), ("limit_conn open_by_certificate 20;", "")]
@@ -109,8 +111,9 @@ class Files:
         self.top = Path(tempfile.mkdtemp(prefix="branch-"))
         shutil.copy(program, self.top / "bank_cli")
         shutil.copy(HERE / "certificates", self.top)
-        for folder in ("front", "page", "units"):
+        for folder in ("front", "units"):
             shutil.copytree(HERE / folder, self.top / folder)
+        shutil.copytree(HERE.parent / "desk/page", self.top / "page")
         if os.geteuid() == 0:
             for folder, _, names in os.walk(self.top):
                 for path in (folder, *(os.path.join(folder, name) for name in names)):
@@ -166,31 +169,32 @@ class Client:
 
 
 class Branch:
-    """A front and a bank. The bank is started again when it ends, as systemd does it.
+    """A front and a bank. The bank is started again when it ends, over the same listening socket, as systemd does it.
 
-    `requests` is how many the bank serves before it ends by itself, `delay` the seconds until it is started again, `changes` are
-    pairs of texts in the front's settings, old and new; the bank's file is in `room`, where one is given.
+    `changes` are pairs of texts in the front's settings, old and new; without `bank` there is neither a bank nor its socket; the
+    socket is one of TCP where that is asked for; the bank's file is in `room`, where one is given.
     """
 
-    def __init__(self, files, name, requests=1000000, changes=(), bank=True, delay=0.2, room=None):
-        self.files, self.requests, self.delay = files, requests, delay
+    def __init__(self, files, name, changes=(), bank=True, tcp=False, room=None):
+        self.files, self.is_tcp = files, tcp
         self.folder = files.top / name
         self.port, self.bank_port = free_port(), free_port()
         self.url = f"https://localhost:{self.port}"
         self.sessions = {}
-        self.kept, self.bank, self.starts = False, None, 0
+        self.kept, self.bank, self.socket, self.starts, self.ends = False, None, None, 0, []
+        self.file = (room or self.folder) / "bank"
         for part in ("etc", "log", "run"):
             (self.folder / part).mkdir(parents=True)
-        self.write_settings(changes)
+        self.socket_path = self.folder / "run/bank.socket"
+        self.write_settings([*changes, ("unix:/run/bank.socket", f"127.0.0.1:{self.bank_port}" if tcp else f"unix:{self.socket_path}")])
         self.nginx = ["nginx", "-p", self.folder, "-c", self.folder / "etc/nginx.conf", "-e", self.folder / "log/error.log"]
         tested = subprocess.run([*self.nginx, "-t"], capture_output=True, text=True)
         require((tested.returncode, "[warn]" in tested.stderr), (0, False), f"nginx -t said {tested.stderr!r}")
         self.front = subprocess.Popen([*self.nginx, "-g", "daemon off;"], stdin=subprocess.DEVNULL, stderr=subprocess.DEVNULL)
         self.await_front()
         write_lists(self.folder / "lists")
-        self.file = (room or self.folder) / "bank"
         if bank:
-            self.run_bank("init", self.file, self.folder / "lists", says="made\n")
+            self.run_bank("init", self.file, self.folder / "lists", "--sums", says="made\n")
             self.keep()
             for badge in TELLERS:
                 self.begin(badge)
@@ -202,17 +206,23 @@ class Branch:
             shutil.copy(file, etc)
         shutil.copytree(self.files.top / "page", etc / "page")
         (etc / "origins.map").write_text(f'"{self.url}" own;\n')
-        swaps = [*changes, ("/run/bank/", f"{self.folder}/run/"), ("/etc/bank-front", str(etc)),
-                 ("/var/log/bank-front", str(self.folder / "log")), ("/run/bank-front", str(self.folder / "run")),
-                 ("0.0.0.0:443", f"127.0.0.1:{self.port}"), ("8475", str(self.bank_port))]
+        swaps = [*changes, ("/etc/bank-front", str(etc)), ("/var/log/bank-front", str(self.folder / "log")),
+                 ("/run/bank-front", str(self.folder / "run")), ("0.0.0.0:443", f"127.0.0.1:{self.port}")]
         for file in etc.glob("*.conf"):
-            text = file.read_text()
-            for old, new in swaps:
-                text = text.replace(old, new)
-            file.write_text(text)
+            self.swap(file, file, swaps)
+        self.swap(self.files.top / "units/serve-bank", self.folder / "serve-bank",
+                  [("/var/lib/bank/bank", str(self.file)), ("/etc/bank-badges.csv", str(self.folder / "lists/badges.csv"))])
+        (self.folder / "serve-bank").chmod(0o700)
+
+    def swap(self, file, other, swaps):
+        """Writes the text of a file to another, with some texts swapped."""
+        text = file.read_text()
+        for old, new in swaps:
+            text = text.replace(old, new)
+        other.write_text(text)
 
     def await_front(self):
-        end = time.time() + 20
+        end = time.time() + PATIENCE
         while time.time() < end:
             with contextlib.suppress(ConnectionError), socket.create_connection(("127.0.0.1", self.port)):
                 return
@@ -225,52 +235,74 @@ class Branch:
 
     # ---- the bank, as systemd keeps it
 
+    def listen(self):
+        """Opens the bank's listening socket, which stays open while the bank starts anew."""
+        self.socket = socket.socket(socket.AF_INET if self.is_tcp else socket.AF_UNIX)
+        self.socket.setsockopt(socket.SOL_SOCKET, socket.SO_REUSEADDR, 1)
+        self.socket.bind(("127.0.0.1", self.bank_port) if self.is_tcp else str(self.socket_path))
+        self.socket.listen(4096)
+
+    def stop_listening(self):
+        if self.socket:
+            self.socket.close()
+            self.socket_path.unlink(missing_ok=True)
+        self.socket = None
+
+    def start_bank(self):
+        """Starts the bank, and hands the listening socket to it as its descriptor 3."""
+        hand_over = 'exec 3<&0 </dev/null; export LISTEN_PID=$$; exec "$0"'
+        environment = {"PATH": f"{self.files.top}:{PATH}", "RUNTIME_DIRECTORY": str(self.folder / "run"), "LISTEN_FDS": "1"}
+        return subprocess.Popen(["sh", "-c", hand_over, self.folder / "serve-bank"], env=environment,
+                                stdin=self.socket, stdout=subprocess.PIPE, stderr=subprocess.DEVNULL, start_new_session=True)
+
     def keep(self):
         self.kept = True
+        self.listen()
         started = threading.Event()
         self.keeper = threading.Thread(target=self._keep, args=(started,), daemon=True)
         self.keeper.start()
-        require(started.wait(60), True, "the bank has said that it listens")
+        require(started.wait(PATIENCE), True, "the bank has said that it listens")
 
     def _keep(self, started):
         while self.kept:
-            arguments = ["serve", self.file, "--badges", self.folder / "lists/badges.csv", "--port", str(self.bank_port)]
-            self.bank = subprocess.Popen([self.files.top / "bank_cli", *arguments, "--requests", str(self.requests)],
-                                         stdin=subprocess.DEVNULL, stdout=subprocess.PIPE, stderr=subprocess.DEVNULL)
-            if self.bank.stdout.readline() == b"listening %d\n" % self.bank_port:
+            self.bank = self.start_bank()
+            if self.bank.stdout.readline() == b"listening inherited\n":
                 self.starts += 1
                 started.set()
-            self.bank.wait()
+            self.ends.append(self.bank.wait())
             self.bank.stdout.close()
+            if self.ends[-1] != 0:
+                self.end_input() # systemd ends all that it has started
             if self.kept:
-                time.sleep(self.delay)
+                time.sleep(0.2)
 
-    def end_bank(self, how=signal.SIGKILL):
-        """Ends the bank for good."""
+    def end_bank(self):
+        """Ends the bank for good, with all that was started for it, and its listening socket."""
         self.kept = False
         while self.keeper.is_alive(): # it may be starting another
             with contextlib.suppress(ProcessLookupError):
-                self.bank.send_signal(how)
+                os.killpg(self.bank.pid, signal.SIGKILL)
             self.keeper.join(0.2)
+        self.stop_listening()
 
     def signal_bank(self, how):
         with contextlib.suppress(ProcessLookupError):
             self.bank.send_signal(how)
 
+    def end_input(self):
+        """Ends who holds the bank's standard input open."""
+        with contextlib.suppress(OSError, ValueError):
+            os.kill(int((self.folder / "run/holder").read_text()), signal.SIGTERM)
+
     def restart_by_order(self):
         """Ends the bank, and waits until it is there again, as `systemctl restart bank` does it."""
-        def unit(script):
-            environment = {"MAINPID": str(self.bank.pid), "RUNTIME_DIRECTORY": str(self.folder / "run"), "BANK_PORT": str(self.bank_port)}
-            subprocess.run([self.files.top / "units" / script], env={"PATH": PATH, **environment}, check=True)
-
         before = self.starts
-        unit("drain")
-        self.signal_bank(signal.SIGTERM)
-        end = time.time() + 60
+        environment = {"PATH": PATH, "MAINPID": str(self.bank.pid), "RUNTIME_DIRECTORY": str(self.folder / "run")}
+        subprocess.run([self.files.top / "units/end-bank"], env=environment, check=True)
+        end = time.time() + PATIENCE
         while self.starts == before:
             require(time.time() < end, True, "the bank has started again")
             time.sleep(0.02)
-        unit("ready")
 
     # ---- asking by curl
 
@@ -313,19 +345,19 @@ class Branch:
     @contextlib.contextmanager
     def connected(self, who, protocols=()):
         """A connection by TLS with the certificate of a badge."""
-        with socket.create_connection(("127.0.0.1", self.port), 20) as bare:
+        with socket.create_connection(("127.0.0.1", self.port), PATIENCE) as bare:
             with self.files.context(who, protocols).wrap_socket(bare, server_hostname="localhost") as client:
                 yield client
 
-    def exchanged(self, who, given, seconds=1.5, protocols=()):
-        """What comes back for these bytes until the front ends the connection, or is silent for so long."""
+    def exchanged(self, who, given, is_whole=lambda got: False, protocols=()):
+        """What comes back for these bytes until the front ends the connection, or, once that is whole, sends nothing more."""
         got = b""
-        with self.connected(who, protocols) as client:
-            client.settimeout(seconds)
-            with contextlib.suppress(OSError):
-                client.sendall(given)
-                while piece := client.recv(65536):
-                    got += piece
+        with self.connected(who, protocols) as client, contextlib.suppress(OSError):
+            client.settimeout(PATIENCE)
+            client.sendall(given)
+            while piece := client.recv(65536):
+                got += piece
+                client.settimeout(0.7 if is_whole(got) else PATIENCE)
         return got
 
     # ---- looking
@@ -342,12 +374,27 @@ class Branch:
         """The lines of the audit trail."""
         return [json.loads(line) for line in (self.folder / "log/audit.log").read_text().splitlines()]
 
+    def workers(self):
+        """The processes of the front that serve clients, without those that only end what they have begun."""
+        found = set()
+        for pid in Path(f"/proc/{self.front.pid}/task/{self.front.pid}/children").read_text().split():
+            with contextlib.suppress(FileNotFoundError, ProcessLookupError): # it has ended
+                if b"worker process\0" in Path(f"/proc/{pid}/cmdline").read_bytes():
+                    found.add(pid)
+        return found
+
     def reload(self):
+        """Has the front read its settings anew, and waits until no worker of the earlier ones serves."""
+        before, end = self.workers(), time.time() + PATIENCE
         self.front.send_signal(signal.SIGHUP)
-        time.sleep(1)
+        while not self.workers() or self.workers() & before:
+            require(time.time() < end, True, "the front has other workers")
+            time.sleep(0.05)
+        time.sleep(0.2)
 
     def close(self):
         if self.kept:
             self.end_bank()
+        self.stop_listening()
         self.front.send_signal(signal.SIGTERM)
         self.front.wait()

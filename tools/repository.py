@@ -6,9 +6,9 @@ import subprocess
 import sys
 
 TOP = os.path.dirname(os.path.dirname(os.path.abspath(__file__)))
-# The programs that take times over banks made up, and what makes these up. tools/bench and tools/check-bench prove them.
+# The benchmark programs, over synthetic banks, and what makes these. posts and check of tools/benchmarks prove them.
 BENCHES = ("bench_bank", "bench_check", "bench_posts")
-# The bank program, and the one that serves the sample in a store of one's choice, which tools/rows-over proves and builds.
+# The bank program, and the one that serves the sample in a store of one's choice, which tools/toolchain/stores-program builds.
 BANK_PROGRAM = "bank_cli"
 ROWS_OVER = "test_stores"
 # These two, as tools/build leaves them.
@@ -52,7 +52,7 @@ def below(uses, names):
 
 
 def tests_to_run(uses):
-    """The crates of tests alone that tools/worked runs, and what they share. The gate does not prove them."""
+    """The crates of tests alone that tools/toolchain/unit-tests runs, and what they share. CI does not prove them."""
     return [it for it in uses if it.startswith("test_") and it != ROWS_OVER]
 
 
@@ -85,7 +85,7 @@ def source_of(crate):
 
 def words_of_check(uses, crate, source, libraries, home):
     """The arguments of the prover's check of a crate that begins with this file. FOLDER/crates/NAME of the libraries has each
-    crate below it, built; those of the benches, which the gate does not build, are read as they stand, and may use what is
+    crate below it, built; those of the benches, which CI does not build, are read as they stand, and may use what is
     passed to the crate."""
     built = {it: f"{libraries}/crates/{it}/out/rlib" for it in below(uses, [crate]) if it not in (crate, *BENCHES)}
     words = ["--crate-name", crate, source]

@@ -5,7 +5,6 @@ import shutil
 import subprocess
 
 from repository import TOP
-from suite import Suite
 
 LISTS = os.path.join(TOP, "sample")
 BADGES = os.path.join(LISTS, "badges.csv")
@@ -36,7 +35,7 @@ OPENED = b"".join(
 
 
 def run_words(file, moment):
-    """The words by which a bank in a file is served."""
+    """The arguments by which a bank in a file is served."""
     return ["run", file, "--badges", BADGES, "--moment", str(moment)]
 
 
@@ -48,38 +47,13 @@ def ended(program, words, given=b""):
     return ran.stdout
 
 
-def make_sample(program, file):
-    """Makes the bank that `sample` serves in a file, by `init` and by one `run` that opens its sessions and drawers."""
-    if ended(program, ["init", file, LISTS]) != b"made\n":
+def make_sample(program, file, sums=True):
+    """Makes the bank that `sample` serves in a file, by `init` and by one `run` that opens its sessions and drawers. Its pages end
+    in sums, or not."""
+    if ended(program, ["init", file, LISTS, *["--sums"] * sums]) != b"made\n":
         raise Wrong("init did not say that the bank was made")
     if ended(program, run_words(file, 0), OPENED).count(b" 200 OK") != 8:
         raise Wrong("the bank was not opened")
-
-
-# The banks in use of earlier editions of the tables with which rows of `upgrade` begin.
-EARLIER = ("first_edition_in_use", "second_edition_in_use")
-
-
-def make_earlier(name, folder):
-    """Makes one of these, and returns its file."""
-    suite = Suite()
-    row = suite.row(name)
-    for change in (change for it in [*suite.way_to(row), row] for change in it.changes):
-        change.make(folder)
-    return os.path.join(folder, "bank")
-
-
-# A question to each of them, in a session that is open there, and the reply.
-EARLIER_BALANCE = message("tess", "/do/balance", {"account": 101}, session=3)
-EARLIER_REPLY = b'HTTP/1.1 200 OK\r\nContent-Type: application/json\r\nContent-Length: 18\r\n\r\n{"balance":110000}'
-
-
-def require_carried_over(program, file):
-    """Goes through where a file has the bank of an earlier edition, in the present one."""
-    require_sound(program, file)
-    said = ended(program, run_words(file, 700), EARLIER_BALANCE)
-    if said != EARLIER_REPLY:
-        raise Wrong(f"the bank that was carried over answers {said!r}")
 
 
 def copy_bank(file, target):

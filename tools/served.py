@@ -27,7 +27,7 @@ class Served:
         more, status = self.run.stdout.read(), self.run.wait()
         self.run.stdout.close()
         if not kind and (more, status) != (b"", 0):
-            raise Wrong(f"it ended with status {status}, and wrote {more[:200]!r} behind the last reply")
+            raise Wrong(f"it ended with status {status}, and wrote {more[:200]!r} after the last reply")
 
     def size(self):
         """How many bytes the reply has whose beginning has come, or none where its head is not whole yet."""

@@ -12,8 +12,16 @@ SECONDS = 240
 HOST = "127.0.0.1"
 # Ports that are tried, below those that the system gives to clients.
 PORTS = itertools.cycle(range(20_000, 30_000))
-for _ in range(os.getpid() * 37 % 10_000):
-    next(PORTS)
+
+
+def skip_ports():
+    """Goes on to ports that other processes do not begin with."""
+    for _ in range(os.getpid() * 37 % 10_000):
+        next(PORTS)
+
+
+skip_ports()
+os.register_at_fork(after_in_child=skip_ports)
 
 
 def is_free(port):
@@ -34,7 +42,7 @@ def free_port():
 
 
 def serve_words(file, port, requests):
-    """The words by which a bank in a file is served at a port, until so many messages are counted."""
+    """The arguments by which a bank in a file is served at a port, until so many messages are counted."""
     return ["serve", file, "--badges", BADGES, "--port", str(port), "--requests", str(requests)]
 
 
@@ -89,7 +97,7 @@ class Serving:
         return self.line == b"listening %d\n" % self.port
 
     def ended(self, seconds=SECONDS):
-        """The status, and what was written behind the first line, once it has ended."""
+        """The status, and what was written after the first line, once it has ended."""
         output, errors = self.run.communicate(timeout=seconds)
         return self.run.returncode, output, errors
 
@@ -104,3 +112,24 @@ class Serving:
         time.sleep(0.05)
         if self.run.poll() is not None:
             raise Wrong(f"it has ended: {self.ended()!r}")
+
+
+def counter_words(file, *more):
+    """The arguments by which many connections are served at once over a bank in a file, until standard input ends."""
+    return ["counter", file, "--badges", BADGES, "--until-input-ends", *more]
+
+
+class Counter(Serving):
+    """A run that serves many connections at once over the bank in a file, until its input ends. How many messages are wanted is
+    not looked at."""
+
+    def __init__(self, program, file, requests=None, **more):
+        self.port = free_port()
+        self.words = [program, *counter_words(file, "--port", str(self.port))]
+        self.run = subprocess.Popen(self.words, stdin=subprocess.PIPE, stdout=subprocess.PIPE, stderr=subprocess.PIPE, **more)
+        self.line = self.run.stdout.readline()
+
+    def end_input(self):
+        """Ends the input, and does not wait for what comes of that. (What waits for the end closes the input otherwise.)"""
+        self.run.stdin.close()
+        self.run.stdin = None

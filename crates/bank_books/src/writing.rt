@@ -1,3 +1,5 @@
+//! The changes of a plan carried out on the lists of the books and of the policy, all of them or none.
+
 ghost use Rattle.std.specs.Prelude.{◌≡◌, ◌+◌, ℕ, length, OnOk, OnErr};
 ghost use Rattle.bank_policy.specs.PolicyRoom.{AreRowsInOrder, HasPolicyRoom, policy_of};
 ghost use Rattle.bank_books.specs.Effects.{all_written, written};

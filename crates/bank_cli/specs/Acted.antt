@@ -1,4 +1,4 @@
--- What the program comes to, by its words.
+-- What the program comes to, by its arguments.
 use Rattle.std.specs.Prelude.{◌≡◌, ◌⊎◌, ℕ, List, [], Result, codes}
 use Rattle.sqlite_disk.specs.declared.Disk.{Ghosts}
 use Rattle.sqlite_wal.specs.Recovery.{Image}
@@ -8,25 +8,30 @@ use Rattle.cli_words.specs.Commands.{IsNamedBy, IsRefusal, bank_app}
 use Rattle.cli_words.specs.Explained.{IsExplained}
 use Rattle.cli_words.specs.declared.words.Action.{Action}
 use Rattle.cli_words.specs.declared.words.Action.TheVariants as action
-use Rattle.cli_file.specs.Actions.{IsChecked, IsInited, IsListened, IsRun, IsUpgraded}
+use Rattle.cli_counter.specs.Actions.{IsAttended}
+use Rattle.cli_file.specs.Checking.{IsChecked}
 use Rattle.cli_file.specs.Telling.{IsEnded, IsSaid}
 use Rattle.cli_file.specs.declared.fault.ActionFault.{ActionFault}
 use Rattle.cli_file.specs.declared.left.FileLeft.{FileLeft}
 use Rattle.cli_file.specs.declared.left.PathLeft.{PathLeft}
 use Rattle.cli_file.specs.declared.left.PathLeft.TheVariants as path
+use Rattle.cli_forward.specs.Forwarding.{IsForwarded}
+use Rattle.cli_init.specs.Inited.{IsInited}
+use Rattle.cli_serve.specs.Actions.{IsListened, IsRun}
+use Rattle.cli_upgrade.specs.Upgrading.{IsUpgraded}
 use Rattle.exit_lines.specs.Lines.{line}
 use Rattle.exit_lines.specs.Streams.{Stream, Streams}
 use Rattle.sample_service.specs.Ends.{IsSampleEnd}
 use Rattle.sample_sql.specs.Stores.{cached_sql_status}
 
--- A file was dealt with, and what came of it is told by this line, or by that of a fault; nothing was read.
+-- A file was dealt with, and what came of it is reported by this line, or by that of a fault; nothing was read.
 pub record IsToldOf (did : Result Unit ActionFault → Type 0) (text : List ℕ) (old new : Streams) (errors_old errors_new : Stream) (status : ℕ) : Type 0 where
   pub result : Result Unit ActionFault
   pub done : did result
   pub said : IsSaid result (line text) old.output new.output errors_old errors_new status
   pub unread : new.input ≡ old.input
 
--- A stream was served over a file, and a fault that ended it is told.
+-- A stream was served over a file, and a fault that ended it is reported.
 pub record IsRunToEnd (did : Streams → Result Unit ActionFault → Type 0) (new : Streams) (errors_old errors_new : Stream) (status : ℕ) : Type 0 where
   pub result : Result Unit ActionFault
   pub served : Streams
@@ -34,7 +39,7 @@ pub record IsRunToEnd (did : Streams → Result Unit ActionFault → Type 0) (ne
   pub ended : IsEnded result served.output new.output errors_old errors_new status
   pub read : new.input ≡ served.input
 
--- A port was served over a file, and a fault that ended it is told; nothing was read.
+-- Connections were served over a file, and a fault that ended it is reported; nothing was read.
 pub record IsListenedToEnd (did : Stream → Result Unit ActionFault → Type 0) (old new : Streams) (errors_old errors_new : Stream) (status : ℕ) : Type 0 where
   pub result : Result Unit ActionFault
   pub told : Stream
@@ -42,26 +47,31 @@ pub record IsListenedToEnd (did : Stream → Result Unit ActionFault → Type 0)
   pub ended : IsEnded result told new.output errors_old errors_new status
   pub unread : new.input ≡ old.input
 
--- The action was carried out; this is left of the file, and the status, standard output and standard error tell how that ended. What uses no
--- file leaves the opener as it was.
-abbrev pub IsActed : {D O C : Type 0} → (g : Ghosts D) → Image → O → (C → ℕ → C → Type 0) → C → C → Action → Streams → Streams → Stream → Stream → PathLeft O (FileLeft D g) → ℕ → Type 0
-IsActed g image opener may_give from to (action.Sample moment) old new errors_old errors_new left status =
+-- The action was carried out, and this is left of the file; the status and both standard streams say how that ended.
+-- What uses no file leaves the opener as it was. The file of a year that ends has its own disk and image, and is
+-- dropped.
+abbrev pub IsActed : {A D O C : Type 0} → Ghosts A → Image → (g : Ghosts D) → Image → O → (C → ℕ → C → Type 0) → C → C → Action → Streams → Streams → Stream → Stream → PathLeft O (FileLeft D g) → ℕ → Type 0
+IsActed f earlier g image opener may_give from to (action.Sample moment) old new errors_old errors_new left status =
     (left ≡ path.Unopened opener) × IsSampleEnd cached_sql_status moment old new errors_old errors_new status
-IsActed g image opener may_give from to (action.Init file dir) old new errors_old errors_new left status =
-    IsToldOf (IsInited g image opener left) (codes "made") old new errors_old errors_new status
-IsActed g image opener may_give from to (action.Check file) old new errors_old errors_new left status =
+IsActed f earlier g image opener may_give from to (action.Init file dir sums) old new errors_old errors_new left status =
+    IsToldOf (IsInited g image sums opener left) (codes "made") old new errors_old errors_new status
+IsActed f earlier g image opener may_give from to (action.Check file) old new errors_old errors_new left status =
     IsToldOf (IsChecked g image opener left) (codes "books hold") old new errors_old errors_new status
-IsActed g image opener may_give from to (action.Upgrade file) old new errors_old errors_new left status =
+IsActed f earlier g image opener may_give from to (action.Upgrade file) old new errors_old errors_new left status =
     IsToldOf (IsUpgraded g image opener left) (codes "carried over") old new errors_old errors_new status
-IsActed g image opener may_give from to (action.Run file badges moment) old new errors_old errors_new left status =
+IsActed f earlier g image opener may_give from to (action.Forward file new_file sums) old new errors_old errors_new left status =
+    IsToldOf (IsForwarded f earlier g image sums opener left) (codes "carried forward") old new errors_old errors_new status
+IsActed f earlier g image opener may_give from to (action.Run file badges moment) old new errors_old errors_new left status =
     IsRunToEnd (λ served result. IsRun g image opener badges.now moment old served left result) new errors_old errors_new status
-IsActed g image opener may_give from to (action.Serve file badges port requests) old new errors_old errors_new left status =
+IsActed f earlier g image opener may_give from to (action.Serve file badges port requests) old new errors_old errors_new left status =
     IsListenedToEnd (λ told result. IsListened g image badges.now may_give opener port requests old.output told from to left result) old new errors_old errors_new status
+IsActed f earlier g image opener may_give from to (action.Counter file badges place until_input_ends) old new errors_old errors_new left status =
+    IsListenedToEnd (λ told result. IsAttended g image badges.now may_give opener place old.output told from to left result) old new errors_old errors_new status
 
--- The words name an action, which was carried out; or they are refused, or memory for them is, and why was told.
-abbrev pub IsAnswered : {D O C : Type 0} → (g : Ghosts D) → Image → O → (C → ℕ → C → Type 0) → C → C → List Text → Streams → Streams → Stream → Stream → PathLeft O (FileLeft D g) → ℕ → Type 0
-IsAnswered g image opener may_give from to words old new errors_old errors_new left status =
+-- The arguments name an action, which was carried out; or they, or memory for them, are refused, and why was reported.
+abbrev pub IsAnswered : {A D O C : Type 0} → Ghosts A → Image → (g : Ghosts D) → Image → O → (C → ℕ → C → Type 0) → C → C → List Text → Streams → Streams → Stream → Stream → PathLeft O (FileLeft D g) → ℕ → Type 0
+IsAnswered f earlier g image opener may_give from to words old new errors_old errors_new left status =
     ((action : Action) × IsNamedBy (subcommand_of bank_app words) action × (fault_of bank_app words ≡ [])
-    × IsActed g image opener may_give from to action old new errors_old errors_new left status)
+    × IsActed f earlier g image opener may_give from to action old new errors_old errors_new left status)
     ⊎ ((error : Error) × IsRefusal words error × (new.input ≡ old.input) × (left ≡ path.Unopened opener)
     × IsExplained error old.output new.output errors_old errors_new status)

@@ -1,7 +1,7 @@
-//! The bank program. `main` takes the words of the command line, the standard streams, the machine's files and
-//! its clock, and hands them to `answer`, which does what the words ask for and answers the status. What
-//! each action promises is said by `IsActed`, over every stream, every start of a file and every clock; that
-//! the program hands the right ones on is seen by reading `run`.
+//! The bank program. `main` takes the arguments of the command line, the standard streams, the machine's files and its
+//! clock, and hands them to `answer`, which does what the arguments ask for and returns the status. What each action
+//! promises is said by `IsActed`, over every stream, every start of a file and every clock; that the program hands the
+//! right ones on is seen by reading `run`.
 #![tactic(auto)]
 
 mod act;
@@ -24,9 +24,9 @@ fn main(rt: HostRuntime) -> ExitCode {
     ExitCode::from(status)
 }
 
-/// Reads the words of the command line, does what they ask for, and answers the status. What standard output gets is
-/// gathered, so that a reply goes out in one write. How far long work is is told where standard error is a terminal. The
-/// error is that the words are no text, or that memory is refused for them or for that room.
+/// Reads the arguments of the command line, does what they ask for, and returns the status. What standard output gets
+/// is gathered, so that a reply goes out in one write. Progress of long work is shown where standard error is a
+/// terminal. The error is that the arguments are no text, or that memory is refused for them or for that room.
 fn run(rt: &HostRuntime) -> io::Result<u8> {
     let alloc = rt.alloc();
     let given: Vec<String> = env::args(rt)?.collect(alloc)?;
@@ -43,6 +43,7 @@ fn run(rt: &HostRuntime) -> io::Result<u8> {
     let (left, status) = answer(
         rt,
         words.as_slice(),
+        Machine { start: Unknown },
         Machine { start: Unknown },
         &mut MachineClock::of(rt),
         &mut input,

@@ -44,7 +44,7 @@ user_there w (Some user) session is =
 pub allowed_user : (w : WorldLists) (q : Execution) → first w (executes q) ≡ None → IsUser w.policy.users (asker q.who)
 allowed_user w q is = user_there w q.who.user q.who.session (not-false _ (none_denies w (executes q) rule.Identity is))
 
--- ---- his triple
+-- ---- the user's triple
 
 may_execute : (w : WorldLists) (q : Execution) → first w (executes q) ≡ None → MayExecute w.policy (asker q.who) (procedure_of q.op)
 may_execute w q is =

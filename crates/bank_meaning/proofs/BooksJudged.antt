@@ -1,4 +1,4 @@
--- What the rules of the books tell of the rows, where none denies an operation.
+-- What is so of the rows where no rule of the books denies an operation.
 use Rattle.std.proofs.Common.{◌≡◌, ◌≢◌, ℕ, ℤ, pos, neg_ℤ, ◌+ℤ◌, ◌==◌, ◌&&◌, ◌||◌, Bool, true, false, not, Contains, Option, Some, None, refl, ap, arith, sym, ◌∙◌, subst}
 use Rattle.std.specs.Prelude.{◌≤ℤ◌, is_none, is_some, option_and_then, option_map, if◌then◌else◌}
 use Rattle.std.specs.Option.{option_map_or}

@@ -33,7 +33,7 @@ use Rattle.bank_meaning.specs.declared.who.Who.{Who}
 use Rattle.bank_meaning.proofs.FirstRule.{none_denies}
 use Rattle.bank_meaning.proofs.JudgedPolicy.{known_passed}
 
--- ---- what the tests of rows tell
+-- ---- what the tests of rows show
 
 officer_told : (p : PolicyLists) (user : ℕ) → is_officer p user ≡ true → IsOfficer p user
 officer_told p user is = go (user_row p user) refl is
@@ -83,7 +83,7 @@ command_judged w c who is = record { identified = identified w c who is; may = m
 
 -- ---- the listing
 
--- who asks for it is an officer by his row, and so one of the policy's
+-- the user who asks for it is an officer by their row, and so one of the policy's
 officer_asks : (w : WorldLists) (who : Who) → IsIdentified w who → not (is_officer_row (standing_of_asker who w)) ≡ false → IsOfficer w.policy (asker who)
 officer_asks w who known is =
     let named : standing_of_asker who w ≡ standing_of_asker (record who { user = Some known.user }) w = ap (λ o. standing_of_asker (record who { user = o }) w) known.named in

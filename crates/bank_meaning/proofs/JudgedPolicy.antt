@@ -147,7 +147,7 @@ limit_passed w q =
       ],
     )
 
--- a release that is named counts, or none is named
+-- a release that is named is valid, or none is named
 one_counts : (none counts : Bool) {P Q : Type 0} → (none ≡ true → P) → (counts ≡ true → Q) → (not none && not counts) ≡ false → P ⊎ Q
 one_counts true counts unnamed tells is = inl (unnamed refl)
 one_counts false true unnamed tells is = inr (tells refl)

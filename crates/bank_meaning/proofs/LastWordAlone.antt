@@ -21,7 +21,7 @@ use Rattle.bank_meaning.proofs.LastWordRows.{found_among, same_rows}
 
 -- ---- one policy is in force
 
--- a user's row, of all that is told of it
+-- a user's row, of all that it says
 abbrev row_of : Enrolment → Bool → Bool → ℕ → User
 row_of e suspended on session = record { user = e.user; name = e.name; officer = e.officer; suspended = suspended; session = session; on = on }
 

@@ -55,7 +55,7 @@ record KeepsPolicy (w : WorldLists) (changes : List RowWrite) : Type 0 where
 pub kept_itself : (w : WorldLists) → IsPolicyKept w w
 kept_itself w = record { policy = refl; version = refl }
 
--- changes that a row tells, and where it is missing none
+-- changes that are made of a row, and none where it is missing
 by_row : {A : Type 0} (w : WorldLists) (f : A → List RowWrite) (row : Option A) → ((a : A) → KeepsPolicy w (f a)) → KeepsPolicy w (option_map_or f row [])
 by_row w f None each = record { kept = kept_itself w }
 by_row w f (Some a) each = each a

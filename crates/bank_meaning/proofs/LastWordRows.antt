@@ -1,4 +1,5 @@
--- What is found of rows that have one more, or fewer, or that are made anew; and that rows in order are told by those that are there.
+-- What is found of rows of which one is added, some are removed, or one is changed; and that two lists of rows in order
+-- are the same where the same rows are in both.
 use Rattle.std.proofs.Common.{◌≡◌, ℕ, ◌==◌, ◌≤◌, suc, List, [], ◌∷◌, map, Bool, true, false, cond, not, unwrap_or, Option, Some, None, Contains, inl, inr, refl, ap, arith, sym, subst, ◌∙◌}
 use Rattle.std.specs.Prelude.{nat_le, option_map, if◌then◌else◌}
 use Rattle.std.specs.List.{filter, find, list_any}
@@ -98,7 +99,7 @@ found_changed {X = X} key k made same xs n =
 
 -- ---- rows in order
 
--- no row behind the first has a lower key
+-- no row after the first has a lower key
 first_lowest : {X : Type 0} (key : X → ℕ) (x : X) (xs : List X) (y : X) → IsNonDecreasingBy key (x ∷ xs) → Contains xs y → key x ≤ key y
 first_lowest key x xs y order (k, within, is) = subst (λ z. key x ≤ key z) is (order 0 (suc k) y (omega arith) (omega arith))
 
@@ -117,7 +118,7 @@ same_first {X = X} key x xs y ys order order' distinct there here =
     between : (a b : ℕ) → a ≤ b → b ≤ a → a ≡ b
     between a b low high = omega arith
 
--- a row behind the first is one of the other list's, and not the first of them
+-- a row after the first is one of the other list's, and not the first of them
 still_behind : {X : Type 0} (key : X → ℕ) (x : X) (xs : List X) (y : X) (ys : List X) → AreDistinct (map key (x ∷ xs)) → x ≡ y → ((z : X) → Contains (x ∷ xs) z → Contains (y ∷ ys) z)
     → (z : X) → Contains xs z → Contains ys z
 still_behind key x xs y ys distinct same among z there =

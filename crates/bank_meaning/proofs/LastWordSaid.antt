@@ -71,7 +71,7 @@ said_first : {A : Type 0} (later here : Option A) (opening : A) → unwrap_or la
 said_first None here opening = refl
 said_first (Some a) here opening = refl
 
--- the last word of a list, by that of the requests behind the first, over what the first leaves
+-- the last word of a list, by that of the requests after the first, over what the first leaves
 behind_first : {A : Type 0} (says : Word A) (r : Request) (rs : List Request) (before between after : A) → between ≡ unwrap_or (says r.who r.asked) before → after ≡ in_force says rs between
     → after ≡ in_force says (r ∷ rs) before
 behind_first says r rs before between after here later = later ∙ ap (λ a. unwrap_or (last_word says rs) a) here ∙ said_first (last_word says rs) (says r.who r.asked) before

@@ -60,7 +60,7 @@ missing : (o : Option User) → is_some (option_map standing_of o) ≡ false →
 missing None none = refl
 missing (Some row) none = absurd cc
 
--- as who asks has him taken in
+-- the row that an enrolment adds
 abbrev new_user : Enrolment → User
 new_user e = record { user = e.user; name = e.name; officer = e.officer; suspended = false; session = 0; on = false }
 
@@ -161,7 +161,7 @@ number_found s more true (Some row) there is = is refl
 number_found s more false None there is = none_more 0
 number_found s more false (Some row) there is = none_more row.session
 
--- of who asks, where his row is there
+-- of who asks, where that user's row is there
 some_standing : (user : Option ℕ) (p : PolicyLists) → is_none (option_and_then (λ u. standing p u) user) ≡ false → is_none (standing p (option_map_or (λ u. u) user 0)) ≡ false
 some_standing None p some = absurd cc
 some_standing (Some u) p some = some
@@ -175,7 +175,7 @@ latest_number : (user : Option ℕ) (p : PolicyLists) → is_none (option_and_th
 latest_number None p some = absurd cc
 latest_number (Some u) p some = number_of_row (user_row p u)
 
--- where he is not suspended, or is known by his session, it is
+-- where the user is not suspended, or is known by their session, it is
 pub active_there : (o : Option Standing) → not (option_map_or (λ s. not s.suspended) o false) ≡ false → is_none o ≡ false
 active_there None active = absurd cc
 active_there (Some row) active = refl

@@ -32,7 +32,7 @@ as_all p q (x ∷ xs) r all at = go (p x) at (as_all p q xs r parts.1)
     go true at rest = let same : x ≡ r = cc in subst (λ y. q y ≡ true) same parts.0
     go false at rest = rest at
 
--- no rule behind those of the policy stands in front of the books
+-- no rule after those of the policy is one before those of the books
 behind : (m : Rule → Bool) (r : Rule) → is_before_books r ≡ true → find m rules_behind_policy ≡ Some r → ⊥
 behind m r of at = false≢true (sym (ap not of) ∙ as_all m (λ other. not (is_before_books other)) rules_behind_policy r refl at)
 
@@ -42,7 +42,7 @@ by_six a s b c d e rest =
     cond a (Some rule.Identity)
     (cond s (Some rule.Slip) (cond b (Some rule.NotCertified) (cond c (Some rule.NoTriple) (cond d (Some rule.Limit) (cond e (Some rule.Release) rest)))))
 
--- behind the slip, the first three are one in both
+-- after the test of the slip, the first three are the same in both
 in_front : (b c d e f : Bool) (rest other : Option Rule) (r : Rule) → (r ≡ rule.Release → f ≡ e) → (rest ≡ Some r → ⊥)
     → by_six false false b c d e rest ≡ Some r → by_six false false b c d f other ≡ Some r
 in_front true c d e f rest other r same none is = is
@@ -53,7 +53,7 @@ in_front false false false true f rest other r same none is =
     subst (λ b. cond b (Some rule.Release) other ≡ Some r) (sym (same named)) is
 in_front false false false false f rest other r same none is = absurd (none is)
 
--- what is found behind that of identity is not that
+-- what is found after the rule on identity is another rule
 no_identity : (s b c d e : Bool) (rest : Option Rule) (r : Rule) → (rest ≡ Some r → ⊥) → by_six false s b c d e rest ≡ Some r → r ≡ rule.Identity → ⊥
 no_identity true b c d e rest r none is same = cc
 no_identity false true c d e rest r none is same = cc

@@ -1,4 +1,5 @@
--- What relations and triples tell of the rules of the policy, and that the rules of the policy come before those of the books.
+-- What the rules of the policy say by relations and triples, and that the rules of the policy come before those of the
+-- books.
 use Rattle.std.proofs.Common.{◌≡◌, ◌≢◌, ℕ, ◌<◌, ◌≤◌, ◌==◌, ◌&&◌, List, Bool, true, false, not, IsTrue, Option, None, Some, Result, Ok, Err, cond, refl, ap, sym, ◌∙◌}
 use Rattle.std.specs.Prelude.{if◌then◌else◌, nat_le}
 use Rattle.std.proofs.lemmas.Bool.{eq-eqb, false≢true, leb-false, leb-true, ne_eqb}
@@ -68,7 +69,7 @@ limit_reaches held items limit amount best = go (nat_le amount limit) refl
 pub none_held_for : (held : List HeldTriple) (items : List Cdi) (amount : ℕ) → IsBestLimit held items None → is_held_for held items amount ≡ false
 none_held_for held items amount best = not_true (is_held_for held items amount) (λ is. let some = held_up_to held items amount is in best some.0 some.1.0)
 
--- ---- the leave of the policy, by its parts
+-- ---- the authorization by the policy, by its parts
 
 abbrev by_five : Bool → Bool → Bool → Bool → Bool → Bool → ℕ → Result Leave Rule
 by_five known certified held enough none_named counts release =
@@ -79,7 +80,7 @@ by_five known certified held enough none_named counts release =
     (cond (not enough && none_named) (Some rule.Limit) (cond (not enough && (not none_named && not counts)) (Some rule.Release) None)))))
     (if enough then leave.Triple else leave.Release release)
 
--- the leave that is sought, once it is known whether the release counts
+-- the authorization that is sought, once it is known whether the release is valid
 abbrev pub if_counts : Bool → Result Leave Rule → Result Leave Rule
 if_counts counts (Err rule) = Err rule
 if_counts counts (Ok leave.Triple) = Ok leave.Triple
@@ -151,9 +152,9 @@ sought_is_named g number is =
     go true true true false true is = absurd cc
     go true true true false false is = cc
 
--- ---- the leave, and the first rule
+-- ---- the authorization, and the first rule
 
--- the leave says which of the two it is
+-- an authorization that is given is that of the grounds, and no rule of the policy denies
 pub leave_given : (g : Grounds) (l : Leave) → leave_by_policy g ≡ Ok l → (first_of_policy g ≡ None) × (leave_of g ≡ l)
 leave_given g l is = go (first_of_policy g) refl is
   where

@@ -43,7 +43,7 @@ first_by another full denies = find (by_slip another full denies) rules
 first_is : (w : WorldLists) (x : Execution) → first w (executes x) ≡ first_by (is_of_another (slip_grounds w x)) (has_no_room (slip_grounds w x)) (execution_meaning w x).denies
 first_is w x = refl
 
--- a slip that he has not denies nothing as one of another operation, and is no repeat
+-- a slip that is not found denies nothing as one of another operation, and is no repeat
 pub not_another : (g : SlipGrounds) → g.found ≡ None → is_of_another g ≡ false
 not_another g none = ap (λ f. is_of_another (record g { found = f })) none
 

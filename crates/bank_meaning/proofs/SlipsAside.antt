@@ -57,7 +57,7 @@ pub record IsSameBeside (slips : List SlipRow) (m other : Meaning) : Type 0 wher
 record TakesNone (slips : List SlipRow) (w : WorldLists) (changes : List RowWrite) : Type 0 where
   left : applied changes (with_slips slips w) ≡ with_slips slips (applied changes w)
 
--- changes that a row tells, and where it is missing none
+-- changes that are made of a row, and none where it is missing
 by_row : {A : Type 0} (s : List SlipRow) (w : WorldLists) (f : A → List RowWrite) (row : Option A) → ((a : A) → TakesNone s w (f a)) → TakesNone s w (option_map_or f row [])
 by_row s w f None each = record { left = refl }
 by_row s w f (Some a) each = each a

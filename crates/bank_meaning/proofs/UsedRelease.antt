@@ -1,4 +1,4 @@
--- What is left where a release was used up: the books hold as they did, nothing is moved, and it counts no more.
+-- What is left where a release was used up: the books hold as they did, nothing is moved, and it is valid no more.
 use Rattle.std.proofs.Common.{◌≡◌, ℕ, ◌==◌, List, [], ◌∷◌, Bool, true, false, cond, Some, refl, ap, sym, subst, ◌∙◌}
 use Rattle.std.specs.Prelude.{if◌then◌else◌}
 use Rattle.std.specs.List.{find}
@@ -78,7 +78,7 @@ counts_no_more w user number op moment counts = false≢true (sym counts.unused 
 
 -- ---- the law
 
--- a slip that is taken makes none count
+-- a slip that is taken makes none valid
 taken_counts : (b : Bool) (row : SlipRow) (w : WorldLists) (user number : ℕ) (op : Op) (moment : ℕ)
     → Released (if b then w else written (write.Slip row) w) user number op moment → Released w user number op moment
 taken_counts true row w user number op moment counts = counts

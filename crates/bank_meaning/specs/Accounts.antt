@@ -8,7 +8,7 @@ use Rattle.reports.specs.declared.listing.Listing.{Listing}
 use Rattle.reports.specs.declared.listing.Listing.TheVariants as listing
 use Rattle.bank_meaning.specs.Meaning.{Meaning, plain}
 
--- the accounts that it lists to who asks, by his triples that count at the moment
+-- the accounts that it lists to the user who asks, by their triples that are valid at the moment
 abbrev pub accounts_of : Accounts → Signature → Listing
 accounts_of form by = listing.Accounts (record { user = by.user; after = form.after; moment = by.moment })
 

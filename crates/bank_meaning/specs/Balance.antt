@@ -27,7 +27,7 @@ first_against_balance row = first_denial (balance_tests row)
 unfoldable pub balance_text : ℤ → List ℕ
 balance_text z = codes "{\"balance\":" ++ signed_decimal z ++ codes "}"
 
--- the value of JSON behind it
+-- the JSON value of the reply
 abbrev pub balance_data : ℤ → Data
 balance_data z = object (member (codes "balance") (cents z) no_members)
 

@@ -16,7 +16,7 @@ unfoldable pub closed_text : Closed → List ℕ
 closed_text c =
     codes "{\"balance\":" ++ signed_decimal c.balance ++ codes ",\"cash\":" ++ signed_decimal c.cash ++ codes ",\"closed\":" ++ decimal c.closed ++ codes ",\"entries\":" ++ decimal c.entries ++ codes "}"
 
--- the value of JSON behind it
+-- the JSON value of the reply
 abbrev pub closed_data : Closed → Data
 closed_data c =
     object (member (codes "balance") (cents c.balance) (member (codes "cash") (cents c.cash) (member (codes "closed") (natural c.closed) (member (codes "entries") (natural c.entries) no_members))))

@@ -28,7 +28,7 @@ asked_command_tests row rows who command = (rule.Identity, not (is_identified ro
 unfoldable pub done_text : Command → List ℕ
 done_text command = codes "{\"done\":\"" ++ name_of command ++ codes "\"}"
 
--- the value of JSON behind it
+-- the JSON value of the reply
 abbrev pub done_data : Command → Data
 done_data command = object (member (codes "done") (string (name_of command)) no_members)
 

@@ -31,7 +31,7 @@ MayCommand policy user (command.Enrol e) = IsOfficer policy user
 MayCommand policy user (command.Suspend k) = IsOfficer policy user
 MayCommand policy user (command.Restore k) = IsOfficer policy user
 
--- he is known, so not suspended, and may
+-- the user is known, so not suspended, and may
 pub record IsCommandJudged (w : WorldLists) (who : Who) (c : PolicyOp) : Type 0 where
   pub identified : IsIdentified w who
   pub may : MayCommand w.policy (asker who) c

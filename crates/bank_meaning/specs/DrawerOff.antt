@@ -18,7 +18,7 @@ unfoldable pub put_off_text : PutOff → List ℕ
 put_off_text p =
     codes "{\"difference\":" ++ signed_decimal p.difference ++ codes ",\"teller\":" ++ decimal p.teller ++ codes ",\"vault\":" ++ signed_decimal p.vault ++ codes "}"
 
--- the value of JSON behind it
+-- the JSON value of the reply
 abbrev pub put_off_data : PutOff → Data
 put_off_data p =
     object (member (codes "difference") (cents p.difference) (member (codes "teller") (natural p.teller) (member (codes "vault") (cents p.vault) no_members)))

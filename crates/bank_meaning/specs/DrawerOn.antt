@@ -18,7 +18,7 @@ unfoldable pub put_on_text : PutOn → List ℕ
 put_on_text p =
     codes "{\"cash\":" ++ signed_decimal p.cash ++ codes ",\"teller\":" ++ decimal p.teller ++ codes ",\"vault\":" ++ signed_decimal p.vault ++ codes "}"
 
--- the value of JSON behind it
+-- the JSON value of the reply
 abbrev pub put_on_data : PutOn → Data
 put_on_data p =
     object (member (codes "cash") (cents p.cash) (member (codes "teller") (natural p.teller) (member (codes "vault") (cents p.vault) no_members)))

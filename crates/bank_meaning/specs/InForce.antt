@@ -37,22 +37,22 @@ triple_row p user procedure set = find (λ row. is_triple_of user procedure row 
 abbrev pub certifier_row : PolicyLists → ℕ → Procedure → Option Certifier
 certifier_row p user procedure = find (λ row. row.user == user && number_of row.procedure == number_of procedure) p.certifiers
 
--- who a user is, without what changes: his number, his name, and whether he is an officer
+-- who a user is, without what changes: the number, the name, and whether they are an officer
 abbrev pub enrolment_of : User → Enrolment
 enrolment_of row = record { user = row.user; name = row.name; officer = row.officer }
 
 abbrev pub enrolment : PolicyLists → ℕ → Option Enrolment
 enrolment p user = option_map enrolment_of (user_row p user)
 
--- he is there, and is suspended
+-- the user is there, and is suspended
 abbrev pub is_suspended : PolicyLists → ℕ → Bool
 is_suspended p user = option_map_or (λ row. row.suspended) (user_row p user) false
 
--- he is there, and his latest session is open
+-- the user is there, and their latest session is open
 abbrev pub is_in_session : PolicyLists → ℕ → Bool
 is_in_session p user = option_map_or (λ row. row.on) (user_row p user) false
 
--- the number of his latest session, 0 before the first and where he is not there
+-- the number of the user's latest session, 0 before the first and where the user is not there
 abbrev pub session_number : PolicyLists → ℕ → ℕ
 session_number p user = option_map_or (λ row. row.session) (user_row p user) 0
 
@@ -87,24 +87,24 @@ word_on_triple user procedure set who (asked.Command (command.Revoke k)) = said_
 word_on_triple user procedure set who (asked.Command (command.Withdraw k)) = said_if (is_same k.procedure procedure && k.set == set) None
 word_on_triple user procedure set who _ = None
 
--- Of whether a user is a certifier of a procedure his appointment speaks, and his dismissal.
+-- Of whether a user is a certifier of a procedure their appointment speaks, and their dismissal.
 abbrev pub word_on_certifier : ℕ → Procedure → Word (Option Certifier)
 word_on_certifier user procedure who (asked.Command (command.Appoint c)) = said_if (c.user == user && is_same c.procedure procedure) (Some c)
 word_on_certifier user procedure who (asked.Command (command.Dismiss c)) = said_if (c.user == user && is_same c.procedure procedure) None
 word_on_certifier user procedure who _ = None
 
--- Of who a user is his enrolment speaks. No request takes a user away.
+-- Of who a user is their enrolment speaks. No request takes a user away.
 abbrev pub word_on_user : ℕ → Word (Option Enrolment)
 word_on_user user who (asked.Command (command.Enrol e)) = said_if (e.user == user) (Some e)
 word_on_user user who _ = None
 
--- Of whether he is suspended his suspension speaks, and his restoration.
+-- Of whether a user is suspended their suspension speaks, and their restoration.
 abbrev pub word_on_suspension : ℕ → Word Bool
 word_on_suspension user who (asked.Command (command.Suspend k)) = said_if (k.user == user) true
 word_on_suspension user who (asked.Command (command.Restore k)) = said_if (k.user == user) false
 word_on_suspension user who _ = None
 
--- Of whether his session is open its opening speaks, and its ending; suspension and restoration close it.
+-- Of whether a user's session is open its opening speaks, and its ending; suspension and restoration close it.
 abbrev pub word_on_session : ℕ → Word Bool
 word_on_session user who asked.Opening = said_if (asker who == user) true
 word_on_session user who asked.Ending = said_if (asker who == user) false

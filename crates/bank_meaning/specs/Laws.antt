@@ -1,5 +1,6 @@
--- What holds of every decision: the rule that is named is the first that denies, the tests of the policy ask what Clark and
--- Wilson's rules E1 and E2 ask, a release counts once, an account that is opened and a release that is given keep the books, and a session changes nothing else.
+-- What holds of every decision: the rule that is named is the first that denies, the tests of the policy ask what Clark
+-- and Wilson's rules E1 and E2 ask, a release is valid once, an account that is opened and a release that is given keep
+-- the books, and a session changes nothing else.
 use Rattle.std.specs.Prelude.{ℕ, ◌≡◌, ◌≢◌, ◌↔◌, ◌⊎◌, ◌==◌, ◌≤◌, ◌++◌, Bool, true, false, Option, Some, None, List, [], ◌∷◌, map, All, count_by}
 use Rattle.std.specs.List.{AllZip}
 use Rattle.bank_policy.specs.Execution.{Certified, Held}
@@ -50,18 +51,19 @@ pub record IsFirstRule (w : WorldLists) (q : Request) : Type 0 where
 abbrev pub HasOnePlace : Rule → Type 0
 HasOnePlace r = count_by (λ other. number_of other == number_of r) rules ≡ 1
 
--- the places go by the numbers, but that the rule on slips stands behind the one on identity
+-- the places go by the numbers, but that the rule on slips follows the one on identity
 abbrev pub numbers : List ℕ
 numbers = 1 ∷ 22 ∷ 2 ∷ 3 ∷ 4 ∷ 5 ∷ 6 ∷ 7 ∷ 8 ∷ 9 ∷ 10 ∷ 11 ∷ 12 ∷ 13 ∷ 14 ∷ 15 ∷ 16 ∷ 17 ∷ 18 ∷ 19 ∷ 20 ∷ 21 ∷ []
 
 abbrev pub FirstByPlace : Type 0
 FirstByPlace = ((r : Rule) → HasOnePlace r) × (map number_of rules ≡ numbers) × ((w : WorldLists) (q : Request) → IsFirstRule w q)
 
--- some one triple of the user that counts at the moment holds all that is touched, up to the amount at least
+-- some one triple of the user, valid at the moment, holds all that is touched, up to the amount at least
 abbrev pub InLimit : WorldLists → ℕ → Op → ℕ → Type 0
 InLimit w user op moment = (limit : ℕ) × (Held w.policy user (procedure_of op) (touched op) limit moment × amount op ≤ limit)
 
--- who asks is known: the gate names him, he is there and not suspended, and the session that he names is open and his present one
+-- who asks is known: a user whom the authenticator names, who is there and not suspended, and whose present session is
+-- open and the one that is named
 pub record IsIdentified (w : WorldLists) (who : Who) : Type 0 where
   pub user : ℕ
   pub row : Standing
@@ -72,7 +74,7 @@ pub record IsIdentified (w : WorldLists) (who : Who) : Type 0 where
   pub present : row.session ≡ who.session
   pub given : who.session ≢ 0
 
--- who asks to open a session is there and not suspended; no session of his is looked at
+-- the user who asks to open a session is there and not suspended; no session of theirs is looked at
 pub record MayOpen (w : WorldLists) (asked : Option ℕ) : Type 0 where
   pub user : ℕ
   pub row : Standing
@@ -80,7 +82,8 @@ pub record MayOpen (w : WorldLists) (asked : Option ℕ) : Type 0 where
   pub there : standing w.policy user ≡ Some row
   pub active : row.suspended ≡ false
 
--- The rule on identity asks of a command and of the ending of a session whether who asks is known, and of an opening whether he may open one.
+-- The rule on identity asks of a command and of the ending of a session whether the user is known, and of an opening
+-- whether the user may open one.
 pub record IsIdentityJudged (w : WorldLists) : Type 0 where
   pub command : (command : PolicyOp) (who : Who) → (denies rule.Identity w (commands command who) ≡ false ↔ IsIdentified w who)
   pub ending : (who : Who) → (denies rule.Identity w (ends_session who) ≡ false ↔ IsIdentified w who)
@@ -89,8 +92,9 @@ pub record IsIdentityJudged (w : WorldLists) : Type 0 where
 abbrev pub IdentityIsJudged : Type 0
 IdentityIsJudged = (w : WorldLists) → IsIdentityJudged w
 
--- The release of this number of a user counts for an operation: it is there and unused, names exactly that operation, and bears the present day of its branch; who
--- gave it is another, is there and not suspended, and some one triple of his for releases that counts at the moment holds all that is touched, up to the amount at least.
+-- The release of this number of a user is valid for an operation: it is there and unused, names exactly that operation,
+-- and bears the present day of its branch; its giver is another user, there and not suspended, and some one triple of
+-- the giver's for releases, valid at the moment, holds all that is touched, up to the amount at least.
 pub record Released (w : WorldLists) (user number : ℕ) (op : Op) (moment : ℕ) : Type 0 where
   pub row : Release
   pub there : release w user number ≡ Some row
@@ -107,13 +111,13 @@ pub record Released (w : WorldLists) (user number : ℕ) (op : Op) (moment : ℕ
   pub held : Held w.policy row.giver procedure.Release (touched op) limit moment
   pub enough : amount op ≤ limit
 
--- a release is named, and counts for what is asked for
+-- a release is named, and is valid for what is asked for
 pub record IsReleased (w : WorldLists) (x : Execution) : Type 0 where
   pub named : x.who.release ≢ 0
   pub counts : Released w (asker x.who) x.who.release x.op x.moment
 
--- What it is that a rule of the policy does not deny, in the words of the model. Where no triple of the user's own reaches the amount, it is the limit that is told
--- where no release is named, and the release where one is.
+-- What it is that a rule of the policy does not deny, in the terms of the model. Where no triple of the user's own
+-- reaches the amount, the rule on limits denies if no release is named, and the rule on releases may if one is.
 pub record IsPolicyJudged (w : WorldLists) (x : Execution) : Type 0 where
   pub identified : denies rule.Identity w (executes x) ≡ false ↔ IsIdentified w x.who
   pub certified : denies rule.NotCertified w (executes x) ≡ false ↔ Certified w.policy (procedure_of x.op) (touched x.op)
@@ -129,8 +133,9 @@ abbrev pub is_before_books : Rule → Bool
 is_before_books rule.Slip = true
 is_before_books r = is_of_policy r
 
--- What such a rule judges an operation by is the same in both Worlds: the policy; where it is the rule on releases, the release that is named, with the present day of its
--- branch; and, for all but the rule on identity, which the slip stands behind, whether the slip that is named was taken with another operation.
+-- What such a rule judges an operation by is the same in both Worlds: the policy; where it is the rule on releases, the
+-- release that is named, with the present day of its branch; and, for all but the rule on identity, which comes before
+-- that on slips, whether the slip that is named was taken with another operation.
 pub record IsJudgedAlike (r : Rule) (w v : WorldLists) (x : Execution) : Type 0 where
   pub policy : v.policy ≡ w.policy
   pub release : r ≡ rule.Release → release_grounds v (asker x.who) x.who.release x.moment ≡ release_grounds w (asker x.who) x.who.release x.moment
@@ -141,7 +146,7 @@ pub record IsJudgedAlike (r : Rule) (w v : WorldLists) (x : Execution) : Type 0 
 abbrev pub DeniedBeforeTheBooks : Type 0
 DeniedBeforeTheBooks = (w v : WorldLists) (x : Execution) (r : Rule) → is_before_books r ≡ true → IsJudgedAlike r w v x → first w (executes x) ≡ Some r → first v (executes x) ≡ Some r
 
--- some one triple of his holds all that is touched: up to the amount at least, or a release that is named counts
+-- some one triple of the user's holds all that is touched: up to the amount at least, or the release named is valid
 abbrev pub InLimitOrReleased : WorldLists → Execution → Type 0
 InLimitOrReleased w x =
     InLimit w (asker x.who) x.op x.moment ⊎ (((limit : ℕ) × Held w.policy (asker x.who) (procedure_of x.op) (touched x.op) limit x.moment) × IsReleased w x)
@@ -151,8 +156,8 @@ pub record SlipAllows (w : WorldLists) (x : Execution) : Type 0 where
   pub not_another : is_of_another (slip_grounds w x) ≡ false
   pub has_room : has_no_room (slip_grounds w x) ≡ false
 
--- Its user is known, its procedure is certified for what it touches, some one triple of his holds all of that, within its limit or by a release that counts, no rule of
--- the books denies it, and its slip lets it be.
+-- Its user is known, its procedure is certified for what it touches, some one triple of the user's holds all of that,
+-- within its limit or by a valid release, no rule of the books denies it, and its slip allows it.
 abbrev pub IsHeld : WorldLists → Execution → Type 0
 IsHeld w x =
     IsIdentified w x.who × Certified w.policy (procedure_of x.op) (touched x.op) × InLimitOrReleased w x × ((by_books (books_meaning w x)).first ≡ None) × SlipAllows w x
@@ -161,8 +166,8 @@ IsHeld w x =
 abbrev pub AllowedExactlyWhenHeld : Type 0
 AllowedExactlyWhenHeld = (w : WorldLists) (x : Execution) → first w (executes x) ≡ None ↔ IsHeld w x
 
--- A release is used up exactly where it is what lets an operation be: what a triple of the user's own reaches leaves the release that it names as it was, and one that
--- let an operation be counts for none afterwards.
+-- A release is used up exactly where it authorizes an operation: what a triple of the user's own reaches leaves the
+-- release that it names as it was, and one that authorized an operation is valid for none afterwards.
 pub record IsUsedOnce (w : WorldLists) (x : Execution) : Type 0 where
   pub kept : InLimit w (asker x.who) x.op x.moment → effect w (executes x) ≡ taken_by x (books_meaning w x).reply.bytes (books_meaning w x).effect
   pub used : ¬ InLimit w (asker x.who) x.op x.moment → (op : Op) (moment : ℕ) → ¬ Released (effect w (executes x)) (asker x.who) x.who.release op moment
@@ -179,7 +184,7 @@ ReleaseKeepsBooks = (w : WorldLists) (form : Given) (by : Signature) → Books w
 abbrev pub NewAccountKeepsBooks : Type 0
 NewAccountKeepsBooks = (w : WorldLists) (form : NewAccount) → Books w → IsNewAccount form → first_against_new_account (opening_rows w form) ≡ None → Books (new_account_effect w form)
 
--- The row of a user who stays: only where he is the one who asked, his session may be another one.
+-- The row of a user who stays: only that of the user who asked may have another session.
 pub record IsSameUser (asked : ℕ) (before after : User) : Type 0 where
   pub user : after.user ≡ before.user
   pub name : after.name ≡ before.name

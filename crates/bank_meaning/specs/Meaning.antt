@@ -30,7 +30,8 @@ pub record Meaning : Type 0 where
   pub effect : WorldLists
   pub reply : ReplyText
 
--- The rules that come behind those of the policy, in their order: those of the books, and behind them those on commands, of which none denies an operation.
+-- The rules that follow those of the policy, in their order: those of the books, and then those on commands, of which
+-- none denies an operation.
 abbrev pub rules_behind_policy : List Rule
 rules_behind_policy =
     rule.Unknown ∷ rule.Branch ∷ rule.Drawer ∷ rule.SecondPerson ∷ rule.Entry ∷ rule.Floor ∷ rule.Cash ∷ rule.Range ∷ rule.Taken ∷ rule.Day ∷ rule.Full
@@ -42,6 +43,6 @@ pub record Verdict : Type 0 where
   pub effect : WorldLists
   pub reply : ReplyText
 
--- by the rules behind those of the policy alone: of an operation, by its books
+-- by the rules that follow those of the policy alone: of an operation, by those of the books
 abbrev pub by_books : Meaning → Verdict
 by_books m = record { first = find (λ r. m.denies r) rules_behind_policy; effect = m.effect; reply = m.reply }

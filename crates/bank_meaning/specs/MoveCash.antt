@@ -17,7 +17,7 @@ unfoldable pub moved_text : Moved → List ℕ
 moved_text m =
     codes "{\"moved\":" ++ decimal m.moved ++ codes ",\"source\":" ++ signed_decimal m.source ++ codes ",\"target\":" ++ signed_decimal m.target ++ codes "}"
 
--- the value of JSON behind it
+-- the JSON value of the reply
 abbrev pub moved_data : Moved → Data
 moved_data m =
     object (member (codes "moved") (natural m.moved) (member (codes "source") (cents m.source) (member (codes "target") (cents m.target) no_members)))

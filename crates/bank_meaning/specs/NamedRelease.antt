@@ -1,4 +1,5 @@
--- A release that a request names: what it is judged by, and whether it counts. It is another user's leave for one exact operation on one day of a branch.
+-- A release that a request names: what it is judged by, and whether it is valid. It is another user's authorization of
+-- one exact operation on one day of a branch.
 use Rattle.std.specs.Prelude.{ℕ, ◌==◌, ◌&&◌, Bool, false, not, List, Option, option_map}
 use Rattle.std.specs.Cmp.Lexicographic.{pointwise}
 use Rattle.std.specs.Option.{option_map_or}
@@ -20,7 +21,7 @@ pub record ReleaseGrounds : Type 0 where
   pub row : Release
   -- the present day of its branch
   pub today : Option ℕ
-  -- what the row of who gave it says of whether he may, and those of his triples for releases that count at the moment
+  -- what the giver's row says of whether they may, and those of their triples for releases that are valid at the moment
   pub giver : Option Standing
   pub held : List HeldTriple
 
@@ -40,7 +41,7 @@ release_grounds w user number moment = option_map (release_grounds_of w moment) 
 abbrev pub is_same_operation : OperationRow → OperationRow → Bool
 is_same_operation row other = number_of row.form == number_of other.form && pointwise int_eq row.members other.members
 
--- he is there and is not suspended; no session is looked at
+-- the user is there and is not suspended; no session is looked at
 abbrev pub is_active : Option Standing → Bool
 is_active row = option_map_or (λ s. not s.suspended) row false
 
@@ -52,7 +53,7 @@ is_of_today g = option_map_or (λ day. g.row.day == day) g.today false
 abbrev pub is_giver_for : ReleaseGrounds → ℕ → List Cdi → ℕ → Bool
 is_giver_for g user items amount = not (g.row.giver == user) && (is_active g.giver && is_held_for g.held items amount)
 
--- The release counts for the operation of this row, of this user, with these items and this amount: it is unused, names exactly that operation, is of the
--- present day, and who gave it could give it now.
+-- The release is valid for the operation of this row, of this user, with these items and this amount: it is unused,
+-- names exactly that operation, is of the present day, and who gave it could give it now.
 abbrev pub counts : ReleaseGrounds → ℕ → OperationRow → List Cdi → ℕ → Bool
 counts g user operation items amount = not g.row.used && (is_same_operation g.row.operation operation && (is_of_today g && is_giver_for g user items amount))

@@ -43,7 +43,7 @@ new_account_effect w form = record w { accounts = add_row account_key (opened fo
 unfoldable pub opened_text : NewAccount → List ℕ
 opened_text form = codes "{\"account\":" ++ decimal form.account ++ codes ",\"branch\":" ++ decimal form.branch ++ codes "}"
 
--- the value of JSON behind it
+-- the JSON value of the reply
 abbrev pub opened_data : NewAccount → Data
 opened_data form = object (member (codes "account") (natural form.account) (member (codes "branch") (natural form.branch) no_members))
 

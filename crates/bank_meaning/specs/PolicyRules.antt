@@ -21,13 +21,13 @@ use Rattle.bank_meaning.specs.declared.leave.Leave.TheVariants as leave
 use Rattle.bank_meaning.specs.declared.execution.Execution.{Execution}
 use Rattle.bank_meaning.specs.declared.who.Who.{Who}
 
--- the user who asks, 0 where the gate names none
+-- the user who asks, 0 where the authenticator names none
 abbrev pub asker : Who → ℕ
 asker who = option_map_or (λ user. user) who.user 0
 
--- all that the rules of the policy judge one operation by; of the triples, those that count at its moment
+-- all that the rules of the policy judge one operation by; of the triples, those that are valid at its moment
 pub record Grounds : Type 0 where
-  -- who asks, 0 where the gate names none
+  -- who asks, 0 where the authenticator names none
   pub user : ℕ
   pub standing : Option Standing
   pub session : ℕ
@@ -55,20 +55,21 @@ grounds w x = record {
   released = release_grounds w (asker x.who) x.who.release x.moment;
 }
 
--- he is there, is not suspended, and his session is open and the one that he names; 0 names none
+-- the user is there, is not suspended, and their session is open and the one that is named; 0 names none
 abbrev pub is_identified : Option Standing → ℕ → Bool
 is_identified row session = option_map_or (λ s. not (session == 0) && (not s.suspended && (s.on && s.session == session))) row false
 
--- some one triple of his holds all that is touched, and reaches the amount
+-- some one triple of the user's holds all that is touched, and reaches the amount
 abbrev pub is_in_limit : Grounds → Bool
 is_in_limit g = is_held_for g.held g.items g.amount
 
--- the release that is named is there and counts
+-- the release that is named is there and valid
 abbrev pub is_released : Grounds → Bool
 is_released g = option_map_or (λ r. counts r g.user g.operation g.items g.amount) g.released false
 
--- The rules of the policy that an operation is judged by, in their order, each with whether it denies: who asks is not known; no relation of the procedure has a
--- set that holds all that is touched; no one triple of his has; none that has reaches the amount, and no release is named; or one is named, and does not count.
+-- The rules of the policy that an operation is judged by, in their order, each with whether it denies: who asks is not
+-- known; no relation of the procedure has a set that holds all that is touched; no one triple of the user's has; none
+-- that has reaches the amount, and no release is named; or one is named, and is not valid.
 abbrev pub policy_tests : Grounds → List (Rule × Bool)
 policy_tests g =
     (rule.Identity, not (is_identified g.standing g.session))
@@ -86,7 +87,7 @@ policy_denies r g = is_denial r (policy_tests g)
 abbrev pub first_of_policy : Grounds → Option Rule
 first_of_policy g = first_denial (policy_tests g)
 
--- what lets him execute it, where no rule denies: a triple of his own, or else the release that is named
+-- what authorizes it, where no rule denies: a triple of the user's own, or else the release that is named
 abbrev pub leave_of : Grounds → Leave
 leave_of g = if is_in_limit g then leave.Triple else leave.Release g.release
 
@@ -94,23 +95,25 @@ abbrev pub unless_denied : {A : Type 0} → Option Rule → A → Result A Rule
 unless_denied None value = Ok value
 unless_denied (Some rule) value = Err rule
 
--- the leave that the policy gives, or its first rule against it
+-- the authorization that the policy gives, or its first rule against it
 abbrev pub leave_by_policy : Grounds → Result Leave Rule
 leave_by_policy g = unless_denied (first_of_policy g) (leave_of g)
 
--- the leave that a user's triples give, or the first rule by which they give none: a triple that reaches the amount, or else the release that is named
+-- the authorization that a user's triples give, or the first rule by which they give none: a triple that reaches the
+-- amount, or else the release that is named
 abbrev pub leave_by_triples : List HeldTriple → List Cdi → ℕ → ℕ → Result Leave Rule
 leave_by_triples held items amount release =
     if not (is_held held items) then Err rule.NoTriple
     else (if is_held_for held items amount then Ok leave.Triple else (if release == 0 then Err rule.Limit else Ok (leave.Release release)))
 
--- The leave that is sought, or the first rule in front of that on releases: it is a release where no triple reaches the amount, whether that counts or not.
+-- The authorization that is sought, or the first rule before that on releases: it is a release where no triple reaches
+-- the amount, whether that is valid or not.
 abbrev pub leave_sought : Grounds → Result Leave Rule
 leave_sought g =
     if not (is_identified g.standing g.session) then Err rule.Identity
     else (if not (is_certified g.relations g.items) then Err rule.NotCertified else leave_by_triples g.held g.items g.amount g.release)
 
--- the World where a leave was used up: a release is marked as used
+-- the World where an authorization was used: a release is marked as used
 abbrev pub used_by : Leave → ℕ → WorldLists → WorldLists
 used_by leave.Triple user w = w
 used_by (leave.Release number) user w = written (write.Used (record { user = user; number = number })) w

@@ -16,7 +16,7 @@ use Rattle.bank_meaning.specs.Meaning.{Meaning, json}
 unfoldable pub posted_text : Posted → List ℕ
 posted_text p = codes "{\"balance\":" ++ signed_decimal p.balance ++ codes ",\"branch\":" ++ decimal p.branch ++ codes ",\"entry\":" ++ decimal p.entry ++ codes "}"
 
--- the value of JSON behind it
+-- the JSON value of the reply
 abbrev pub posted_data : Posted → Data
 posted_data p = object (member (codes "balance") (cents p.balance) (member (codes "branch") (natural p.branch) (member (codes "entry") (natural p.entry) no_members)))
 

@@ -64,7 +64,7 @@ release_effect w form by = applied (release_changes (release_rows w form) form b
 unfoldable pub release_text : ℕ → ℕ → List ℕ
 release_text beneficiary number = codes "{\"beneficiary\":" ++ decimal beneficiary ++ codes ",\"release\":" ++ decimal number ++ codes "}"
 
--- the value of JSON behind it
+-- the JSON value of the reply
 abbrev pub release_data : ℕ → ℕ → Data
 release_data beneficiary number = object (member (codes "beneficiary") (natural beneficiary) (member (codes "release") (natural number) no_members))
 

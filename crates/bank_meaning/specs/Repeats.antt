@@ -29,7 +29,7 @@ abbrev pub RepliesAreKept : Type 0
 RepliesAreKept = (w : WorldLists) (x : Execution) (ms : List Marked) → slip_named x ≢ 0 → is_accepted w (record { request = executes x; mark = None }) ≡ true
     → IsKeptReply (world_after (step w (executes x)) ms) x (reply_text w (executes x))
 
--- a slip that a user has stays his, with its operation and its reply, after any requests with any marks
+-- after any requests with any marks, a user still has each slip, with its operation and its reply
 abbrev pub SlipsStay : Type 0
 SlipsStay = (w : WorldLists) (ms : List Marked) (user number : ℕ) (s : SlipRow) → slip w user number ≡ Some s → slip (world_after w ms) user number ≡ Some s
 

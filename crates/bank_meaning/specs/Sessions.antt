@@ -18,7 +18,7 @@ use Rattle.bank_meaning.specs.NamedRelease.{is_active}
 use Rattle.bank_meaning.specs.PolicyRules.{asker, is_identified}
 use Rattle.bank_meaning.specs.declared.who.Who.{Who}
 
--- what the row of who asks says of whether he may, or none where no user is named or he isn't there
+-- what the row of who asks says of whether they may, or none where no user is named or that user isn't there
 abbrev pub standing_of_asker : Who → WorldLists → Option Standing
 standing_of_asker who w = option_and_then (λ user. standing w.policy user) who.user
 
@@ -32,8 +32,8 @@ session_of who number on = record { user = asker who; session = number; on = on 
 
 -- ---- opening
 
--- The rules that an opening is judged by, in their order, each with whether it denies: who asks may not open a session; his next session would pass the
--- greatest number.
+-- The rules that an opening is judged by, in their order, each with whether it denies: who asks may not open a session;
+-- their next session would pass the greatest number.
 abbrev pub opening_tests : Option Standing → List (Rule × Bool)
 opening_tests row =
     (rule.Identity, not (is_active row))
@@ -47,11 +47,11 @@ first_against_opening row = first_denial (opening_tests row)
 unfoldable pub opening_text : ℕ → List ℕ
 opening_text number = codes "{\"session\":" ++ decimal number ++ codes "}"
 
--- the value of JSON behind it
+-- the JSON value of the reply
 abbrev pub opening_data : ℕ → Data
 opening_data number = object (member (codes "session") (natural number) no_members)
 
--- his next session is open, also where the last one was
+-- the user's next session is open, also where the last one was
 abbrev pub opening_meaning : Who → WorldLists → Meaning
 opening_meaning who w = record {
   denies = λ r. is_denial r (opening_tests (standing_of_asker who w));
@@ -72,11 +72,11 @@ first_against_ending row session = first_denial (ending_tests row session)
 unfoldable pub ending_text : ℕ → List ℕ
 ending_text number = codes "{\"ended\":" ++ decimal number ++ codes "}"
 
--- the value of JSON behind it
+-- the JSON value of the reply
 abbrev pub ending_data : ℕ → Data
 ending_data number = object (member (codes "ended") (natural number) no_members)
 
--- his session is closed, and keeps its number
+-- the user's session is closed, and keeps its number
 abbrev pub ending_meaning : Who → WorldLists → Meaning
 ending_meaning who w = record {
   denies = λ r. is_denial r (ending_tests (standing_of_asker who w) who.session);

@@ -29,7 +29,7 @@ pub record SlipGrounds : Type 0 where
   -- its number, 0 for none, and the operation that is asked for, as a row
   pub number : ℕ
   pub operation : OperationRow
-  -- the slip of that number of who asks, where he has it, and how many he has
+  -- the slip of that number of the user who asks, where there is one, and how many the user has
   pub found : Option SlipRow
   pub count : ℕ
 

@@ -30,8 +30,8 @@ use Rattle.bank_meaning.specs.declared.request.Asked.{Asked}
 use Rattle.bank_meaning.specs.declared.request.Asked.TheVariants as asked
 use Rattle.bank_meaning.specs.declared.request.Request.{Request}
 
--- The World passes both checks: its books hold, no row of its policy dangles, and no one may execute what he certifies. Its lists stand in order, as every World
--- keeps them.
+-- The World passes both checks: its books hold, no row of its policy dangles, and no one may execute what they certify.
+-- Its lists stand in order, as every World keeps them.
 pub record PassesChecks (w : WorldLists) : Type 0 where
   pub in_order : IsInOrder w
   pub books : Books w

@@ -17,7 +17,7 @@ unfoldable pub transferred_text : Transferred → List ℕ
 transferred_text t =
     codes "{\"branch\":" ++ decimal t.branch ++ codes ",\"first\":" ++ decimal t.first ++ codes ",\"second\":" ++ decimal t.second ++ codes ",\"source\":" ++ signed_decimal t.source ++ codes ",\"target\":" ++ signed_decimal t.target ++ codes "}"
 
--- the value of JSON behind it
+-- the JSON value of the reply
 abbrev pub transferred_data : Transferred → Data
 transferred_data t =
     object (member (codes "branch") (natural t.branch) (member (codes "first") (natural t.first) (member (codes "second") (natural t.second) (member (codes "source") (cents t.source) (member (codes "target") (cents t.target) no_members)))))

@@ -1,3 +1,5 @@
+//! An operation as it is asked for, with the slip that it takes and the signature that its rows bear.
+
 ghost use Rattle.std.specs.Prelude.{◌≡◌};
 ghost use Rattle.bank_meaning.specs.Executions.{signature_of};
 ghost use Rattle.bank_meaning.specs.Slips.{slip_named};
@@ -29,7 +31,7 @@ impl Execution {
         }
     }
 
-    /// What the rows that it adds bear: its user, 0 where the gate names none, and its moment.
+    /// What the rows that it adds bear: its user, 0 where the authenticator names none, and its moment.
     pub fn signature(&self) -> Signature
         ensures { result ≡ signature_of self.now }
     {

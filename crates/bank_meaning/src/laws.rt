@@ -41,13 +41,13 @@ pub fn first_by_place()
 {}
 
 /// The rules of the policy do not deny exactly where who asks is known, some relation, some one triple,
-/// and one up to the amount holds all that is touched, or a release that is named counts.
+/// and one up to the amount holds all that is touched, or a release that is named is valid.
 pub fn policy_is_judged()
     ensures { PolicyIsJudged }
 {}
 
-/// The rule on identity does not deny a command or the ending of a session exactly where who asks is known by his open session,
-/// and the opening of one exactly where he is there and not suspended.
+/// The rule on identity does not deny a command or the ending of a session exactly where the user who asks is known by
+/// their open session, and the opening of one exactly where that user is there and not suspended.
 pub fn identity_is_judged()
     ensures { IdentityIsJudged }
 {}
@@ -87,15 +87,15 @@ pub fn commands_are_judged()
     ensures { CommandsAreJudged }
 {}
 
-/// An operation is allowed exactly when its user is known, some one triple of his holds all that it
-/// touches, up to its amount or by a release that counts, the procedure is certified for that, and no
-/// rule of the books denies it.
+/// An operation is allowed exactly when its user is known, some one triple of the user's holds all that it
+/// touches, up to its amount or by a valid release, the procedure is certified for that, and no rule of the
+/// books denies it.
 pub fn allowed_exactly_when_held()
     ensures { AllowedExactlyWhenHeld }
 {}
 
-/// A release that is what lets an operation be counts for none afterwards, and one that is named where a
-/// triple of the user's own suffices stays as it was.
+/// A release that authorizes an operation is valid for none afterwards, and one that is named where a triple
+/// of the user's own suffices stays as it was.
 pub fn releases_are_used_once()
     ensures { ReleasesAreUsedOnce }
 {}
@@ -115,7 +115,7 @@ pub fn sessions_change_no_more()
     ensures { SessionsChangeNoMore }
 {}
 
-/// In a policy that separates them, no one is let execute a procedure that he certifies.
+/// In a policy that keeps executing and certifying apart, no one may execute a procedure that they certify.
 pub fn no_one_executes_what_he_certifies()
     ensures { NoOneExecutesWhatHeCertifies }
 {}
@@ -157,7 +157,7 @@ pub fn sent_again_bears_its_slip()
     ensures { SentAgainBearsItsSlip }
 {}
 
-/// Of every World: a slip that a user has stays his after any requests with any marks, with its operation and its reply.
+/// Of every World: after any requests with any marks, a user still has each slip, with its operation and its reply.
 pub fn slips_stay()
     ensures { SlipsStay }
 {}
@@ -170,11 +170,11 @@ pub fn retries_act_once()
     ensures { RetriesActOnce }
 {}
 
-/// Of every World that passes both checks, and of every list of proper requests with any marks: each is treated rightly in the
-/// World that those before it leave. It is carried out exactly where all of it is held and no rule of the books denies it, and then
-/// by whom and where it has to be; else it changes nothing, and the first rule against it is named. It moves its amount at most. No
-/// one executes what he certifies, and only who may commands and has the policy listed. The sums agree, the policy
-/// is the one in force by last word, and what bears a slip acts once and is replied what it was replied at first.
+/// Of every World that passes both checks, and of every list of proper requests with any marks: each is treated rightly
+/// in the World that those before it leave. It is carried out exactly where all of it is held and no rule of the books
+/// denies it, and then by whom and where it has to be; else it changes nothing, and the first rule against it is named.
+/// It moves its amount at most. No one executes what they certify, and only who may commands and has the policy listed.
+/// The sums agree, the policy is that in force by last word, and what bears a slip acts once and gets its first reply.
 pub fn headline()
     ensures { Headline }
 {}

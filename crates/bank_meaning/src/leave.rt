@@ -1,3 +1,5 @@
+//! The authorization of an operation: a triple of the user's own, or a release.
+
 /// What lets a user execute an operation up to its amount.
 #[derive(Clone, Copy, Debug, PartialEq, Eq)]
 pub enum Leave {

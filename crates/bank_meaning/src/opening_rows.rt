@@ -1,3 +1,5 @@
+//! What the rules of the books on opening an account read: the account of its number, and how many its home has.
+
 ghost use Rattle.std.specs.Prelude.{◌≡◌, option_map};
 
 use bank_books::{AccountRecord, BranchRecord};

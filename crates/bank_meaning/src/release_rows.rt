@@ -1,3 +1,5 @@
+//! What the rules of the books on giving a release read: how many its user has, and the present day of its branch.
+
 ghost use Rattle.std.specs.Prelude.{◌≡◌, option_map};
 
 use bank_books::BranchRecord;
@@ -6,7 +8,7 @@ use world_reads::UserRecord;
 /// The rows that giving a release is judged on, as far as they are there.
 #[derive(Clone, Copy, Debug, PartialEq, Eq)]
 pub struct ReleaseRows {
-    /// How many releases the user has for whom it is; none where he isn't there.
+    /// How many releases the user for whom it is has; none where that user isn't there.
     pub given: Option<u64>,
     /// The present day of the branch of the operation; none where the branch isn't there.
     pub today: Option<u32>,

@@ -1,3 +1,5 @@
+//! The kinds of texts that replies are, each with its content type.
+
 ghost use Rattle.std.specs.Prelude.{◌≡◌};
 ghost use Rattle.bank_meaning.specs.Meaning.{content_type_of};
 

@@ -1,3 +1,5 @@
+//! What a message asks of a bank, be it an operation, a session, a command or the listing, by whom and when.
+
 use crate::who::Who;
 use counter_ops::Op;
 use policy_commands::PolicyOp;

@@ -1,4 +1,4 @@
--- When a triple counts.
+-- When a triple is in effect.
 use Rattle.std.specs.Prelude.{ℕ, ◌≤◌}
 use Rattle.bank_policy.specs.declared.rows.Triple.{Triple}
 

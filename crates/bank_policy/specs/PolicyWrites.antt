@@ -18,7 +18,7 @@ use Rattle.bank_policy.specs.declared.rows.User.{User}
 abbrev pub in_session : Session → User → User
 in_session s user = record user { session = s.session; on = s.on }
 
--- the user, who is suspended or restored; either way his session is closed, and keeps its number
+-- the user, who is suspended or restored; either way their session is closed, and keeps its number
 abbrev pub in_suspension : Suspension → User → User
 in_suspension s user = record user { suspended = s.suspended; on = false }
 

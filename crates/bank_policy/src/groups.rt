@@ -1,3 +1,5 @@
+//! How the rows that are limited in number are grouped: relations by procedure, triples by user.
+
 use crate::rows::{Relation, Triple};
 use keyed_rows::Grouped;
 

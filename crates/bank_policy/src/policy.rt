@@ -1,3 +1,5 @@
+//! The policy as lists in order of their keys, and functions that add a row or change nothing.
+
 ghost use Rattle.std.specs.List.Sorted.{IsNonDecreasingBy};
 
 use crate::policy_rows::PolicyRows;
@@ -105,7 +107,7 @@ impl Policy {
         &self.rows.certifiers
     }
 
-    /// Writes a user at his place. Where memory is refused the policy stays as it was.
+    /// Writes a user's row at its place. Where memory is refused the policy stays as it was.
     pub fn add_user(&mut self, user: User) -> Result<(), AllocError>
         ensures ok { OnOk result (self.new ≡ record self.old { users = add_row user_key user self.old.users }) }
         ensures err { OnErr result (self.new ≡ self.old) }
@@ -137,7 +139,7 @@ impl Policy {
         insert_row(&mut self.rows.triples, triple)
     }
 
-    /// Writes a certifier at his place. Where memory is refused the policy stays as it was.
+    /// Writes a certifier's row at its place. Where memory is refused the policy stays as it was.
     pub fn add_certifier(&mut self, certifier: Certifier) -> Result<(), AllocError>
         ensures ok { OnOk result (self.new ≡ record self.old { certifiers = add_row certifier_key certifier self.old.certifiers }) }
         ensures err { OnErr result (self.new ≡ self.old) }

@@ -1,3 +1,5 @@
+//! The keys by which the lists of the policy are ordered.
+
 ghost use Rattle.std.specs.Prelude.{◌≡◌};
 ghost use Rattle.bank_policy.specs.PolicyKeys.{certifier_number, relation_number, triple_number};
 

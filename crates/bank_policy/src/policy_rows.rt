@@ -1,3 +1,5 @@
+//! The lists of a policy taken out to be changed, in room that was made before.
+
 use crate::policy_keys::{relation_number, triple_number};
 use crate::policy_write::{PolicyWrite, RelationKey, Session};
 use crate::rows::{Certifier, ItemSet, Relation, Triple, User};

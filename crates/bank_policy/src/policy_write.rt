@@ -1,3 +1,5 @@
+//! The changes that may be made to a policy, and to a user's session, as data.
+
 use crate::rows::{Certifier, ItemSet, Relation, Triple, User};
 use bank_terms::Procedure;
 use keyed_rows::Change;

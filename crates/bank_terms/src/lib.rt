@@ -1,4 +1,4 @@
-//! The words that the policy and the books share: `Kind` and `Cdi` for an item under integrity control,
+//! The terms that the policy and the books share: `Kind` and `Cdi` for an item under integrity control,
 //! `Procedure`, `Rule`, `OperationRow`, and the limits on numbers and counts. A procedure and a rule have
 //! exactly the number and the name of their table, and `Procedure::named` finds exactly the procedure of a
 //! name. What a rule asks of a request is said in `bank_meaning`.

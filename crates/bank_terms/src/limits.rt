@@ -1,3 +1,5 @@
+//! The greatest and the least numbers of the policy, the books and the operations, and how many rows there may be.
+
 /// The greatest key of an account, a teller, a branch or a set, and the greatest number of an entry, a
 /// cash line, a turn or a session; the least is 1.
 pub const MAX_KEY: u32 = 999_999_999;

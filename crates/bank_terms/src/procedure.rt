@@ -1,7 +1,9 @@
+//! The thirteen procedures of the counter, with their numbers and the names that paths and commands write.
+
 ghost use Rattle.std.specs.Prelude.{◌≡◌};
 ghost use Rattle.bank_terms.specs.Procedure.{name_of, number_of, procedure_named, procedures, takes_slip};
 
-/// The procedures that users may be given leave to carry out: the transformation procedures of
+/// The procedures that users may be authorized to carry out: the transformation procedures of
 /// Clark and Wilson's model, in the order of their numbers, 1 to 13.
 #[derive(Clone, Copy, Debug, PartialEq, Eq, Hash)]
 pub enum Procedure {
@@ -19,9 +21,9 @@ pub enum Procedure {
     MoveCash,
     /// Opens an account.
     NewAccount,
-    /// Gives another user leave for one operation.
+    /// Authorizes another user for one operation.
     Release,
-    /// Tells the balance of an account.
+    /// Reports the balance of an account.
     Balance,
     /// Lists the entries of an account.
     Statement,

@@ -1,3 +1,5 @@
+//! The 22 rules that may deny a request: their order, numbers and names, and which of them are about who asks.
+
 ghost use Rattle.std.specs.Prelude.{◌≡◌};
 ghost use Rattle.bank_terms.specs.Rule.{is_forbidden, name_of, number_of};
 
@@ -13,7 +15,7 @@ pub enum Rule {
     NoTriple,
     /// The amount is above the limit of each triple that holds the items.
     Limit,
-    /// The release that is named gives no leave.
+    /// The release that is named does not authorize the operation.
     Release,
     /// An account, teller or branch that the operation names is not there.
     Unknown,
@@ -41,7 +43,7 @@ pub enum Rule {
     Officer,
     /// Only a certifier of the procedure may do this.
     Certifier,
-    /// A user would execute what he certifies, or an officer would execute or certify something.
+    /// A user would execute what they certify, or an officer would execute or certify something.
     Separation,
     /// A row that the command names is not there.
     PolicyUnknown,

@@ -1,4 +1,6 @@
-use crate::policy::{USER, made_up_policy};
+//! The books of a synthetic bank: branches, tellers, accounts, entries and cash lines.
+
+use crate::policy::{USER, synthetic_policy};
 use crate::size::Size;
 use crate::slips::add_slips;
 use bank_books::{Account, Branch, CashLine, Entry, EntryForm, LineForm, Lists, Teller, World};
@@ -22,7 +24,7 @@ const VAULT: i64 = 100_000_000;
 
 /// A bank of this size on its first day. Its entries go to accounts of all branches and name each other in pairs, and every
 /// drawer is held by the one user. None where an amount is out of range, which none is.
-pub fn made_up_world(alloc: Global, size: Size) -> Result<Option<World>, Fault> {
+pub fn synthetic_world(alloc: Global, size: Size) -> Result<Option<World>, Fault> {
     let mut lists = Lists::new(alloc);
     let mut turns = Vec::new(alloc);
     for branch in 1..=size.branches {
@@ -39,7 +41,7 @@ pub fn made_up_world(alloc: Global, size: Size) -> Result<Option<World>, Fault> 
         }
     }
     add_slips(alloc, &mut lists, size.slips)?;
-    let policy = made_up_policy(alloc, size.triples)?;
+    let policy = synthetic_policy(alloc, size.triples)?;
     Ok(World::from_lists(lists, policy, 0))
 }
 

@@ -1,7 +1,6 @@
-//! Banks made up, as large as is asked for, for the programs that take times. `made_up_world` makes the
-//! books and the policy of a `Size`: so many branches, entries of each branch, and triples and slips of one
-//! user. No contract says which bank is made: whether its books hold shows only where a program checks it or
-//! makes a store of it.
+//! Synthetic banks of a requested size, for the benchmarks. `synthetic_world` makes the books and the policy
+//! of a `Size`: so many branches, entries of each branch, and triples and slips of one user. No contract says
+//! which bank is made: whether its books hold shows only where a program checks it or makes a store of it.
 #![tactic(auto)]
 
 mod books;
@@ -9,6 +8,6 @@ mod policy;
 mod size;
 mod slips;
 
-pub use books::made_up_world;
+pub use books::synthetic_world;
 pub use policy::USER;
 pub use size::Size;

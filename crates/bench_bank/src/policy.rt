@@ -1,3 +1,5 @@
+//! The policy of a synthetic bank: a user who may post, and one who certified that.
+
 use bank_policy::{ItemSet, Member, Name, Policy, Relation, Triple, User};
 use bank_terms::{Kind, MAX_MOMENT, Procedure};
 use money::Fault;
@@ -16,7 +18,7 @@ const LAST: u32 = 999_999_999;
 const LIMIT: u32 = 999_999;
 
 /// A policy with one user who may post by so many triples, and one who certified posts on their sets.
-pub(crate) fn made_up_policy(alloc: Global, triples: u32) -> Result<Policy, Fault> {
+pub(crate) fn synthetic_policy(alloc: Global, triples: u32) -> Result<Policy, Fault> {
     let mut policy = Policy::new(alloc);
     policy.add_user(user(alloc, USER, "Ann")?)?;
     policy.add_user(user(alloc, CERTIFIER, "Bob")?)?;

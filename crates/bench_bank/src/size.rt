@@ -1,4 +1,6 @@
-/// How large a bank is made up.
+//! How large a synthetic bank is.
+
+/// How many rows of each kind a synthetic bank has.
 #[derive(Clone, Copy, Debug, PartialEq, Eq)]
 pub struct Size {
     /// How many branches it has, each with ten tellers and a hundred accounts.

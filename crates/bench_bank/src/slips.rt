@@ -1,3 +1,5 @@
+//! The slips of a synthetic bank's user.
+
 use crate::policy::USER;
 use bank_books::{Lists, Slip};
 use bank_terms::{OperationRow, Procedure};

@@ -1,11 +1,11 @@
-//! Makes up a bank of a size, checks its books once, and tells on request how long that took: `bench_check
-//! BRANCHES` or `bench_check BRANCHES timed`. Each branch has 1,000 entries, and the time is in
+//! Makes a synthetic bank of a size, checks its books once, and prints on request how long that took:
+//! `bench_check BRANCHES` or `bench_check BRANCHES timed`. Each branch has 1,000 entries, and the time is in
 //! nanoseconds. A script compares sizes by it. The verdict is exactly that of `check_books`; that this is
 //! what it prints is only tested. No contract speaks of time.
 #![tactic(auto)]
 
 use bank_books::World;
-use bench_bank::{Size, made_up_world};
+use bench_bank::{Size, synthetic_world};
 use book_check::{BooksFault, check_books};
 use book_sums::Kept;
 use money::Fault;
@@ -21,8 +21,8 @@ const DONE: u8 = 0;
 /// The status of a program whose books do not hold.
 const REFUSED_BOOKS: u8 = 1;
 
-/// The status of a program whose words are refused.
-const REFUSED_WORDS: u8 = 2;
+/// The status of a program whose arguments are refused.
+const REFUSED_ARGUMENTS: u8 = 2;
 
 /// The status of a program that was refused memory or the clock.
 const REFUSED_MEANS: u8 = 3;
@@ -33,25 +33,25 @@ const MOST_BRANCHES: u32 = 1_000;
 /// The entries of each branch.
 const ENTRIES: u32 = 1_000;
 
-/// What the words ask for.
+/// What the arguments ask for.
 #[derive(Clone, Copy)]
 struct Task {
     /// How many branches the bank has, each with 1,000 entries.
     branches: u32,
-    /// Whether the time is told.
+    /// Whether the time is printed.
     timed: bool,
 }
 
 fn main(rt: HostRuntime) -> ExitCode {
-    let status = match words(&rt) {
+    let status = match arguments(&rt) {
         Some(task) => run(&rt, task).unwrap_or(REFUSED_MEANS),
-        None => REFUSED_WORDS,
+        None => REFUSED_ARGUMENTS,
     };
     ExitCode::from(status)
 }
 
-/// The words: how many branches, and `timed` where the time is to be told.
-fn words(rt: &HostRuntime) -> Option<Task> {
+/// The arguments: how many branches, and `timed` where the time is to be printed. None where they are refused.
+fn arguments(rt: &HostRuntime) -> Option<Task> {
     let given: Vec<String> = env::args(rt).ok()?.collect(rt.alloc()).ok()?;
     if given.len() < 2 || 3 < given.len() {
         return None;
@@ -64,7 +64,7 @@ fn words(rt: &HostRuntime) -> Option<Task> {
     Some(Task { branches, timed })
 }
 
-/// Makes the bank up, checks it, and answers the status; none where memory or the clock is refused.
+/// Makes the bank, checks it, and answers the status; none where memory or the clock is refused.
 fn run(rt: &HostRuntime, task: Task) -> Option<u8> {
     let size = Size {
         branches: task.branches,
@@ -72,13 +72,13 @@ fn run(rt: &HostRuntime, task: Task) -> Option<u8> {
         triples: 0,
         slips: 0,
     };
-    let world = made_up_world(rt.alloc(), size).ok()??;
+    let world = synthetic_world(rt.alloc(), size).ok()??;
     let kept = Kept::of(rt.alloc(), &world).ok()?;
     judge(rt, &world, &kept, task.timed)
 }
 
-/// Checks a bank, tells the verdict, and the nanoseconds before it where they are asked for, and answers the status; none
-/// where memory or the clock is refused.
+/// Checks a bank, prints the nanoseconds that this took where they are asked for, then the verdict, and answers the status;
+/// none where memory or the clock is refused.
 fn judge(rt: &HostRuntime, world: &World, kept: &Kept, timed: bool) -> Option<u8> {
     let start = Instant::now(rt).ok()?;
     let verdict = check(rt.alloc(), world, kept).ok()?;
@@ -86,11 +86,11 @@ fn judge(rt: &HostRuntime, world: &World, kept: &Kept, timed: bool) -> Option<u8
     if timed {
         let _ = writeln!(rt.stdout(), "{nanoseconds}");
     }
-    Some(tell(rt, verdict))
+    Some(print_verdict(rt, verdict))
 }
 
-/// Tells the verdict, and answers its status.
-fn tell(rt: &HostRuntime, verdict: Result<(), BooksFault>) -> u8 {
+/// Prints the verdict, and answers its status.
+fn print_verdict(rt: &HostRuntime, verdict: Result<(), BooksFault>) -> u8 {
     match verdict {
         Ok(()) => {
             let _ = writeln!(rt.stdout(), "books hold");

@@ -3,7 +3,7 @@
 use bench_bank::USER;
 use counter_api::{Clock, Gate};
 
-/// A gate at which every badge is that of the bank's one user.
+/// An authenticator by which every badge is that of the bank's one user.
 #[derive(Clone, Copy, Debug, PartialEq, Eq)]
 pub struct OneUser;
 

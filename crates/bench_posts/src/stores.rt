@@ -1,7 +1,9 @@
+//! The bank in the store that the arguments name, and how it is served.
+
+use crate::arguments::{Arguments, StoreName};
 use crate::timed::{Times, serve_timed};
-use crate::words::{StoreName, Words};
 use bank_books::World;
-use bench_bank::made_up_world;
+use bench_bank::synthetic_world;
 use sql_create::create;
 use sqlite::{Alter, Connection};
 use std::alloc::Global;
@@ -12,10 +14,10 @@ use store_sql::SqlStore;
 /// The file that a bank is kept in.
 const FILE: &str = "bank.db";
 
-/// Makes the bank up and serves it as the words say.
-pub fn serve_in(rt: &HostRuntime, words: Words) -> Option<Times> {
-    let world = made_up_world(rt.alloc(), words.size).ok()??;
-    serve_world(rt, words.store, world)
+/// Makes the bank and serves it as the arguments say.
+pub fn serve_in(rt: &HostRuntime, arguments: Arguments) -> Option<Times> {
+    let world = synthetic_world(rt.alloc(), arguments.size).ok()??;
+    serve_world(rt, arguments.store, world)
 }
 
 /// Serves this bank in the store of a name.
@@ -41,7 +43,7 @@ fn serve_in_file(rt: &HostRuntime, world: World, cached: bool) -> Option<Times> 
     serve_over(rt, conn, world, cached)
 }
 
-/// Serves it in tables in this database, behind a cache or not.
+/// Serves it in tables in this database, with a cache in front or without.
 fn serve_over<S: Alter + Drop>(
     rt: &HostRuntime,
     conn: Connection<S>,
@@ -56,7 +58,7 @@ fn serve_over<S: Alter + Drop>(
     }
 }
 
-/// Serves over this store behind a cache.
+/// Serves over this store with a cache in front.
 fn serve_cached<S: Store + Drop>(rt: &HostRuntime, store: S) -> Option<Times> {
     serve_timed(rt, Cached::new(rt.alloc(), store).ok()?)
 }

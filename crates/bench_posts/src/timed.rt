@@ -1,3 +1,5 @@
+//! Serving that is measured: how many messages were answered, and how long that took.
+
 use crate::client::{AtZero, OneUser};
 use counter_api::serve;
 use money::Tallied;
@@ -47,10 +49,10 @@ pub fn serve_timed<S: Store + Drop>(rt: &HostRuntime, store: S) -> Option<Times>
         MOST_MESSAGES,
     )
     .ok()?;
-    let behind = rt.process_cpu_time().ok()?;
+    let after = rt.process_cpu_time().ok()?;
     Some(Times {
         messages: served.messages,
         passed: start.elapsed(rt).ok()?,
-        worked: behind.saturating_sub(before),
+        worked: after.saturating_sub(before),
     })
 }

@@ -39,7 +39,7 @@ releasable_of value = do
   chosen ← procedure_named name
   releasable_as value chosen
 
--- leave for one operation of another user
+-- authorization for one operation of another user
 abbrev pub release_of : Data → Option Release
 release_of value = if has_members 2 value then (do
   beneficiary ← natural_member (codes "beneficiary") 1 max_user value

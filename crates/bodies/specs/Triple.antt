@@ -22,6 +22,6 @@ timed_triple value = do
   last ← natural_member (codes "last") 0 max_moment value
   if nat_le first last then triple_during first last value else None
 
--- A triple to give. One that states no moments stands for all of them.
+-- A triple to give. One that states no moments is valid at all of them.
 abbrev pub triple_of : Data → Option Triple
 triple_of value = if has_members 4 value then triple_during 0 max_moment value else (if has_members 6 value then timed_triple value else None)

@@ -1,3 +1,5 @@
+//! The members of a body's object: how many there are, and those that are whole numbers in a range.
+
 ghost use Rattle.std.specs.Prelude.{◌≡◌, ◌≤◌, ◌≤ℤ◌, IfSome};
 ghost use Rattle.serde_json.specs.View.{view};
 ghost use Rattle.money.specs.Range.{IsDelta};

@@ -1,4 +1,4 @@
--- What is asked of the rows that are told of a branch is what its cash, and what the sums of tellers, ask of the branch.
+-- What is asked of the kept rows of a branch is what its cash, and what the sums of tellers, ask of the branch.
 use Rattle.std.proofs.Common.{◌≡◌, List, refl, ℕ, ℤ, pos, negsuc, ◌+ℤ◌, map, true, ◌==◌, ap, arith, sym, ◌∙◌, subst}
 use Rattle.std.specs.Prelude.{if◌then◌else◌}
 use Rattle.std.proofs.lemmas.Int.{ints}
@@ -34,7 +34,7 @@ amount_in_range z in_range = ap (λ b. if b then z else pos 0) (is_amount z in_r
 pub cash_is_amount : (z : ℤ) → IsCash z → IsCents z
 cash_is_amount z in_range = (omega (arith, ints, in_range.0), in_range.1)
 
--- what is asked of all rows that are told of a branch
+-- what is asked of all kept rows of a branch
 abbrev pub RowsOfCash : WorldLists → KeptLists → ℕ → Type 0
 RowsOfCash w kept branch = (BranchesOfCash w kept branch × TellersOfLines w kept branch) × BranchesBearNumbers line_key (λ l. l.number) w.lines kept branch
 

@@ -32,7 +32,7 @@ both first second (Some one) (Some other) fails_one fails_other = elim (cases_lt
       })
 ]
 
--- the same of a condition that says the same in other words
+-- the same of a condition that is equivalent
 pub reworded : (first second : ℕ → Type 0) (least : Option ℕ) → ((b : ℕ) → first b → second b) → ((b : ℕ) → second b → first b) →
     IsFirstFailing first least → IsFirstFailing second least
 reworded first second None there back holds = λ b. there b (holds b)

@@ -1,4 +1,4 @@
--- What is asked of the rows that are told of a branch is what the history asks of the branch.
+-- What is asked of the kept rows of a branch is what the history asks of the branch.
 use Rattle.std.proofs.Common.{◌≡◌, ℕ, ◌<◌, ◌^◌, ◌==◌, ◌&&◌, ◌+ℤ◌, List, map, Contains, refl, ap, arith, sym, ◌∙◌, subst, inl, inr}
 use Rattle.std.specs.List.{count_by}
 use Rattle.std.specs.List.Sorted.{IsPermutation}
@@ -29,7 +29,7 @@ use Rattle.book_range.proofs.FoundRows.{finds_itself}
 use Rattle.book_range.proofs.NumberedRows.{AreNamed, branches_from_numbered, branches_numbered}
 use Rattle.book_check.proofs.TurnParts.{balance_given, parts_from_turns, turns_from_parts}
 
--- what is asked of all rows that are told of a branch
+-- what is asked of all kept rows of a branch
 abbrev pub RowsAgree : WorldLists → KeptLists → ℕ → Type 0
 RowsAgree w kept branch =
     ((BranchesOfHistory w kept branch × TellersOfHistory w kept branch) × (AccountsOfHistory w kept branch × (EntriesOfHistory w kept branch × TurnsOfHistory w kept branch)))
@@ -101,7 +101,7 @@ rows_by_agreement w kept branch in_range agrees = (
   branches_from_numbered w kept entry_key (λ e. e.branch) (λ e. e.number) (λ _. refl) w.entries branch (entries_named w kept in_range) agrees.numbered.numbers,
 )
 
--- what is judged of the accounts that are told of a branch
+-- what is judged of the accounts whose home is the branch
 abbrev pub AccountsInTurns : KeptLists → Sums → List Part → ℕ → Type 0
 AccountsInTurns kept s balances branch = (a : AccountRecord) → Contains kept.accounts a → a.row.home ≡ branch → IsAccountInTurns s.by_turn balances a.row
 

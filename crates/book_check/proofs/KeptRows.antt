@@ -13,7 +13,7 @@ computed_at {T} {R} row record_of kept computed rows k d same given within =
     ∙ get_or-map record_of (map row kept) k (row d) d (omega (arith, length-map kept row))
     ∙ ap record_of (get_or-map row kept k d (row d) within)
 
--- for every kept row that is told of the branch
+-- for every kept row of the branch
 pub by_rows : {T R : Type 0} (holds : T → T → Type 0) (branch_of : T → ℕ) (row : T → R) (record_of : R → T) (kept computed : List T) (rows : List R) (least : Option ℕ) →
     map row kept ≡ rows → computed ≡ map record_of rows → IsFirstFailing (HoldsOfBranch holds branch_of kept computed (length kept)) least →
     IsFirstFailing (λ branch. (x : T) → Contains kept x → branch_of x ≡ branch → holds x (record_of (row x))) least

@@ -1,4 +1,4 @@
--- Where the parts of a group are numbered, each stands at the place that its number tells, so that a walk over the places meets every number.
+-- Where the parts of a group are numbered, each stands at the place of its number, so a walk over the places meets all.
 use Rattle.std.proofs.Common.{◌≡◌, ℕ, zero, suc, ◌+◌, ◌-◌, ◌<◌, ◌≤◌, ◌==◌, ◌&&◌, ℤ, pos, ◌+ℤ◌, List, [], ◌∷◌, length, take, map, get_or, Bool, true, false, cond, Contains, refl, ap, arith, sym, subst, ◌∙◌, inl, inr}
 use Rattle.std.specs.Prelude.{nat_le}
 use Rattle.std.specs.List.{filter}
@@ -108,7 +108,7 @@ up_to_place parts g k stand below =
     and_false true b is = is
     and_false false b is = refl
 
--- what a walk over the places tells of each balance
+-- what a walk over the places says of each balance
 pub by_walk : (deltas balances : List Part) (a : Account) → StandInTurn deltas a.account → IsNonDecreasingBy part_key (of_group a.account balances) → AreBeside deltas balances a.account →
     AreBalancesAfter a.opening (of_group a.account deltas) (of_group a.account balances) → IsAccountInTurns deltas balances a
 by_walk deltas balances a stand in_order beside after = record {

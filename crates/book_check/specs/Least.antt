@@ -11,7 +11,7 @@ abbrev pub IsFirstFailing : (ℕ → Type 0) → Option ℕ → Type 0
 IsFirstFailing holds None = (branch : ℕ) → holds branch
 IsFirstFailing holds (Some branch) = IsLeastFailing holds branch
 
--- the condition holds of each of the first rows that are told of this branch, beside what the books give for the row
+-- the condition holds of each row of this branch among the first rows, beside what the books give for the row
 abbrev pub HoldsOfBranch : {T : Type 0} → (T → T → Type 0) → (T → ℕ) → List T → List T → ℕ → ℕ → Type 0
 HoldsOfBranch {T} holds branch_of rows computed count branch =
     (k : ℕ) (d : T) → k < count → branch_of (slice_index_or rows k d) ≡ branch → holds (slice_index_or rows k d) (slice_index_or computed k d)

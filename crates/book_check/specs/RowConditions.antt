@@ -13,7 +13,7 @@ use Rattle.bank_books.specs.Numbering.{AreNumbered}
 use Rattle.bank_books.specs.Records.{KeptLists, account_record_of, branch_record_of, entry_record_of, teller_record_of}
 use Rattle.bank_books.specs.WorldLists.{WorldLists}
 
--- What is asked of the kept rows that are told of a branch.
+-- What is asked of the kept rows of a branch.
 
 abbrev pub BranchesOfHistory : WorldLists → KeptLists → ℕ → Type 0
 BranchesOfHistory w kept branch = (b : BranchRecord) → Contains kept.branches b → b.row.branch ≡ branch → IsBranchOfHistory b (branch_record_of w b.row)

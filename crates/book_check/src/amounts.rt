@@ -1,3 +1,5 @@
+//! Kept balances as amounts that can be added, by branch and over all rows.
+
 ghost use Rattle.std.specs.Prelude.{◌≡◌, ◌↔◌, IsTrue};
 ghost use Rattle.money.specs.Range.{IsCents};
 ghost use Rattle.book_check.specs.RowConditions.{AmountsAgree, amount_of};

@@ -1,3 +1,5 @@
+//! The condition on the numbers of a branch's entries or cash lines, and the least branch that fails it.
+
 ghost use Rattle.std.specs.List.Sorted.{IsNonDecreasingBy};
 ghost use Rattle.book_check.specs.Least.{IsFirstFailing};
 ghost use Rattle.book_range.specs.Numbers.{BranchesBearNumbers};

@@ -1,3 +1,5 @@
+//! The conditions on what is kept of cash, by branch and by teller, and the least branch that fails one.
+
 ghost use Rattle.std.specs.Prelude.{◌≡◌, ◌↔◌, ◌+ℤ◌, ◌≤ℤ◌, pos, negsuc, IsTrue};
 ghost use Rattle.bank_books.specs.Conditions.{CashAgrees, IsBranchOfLines};
 ghost use Rattle.book_check.specs.Least.{IsFirstFailing};

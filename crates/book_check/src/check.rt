@@ -1,3 +1,5 @@
+//! The check of the books from the first condition to the last, and the faults that it returns.
+
 ghost use Rattle.std.specs.Prelude.{◌↔◌, IfOk, IsOkUnless, IsTrue, map};
 ghost use Rattle.std.specs.List.Sorted.{IsPermutation};
 ghost use Rattle.book_check.specs.Verdict.{IsVerdict};
@@ -57,7 +59,7 @@ pub enum BooksFault {
 /// Checks a World and the numbers that are kept beside it: whether every condition holds of them,
 /// and the kept numbers are those that the World gives, or else the first fault. The faults are
 /// looked for in this order: the range, the sums of tellers (condition B), the history (condition
-/// C), the cash, and the totals (condition A); where branches are told, the least number that fails.
+/// C), the cash, and the totals (condition A); where a branch is returned, it is the least that fails.
 /// Only memory keeps it from an answer.
 pub fn check_books(
     alloc: Global,

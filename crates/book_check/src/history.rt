@@ -1,3 +1,5 @@
+//! The conditions on what is kept of branches, tellers, accounts and entries, by the history of each branch.
+
 ghost use Rattle.std.specs.Prelude.{◌≡◌, ℕ, map};
 ghost use Rattle.std.specs.List.Sorted.{IsPermutation};
 ghost use Rattle.bank_books.specs.Conditions.{HistoryAgrees};
@@ -143,7 +145,7 @@ impl Condition<AccountRecord> for AccountHistory {
 }
 
 /// That the turns of an account's entries are 1, 2, 3 and so on, each once, and the balances kept beside
-/// them are what the history gives. It is told of the account's home.
+/// them are what the history gives. Where this fails, the branch is the account's home.
 #[derive(Drop)]
 struct AccountTurns<'s> {
     sums: &'s Sums,

@@ -1,8 +1,10 @@
+//! A condition on kept rows, and the least branch with a row that fails it.
+
 ghost use Rattle.std.specs.Prelude.{◌≡◌, ◌↔◌, ℕ, IsTrue, length};
 ghost use Rattle.book_check.specs.Least.{HoldsOfBranch, IsFirstFailing, lesser_of};
 
 /// What is asked of a kept row, which is judged beside the row that the books give, and the branch
-/// that is told where it fails.
+/// that is reported where it fails.
 pub(crate) trait Condition<T> {
     /// What it asks of a kept row, beside the row that the books give.
     ghost holds: { Self → T → T → Type 0 };
@@ -19,8 +21,7 @@ pub(crate) trait Condition<T> {
         ensures { result ≡ branch_of self.now row.now };
 }
 
-/// The least branch that is told of a row of which the condition fails, or none where it holds of
-/// all rows.
+/// The least branch that has a row of which the condition fails, or none where it holds of all rows.
 pub(crate) fn least_failing<T, C: Condition<T>>(
     condition: &C,
     rows: &[T],

@@ -1,3 +1,5 @@
+//! The turns of an account, and whether the balances kept after its entries follow from their deltas.
+
 ghost use Rattle.std.specs.Prelude.{◌≡◌, ◌↔◌, ◌+ℤ◌, IfSome, IsSome, IsTrue};
 ghost use Rattle.book_check.specs.Turns.{AreBalancesAfter, AreBeside, IsAccountInTurns};
 
@@ -56,7 +58,7 @@ fn are_balances_after(opening: i64, deltas: &[Part], balances: &[Part]) -> bool
     true
 }
 
-/// The balance that is told after a delta, where it is the one before and the delta.
+/// The balance kept after a delta, where it is the sum of the one before and the delta.
 fn balance_after(before: i64, delta: &Part, told: &Part) -> Option<i64>
     ensures sum { IsSome result ↔ (told.now.amount ≡ before +ℤ delta.now.amount) }
     ensures value { IfSome result (λ after. after ≡ told.now.amount) }

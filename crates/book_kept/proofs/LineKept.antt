@@ -58,7 +58,7 @@ elsewhere w l x other =
 
 -- ---- the drawer at which it is
 
--- no line that came before at that drawer stands behind it
+-- no line that came before at that drawer stands after it
 before : (w : WorldLists) (l : CashLine) (x : Teller) → IsKeepable w → Contains w.tellers x → x.teller ≡ l.place → x.branch ≡ l.branch → l.number ≡ line_count l.branch w.lines + 1
     → (y : CashLine) → Contains w.lines y → turns_over x.teller y ≡ true → line_key y ≤ line_key l
 before w l x can there at of next y among passes = by (can.lines.places y among)
@@ -79,7 +79,7 @@ before w l x can there at of next y among passes = by (can.lines.places y among)
         one : (row : Teller) → Contains w.tellers row → row.teller ≡ x.teller → row ≡ x
         one row within key = found_by_key teller_key x.teller w.tellers x row can.tellers.ordered.distinct (find_of_key teller_key x.teller w.tellers x can.tellers.ordered.distinct there refl) within key
 
--- so it tells who holds the drawer, if it puts that on or off
+-- so it says who holds the drawer, if it puts that on or off
 holder_moves : (w : WorldLists) (l : CashLine) (x : Teller) → IsKeepable w → Contains w.tellers x → x.teller ≡ l.place → x.branch ≡ l.branch → l.number ≡ line_count l.branch w.lines + 1
     → unwrap_or (holder_of (add_row line_key l w.lines) x.teller) 0 ≡ kept_holder l l.form (unwrap_or (holder_of w.lines x.teller) 0)
 holder_moves w l x can there at of next = by l.form refl

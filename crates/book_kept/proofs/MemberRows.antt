@@ -1,4 +1,4 @@
--- The members of sets, in order of set and place: with one more set, and that they tell the sets.
+-- The members of sets, in order of set and place: with one more set, and that they determine the sets.
 use Rattle.std.proofs.Common.{◌≡◌, ◌≢◌, ℕ, ◌+◌, ◌*◌, ◌^◌, ◌<◌, ◌≤◌, List, [], ◌∷◌, ◌++◌, length, map, Bool, true, false, cond, refl, ap, arith, sym, ◌∙◌, subst, Contains, inl, inr, append-nil}
 use Rattle.std.specs.Prelude.{nat_le}
 use Rattle.std.specs.List.{enumerate_from, flat_map}
@@ -23,13 +23,13 @@ use Rattle.book_kept.specs.declared.records.MemberRow.{MemberRow}
 over : {X : Type 0} (key : X → ℕ) (e x : X) (xs : List X) → key x ≤ key e → add_row key e (x ∷ xs) ≡ x ∷ add_row key e xs
 over key e x xs low = ap (λ b. cond b (x ∷ add_row key e xs) (e ∷ x ∷ xs)) (le-leb (key x) (key e) low)
 
--- behind a row whose key is above none of theirs
+-- after a row whose key is above none of theirs
 add_rows-cons : {X : Type 0} (key : X → ℕ) (new : List X) (x : X) (xs : List X) → ((n : X) → Contains new n → key x ≤ key n) → add_rows key new (x ∷ xs) ≡ x ∷ add_rows key new xs
 add_rows-cons key [] x xs low = refl
 add_rows-cons key (n ∷ new) x xs low =
     ap (add_rows key new) (over key n x xs (low n (Contains-head n new))) ∙ add_rows-cons key new x (add_row key n xs) (λ m there. low m (Contains-tail n new m there))
 
--- and so behind many
+-- and so after many
 add_rows-append : {X : Type 0} (key : X → ℕ) (new xs ys : List X) → ((x : X) → Contains xs x → (n : X) → Contains new n → key x ≤ key n) → add_rows key new (xs ++ ys) ≡ xs ++ add_rows key new ys
 add_rows-append key new [] ys low = refl
 add_rows-append key new (x ∷ xs) ys low =

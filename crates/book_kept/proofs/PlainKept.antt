@@ -114,7 +114,7 @@ releases_after k made users rows keeps was = record {
   small = was.small;
 }
 
--- he has as many slips, and those name him still
+-- the user has as many slips, and those still name that user
 pub counts_after : (w : WorldLists) (k : ℕ) (made : User → User) → ((u : User) → (made u).user ≡ u.user) → map (slip_count_of w) (change_rows user_key k made w.policy.users) ≡ map (slip_count_of w) w.policy.users
 counts_after w k made keeps =
     map-map (λ u. if user_key u == k then made u else u) (slip_count_of w) w.policy.users

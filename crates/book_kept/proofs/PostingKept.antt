@@ -73,7 +73,7 @@ posting_keeps w e l a t b rows moved can of place branch kept entered lined_kept
     λ i. record (posting_sheets l (record rows { teller = moved.teller; branch = moved.branch }) s) { tellers = tellers i; branches = branches i } in
     record { keepable = second.keepable; sheets = second.sheets ∙ ap (drawer_sheets l moved) first.sheets ∙ once }
 
--- behind the entry the line comes next as it did before
+-- after the entry the line comes next as it did before
 pub still_next : (e : Entry) (l : CashLine) (a : AccountRecord) (t : KeptTeller) (b : BranchRecord) (rows : EntryRows) → IsNextPosting e l a t b → AreEntered e a t b rows → IsNextAtDrawer l rows.teller rows.branch
 still_next e l a t b rows next entered =
     subst (λ r. IsNextAtDrawer l r rows.branch) (sym entered.teller) (subst (IsNextAtDrawer l (kept_teller_entered e.delta t)) (sym entered.branch) (record {

@@ -1,4 +1,4 @@
--- Rows each of which lies below those behind it: the same as rows in order of distinct keys.
+-- Rows each of which lies below those after it: the same as rows in order of distinct keys.
 use Rattle.std.proofs.Common.{◌≡◌, ◌≢◌, ℕ, ◌<◌, ◌≤◌, zero, suc, List, [], ◌∷◌, ◌++◌, map, get_or, ap, arith, sym, ◌∙◌, subst, Contains, inl, inr}
 use Rattle.std.specs.List.Sorted.{IsNonDecreasingBy}
 use Rattle.std.proofs.lemmas.List.Elements.{Contains-append_cases, Contains-get_or}
@@ -6,7 +6,7 @@ use Rattle.keyed_rows.specs.Ordered.{AreDistinct}
 use Rattle.keyed_rows.proofs.Rows.{Contains-head, Contains-map_source, Contains-tail, first_apart, none_of_key, rest_in_order}
 use Rattle.book_kept.specs.Keepable.{IsOrdered}
 
--- each lies below those behind it
+-- each lies below those after it
 abbrev pub Rises : {X : Type 0} → (X → ℕ) → List X → Type 0
 Rises key [] = Unit {0}
 Rises {X} key (x ∷ xs) = ((y : X) → Contains xs y → key x < key y) × Rises key xs
@@ -56,7 +56,7 @@ Rises-map {X} {Y} key shown f same (x ∷ xs) rises = (λ y there. by y (Contain
 pub IsOrdered-map : {X Y : Type 0} (key : X → ℕ) (shown : Y → ℕ) (f : X → Y) → ((x : X) → shown (f x) ≡ key x) → (xs : List X) → IsOrdered key xs → IsOrdered shown (map f xs)
 IsOrdered-map key shown f same xs was = IsOrdered-from_rising shown (map f xs) (Rises-map key shown f same xs (Rises-from_order key xs was.in_order was.distinct))
 
--- two lists one behind the other, where the second lies above the first
+-- two lists one after the other, where the second lies above the first
 pub Rises-append : {X : Type 0} (key : X → ℕ) (xs ys : List X) → Rises key xs → Rises key ys → ((x : X) → Contains xs x → (y : X) → Contains ys y → key x < key y) → Rises key (xs ++ ys)
 Rises-append key [] ys first second apart = second
 Rises-append {X} key (x ∷ xs) ys first second apart = (

@@ -73,7 +73,7 @@ IsOrdered-changed key k made same xs was = record {
   distinct = subst AreDistinct (sym (map-changed key k made key same xs)) was.distinct;
 }
 
--- the first row has no key of a row behind it
+-- the first row has no key of a row after it
 AreDistinct-filter : {X : Type 0} (key : X → ℕ) (p : X → Bool) (xs : List X) → AreDistinct (map key xs) → AreDistinct (map key (filter p xs))
 AreDistinct-filter key p [] distinct = tt
 AreDistinct-filter {X = X} key p (x ∷ xs) distinct = go (p x) (AreDistinct-filter key p xs distinct.1)

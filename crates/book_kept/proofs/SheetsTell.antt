@@ -1,4 +1,4 @@
--- The rows and the numbers beside them tell the World.
+-- The rows and the numbers beside them determine the World.
 use Rattle.std.proofs.Common.{◌≡◌, ◌≢◌, ℕ, ◌+◌, List, [], ◌∷◌, ◌++◌, map, Bool, true, false, cond, refl, ap, ap₂, sym, ◌∙◌, ◌==◌, Contains, ◌⊎◌, inl, inr, append-nil}
 use Rattle.std.specs.List.{enumerate_from, filter, flat_map}
 use Rattle.std.proofs.lemmas.Bool.{eq-eqb, ne_eqb}

@@ -1,5 +1,5 @@
 -- Worlds whose numbers can be kept beside their rows: what a check of the books makes sure of, and every change that is written keeps.
--- Without it an entry could move the balances after those behind it, and an account those after entries that stood there before it.
+-- Without it an entry could change the balances after later entries, and an account those after entries older than it.
 use Rattle.std.specs.Prelude.{ℕ, ◌≡◌, ◌≢◌, ◌≤◌, ◌<◌, ◌^◌, ◌⊎◌, List, length, map, Contains, Some}
 use Rattle.std.specs.List.Sorted.{IsNonDecreasingBy}
 use Rattle.keyed_rows.specs.Ordered.{AreDistinct, HasRow}
@@ -25,7 +25,7 @@ pub record IsOrdered {X : Type 0} (key : X → ℕ) (rows : List X) : Type 0 whe
   pub in_order : IsNonDecreasingBy key rows
   pub distinct : AreDistinct (map key rows)
 
--- No teller has the place of the vault, and none's drawer is held by user 0, so that number can stand for nobody.
+-- No teller has the place of the vault, and none's drawer is held by user 0, so that number can mean nobody.
 pub record AreTellersKeepable (tellers : List Teller) (lines : List CashLine) : Type 0 where
   pub ordered : IsOrdered teller_key tellers
   pub places : (t : Teller) → Contains tellers t → t.teller ≢ 0

@@ -54,7 +54,7 @@ pub record IsVersionKept (w : WorldLists) (raised : Bool) : Type 0 where
 abbrev pub VersionIsKept : Type 0
 VersionIsKept = (w : WorldLists) (raised : Bool) → IsKeepable w → IsVersionKept w raised
 
--- ---- what kept rows tell
+-- ---- what kept rows determine
 
 -- in each table the rows stand in order of their keys, and no key stands twice
 pub record AreSheetsOrdered (s : Sheets) : Type 0 where

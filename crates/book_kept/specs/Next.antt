@@ -1,4 +1,4 @@
--- Changes that come next and whose sums can be told, so that none is refused.
+-- Changes that come next and whose sums are in range, so that none is refused.
 use Rattle.std.specs.Prelude.{◌≡◌, ◌≢◌, ◌+◌, Some}
 use Rattle.money.specs.Range.{IsCents}
 use Rattle.bank_books.specs.Cash.{holder_after}
@@ -44,7 +44,7 @@ pub record IsNextAtDrawer (l : CashLine) (t : KeptTeller) (b : BranchRecord) : T
   pub drawer : IsCents t.cash
   pub cash : IsCashTold b
 
--- two entries, the second of which comes next behind the first
+-- two entries, the second of which comes next after the first
 pub record AreNextLegs (e f : Entry) (source target : AccountRecord) (t : KeptTeller) (b : BranchRecord) : Type 0 where
   pub first : IsNextOf e source t b
   pub second : IsNextOf f target (kept_teller_entered e.delta t) (branch_entered e.delta b)

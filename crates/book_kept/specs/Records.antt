@@ -31,7 +31,7 @@ kept_teller_of w row = kept_teller (teller_record_of w row)
 abbrev pub kept_teller_entered : ℤ → KeptTeller → KeptTeller
 kept_teller_entered delta t = record t { balance = t.balance +ℤ delta }
 
--- who holds the drawer behind a line of this form
+-- who holds the drawer after a line of this form
 abbrev pub kept_holder : CashLine → LineForm → ℕ → ℕ
 kept_holder l form.On holder = l.user
 kept_holder l form.Off holder = 0

@@ -1,3 +1,5 @@
+//! What a new account changes: its home has one more account, and it begins with its opening balance and no turns.
+
 ghost use Rattle.std.specs.Prelude.{◌≡◌, ◌+◌, ◌<◌, ◌^◌, IfSome, IsSome};
 ghost use Rattle.book_laws.specs.Moves.{branch_homed};
 ghost use Rattle.book_kept.specs.After.{AreAfterAccount};
@@ -15,7 +17,7 @@ pub struct AccountRows {
 }
 
 /// What a new account makes of its home, and the numbers that it begins with, or none where the accounts
-/// of that branch are as many as a `u64` tells.
+/// of that branch are as many as a `u64` can hold.
 pub fn with_account(home: &BranchRecord, account: &Account) -> Option<AccountRows>
     ensures kept { IfSome result (λ rows. AreAfterAccount account.now home.now rows) }
     ensures begun { IfSome result (λ rows. rows.account ≡ account_begun account.now) }

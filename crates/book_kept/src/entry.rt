@@ -1,3 +1,5 @@
+//! What an entry changes in the numbers of its account, its teller and its branch.
+
 ghost use Rattle.std.specs.Prelude.{◌≡◌, ◌+◌, ◌<◌, ◌^◌, IfSome, IsSome};
 ghost use Rattle.money.specs.Range.{IsCents};
 ghost use Rattle.book_laws.specs.Moves.{account_entered, branch_entered};

@@ -68,7 +68,7 @@ pub fn sheets_are_ordered()
     ensures { SheetsAreOrdered }
 {}
 
-/// The rows and the numbers beside them tell the World.
+/// The rows and the numbers beside them determine the World.
 pub fn sheets_tell_world()
     ensures { SheetsTellWorld }
 {}

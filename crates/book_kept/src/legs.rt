@@ -1,3 +1,5 @@
+//! Two entries of one teller and one branch, taken together, so that the rows which both move are made once.
+
 ghost use Rattle.std.specs.Prelude.{IfSome, IsSome};
 ghost use Rattle.book_kept.specs.After.{AreAfterLegs};
 ghost use Rattle.book_kept.specs.Next.{AreNextLegs};

@@ -2,7 +2,7 @@
 //! `with_vault_line`, `with_account` and `with_release` make exactly the rows that a change leaves from
 //! those that it names, whatever World these are of; `with_posting` and `with_legs` do so for two changes
 //! at once. They answer wherever the changes come next and the old sums are in range. `laws` says that
-//! such rows tell their World. They are written by `sql_writes`.
+//! such rows determine their World. They are written by `sql_writes`.
 #![tactic(auto)]
 
 mod account;

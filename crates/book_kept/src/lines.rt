@@ -1,3 +1,5 @@
+//! What a line of the cash book changes in the numbers of a teller and of its branch.
+
 ghost use Rattle.std.specs.Prelude.{◌≡◌, ◌↔◌, ◌+◌, ◌+ℤ◌, ◌<◌, ◌^◌, pos, if◌then◌else◌, IfSome, IsSome, IsTrue};
 ghost use Rattle.money.specs.Range.{IsCents};
 ghost use Rattle.bank_books.specs.Cash.{holder_after};
@@ -96,7 +98,7 @@ fn branch_moved(branch: &BranchRecord, line: &CashLine) -> Option<BranchRecord>
     }
 }
 
-/// A sum with the amount of the line, if that counts for it.
+/// A sum, with the amount of the line added where `counts` is true.
 fn with_share(sum: &i128, line: &CashLine, counts: bool) -> Option<i128>
     ensures value { IfSome result (λ after. after ≡ sum.now +ℤ (if counts then line.now.amount else pos 0)) }
     ensures told { IsCents sum.now → IsSome result }

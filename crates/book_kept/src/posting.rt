@@ -1,3 +1,5 @@
+//! An entry and its cash line taken together, so that the rows which both move are made once.
+
 ghost use Rattle.std.specs.Prelude.{IfSome, IsSome};
 ghost use Rattle.book_kept.specs.After.{AreAfterPosting};
 ghost use Rattle.book_kept.specs.Next.{IsNextPosting};

@@ -1,3 +1,5 @@
+//! Rows of tellers, of users and of members of sets as a store keeps them, and how many slips a user has.
+
 use bank_books::{Teller, TellerRecord};
 use bank_policy::{Member, User};
 
@@ -47,12 +49,12 @@ impl KeptTeller {
     }
 }
 
-/// A user with the number that is kept beside him.
+/// A user with the number that is kept beside them.
 #[derive(Debug, Drop)]
 pub struct KeptUser {
     /// The row.
     pub row: User,
-    /// How many releases he was given.
+    /// How many releases they were given.
     pub releases: u64,
 }
 

@@ -1,3 +1,5 @@
+//! What a release changes in the number of its user's releases: it bears the next number, or is refused.
+
 ghost use Rattle.std.specs.Prelude.{◌≡◌, ◌+◌, IfSome, IsSome};
 ghost use Rattle.book_kept.specs.After.{IsAfterRelease};
 

@@ -18,7 +18,7 @@ find-append {X = X} p (x ∷ xs) ys = go (p x) (find-append p xs ys)
     go true rest = refl
     go false rest = rest
 
--- behind the first row, or the first row
+-- the last one after the first row, or else the first row
 last-cons : {X : Type 0} (p : X → Bool) (x : X) (xs : List X) → find p (reverse (x ∷ xs)) ≡ or_else (find p (reverse xs)) (cond (p x) (Some x) None)
 last-cons p x xs = ap (find p) (reverse-append (x ∷ []) xs) ∙ find-append p (reverse xs) (x ∷ [])
 

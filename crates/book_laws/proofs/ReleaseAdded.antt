@@ -18,7 +18,7 @@ use Rattle.book_laws.proofs.BooksSplit.{books_parts}
 use Rattle.book_laws.proofs.Numbered.{AreNumbered-add_row, AreNumbered-none}
 use Rattle.keyed_rows.proofs.Rows.{each_added, find-found, none_passes}
 
--- those of a user are numbered, and they are where he has none
+-- those of a user are numbered, also where the user has none
 numbered_before : (w : WorldLists) (user : ℕ) → IsOpenLedger w → AreNumbered (λ o. o.user) (λ o. o.number) w.releases user
 numbered_before w user ledger = go (find (λ o. o.user == user) w.releases) refl
   where

@@ -76,7 +76,7 @@ pub record HasRoomFor (w : WorldLists) (e : Entry) : Type 0 where
 
 -- ---- two entries, as the legs of a transfer
 
--- Two entries at one teller and two accounts, one behind the other, that name each other. Each may undo an entry that is there.
+-- Two successive entries at one teller and two accounts, that name each other. Each may undo one that is there.
 pub record AreLegs (w : WorldLists) (first second : Entry) : Type 0 where
   pub first_next : IsNextEntry w first
   pub second_next : IsNextEntry (written (write.Entry first) w) second

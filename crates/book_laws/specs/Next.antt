@@ -49,7 +49,7 @@ pub record IsNextRelease (w : WorldLists) (r : Release) : Type 0 where
   pub day : IsDay r.day
   pub operation : HoldsReleasable r
 
--- A slip's user is there and has room for one more; he has none of its number, and it holds an operation that takes slips.
+-- A slip's user is there, has room for one more and has none of its number, and it holds an operation that takes slips.
 pub record IsNextSlip (w : WorldLists) (s : SlipRow) : Type 0 where
   pub user : IsUser w.policy.users s.user
   pub number : IsKey s.number
@@ -69,7 +69,7 @@ abbrev pub lined : List CashLine → WorldLists → WorldLists
 lined [] w = w
 lined (l ∷ lines) w = lined lines (written (write.Line l) w)
 
--- each of them may come next, behind those before it
+-- each of them may come next, after those before it
 abbrev pub AreNextLines : WorldLists → List CashLine → Type 0
 AreNextLines w [] = ⊤
 AreNextLines w (l ∷ lines) = IsNextLine w l × AreNextLines (written (write.Line l) w) lines

@@ -1,4 +1,4 @@
--- What `all` tells of each row, and what a test tells that follows another.
+-- What `all` says of each row, and what a test says that follows another.
 use Rattle.std.proofs.Common.{◌≡◌, ℕ, ◌<◌, List, [], ◌∷◌, length, get_or, Bool, true, false, MatchBool, Contains, IsTrue, refl, arith, subst, sym, ◌∙◌}
 use Rattle.std.specs.List.{AllWithin, HoldsAt}
 use Rattle.std.proofs.lemmas.Bool.{false≢true}

@@ -12,7 +12,7 @@ pub same_as_before : {X : Type 0} (P : X → Type 0) (xs : List X) (i : ℕ) (be
 same_as_before P xs i before this some below same all =
     AllWithin-more P xs 0 i all (at_read xs P i (get_or xs i this) below (get_or_default xs i this (get_or xs i this) below) (same (all (i - 1) before (omega arith) (omega (arith, some)))))
 
--- what is told of the parts of rows, in any order, is told of the rows
+-- what is judged of the parts of rows, in any order, is judged of the rows
 pub told_of_rows : {X Y : Type 0} (P : Y → Type 0) (part : X → Y) (rows : List X) (parts : List Y) (r : Bool) → IsPermutation (map part rows) parts →
     (IsTrue r → (y : Y) → Contains parts y → P y) × (((y : Y) → Contains parts y → P y) → IsTrue r) →
     (IsTrue r → (x : X) → Contains rows x → P (part x)) × (((x : X) → Contains rows x → P (part x)) → IsTrue r)

@@ -113,7 +113,7 @@ releases_found w seen found user alone same says order =
 pub proofs_counted : (w : WorldLists) (of_branch : List Proof) (branch : ℕ) → of_branch ≡ filter (λ p. p.branch == branch) w.proofs → length of_branch ≡ count_by (λ p. p.branch == branch) w.proofs
 proofs_counted w of_branch branch same = ap length same ∙ length-filter (λ p. p.branch == branch) w.proofs
 
--- a last day that isn't the one behind the proofs
+-- a last day that isn't the one after the days of the proofs
 pub other_last_day : {P : Type 0} (count counted day : ℕ) → count ≡ counted → (count + 1 ≡ day → ⊥) → (IsTrue (count + 1 == day) → P × (counted + 1 ≡ day)) × (P × (counted + 1 ≡ day) → IsTrue (count + 1 == day))
 other_last_day count counted day same other = (
   λ is. absurd (other (eqb-true _ _ is)),

@@ -1,3 +1,5 @@
+//! The rows that kept numbers are of, compared with the rows of the World one by one.
+
 ghost use Rattle.std.specs.Prelude.{◌≡◌, ◌↔◌, IsTrue, map};
 
 use bank_books::{

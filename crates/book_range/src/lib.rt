@@ -1,6 +1,6 @@
-//! The first part of the check of the books. `is_in_range` tells exactly whether the kept numbers stand
+//! The first part of the check of the books. `is_in_range` says exactly whether the kept numbers stand
 //! beside the rows, each number is within its limits, no key stands twice, and each row names rows that are
-//! there. `are_numbered` and `bear_numbers` tell exactly whether the rows of a group bear each number from
+//! there. `are_numbered` and `bear_numbers` say exactly whether the rows of a group bear each number from
 //! 1 to how many they are. The sums are left to `book_check`.
 #![tactic(auto)]
 

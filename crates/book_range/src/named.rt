@@ -1,3 +1,5 @@
+//! Whether the branches, tellers, accounts, users and entries that rows name are there.
+
 ghost use Rattle.std.specs.Prelude.{◌↔◌, Contains, IsTrue, map};
 ghost use Rattle.keyed_rows.specs.Ordered.{AreDistinct};
 ghost use Rattle.bank_books.specs.Keys.{teller_key};

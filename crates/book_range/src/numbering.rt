@@ -1,3 +1,5 @@
+//! How proofs are numbered by the days of their branch, releases by user, and parts within one group.
+
 ghost use Rattle.std.specs.Prelude.{◌≡◌, ◌↔◌, ◌+◌, ◌≤◌, ◌==◌, IsTrue, filter, map};
 ghost use Rattle.std.specs.List.{count_by};
 ghost use Rattle.std.specs.List.Sorted.{IsNonDecreasingBy};

@@ -1,3 +1,5 @@
+//! Rows that bear numbers within a group: entries, cash lines, proofs and parts of sums.
+
 ghost use Rattle.std.specs.Prelude.{◌≡◌, ◌↔◌, ◌≤◌, ℕ, IsTrue};
 ghost use Rattle.book_range.specs.Numbers.{BearNumbers};
 

@@ -1,3 +1,5 @@
+//! The range check as a whole: its parts over all rows, in the order in which they are judged.
+
 ghost use Rattle.std.specs.Prelude.{◌≡◌, ◌↔◌, ◌≤◌, Contains, IsTrue, map};
 ghost use Rattle.bank_books.specs.Range.{AreOfRows, AreSlipsInRange, IsSlipInRange, HasDistinctKeys, IsBranchInRange, IsEntryInRange, IsInRange, IsLineInRange, IsReleaseInRange};
 ghost use Rattle.bank_terms.specs.Limits.{max_version};

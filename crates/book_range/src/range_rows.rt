@@ -1,3 +1,5 @@
+//! The limits of each kind of row, and of the numbers that are kept beside it.
+
 ghost use Rattle.std.specs.Prelude.{◌↔◌, ◌≤◌, ◌≤ℤ◌, IfSome, IsTrue, pos};
 ghost use Rattle.bank_terms.specs.Limits.{max_key, max_accounts, min_floor};
 ghost use Rattle.money.specs.Range.{IsCents};

@@ -1,3 +1,5 @@
+//! The rows of one group, found by searches in rows that stand in order.
+
 ghost use Rattle.std.specs.Prelude.{◌≡◌};
 ghost use Rattle.std.specs.List.Sorted.{IsNonDecreasingBy};
 ghost use Rattle.book_sums.specs.Groups.{rows_of_group};

@@ -1,3 +1,5 @@
+//! Who holds each drawer, found in one pass over the cash lines.
+
 ghost use Rattle.std.specs.Prelude.{◌≡◌, ℕ, IfOk, map};
 ghost use Rattle.std.specs.BTreeMap.{get};
 ghost use Rattle.std.specs.Ordering.{nat_cmp};

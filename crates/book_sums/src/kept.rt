@@ -1,3 +1,5 @@
+//! All that a store keeps beside the rows of a World: as a store kept it, or computed from the rows.
+
 use crate::records::Records;
 use crate::sums::Sums;
 use bank_books::{AccountRecord, BranchRecord, EntryRecord, ReleaseCount, TellerRecord, World};

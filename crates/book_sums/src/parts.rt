@@ -1,3 +1,5 @@
+//! The part that each row has in the sums: its group, its number and its amount.
+
 use crate::shares::{Part, Parts};
 use bank_books::{Account, CashLine, Entry, Release, Slip};
 

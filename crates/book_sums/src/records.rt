@@ -1,3 +1,5 @@
+//! What is kept beside branches, tellers, accounts and users, from the sums of a World.
+
 ghost use Rattle.std.specs.Prelude.{◌≡◌, IfOk, IsOkUnless, map};
 ghost use Rattle.bank_books.specs.Records.{account_record_of, branch_record_of, release_count_of, teller_record_of};
 ghost use Rattle.book_sums.specs.Sums.{AreSumsOf};

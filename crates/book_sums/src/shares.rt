@@ -1,3 +1,5 @@
+//! Parts of sums by group, sorted once, with running sums by which totals are found in two searches.
+
 ghost use Rattle.std.specs.Prelude.{◌≡◌, ◌+◌, ◌*◌, ◌^◌, ◌<◌, ◌≤◌, ◌≤ℤ◌, IfOk, length, map, neg_ℤ, pos, slice_index_or, IsTrue, ℕ};
 ghost use Rattle.std.specs.List.{All};
 ghost use Rattle.std.specs.List.Sorted.{IsNonDecreasingBy, IsPartitionPoint, IsPermutation};
@@ -167,7 +169,7 @@ impl Shares {
     }
 }
 
-/// The place behind the parts whose keys are below this one.
+/// The place after the parts whose keys are below this one.
 fn end_below(parts: &[Part], key: u64) -> usize
     requires { IsNonDecreasingBy part_key parts.now }
     ensures bound { result ≤ length parts.now }
@@ -176,7 +178,7 @@ fn end_below(parts: &[Part], key: u64) -> usize
     parts.partition_point(|part| part.key() < key)
 }
 
-/// The place behind the parts whose keys are not above this one.
+/// The place after the parts whose keys are not above this one.
 fn end_at(parts: &[Part], key: u64) -> usize
     requires { IsNonDecreasingBy part_key parts.now }
     ensures bound { result ≤ length parts.now }
@@ -198,7 +200,7 @@ fn end_near(parts: &[Part], guess: u64, key: u64) -> usize
     }
 }
 
-/// Whether this is the place behind the parts whose keys are not above this one.
+/// Whether this is the place after the parts whose keys are not above this one.
 fn is_end_at(parts: &[Part], place: usize, key: u64) -> bool
     requires { IsNonDecreasingBy part_key parts.now }
     ensures bound { IsTrue result → place ≤ length parts.now }

@@ -1,3 +1,5 @@
+//! The sums and counts of a World by group, and the records of its rows computed from them.
+
 ghost use Rattle.std.specs.Prelude.{◌≡◌, ◌+ℤ◌, ◌≤ℤ◌, ◌<◌, ◌^◌, ◌==◌, filter, neg_ℤ, pos};
 ghost use Rattle.std.specs.List.{All};
 
@@ -122,7 +124,7 @@ impl Sums {
         }
     }
 
-    /// How many releases the user was given, and how many slips he has.
+    /// How many releases the user was given, and how many slips they have.
     pub(crate) fn release_count(&self, row: &User) -> ReleaseCount
         ensures { result ≡ release_count_from self.now row.now }
     {

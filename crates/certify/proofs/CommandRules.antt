@@ -1,4 +1,4 @@
--- What the rules tell of the policy, where none denies a command.
+-- What follows of the policy from the rules, where none denies a command.
 use Rattle.std.proofs.Common.{◌≡◌, ◌≢◌, ℕ, ◌==◌, ◌&&◌, Bool, true, false, not, map, refl, ap, sym, ◌∙◌, Option, Some, None, Contains}
 use Rattle.std.specs.Prelude.{is_none, is_some, option_map}
 use Rattle.std.specs.Option.{option_map_or}
@@ -49,7 +49,7 @@ user_there policy user is =
     let row = find-found (λ r. user_key r == user) policy.users found.0 found.1 in
     (found.0, (row.0, eqb-true (user_key found.0) user row.1))
 
--- of whom no row says anything, he has none
+-- a user without a standing has no row
 pub user_missing : (policy : PolicyLists) (user : ℕ) → is_some (standing policy user) ≡ false → (row : User) → Contains policy.users row → user_key row ≢ user
 user_missing policy user none row there of = go (user_row policy user) refl none
   where
@@ -57,7 +57,7 @@ user_missing policy user none row there of = go (user_row policy user) refl none
     go None is none = false≢true (sym (none_passes (λ r. user_key r == user) policy.users row is there) ∙ eq-eqb (user_key row) user of)
     go (Some r) is none = false≢true (sym none)
 
--- whose row doesn't call him an officer, he is none
+-- a user whose standing is not that of an officer is no officer by any row
 pub not_officer : (policy : PolicyLists) (user : ℕ) → AreDistinct (map user_key policy.users) → option_map_or (λ s. s.officer) (standing policy user) false ≡ false
     → (row : User) → Contains policy.users row → user_key row ≡ user → row.officer ≢ true
 not_officer policy user distinct none row there of is =

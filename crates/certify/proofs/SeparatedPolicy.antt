@@ -29,7 +29,7 @@ use Rattle.certify.specs.CommandRows.{command_rows, executes, has_certified, is_
 use Rattle.certify.specs.Commands.{change_of, names_officer}
 use Rattle.certify.specs.Laws.{CommandKeepsSeparation}
 
--- ---- what the tests tell
+-- ---- what follows from the tests
 
 certifier_told : (p : PolicyLists) (user : ℕ) (procedure : Procedure) → is_certifier p user procedure ≡ true → IsCertifier p user procedure
 certifier_told p user procedure is =

@@ -1,4 +1,4 @@
--- The tables of a policy that has no dangling rows, where what they name stays; and keys that stand for what they are made of.
+-- The tables of a policy that has no dangling rows, where what they name stays; and keys that determine their parts.
 use Rattle.std.proofs.Common.{◌≡◌, ℕ, ◌+◌, ◌*◌, ◌^◌, ◌≤◌, List, get_or, Bool, true, false, subst, arith, inl, inr, ◌==◌, Contains, refl}
 use Rattle.std.specs.Prelude.{Any, nat_le}
 use Rattle.std.specs.List.{count_by, filter}

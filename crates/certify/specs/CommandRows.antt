@@ -22,11 +22,11 @@ is_certifier policy user procedure = list_any (λ row. row.user == user && numbe
 abbrev pub certifies_any : PolicyLists → ℕ → Bool
 certifies_any policy user = list_any (λ row. row.user == user) policy.certifiers
 
--- a relation of the procedure stands by him, though he may have been dismissed since
+-- a relation of the procedure is certified by the user, who may have been dismissed since
 abbrev pub has_certified : PolicyLists → ℕ → Procedure → Bool
 has_certified policy user procedure = list_any (λ row. is_relation_of procedure row && row.by == user) policy.relations
 
--- he has a triple for the procedure, with any set
+-- the user has a triple for the procedure, with any set
 abbrev pub executes : PolicyLists → ℕ → Procedure → Bool
 executes policy user procedure = list_any (is_triple_of user procedure) policy.triples
 

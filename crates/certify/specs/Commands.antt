@@ -36,7 +36,7 @@ names_officer rows = option_map_or (λ s. s.officer) rows.user false
 abbrev pub is_suspended : CommandRows → Bool
 is_suspended rows = option_map_or (λ s. s.suspended) rows.user false
 
--- Separation of duty: who would execute a procedure is no certifier of it, and on no set is it certified by him; and an officer does neither.
+-- Separation of duty: nobody executes what they may certify or what is certified by them, and an officer does neither.
 abbrev pub breaks_separation : CommandRows → PolicyOp → Bool
 breaks_separation rows (asked.DefineSet s) = false
 breaks_separation rows (asked.Certify k) = false
@@ -62,8 +62,8 @@ is_unknown rows (asked.Enrol e) = false
 is_unknown rows (asked.Suspend k) = is_none rows.user
 is_unknown rows (asked.Restore k) = is_none rows.user
 
--- What it adds is there already by its key, or there are as many as there may be; a user is suspended already, or would suspend himself; one is not suspended
--- who would be restored.
+-- What it adds is there already by its key, or there are as many as there may be; a user to suspend is suspended
+-- already or is who asks; a user to restore is not suspended.
 abbrev pub is_out_of_place : CommandRows → ℕ → PolicyOp → Bool
 is_out_of_place rows by (asked.DefineSet s) = rows.is_there || nat_le max_sets rows.count
 is_out_of_place rows by (asked.Certify k) = rows.is_there || nat_le max_relations rows.count

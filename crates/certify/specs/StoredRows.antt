@@ -1,5 +1,5 @@
--- The rows that a command is judged on, from what a store answers: what stands in the user's row, whether he is a certifier, the relations of the procedure that the
--- command names, the triples of the user whom it names for that procedure, and counts.
+-- The rows that a command is judged on, from what a store answers: what the user's row says, whether they are a
+-- certifier, the relations of the procedure named, the triples of the user named for that procedure, and counts.
 use Rattle.std.specs.Prelude.{ℕ, ◌==◌, ◌||◌, Bool, false, not, is_some, length, List, Option}
 use Rattle.std.specs.List.{list_any}
 use Rattle.std.specs.Option.{option_map_or}
@@ -11,7 +11,7 @@ use Rattle.bank_policy.specs.declared.rows.Triple.{Triple}
 use Rattle.certify.specs.CommandRows.{of_certifier, of_officer}
 use Rattle.certify.specs.declared.command_rows.CommandRows.{CommandRows}
 
--- his row says that he is an officer
+-- the user's row says that they are an officer
 abbrev pub is_officer_row : Option Standing → Bool
 is_officer_row user = option_map_or (λ s. s.officer) user false
 
@@ -36,7 +36,7 @@ certify_rows certifies has_set relations key = record (of_certifier certifies) {
 abbrev pub withdraw_rows : Bool → List CertifiedSet → RelationKey → CommandRows
 withdraw_rows certifies relations key = record (of_certifier certifies) { is_there = is_among key.set relations }
 
--- the user, whether he is a certifier of the procedure, and how many triples he has are of the user whom the triple names
+-- standing, whether a certifier of the procedure, and count of triples are those of the user whom the triple names
 abbrev pub grant_rows : Bool → Option Standing → Bool → List CertifiedSet → List HeldTriple → ℕ → Triple → CommandRows
 grant_rows certifies user is_certifier relations triples count triple = record (of_certifier certifies) {
   user = user;
@@ -49,7 +49,7 @@ grant_rows certifies user is_certifier relations triples count triple = record (
 abbrev pub revoke_rows : Bool → List HeldTriple → TripleKey → CommandRows
 revoke_rows certifies triples key = record (of_certifier certifies) { is_there = is_held_on key.set triples }
 
--- who asks, the user whom it names, his triples for the procedure, and whether he is a certifier of it
+-- who asks, the user whom it names, their triples for the procedure, and whether they are a certifier of it
 abbrev pub appoint_rows : Option Standing → Option Standing → List HeldTriple → Bool → CommandRows
 appoint_rows asks user triples is_certifier = record (of_officer (is_officer_row asks)) { user = user; executes = not (length triples == 0); is_there = is_certifier }
 

@@ -1,3 +1,5 @@
+//! What each command of the policy is judged on, gathered from what a store answers.
+
 ghost use Rattle.std.specs.Prelude.{◌≡◌};
 ghost use Rattle.certify.specs.CommandRows.{of_certifier, of_officer};
 ghost use Rattle.certify.specs.StoredRows.{appoint_rows, certify_rows, define_set_rows, dismiss_rows, enrol_rows, grant_rows, has_one_by, is_among, is_held_on, is_officer_row, revoke_rows, suspension_rows, withdraw_rows};
@@ -13,7 +15,7 @@ pub struct CommandRows {
     pub certifies: bool,
     /// What the row of the user whom it names says.
     pub user: Option<Standing>,
-    /// Whether that user is a certifier of the procedure, or a relation of it stands by him.
+    /// Whether that user is a certifier of the procedure, or a relation of it is certified by them.
     pub has_certified: bool,
     /// Whether that user has a triple for the procedure.
     pub executes: bool,
@@ -76,8 +78,8 @@ impl CommandRows {
     }
 
     /// Of a triple to give: whether who asks is a certifier of its procedure; of the user whom it names
-    /// his row, whether he is a certifier of the procedure, and how many triples he has; the relations of
-    /// the procedure, and that user's triples for it.
+    /// the row, whether they are a certifier of the procedure, and how many triples they have; the relations
+    /// of the procedure, and that user's triples for it.
     pub fn of_grant(
         certifies: bool,
         user: Option<Standing>,
@@ -110,8 +112,8 @@ impl CommandRows {
         }
     }
 
-    /// Of a certifier to name: the rows of who asks and of that user, his triples for the procedure, and
-    /// whether he is a certifier of it.
+    /// Of a certifier to name: the rows of who asks and of that user, that user's triples for the procedure,
+    /// and whether they are a certifier of it.
     pub fn of_appoint(
         asks: Option<Standing>,
         user: Option<Standing>,
@@ -187,7 +189,7 @@ fn of_officer(asks: Option<Standing>) -> CommandRows
     }
 }
 
-/// Whether a user's row says that he is an officer.
+/// Whether a user's row says that they are an officer.
 fn is_officer_row(user: Option<Standing>) -> bool
     ensures { result ≡ is_officer_row user }
 {

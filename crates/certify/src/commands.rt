@@ -1,3 +1,5 @@
+//! The rules against each command of the policy, and the change that it makes.
+
 ghost use Rattle.std.specs.Prelude.{◌≡◌, [], ◌∷◌, false, IfOk, IsOkUnless, MatchResult, Ok, Err, IfSome};
 ghost use Rattle.certify.specs.Commands.{breaks_separation, change_of, command_changes, first_against_command, is_of_officers, is_out_of_place, is_suspended, is_unknown, names_officer};
 
@@ -104,7 +106,7 @@ fn is_of_officers(command: &PolicyOp) -> bool
     }
 }
 
-/// Whether a user would execute what he may certify or what is certified by him, or an officer would do either.
+/// Whether a user would execute what they may certify or what is certified by them, or an officer would do either.
 fn breaks_separation(rows: &CommandRows, command: &PolicyOp) -> bool
     ensures { result ≡ breaks_separation rows.now command.now }
 {

@@ -1,5 +1,7 @@
 mod ActionLemmas
-mod BankDayLemmas
-mod CrashLemmas
-mod ListLemmas
-mod OpenedLemmas
+pub mod CrashLemmas
+pub mod DayLemmas
+pub mod OpenedLemmas
+mod PageLemmas
+mod SumLemmas
+mod TextLemmas

@@ -1,39 +1,28 @@
--- What the messages of one stream, or of all connections at a port, come to over a bank in a file: from the World that the file held to what a
--- crash may leave.
-use Rattle.std.specs.Prelude.{ℕ, ⊤, List, [], Option, Result}
-use Rattle.std.proofs.Common.{inl, inr}
+-- What the messages of one stream, or of all connections, come to over a bank in a file: from the World that the file held to what a crash may
+-- leave.
+use Rattle.std.specs.Prelude.{ℕ, List, Option}
 use Rattle.bank_books.specs.WorldLists.{WorldLists}
 use Rattle.bank_meaning.specs.Headline.{IsHeadline}
 use Rattle.bank_meaning.specs.Run.{world_after}
 use Rattle.bank_meaning.specs.Sums.{PassesChecks}
 use Rattle.store_rows.specs.Status.{Status}
-use Rattle.store_cached.specs.Standing.{cached_status}
-use Rattle.http_messages.specs.declared.serving.ServeFault.{ServeFault}
-use Rattle.http_messages.specs.declared.serving.Served.{Served}
-use Rattle.counter_api.specs.Day.{AreReplied, answered}
 use Rattle.counter_api.specs.Run.{MarkedMessage, requests_of}
-use Rattle.counter_clocks.specs.Standing.{gives_its_own, standing_at}
-use Rattle.counter_service.specs.Serving.{IsServedBehindCache, most_messages}
-use Rattle.counter_connections.specs.Connections.{AreAllReplied, At, messages_of}
-use Rattle.counter_connections.specs.Port.{IsPortServed, IsPortServedBehindCache}
-use Rattle.counter_connections.specs.declared.fault.PortFault.{PortFault}
-use Rattle.exit_lines.specs.Streams.{Stream, Streams}
 use Rattle.cli_file.specs.Crash.{ActsOnceOverCrash, IsLeftByCrash}
 
--- One day of the bank in a file: of the World that the file held, of these messages, which are all that had a reply, in their order, and of
--- what is said of the bytes that went out. What it rests on beside proofs: the disk returned what was written, up to the end of the day; the
--- image of the file and its log stands for what is at the path; a badge is that of the user whom the list of badges names; and a message
--- bears a moment that the clock gave.
+-- One day of the bank in a file: of the World that the file held, of these messages, which are all that had a reply, in
+-- their order, and of what is said of the bytes that went out. What it rests on beside proofs: the disk returned what
+-- was written, up to the end of the day; the image of the file and its log represents what is at the path; a badge is
+-- that of the user whom the list of badges names; and a message bears a moment that the clock gave.
 pub record IsBankDay (users : List ℕ → Option ℕ) (w : WorldLists) (ms : List MarkedMessage) (AreReplied : WorldLists → Type 0) (ended : Status) : Type 0 where
   -- The World that the file held passes both checks: its books hold, and its policy is sound and separated.
   pub checked : PassesChecks w
-  -- Each operation is carried out exactly where all that the policy and the books ask for is held. Any other request changes nothing, and its
-  -- reply names the first rule against it. No one executes what he certifies. The sums agree after each request. The policy is the one in
-  -- force by last word. What bears a slip acts once.
+  -- Each operation is carried out exactly where all that the policy and the books ask for is held. Any other request
+  -- changes nothing, and its reply names the first rule against it. No one executes what they certify. The sums agree
+  -- after each request. The policy is the one in force by last word. What bears a slip acts once.
   pub headline : IsHeadline w (requests_of users ms)
   -- What went out on each connection is the replies to its messages, each in the World that the messages before it left.
   pub replied : AreReplied w
-  -- At the end the file stands for the World after all of them,
+  -- At the end the file represents the World after all of them,
   pub holds : ended.holds (world_after w (requests_of users ms))
   -- and a crash leaves that World; or that World and one request more, which a fault kept from being answered otherwise and since which none
   -- has changed the World. So nothing that was answered is undone.
@@ -42,48 +31,3 @@ pub record IsBankDay (users : List ℕ → Option ℕ) (w : WorldLists) (ms : Li
   pub sent_again : (left : WorldLists) → ended.may_leave left → ActsOnceOverCrash w (requests_of users ms) left
   -- Whatever a crash leaves is a World, and no part of one.
   pub whole : ended.leaves_a_world
-
-module _ {S : Type 0} (status : S → Status) (users : List ℕ → Option ℕ) where
-  -- the messages of a stream that had a reply
-  abbrev pub messages_served : (opened : S) (moment : ℕ) (old new : Streams) (left : S) (result : Result Served ServeFault)
-      → IsServedBehindCache status users opened moment old new left result → List MarkedMessage
-  messages_served opened moment old new left result (inl is) =
-      answered (cached_status status) users gives_its_own most_messages
-      (record { left = old.input.bytes; written = old.output.bytes; store = is.began; clock = standing_at moment })
-      (record { left = new.input.bytes; written = new.output.bytes; store = is.ended; clock = is.served.clock })
-      result is.served.exit
-  messages_served opened moment old new left result (inr is) = []
-
-  abbrev pub IsStreamReplied : (opened : S) (moment : ℕ) (old new : Streams) (left : S) (result : Result Served ServeFault)
-      → IsServedBehindCache status users opened moment old new left result → WorldLists → Type 0
-  IsStreamReplied opened moment old new left result (inl is) w =
-      AreReplied (cached_status status) users gives_its_own most_messages
-      (record { left = old.input.bytes; written = old.output.bytes; store = is.began; clock = standing_at moment })
-      (record { left = new.input.bytes; written = new.output.bytes; store = is.ended; clock = is.served.clock })
-      result is.served.exit w
-  IsStreamReplied opened moment old new left result (inr is) w = ⊤
-
-module _ {S C : Type 0} (status : S → Status) (users : List ℕ → Option ℕ) (may_give : C → ℕ → C → Type 0) (port requests : ℕ) (output_old output_new : Stream) where
-  -- those of all connections at a port, in their order
-  abbrev pub messages_at : (old new : At S C) (result : Result Unit PortFault) → IsPortServed status users may_give port requests output_old output_new old new result → List MarkedMessage
-  messages_at old new result (inl is) = messages_of status users may_give requests old is.1.served.exits new is.1.served.served
-  messages_at old new result (inr is) = []
-
-  abbrev pub IsPortReplied : (old new : At S C) (result : Result Unit PortFault) → IsPortServed status users may_give port requests output_old output_new old new result → WorldLists → Type 0
-  IsPortReplied old new result (inl is) w = AreAllReplied status users may_give requests old is.1.served.exits new is.1.served.served w
-  IsPortReplied old new result (inr is) w = ⊤
-
-module _ {S C : Type 0} (status : S → Status) (users : List ℕ → Option ℕ) (may_give : C → ℕ → C → Type 0) (port requests : ℕ) (output_old output_new : Stream) where
-  abbrev pub messages_listened : (old new : At S C) (result : Result Unit PortFault) → IsPortServedBehindCache status users may_give port requests output_old output_new old new result
-      → List MarkedMessage
-  messages_listened old new result (inl is) =
-      messages_at (cached_status status) users may_give port requests output_old output_new
-      (record { store = is.began; clock = old.clock }) (record { store = is.ended; clock = new.clock }) result is.served
-  messages_listened old new result (inr is) = []
-
-  abbrev pub AreListenedReplied : (old new : At S C) (result : Result Unit PortFault) → IsPortServedBehindCache status users may_give port requests output_old output_new old new result
-      → WorldLists → Type 0
-  AreListenedReplied old new result (inl is) w =
-      IsPortReplied (cached_status status) users may_give port requests output_old output_new
-      (record { store = is.began; clock = old.clock }) (record { store = is.ended; clock = new.clock }) result is.served w
-  AreListenedReplied old new result (inr is) w = ⊤

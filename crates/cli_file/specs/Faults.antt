@@ -2,33 +2,19 @@
 use Rattle.std.specs.Prelude.{◌≡◌, ℕ, Bool, List, true, false, ⊤}
 use Rattle.money.specs.declared.fault.Fault.{Fault}
 use Rattle.money.specs.declared.fault.Fault.TheVariants as store
-use Rattle.http_messages.specs.declared.serving.ServeFault.{ServeFault}
-use Rattle.http_messages.specs.declared.serving.ServeFault.TheVariants as serving
-use Rattle.counter_connections.specs.declared.fault.PortFault.{PortFault}
-use Rattle.counter_connections.specs.declared.fault.PortFault.TheVariants as port
-use Rattle.sql_create.specs.declared.open_fault.OpenFault.{OpenFault}
-use Rattle.sql_create.specs.declared.open_fault.OpenFault.TheVariants as making
 use Rattle.sql_adopt.specs.declared.adopt_fault.AdoptFault.{AdoptFault}
 use Rattle.sql_adopt.specs.declared.adopt_fault.AdoptFault.TheVariants as adopting
 use Rattle.list_records.specs.declared.fault.RecordFault.{RecordFault}
 use Rattle.list_records.specs.declared.fault.RecordFault.TheVariants as of_record
-use Rattle.list_opening.specs.declared.list_fault.ListFault.{ListFault}
-use Rattle.list_opening.specs.declared.list_fault.ListFault.TheVariants as of_list
 use Rattle.cli_file.specs.declared.fault.ActionFault.{ActionFault}
 use Rattle.cli_file.specs.declared.fault.ActionFault.TheVariants as fault
 
--- want of memory is told as that, and every other fault of a store as one of the file
+-- want of memory is reported as such, and every other fault of a store as one of the file
 abbrev pub fault_of_store : Fault → ActionFault
 fault_of_store store.Memory = fault.Memory
 fault_of_store store.Size = fault.NotRead
 fault_of_store store.Disk = fault.NotRead
 fault_of_store store.Stopped = fault.NotRead
-
-abbrev pub fault_of_making : OpenFault → ActionFault
-fault_of_making (making.Books why) = fault.Books why
-fault_of_making (making.Policy why) = fault.Policy why
-fault_of_making making.NotEmpty = fault.NotEmpty
-fault_of_making (making.Fault why) = fault_of_store why
 
 abbrev pub fault_of_adopting : AdoptFault → ActionFault
 fault_of_adopting adopting.NotABank = fault.NotABank
@@ -36,10 +22,6 @@ fault_of_adopting adopting.Version = fault.OtherVersion
 fault_of_adopting (adopting.Books why) = fault.Books why
 fault_of_adopting (adopting.Policy why) = fault.Policy why
 fault_of_adopting (adopting.Fault why) = fault_of_store why
-
-abbrev pub fault_of_lists : ListFault → ActionFault
-fault_of_lists of_list.Memory = fault.Memory
-fault_of_lists (of_list.BadRow file row) = fault.List (of_list.BadRow file row)
 
 -- the record of this number is bad in the list of this name
 abbrev pub IsBadBadge : List ℕ → ℕ → ActionFault → Type 0
@@ -49,17 +31,6 @@ IsBadBadge list number _ = ⊥
 abbrev pub IsOfBadges : List ℕ → RecordFault → ActionFault → Type 0
 IsOfBadges list of_record.Memory told = told ≡ fault.Memory
 IsOfBadges list (of_record.Bad row) told = IsBadBadge list row told
-
-abbrev pub fault_of_serving : ServeFault → ActionFault
-fault_of_serving serving.Cut = fault.Cut
-fault_of_serving serving.Memory = fault.Memory
-fault_of_serving serving.Read = fault.Broken
-fault_of_serving serving.Write = fault.Broken
-fault_of_serving serving.Report = fault.Broken
-
-abbrev pub fault_of_port : PortFault → ActionFault
-fault_of_port port.Broken = fault.Broken
-fault_of_port port.Memory = fault.Memory
 
 -- the file failed, or memory was refused
 abbrev pub IsOfFile : ActionFault → Type 0
@@ -72,10 +43,11 @@ abbrev pub IsUnopened : ActionFault → Type 0
 IsUnopened fault.NotABank = ⊤
 IsUnopened told = IsOfFile told
 
--- lists, books or a policy that were handed in are refused
+-- lists, books or a policy that were handed in are refused, or a year that is not closed
 abbrev pub is_refusal : ActionFault → Bool
 is_refusal (fault.List why) = true
 is_refusal (fault.Badge list row) = true
 is_refusal (fault.Books why) = true
 is_refusal (fault.Policy why) = true
+is_refusal (fault.NotClosed branch) = true
 is_refusal _ = false

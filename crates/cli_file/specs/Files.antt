@@ -1,4 +1,4 @@
--- A bank in a file: found, made, and closed. What is said of the file holds where its disk returned what was written.
+-- A bank in a file: found, and closed. What is said of the file holds where its disk returned what was written.
 use Rattle.std.specs.Prelude.{◌≡◌, ◌≢◌, false, IsTrue}
 use Rattle.sqlite_disk.specs.declared.Disk.{Ghosts}
 use Rattle.sqlite_disk.specs.declared.Files.{Files}
@@ -9,28 +9,23 @@ use Rattle.sqlite.specs.Closing.{IsCopied}
 use Rattle.sqlite.specs.Files as closing
 use Rattle.sqlite.specs.Files.{file_state, over_files}
 use Rattle.sqlite.specs.Held.{Held}
-use Rattle.sqlite.specs.State.{HasCleanDisk, KeepsCommit, Survives}
+use Rattle.sqlite.specs.State.{HasCleanDisk}
 use Rattle.sqlite.specs.Tree.{Trees}
 use Rattle.bank_books.specs.WorldLists.{WorldLists}
 use Rattle.bank_meaning.specs.Sums.{PassesChecks}
-use Rattle.sql_schema.specs.Held.{AreOfWorld, HoldsBank, HoldsSheets, HoldsSheetsIn}
+use Rattle.sql_schema.specs.Held.{AreOfWorld, HoldsBank, HoldsSheets}
 use Rattle.sql_schema.specs.Readable.{AreReadable}
 use Rattle.sql_schema.specs.Schema.{newest}
 use Rattle.sql_schema.specs.declared.edition.Edition.{Edition}
 use Rattle.sql_schema.specs.Steps.{LeavesNone}
 use Rattle.book_kept.specs.Sheets.{Sheets, sheets_of}
-use Rattle.sql_create.specs.Blank.{no_schema}
-use Rattle.sql_create.specs.Made.{IsBank, IsBeforehand, IsKeptAs, IsRefusal}
-use Rattle.sql_create.specs.declared.open_fault.OpenFault.{OpenFault}
 use Rattle.sql_adopt.specs.Adopted.{Adopts, HoldsBankIn, IsBankFile, IsBankFileIn, IsLeft, IsOfAnother}
-use Rattle.sql_adopt.specs.Older.{IsNewestFile, IsOlderFile}
-use Rattle.sql_adopt.specs.Refused.{HoldsSoundBank, HoldsSoundBankIn, IsNamedBy, IsOfOther, IsOfStore, IsRefused, IsRefusedIn}
+use Rattle.sql_adopt.specs.Refused.{HoldsSoundBank, IsNamedBy, IsOfOther, IsOfStore, IsRefused}
 use Rattle.sql_adopt.specs.declared.adopt_fault.AdoptFault.{AdoptFault}
 use Rattle.store_rows.specs.Status.{Status}
 use Rattle.store_sql.specs.Bank.{MayLeave, sql_status}
 use Rattle.store_sql.specs.declared.sql_store.SqlStore.{SqlStore}
-use Rattle.sql_upgrade.specs.Carried.{Carries, IsCarriedOver}
-use Rattle.cli_file.specs.Faults.{IsOfFile, fault_of_adopting, fault_of_making}
+use Rattle.cli_file.specs.Faults.{IsOfFile, fault_of_adopting}
 use Rattle.cli_file.specs.Opened.{HoldTheBank, IsBankImage, IsBankImageIn, IsOpenedFrom}
 use Rattle.cli_file.specs.declared.fault.ActionFault.{ActionFault}
 
@@ -39,7 +34,7 @@ abbrev pub BankStore : (D : Type 0) → Ghosts D → Type 0
 BankStore D g = SqlStore (FileStore D g) over_files
 
 module _ {D : Type 0} {g : Ghosts D} where
-  -- what the store of a bank in a file stands for
+  -- what the store of a bank in a file represents
   abbrev pub file_status : BankStore D g → Status
   file_status store = sql_status (file_state store.conn) store.is_stopped store.faults store.failures
 
@@ -56,14 +51,14 @@ module _ {D : Type 0} {g : Ghosts D} where
     pub durable : (trees : Trees) → (file_state conn).may_leave trees → AreOfWorld w trees
     pub alone : (left : WorldLists) → MayLeave (file_state conn) left → left ≡ w
 
-  -- The file holds the World still, in the tables of this edition. What is reported of it is its first fault, and where it passes both checks,
-  -- that the file or memory failed.
+  -- The file still holds the World, in the tables of this schema version. Its first fault is reported, or, where it
+  -- passes both checks, that the file or memory failed.
   pub record IsBankRefused (e : Edition) (w : WorldLists) (why : AdoptFault) (conn : Held (FileStore D g)) : Type 0 where
     pub holds : IsTrue (file_state conn).is_open → HoldsBankIn e (file_state conn) w
     pub named : AreReadable (sheets_of w) → IsNamedBy (sheets_of w) why
     pub sound : AreReadable (sheets_of w) → PassesChecks w → IsOfStore why
 
-  -- The file holds the World still, in the tables of this edition, and is reported as of another version, unless the file or memory failed.
+  -- The file still holds the World, in this schema version, and is reported as of another, unless it or memory failed.
   pub record IsBankOfOther (e : Edition) (w : WorldLists) (why : AdoptFault) (conn : Held (FileStore D g)) : Type 0 where
     pub holds : IsTrue (file_state conn).is_open → HoldsBankIn e (file_state conn) w
     pub other : IsOfOther why
@@ -76,12 +71,12 @@ module _ {D : Type 0} {g : Ghosts D} where
     pub other : HasCleanDisk (file_state store.conn) → IsOfAnother newest (file_state opened) → ⊥
     pub survives : LeavesNone (file_state opened) (file_state store.conn)
     pub begins : IsNewStore store
-    -- So over every image of a bank, the bank of its World was found; and over none of an earlier edition was one found.
+    -- So over every image of a bank, the bank of its World was found; over none of an earlier schema version was one.
     pub bank : (image : Image) (w : WorldLists) → IsBankImage image w → IsOpenedFrom image opened → HasCleanDisk (file_state store.conn) → IsBankKept w store.conn
     pub older : (e : Edition) (image : Image) (w : WorldLists) → e ≢ newest → IsBankImageIn e image w → IsOpenedFrom image opened → HasCleanDisk (file_state store.conn) → ⊥
 
-  -- Where they were those of a bank, this is the first fault of it, and nothing was changed. One of an earlier edition is told as of another
-  -- version. A sound bank is refused for a fault of the file, or for want of memory.
+  -- Where the tables were those of a bank, this is its first fault, and nothing was changed. One of an earlier schema
+  -- version is reported as of another version. A sound bank is refused for a fault of the file or want of memory.
   pub record IsNotFound (opened : Held (FileStore D g)) (told : ActionFault) (left : Held (FileStore D g)) : Type 0 where
     pub why : AdoptFault
     pub told_so : told ≡ fault_of_adopting why
@@ -92,60 +87,10 @@ module _ {D : Type 0} {g : Ghosts D} where
     pub unchanged : HasCleanDisk (file_state left) → (e : Edition) → IsBankFileIn e (file_state opened) → IsLeft (file_state opened) (file_state left)
     pub idle : left.in_transaction ≡ false
     pub survives : LeavesNone (file_state opened) (file_state left)
-    -- So over every image of a bank, its World is left as it was, and its first fault is reported; and one of an earlier edition is left as it
-    -- was, and reported as of another version, unless the file or memory failed.
+    -- So over every image of a bank, its World is left as it was, and its first fault is reported; one of an earlier
+    -- schema version is left as it was too, and reported as of another, unless the file or memory failed.
     pub bank : (image : Image) (w : WorldLists) → IsBankImage image w → IsOpenedFrom image opened → HasCleanDisk (file_state left) → IsBankRefused newest w why left
     pub older : (e : Edition) (image : Image) (w : WorldLists) → e ≢ newest → IsBankImageIn e image w → IsOpenedFrom image opened → HasCleanDisk (file_state left) → IsBankOfOther e w why left
-
-  -- Where the tables of the file were those of a bank in an edition before the newest, as its row says, they held a World whose books hold
-  -- and whose policy is sound and separated, and those of the newest edition hold it now. A crash leaves the one or the other, whole.
-  pub record IsCarried (opened : Held (FileStore D g)) (store : BankStore D g) : Type 0 where
-    pub carries : HasCleanDisk (file_state store.conn) → (e : Edition) → IsOlderFile e (file_state opened) → Carries e (file_state opened) (file_state store.conn)
-    pub other : HasCleanDisk (file_state store.conn) → IsNewestFile (file_state opened) → ⊥
-    pub crash : Survives (file_state opened) (file_state store.conn) (λ trees. HasCleanDisk (file_state store.conn) → (e : Edition) → IsOlderFile e (file_state opened) → IsCarriedOver e (file_state opened) trees)
-    pub is_open : HasCleanDisk (file_state store.conn) → IsTrue (file_state store.conn).is_open
-    pub begins : IsNewStore store
-    -- So over every image of a bank in an earlier edition, the tables of the newest hold its World.
-    pub bank : (e : Edition) (image : Image) (w : WorldLists) → e ≢ newest → IsBankImageIn e image w → IsOpenedFrom image opened → HasCleanDisk (file_state store.conn) → IsBankKept w store.conn
-
-  -- Where they were those of a bank in an edition before the newest, this is the first fault of it, and one of the newest edition is told
-  -- as of another version. What the connection shows is as it was, and only for a fault of the file, or for want of memory, may a crash find
-  -- the bank carried over all the same. A sound bank is refused for such a fault alone.
-  pub record IsNotCarried (opened : Held (FileStore D g)) (told : ActionFault) (left : Held (FileStore D g)) : Type 0 where
-    pub why : AdoptFault
-    pub told_so : told ≡ fault_of_adopting why
-    pub refused : HasCleanDisk (file_state left) → (e : Edition) → IsOlderFile e (file_state opened) → IsRefusedIn e (file_state opened).now.trees why
-    pub sound : HasCleanDisk (file_state left) → (e : Edition) → IsOlderFile e (file_state opened) → HoldsSoundBankIn e (file_state opened).now → IsOfStore why
-    pub named : HasCleanDisk (file_state left) → (e : Edition) → IsOlderFile e (file_state opened) → (s : Sheets) → HoldsSheetsIn e (file_state opened).now.trees s → AreReadable s → IsNamedBy s why
-    pub other : HasCleanDisk (file_state left) → IsNewestFile (file_state opened) → IsOfOther why
-    pub unchanged : HasCleanDisk (file_state left) → (e : Edition) → IsBankFileIn e (file_state opened) → IsLeft (file_state opened) (file_state left)
-    pub untouched : (IsOfStore why → ⊥) → LeavesNone (file_state opened) (file_state left)
-    pub idle : left.in_transaction ≡ false
-    pub crash : Survives (file_state opened) (file_state left) (λ trees. HasCleanDisk (file_state left) → (e : Edition) → IsOlderFile e (file_state opened) → IsCarriedOver e (file_state opened) trees)
-    -- So over every image of a bank in an earlier edition, its World is left as it was, and its first fault is reported; and one of the newest
-    -- is left as it was, and reported as of another version, unless the file or memory failed.
-    pub bank : (e : Edition) (image : Image) (w : WorldLists) → e ≢ newest → IsBankImageIn e image w → IsOpenedFrom image opened → HasCleanDisk (file_state left) → IsBankRefused e w why left
-    pub present : (image : Image) (w : WorldLists) → IsBankImage image w → IsOpenedFrom image opened → HasCleanDisk (file_state left) → IsBankOfOther newest w why left
-
-  -- The file held no table, and holds the World, whose books hold and whose policy is sound and separated.
-  pub record IsMade (opened : Held (FileStore D g)) (w : WorldLists) (store : BankStore D g) : Type 0 where
-    pub bank : IsBank w
-    pub was_empty : (file_state opened).now.schema ≡ no_schema
-    pub kept : HasCleanDisk (file_state store.conn) → IsKeptAs (file_state store.conn) w
-    pub is_open : HasCleanDisk (file_state store.conn) → IsTrue (file_state store.conn).is_open
-    pub crash : Survives (file_state opened) (file_state store.conn) (AreOfWorld w)
-    pub begins : IsNewStore store
-
-  -- It is the first fault of the books, else of the policy, else the file was not empty; a fault of the file, and want of memory, may
-  -- come at any point. Nothing was committed.
-  pub record IsNotMade (opened : Held (FileStore D g)) (w : WorldLists) (told : ActionFault) (left : Held (FileStore D g)) : Type 0 where
-    pub why : OpenFault
-    pub told_so : told ≡ fault_of_making why
-    pub refused : IsRefusal (file_state opened).now.schema w why
-    pub untouched : IsBeforehand why → left ≡ opened
-    pub unmade : HasCleanDisk (file_state left) → KeepsCommit (file_state opened) (file_state left)
-    pub idle : left.in_transaction ≡ false
-    pub crash : Survives (file_state opened) (file_state left) (AreOfWorld w)
 
   -- where it could not be closed, nothing is lost that stood in the file and its log
   pub record IsNotClosed (conn : Held (FileStore D g)) (told : ActionFault) (left : FileStore D g) : Type 0 where
@@ -155,5 +100,5 @@ module _ {D : Type 0} {g : Ghosts D} where
 -- The last commit is in the file itself, as it reads with its log and without, and as a crash leaves it.
 pub record IsClosed {D : Type 0} (g : Ghosts D) (store : BankStore D g) (files : Files D) : Type 0 where
   pub copied : AreClean g files.log files.db → IsCopied store.conn files
-  -- So the file alone is the bank of the World for which the store stood, unless a fault of the disk had stopped it.
+  -- So the file alone is the bank of the World that the store represented, unless a fault of the disk had stopped it.
   pub bank : store.is_stopped ≡ false → (w : WorldLists) → (file_status store).holds w → HoldTheBank g files w

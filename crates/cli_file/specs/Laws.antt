@@ -1,5 +1,5 @@
 -- What an image that holds the tables of a bank opens as.
-use Rattle.std.specs.Prelude.{◌≡◌, ◌⊎◌}
+use Rattle.std.specs.Prelude.{◌≡◌, ◌⊎◌, ℕ}
 use Rattle.sqlite_disk.specs.declared.Disk.{Ghosts}
 use Rattle.sqlite_disk.specs.declared.Files.{Files}
 use Rattle.sqlite_wal.specs.Files.{outcomes}
@@ -13,6 +13,7 @@ use Rattle.bank_books.specs.WorldLists.{WorldLists}
 use Rattle.sql_schema.specs.Held.{HoldsBank}
 use Rattle.sql_adopt.specs.Adopted.{IsBankFile}
 use Rattle.cli_file.specs.Opened.{HoldTheBank, IsBankImage, IsOpenedFrom}
+use Rattle.cli_file.specs.Sums.{EachEndsInSum, NoneCollides, SaysItsSums}
 
 -- the connection is one to the bank of that World
 pub record IsBankOf {D : Type 0} {g : Ghosts D} (w : WorldLists) (conn : Held (FileStore D g)) : Type 0 where
@@ -27,3 +28,13 @@ OpensAsItsBank conn = (image : Image) (w : WorldLists) → IsBankImage image w �
 abbrev pub OpensAgain : {D : Type 0} {g : Ghosts D} → Held (FileStore D g) → Type 0
 OpensAgain {D} {g} conn = (files : Files D) (w : WorldLists) → HoldTheBank g files w → AreClean g files.log files.db
     → (image : Image) → (image ≡ image_of g files) ⊎ outcomes g files.log files.db image → IsOpenedFrom image conn → HasCleanDisk (file_state conn) → IsBankOf w conn
+
+-- A file that says that its pages end in sums opens only where each page does.
+abbrev pub OpensWithItsSums : {D : Type 0} {g : Ghosts D} → Held (FileStore D g) → Type 0
+OpensWithItsSums conn = (len : ℕ) (image : Image) → SaysItsSums len image → IsOpenedFrom image conn → HasCleanDisk (file_state conn) → EachEndsInSum len image
+
+-- So a bank whose file was damaged opens as the bank that it was, or not at all, where both say that their pages end in sums and no page was
+-- changed to another that ends in its own sum.
+abbrev pub OpensUndamaged : {D : Type 0} {g : Ghosts D} → Held (FileStore D g) → Type 0
+OpensUndamaged conn = (len : ℕ) (old new : Image) (w : WorldLists) → IsBankImage old w → SaysItsSums len old → SaysItsSums len new → NoneCollides len old new
+    → IsOpenedFrom new conn → HasCleanDisk (file_state conn) → IsBankOf w conn

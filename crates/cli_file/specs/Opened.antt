@@ -22,7 +22,7 @@ pub record IsOpenedFrom {D : Type 0} {g : Ghosts D} (image : Image) (conn : Held
   pub fresh : IsNew conn
   pub found : HasCleanDisk (file_state conn) → FindsIn image (file_state conn)
 
--- The file and its log hold the tables of a bank in this edition, with the rows of this World.
+-- The file and its log hold the tables of a bank in this schema version, with the rows of this World.
 pub record IsBankImageIn (e : Edition) (image : Image) (w : WorldLists) : Type 0 where
   pub trees : Trees
   pub held : ∥ HoldsDatabase image trees ∥₁

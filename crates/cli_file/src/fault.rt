@@ -1,20 +1,19 @@
+//! The faults of actions over a file, and the line that reports each.
+
 ghost use Rattle.std.specs.Prelude.{◌≡◌};
-ghost use Rattle.cli_file.specs.Faults.{IsOfBadges, IsOfFile, fault_of_adopting, fault_of_lists, fault_of_making, fault_of_port, fault_of_serving, fault_of_store, is_refusal};
+ghost use Rattle.cli_file.specs.Faults.{IsOfBadges, IsOfFile, fault_of_adopting, fault_of_store, is_refusal};
 
 use book_check::BooksFault;
-use counter_connections::PortFault;
-use http_messages::ServeFault;
 use list_opening::{ListFault, RecordFault};
 use money::Fault;
 use policy_check::PolicyFault;
 use sql_adopt::AdoptFault;
-use sql_create::OpenFault;
 use sqlite::{Error, ErrorCode};
 use std::io;
 use std::io::ErrorKind;
 use thiserror::Error;
 
-/// Why an action is not carried out, or not to its end. Its text is the line that tells it.
+/// Why an action is not carried out, or not to its end. Its text is the line that reports it.
 #[derive(Clone, Copy, Debug, PartialEq, Eq, Drop, Error)]
 pub enum ActionFault<'a> {
     /// A record of an opening list is bad.
@@ -46,10 +45,13 @@ pub enum ActionFault<'a> {
     /// A bank is to be made in a file that holds something already.
     #[error("file: not empty")]
     NotEmpty,
+    /// A bank can't begin its next year: this is the least branch that is not closed.
+    #[error("year: not closed, branch {0}")]
+    NotClosed(u32),
     /// The input ended inside a message.
     #[error("stream: cut")]
     Cut,
-    /// A read or a write of a stream failed; or a port, or a connection, could not be had.
+    /// A read or a write of a stream failed; or a port could not be bound, or a connection not accepted.
     #[error("stream: broken")]
     Broken,
     /// Memory was refused.
@@ -58,8 +60,8 @@ pub enum ActionFault<'a> {
 }
 
 impl<'a> ActionFault<'a> {
-    /// Whether what was handed in is refused: books, a policy or lists. That is told on standard output, with status 1.
-    /// Every other fault is told on standard error, with status 3.
+    /// Whether what was handed in is refused: books, a policy, lists or a year. A refusal is reported on standard
+    /// output, with status 1, and every other fault on standard error, with status 3.
     pub fn is_refusal(&self) -> bool
         ensures { result ≡ is_refusal self.now }
     {
@@ -69,6 +71,7 @@ impl<'a> ActionFault<'a> {
                 | ActionFault::Badge { .. }
                 | ActionFault::Books(_)
                 | ActionFault::Policy(_)
+                | ActionFault::NotClosed(_)
         )
     }
 
@@ -79,18 +82,6 @@ impl<'a> ActionFault<'a> {
         match fault {
             Fault::Memory => ActionFault::Memory,
             Fault::Size | Fault::Disk | Fault::Stopped => ActionFault::NotRead,
-        }
-    }
-
-    /// Why no bank is made in a file.
-    pub fn of_making(fault: OpenFault) -> ActionFault<'a>
-        ensures { result ≡ fault_of_making fault }
-    {
-        match fault {
-            OpenFault::Books(fault) => ActionFault::Books(fault),
-            OpenFault::Policy(fault) => ActionFault::Policy(fault),
-            OpenFault::NotEmpty => ActionFault::NotEmpty,
-            OpenFault::Fault(fault) => ActionFault::of_store(fault),
         }
     }
 
@@ -118,23 +109,13 @@ impl<'a> ActionFault<'a> {
     }
 
     /// Why a file can't be read, or looked at.
-    pub(crate) fn of_io(error: &io::Error) -> ActionFault<'a>
+    pub fn of_io(error: &io::Error) -> ActionFault<'a>
         ensures { IsOfFile result }
     {
         if error.kind() == ErrorKind::OutOfMemory {
             ActionFault::Memory
         } else {
             ActionFault::NotRead
-        }
-    }
-
-    /// Why opening lists state no World.
-    pub fn of_lists(fault: ListFault) -> ActionFault<'a>
-        ensures { result ≡ fault_of_lists fault }
-    {
-        match fault {
-            ListFault::Memory => ActionFault::Memory,
-            bad => ActionFault::List(bad),
         }
     }
 
@@ -145,27 +126,6 @@ impl<'a> ActionFault<'a> {
         match fault {
             RecordFault::Memory => ActionFault::Memory,
             RecordFault::Bad(row) => ActionFault::Badge { list, row },
-        }
-    }
-
-    /// Why a stream was not served to its end.
-    pub fn of_serving(fault: ServeFault) -> ActionFault<'a>
-        ensures { result ≡ fault_of_serving fault }
-    {
-        match fault {
-            ServeFault::Cut => ActionFault::Cut,
-            ServeFault::Memory => ActionFault::Memory,
-            ServeFault::Read | ServeFault::Write | ServeFault::Report => ActionFault::Broken,
-        }
-    }
-
-    /// Why a port was not served to its end.
-    pub fn of_port(fault: PortFault) -> ActionFault<'a>
-        ensures { result ≡ fault_of_port fault }
-    {
-        match fault {
-            PortFault::Broken => ActionFault::Broken,
-            PortFault::Memory => ActionFault::Memory,
         }
     }
 }

@@ -1,7 +1,9 @@
+//! Which user sends a message, by the badge that it bears.
+
 use counter_api::Gate;
 use list_opening::Badges;
 
-/// The gate that knows the users of a list of badges.
+/// Knows the users of a list of badges.
 #[derive(Clone, Copy)]
 pub struct BadgeGate<'a>(pub &'a Badges);
 

@@ -1,6 +1,6 @@
 //! What holds of every connection to a file that was opened. The functions do nothing; their contracts are the laws.
 
-ghost use Rattle.cli_file.specs.Laws.{OpensAgain, OpensAsItsBank};
+ghost use Rattle.cli_file.specs.Laws.{OpensAgain, OpensAsItsBank, OpensUndamaged, OpensWithItsSums};
 
 use crate::file::FileConnection;
 use sqlite_disk::Disk;
@@ -14,4 +14,15 @@ pub fn image_opens_as_its_bank<D: Disk + Drop>(_conn: &FileConnection<D>)
 /// A bank that was closed opens again as it was: the two files that were handed back, and whatever a crash leaves of them.
 pub fn closed_bank_opens_again<D: Disk + Drop>(_conn: &FileConnection<D>)
     ensures { OpensAgain _conn.now }
+{}
+
+/// A file that says that its pages end in sums is opened only where each page does, but for pages that its log has.
+pub fn opens_with_its_sums<D: Disk + Drop>(_conn: &FileConnection<D>)
+    ensures { OpensWithItsSums _conn.now }
+{}
+
+/// A bank in a file with sums, damaged and opened, is the bank that it was, or a page was changed to another that ends in its own
+/// sum.
+pub fn damaged_bank_is_the_same<D: Disk + Drop>(_conn: &FileConnection<D>)
+    ensures { OpensUndamaged _conn.now }
 {}

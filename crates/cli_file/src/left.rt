@@ -1,3 +1,5 @@
+//! What an action over a file hands back of it.
+
 use crate::file::FileConnection;
 use sqlite::{FileStore, Files};
 use sqlite_disk::Disk;

@@ -1,8 +1,13 @@
+//! How the file of a bank is opened at a path: one that is there, or one to be made.
+
 ghost use Rattle.std.specs.Prelude.{◌≡◌, false, IfErr, IfOk, IsErrAnd};
+ghost use Rattle.sqlite_wal.specs.Files.{image_at};
 ghost use Rattle.cli_file.specs.Faults.{IsOfFile};
 ghost use Rattle.cli_file.specs.Opened.{IsOpenedFrom};
+ghost use Rattle.cli_file.specs.Sums.{HasSumsAsAsked};
 ghost use Rattle.cli_file.specs.Unopened.{IsUnopenedFor};
 
+use crate::beginning::begin_file;
 use crate::fault::ActionFault;
 use crate::file::FileConnection;
 use crate::left::{FileLeft, PathLeft};
@@ -10,13 +15,14 @@ use sqlite::{Connection, Error, ErrorCode, FileFrom, Start};
 use sqlite_disk::Disk;
 use std::fs;
 
-/// How a file is opened on a disk of this kind. The image stands for what the file and its log held before; no clause ties
-/// it to a path.
+/// How a file is opened on a disk of this kind. The image represents what the file and its log held before; no clause
+/// ties it to a path.
 pub trait Opener<D: Disk + Drop>: Drop {
     ghost use Rattle.std.specs.Prelude.{◌≡◌, false, IfErr, IfOk};
     ghost use Rattle.sqlite_wal.specs.Recovery.{Image};
     ghost use Rattle.cli_file.specs.Faults.{IsOfFile};
     ghost use Rattle.cli_file.specs.Opened.{IsOpenedFrom};
+    ghost use Rattle.cli_file.specs.Sums.{HasSumsAsAsked};
 
     ghost image: { Image };
 
@@ -24,6 +30,19 @@ pub trait Opener<D: Disk + Drop>: Drop {
     fn open(self, rt: &HostRuntime, path: &str) -> Result<FileConnection<D>, ActionFault<'static>>
         ensures opened { IfOk result (IsOpenedFrom image) }
         ensures idle { IfOk result (λ conn. conn.in_transaction ≡ false) }
+        ensures refused { IfErr result IsOfFile };
+
+    /// Opens a file in which a bank is to be made, or makes it. One that holds nothing begins as an empty database in pages of
+    /// 1,024 bytes, which end in sums where these are asked for. What it holds otherwise is opened as `open` does.
+    fn make(
+        self,
+        rt: &HostRuntime,
+        path: &str,
+        sums: bool,
+    ) -> Result<FileConnection<D>, ActionFault<'static>>
+        ensures opened { IfOk result (IsOpenedFrom image) }
+        ensures idle { IfOk result (λ conn. conn.in_transaction ≡ false) }
+        ensures sums { IfOk result (HasSumsAsAsked sums image) }
         ensures refused { IfErr result IsOfFile };
 }
 
@@ -44,12 +63,37 @@ impl<S: Start> Opener<FileFrom<S>> for Machine<S> {
         rt: &HostRuntime,
         path: &str,
     ) -> Result<FileConnection<FileFrom<S>>, ActionFault<'static>> {
-        let Machine { start } = self;
-        match Connection::open_from(rt, path, false, start) {
-            Ok(conn) => Ok(conn),
-            Err((Error::SqliteFailure(ErrorCode::OutOfMemory), _)) => Err(ActionFault::Memory),
-            Err(_) => Err(ActionFault::NotRead),
-        }
+        opened(rt, path, false, self)
+    }
+
+    fn make(
+        self,
+        rt: &HostRuntime,
+        path: &str,
+        sums: bool,
+    ) -> Result<FileConnection<FileFrom<S>>, ActionFault<'static>> {
+        begin_file(rt, path, sums)?;
+        opened(rt, path, sums, self)
+    }
+}
+
+/// Opens a file of the machine. One that holds nothing gets pages that end in sums where these are asked for.
+fn opened<S: Start>(
+    rt: &HostRuntime,
+    path: &str,
+    sums: bool,
+    machine: Machine<S>,
+) -> Result<FileConnection<FileFrom<S>>, ActionFault<'static>>
+    ensures opened { IfOk result (IsOpenedFrom (image_at S.Start)) }
+    ensures idle { IfOk result (λ conn. conn.in_transaction ≡ false) }
+    ensures sums { IfOk result (HasSumsAsAsked sums (image_at S.Start)) }
+    ensures refused { IfErr result IsOfFile }
+{
+    let Machine { start } = machine;
+    match Connection::open_from(rt, path, sums, start) {
+        Ok(conn) => Ok(conn),
+        Err((Error::SqliteFailure(ErrorCode::OutOfMemory), _)) => Err(ActionFault::Memory),
+        Err(_) => Err(ActionFault::NotRead),
     }
 }
 

@@ -1,3 +1,5 @@
+//! The steps of a long action, shown at a terminal.
+
 use exit_lines::tell;
 use money::Tallied;
 use std::io::Write;

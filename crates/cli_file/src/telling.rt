@@ -1,3 +1,5 @@
+//! How the end of an action is reported: its line, the stream that gets it, and the exit status.
+
 ghost use Rattle.exit_lines.specs.Streams.{stream_at};
 ghost use Rattle.cli_file.specs.Telling.{IsEnded, IsFaultTold, IsRefusalTold, IsSaid};
 
@@ -8,7 +10,7 @@ use money::Tallied;
 use std::fmt::Write as _;
 use std::io::Write;
 
-/// The status of a program that refuses books, a policy or lists that were handed in.
+/// The status of a program that refuses books, a policy, lists or a year that were handed in.
 pub const REFUSED: u8 = 1;
 
 /// Room for the line of any fault, in bytes: below 100, and the path of a list, which the system keeps below 4,096.

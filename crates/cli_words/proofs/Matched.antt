@@ -67,16 +67,16 @@ pub subcommand_is : (m : ArgMatches) (name : Text) (rows : List Row) → Some na
     → Some rows ≡ option_map (λ p. p.1) (subcommand_rows_of m) → subcommand_rows_of m ≡ Some (name, rows)
 subcommand_is m name rows n r = two_is (subcommand_rows_of m) name rows (n ∙ names_go (out-ArgMatches m).subcommand) r
 
--- and no argument of it has a rule on another, so that the faults of its words are known
+-- and no argument of it has a rule on another, so that the faults of a command line are known
 pub bank_is_free : is_simple_and_free bank_app ≡ true
 unfolding clap_on_literals
 bank_is_free = refl
 
--- so the command that was met is the one that the words name
+-- so the command that was met is the one that the arguments name
 pub met_by : (app : App) (words : List Text) (m : ArgMatches) → app ≡ bank_app → HasMatchesOf app words m → subcommand_rows_of m ≡ subcommand_of bank_app words
 met_by app words m is matches = (matches (ap is_simple is ∙ bank_is_simple)).1 ∙ ap (λ a. subcommand_of a words) is
 
--- and the faults of the parse are those of the words
+-- and the faults of the parse are those of the arguments
 pub fails_by : {T : Type 0} (app : App) (words : List Text) (result : Result T Error) → app ≡ bank_app
     → (is_simple_and_free app ≡ true → FailsBy (fault_of app words) result) → FailsBy (fault_of bank_app words) result
 fails_by app words result is kinds = subst (λ a. FailsBy (fault_of a words) result) is (kinds (ap is_simple_and_free is ∙ bank_is_free))

@@ -1,4 +1,4 @@
--- What is told of words that name no action, and the status.
+-- What is printed where arguments name no action, and the status.
 use Rattle.std.specs.Prelude.{◌≡◌, ◌≢◌, ◌⊎◌, ℕ, List, codes}
 use Rattle.clap.specs.Words.{kind_of}
 use Rattle.clap.specs.declared.error.Error.{Error}
@@ -19,7 +19,7 @@ abbrev pub IsRefused : Stream → Stream → ℕ → Type 0
 IsRefused errors_old errors_new status =
     (text : List ℕ) × IsWritten errors_old errors_new text × (status ≡ 2)
 
--- Why there is no action was told. Help goes to standard output, all else to standard error.
+-- Why there is no action was printed. Help goes to standard output, all else to standard error.
 abbrev pub IsExplained : Error → Stream → Stream → Stream → Stream → ℕ → Type 0
 IsExplained error output_old output_new errors_old errors_new status =
     ((output_new ≡ output_old) × IsFailed Memory errors_old errors_new status)
@@ -27,7 +27,7 @@ IsExplained error output_old output_new errors_old errors_new status =
     ⊎ (¬ (IsHelp error) × (kind_of error ≢ kind.OutOfMemory) × (output_new ≡ output_old)
     × IsRefused errors_old errors_new status))
 
--- why the words could not be read was told: they are no text, or memory was refused for them
+-- why the arguments could not be read was printed: they are no text, or memory was refused for them
 abbrev pub IsUnread : ErrorKind → Stream → Stream → ℕ → Type 0
 IsUnread error_kind errors_old errors_new status =
     ((error_kind ≡ io_kind.InvalidData) × (status ≡ 2)

@@ -1,13 +1,15 @@
+//! The commands of the program, each with its arguments and their help, as `clap` reads them.
+
 ghost use Rattle.std.specs.Prelude.{◌≡◌, IfOk, codes, false};
 ghost use Rattle.bank_terms.specs.Limits.{max_moment};
 ghost use Rattle.clap.specs.Words.{app_of, rule_of};
 ghost use Rattle.clap.specs.declared.builder.Command.TheViews.{out-Command as fields_of};
-ghost use Rattle.cli_words.specs.Commands.{bank_app, check_app, init_app, max_port, max_requests, number_rule, option_rule, run_app, sample_app, serve_app, top_app, upgrade_app, word_rule};
+ghost use Rattle.cli_words.specs.Commands.{bank_app, check_app, counter_app, flag_rule, forward_app, init_app, max_port, max_requests, number_rule, optional_rule, option_rule, port_rule, run_app, sample_app, serve_app, top_app, upgrade_app, with_places, word_rule};
 
 use crate::words::{MAX_PORT, MAX_REQUESTS};
 use bank_terms::MAX_MOMENT;
 use clap::builder::ValueParser;
-use clap::{Arg, Command};
+use clap::{Arg, ArgAction, Command};
 use std::alloc::{AllocError, Global};
 
 /// A required option whose value is a number in these bounds.
@@ -33,7 +35,7 @@ fn option<'a>(alloc: Global, id: &'a str, shown: &'a str) -> Arg<'a>
         .value_name(shown)
 }
 
-/// A required word, which is taken as given.
+/// A required positional argument, which is taken as given.
 fn word<'a>(alloc: Global, id: &'a str, shown: &'a str) -> Arg<'a>
     ensures rule { rule_of result ≡ word_rule id.entry.now }
     ensures local { result.global ≡ false }
@@ -59,6 +61,16 @@ fn bank_file<'a>(alloc: Global) -> Arg<'a>
     word(alloc, "file", "FILE").help("The file of a bank, as init made it")
 }
 
+/// Whether the pages of a new file end in sums.
+fn sums<'a>(alloc: Global) -> Arg<'a>
+    ensures rule { rule_of result ≡ flag_rule (codes "sums") }
+    ensures local { result.global ≡ false }
+{
+    flag(alloc, "sums").help(
+        "Ends each page of the new file in a sum of its bytes, by which damage shows",
+    )
+}
+
 /// The list of badges.
 fn badges<'a>(alloc: Global) -> Arg<'a>
     ensures rule { rule_of result ≡ option_rule (codes "badges") }
@@ -75,6 +87,59 @@ fn port<'a>(alloc: Global) -> Arg<'a>
     ensures local { result.global ≡ false }
 {
     number(alloc, "port", "P", 1, MAX_PORT).help("The port of 127.0.0.1, from 1 to 65535")
+}
+
+/// The port, where it is one place of several.
+fn port_if_given<'a>(alloc: Global) -> Arg<'a>
+    ensures rule { rule_of result ≡ port_rule }
+    ensures local { result.global ≡ false }
+{
+    Arg::new(alloc, "port")
+        .long("port")
+        .value_name("P")
+        .value_parser(ValueParser::unsigned(1, MAX_PORT))
+        .help("Waits for connections at this port of 127.0.0.1, from 1 to 65535")
+}
+
+/// The path of a Unix socket, where it is one place of several.
+fn socket_if_given<'a>(alloc: Global) -> Arg<'a>
+    ensures rule { rule_of result ≡ optional_rule (codes "socket") }
+    ensures local { result.global ≡ false }
+{
+    Arg::new(alloc, "socket")
+        .long("socket")
+        .value_name("PATH")
+        .help(
+            "Waits for connections at a Unix socket that is made at PATH, and taken away at the end",
+        )
+}
+
+/// An option with no value, which is set or not.
+fn flag<'a>(alloc: Global, id: &'a str) -> Arg<'a>
+    ensures rule { rule_of result ≡ flag_rule id.entry.now }
+    ensures local { result.global ≡ false }
+{
+    Arg::new(alloc, id).long(id).action(ArgAction::SetTrue)
+}
+
+/// Whether connections are waited for at a socket that is handed over.
+fn inherited<'a>(alloc: Global) -> Arg<'a>
+    ensures rule { rule_of result ≡ flag_rule (codes "inherited") }
+    ensures local { result.global ≡ false }
+{
+    flag(alloc, "inherited").help(
+        "Waits for connections at the listening socket that is handed over as descriptor 3 (LISTEN_FDS, LISTEN_PID)",
+    )
+}
+
+/// Whether an end of standard input ends the program.
+fn until_input_ends<'a>(alloc: Global) -> Arg<'a>
+    ensures rule { rule_of result ≡ flag_rule (codes "until-input-ends") }
+    ensures local { result.global ≡ false }
+{
+    flag(alloc, "until-input-ends").help(
+        "Ends once the other side of standard input, a pipe, is closed",
+    )
 }
 
 /// How many messages are counted before the program ends.
@@ -111,7 +176,8 @@ fn init_command<'a>(alloc: Global) -> Result<Command<'a>, AllocError>
             "Makes the bank of FILE from the opening lists in DIR, where its books hold and its policy is sound",
         )
         .arg(file)?
-        .arg(dir)
+        .arg(dir)?
+        .arg(sums(alloc))
 }
 
 fn check_command<'a>(alloc: Global) -> Result<Command<'a>, AllocError>
@@ -135,6 +201,22 @@ fn upgrade_command<'a>(alloc: Global) -> Result<Command<'a>, AllocError>
             "Carries the bank of FILE over to this version, where its books hold and its policy is sound",
         )
         .arg(file)
+}
+
+fn forward_command<'a>(alloc: Global) -> Result<Command<'a>, AllocError>
+    ensures app { IfOk result (λ c. app_of c ≡ forward_app) }
+    ensures local { IfOk result (λ c. (fields_of c).has_globals ≡ false) }
+{
+    let new = word(alloc, "new", "NEW").help(
+        "The file to make, which is not there or holds no table",
+    );
+    Command::new(alloc, "forward")
+        .about(
+            "Makes the bank of NEW, which begins the next year of the bank of FILE, where every day is closed",
+        )
+        .arg(bank_file(alloc))?
+        .arg(new)?
+        .arg(sums(alloc))
 }
 
 fn run_command<'a>(alloc: Global) -> Result<Command<'a>, AllocError>
@@ -162,6 +244,30 @@ fn serve_command<'a>(alloc: Global) -> Result<Command<'a>, AllocError>
         .arg(requests(alloc))
 }
 
+/// The command with the places at which connections may be waited for.
+fn with_places<'a>(alloc: Global, command: Command<'a>) -> Result<Command<'a>, AllocError>
+    ensures app { IfOk result (λ c. app_of c ≡ with_places (app_of command.entry)) }
+    ensures local { (fields_of command.entry).has_globals ≡ false → IfOk result (λ c. (fields_of c).has_globals ≡ false) }
+{
+    command
+        .arg(port_if_given(alloc))?
+        .arg(socket_if_given(alloc))?
+        .arg(inherited(alloc))
+}
+
+fn counter_command<'a>(alloc: Global) -> Result<Command<'a>, AllocError>
+    ensures app { IfOk result (λ c. app_of c ≡ counter_app) }
+    ensures local { IfOk result (λ c. (fields_of c).has_globals ≡ false) }
+{
+    let command = Command::new(alloc, "counter")
+        .about(
+            "Serves many connections at once over the bank of FILE, at exactly one of --port, --socket and --inherited",
+        )
+        .arg(bank_file(alloc))?
+        .arg(badges(alloc))?;
+    with_places(alloc, command)?.arg(until_input_ends(alloc))
+}
+
 fn top_command<'a>(alloc: Global) -> Command<'a>
     ensures { app_of result ≡ top_app }
 {
@@ -180,6 +286,8 @@ pub(crate) fn bank_command<'a>(alloc: Global) -> Result<Command<'a>, AllocError>
         .subcommand(init_command(alloc)?)?
         .subcommand(check_command(alloc)?)?
         .subcommand(upgrade_command(alloc)?)?
+        .subcommand(forward_command(alloc)?)?
         .subcommand(run_command(alloc)?)?
-        .subcommand(serve_command(alloc)?)
+        .subcommand(serve_command(alloc)?)?
+        .subcommand(counter_command(alloc)?)
 }

@@ -1,3 +1,5 @@
+//! What is printed where arguments name no action, and the status of the program then.
+
 ghost use Rattle.cli_words.specs.Explained.{IsExplained, IsUnread};
 ghost use Rattle.exit_lines.specs.Streams.{stream_at};
 
@@ -9,10 +11,10 @@ use std::alloc::Global;
 use std::io;
 use std::io::Write;
 
-/// The status of a program whose words are refused.
+/// The status of a program whose arguments are refused.
 pub const REFUSED_WORDS: u8 = 2;
 
-/// Tells why words name no action, and answers the status: `DONE` where they ask for help, `REFUSED_WORDS` where they are
+/// Prints why arguments name no action, and returns the status: `DONE` for help, `REFUSED_WORDS` where they are
 /// refused, and `FAILED` where memory is, or help can't be written. Help goes to `output`, and all else to `errors`.
 pub fn explain<W: Write, E: Write>(
     alloc: Global,
@@ -38,7 +40,7 @@ pub fn explain<W: Write, E: Write>(
     }
 }
 
-/// Tells why the words could not be read: they are no text, or memory is refused for them. Answers the status.
+/// Prints why the arguments could not be read: they are no text, or memory is refused for them. Returns the status.
 pub fn unread<E: Write>(errors: &mut Tallied<E>, kind: io::ErrorKind) -> u8
     ensures { IsUnread kind (stream_at E.contents errors.old) (stream_at E.contents errors.new) result }
 {

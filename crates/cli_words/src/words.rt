@@ -1,11 +1,15 @@
-ghost use Rattle.std.specs.Prelude.{◌≡◌, ◌<◌, ◌^◌, ℕ, List, [], IfOk, IfErr, IfSome, IsNone, codes, map, option_map};
+//! The actions of the program, and how one is read from its arguments.
+
+ghost use Rattle.std.specs.Prelude.{◌≡◌, ◌<◌, ◌^◌, ℕ, Bool, List, [], IfOk, IfErr, IfSome, IsNone, codes, map, option_map};
 ghost use Rattle.clap.specs.Words.{fault_of, first_of, found_of, rows_of, subcommand_of, subcommand_rows_of};
-ghost use Rattle.cli_words.specs.Commands.{AsksInit, AsksServed, HasMoment, HasNumber, HasNumberIn, IsNamedBy, IsNamedIn, IsRefusal, NamesNone, bank_app, max_port, max_requests};
+ghost use Rattle.counter_places.specs.declared.place.Place.{Place as ThePlace};
+ghost use Rattle.cli_words.specs.Commands.{AsksForward, AsksInit, AsksServed, HasMoment, HasNumber, HasNumberIn, IsFlag, IsNamedBy, IsNamedIn, IsPlaceIn, IsRefusal, NamesNone, bank_app, max_port, max_requests};
 
 use crate::commands::bank_command;
 use clap::error::ErrorKind;
 use clap::{ArgMatches, Error};
 use counter_clocks::Moment;
+use counter_places::Place;
 use std::alloc::Global;
 
 /// The greatest port.
@@ -14,7 +18,7 @@ pub(crate) const MAX_PORT: u64 = 65_535;
 /// The most messages that connections are asked to count.
 pub(crate) const MAX_REQUESTS: u64 = 1_000_000;
 
-/// What the program is asked to do. A file, a folder and a list are told as they were given.
+/// What the program is asked to do. A file, a folder and a list are named as they were given.
 #[derive(Clone, Copy, Debug, PartialEq, Eq)]
 pub enum Action<'a> {
     /// To serve standard input to standard output over the sample bank.
@@ -28,6 +32,8 @@ pub enum Action<'a> {
         file: &'a str,
         /// The folder of the lists.
         dir: &'a str,
+        /// Whether the pages of a new file end in sums.
+        sums: bool,
     },
     /// To say whether a bank stands in a file.
     Check {
@@ -38,6 +44,15 @@ pub enum Action<'a> {
     Upgrade {
         /// The file.
         file: &'a str,
+    },
+    /// To begin the next year of the bank in a file, in another file.
+    Forward {
+        /// The file.
+        file: &'a str,
+        /// The file of the next year.
+        new: &'a str,
+        /// Whether the pages of a new file end in sums.
+        sums: bool,
     },
     /// To serve standard input to standard output over the bank in a file.
     Run {
@@ -58,6 +73,17 @@ pub enum Action<'a> {
         port: u16,
         /// How many messages are counted, 1 to 1,000,000.
         requests: u32,
+    },
+    /// To serve many connections at once over the bank in a file.
+    Counter {
+        /// The file.
+        file: &'a str,
+        /// The list of badges.
+        badges: &'a str,
+        /// Where connections are waited for.
+        place: Place<'a>,
+        /// Whether an end of standard input ends it, where that is a pipe.
+        until_input_ends: bool,
     },
 }
 
@@ -110,17 +136,69 @@ fn requests_in(found: &ArgMatches<'_>) -> Option<u32>
     }
 }
 
-/// The file and the folder among the matches of `init`.
-fn init_in<'a>(found: &ArgMatches<'a>) -> Option<(&'a str, &'a str)>
-    ensures given { IfSome result (λ p. AsksInit (rows_of (found_of found.now)) p.0.now p.1.now) }
-    ensures missing { IsNone result → (file dir : List ℕ) → ¬ (AsksInit (rows_of (found_of found.now)) file dir) }
+/// Whether an option with no value is set.
+fn flag_of(found: &ArgMatches<'_>, id: &str) -> bool
+    ensures { IsFlag (rows_of (found_of found.now)) id.now result }
+{
+    match text_of(found, id) {
+        Some("true") => true,
+        _ => false,
+    }
+}
+
+/// The one place that the matches have, or none where they have none or several.
+fn place_in<'a>(found: &ArgMatches<'a>) -> Option<Place<'a>>
+    ensures given { IfSome result (IsPlaceIn (rows_of (found_of found.now))) }
+    ensures missing { IsNone result → (place : ThePlace) → ¬ (IsPlaceIn (rows_of (found_of found.now)) place) }
+{
+    let is_inherited = flag_of(found, "inherited");
+    match (text_of(found, "port"), text_of(found, "socket")) {
+        (Some(_), Some(_)) => None,
+        (Some(_), None) => {
+            if is_inherited {
+                None
+            } else {
+                Some(Place::Port(port_in(found)?))
+            }
+        }
+        (None, Some(path)) => {
+            if is_inherited {
+                None
+            } else {
+                Some(Place::Socket(path))
+            }
+        }
+        (None, None) => {
+            if is_inherited {
+                Some(Place::Inherited)
+            } else {
+                None
+            }
+        }
+    }
+}
+
+/// The file and the folder among the matches of `init`, and whether sums are asked for.
+fn init_in<'a>(found: &ArgMatches<'a>) -> Option<(&'a str, &'a str, bool)>
+    ensures given { IfSome result (λ p. AsksInit (rows_of (found_of found.now)) p.0.now p.1.now p.2) }
+    ensures missing { IsNone result → (file dir : List ℕ) (sums : Bool) → ¬ (AsksInit (rows_of (found_of found.now)) file dir sums) }
 {
     let file = text_of(found, "file")?;
     let dir = text_of(found, "dir")?;
-    Some((file, dir))
+    Some((file, dir, flag_of(found, "sums")))
 }
 
-/// The file and the list of badges among the matches of `run` and of `serve`.
+/// The two files among the matches of `forward`, and whether sums are asked for.
+fn forward_in<'a>(found: &ArgMatches<'a>) -> Option<(&'a str, &'a str, bool)>
+    ensures given { IfSome result (λ p. AsksForward (rows_of (found_of found.now)) p.0.now p.1.now p.2) }
+    ensures missing { IsNone result → (file new : List ℕ) (sums : Bool) → ¬ (AsksForward (rows_of (found_of found.now)) file new sums) }
+{
+    let file = text_of(found, "file")?;
+    let new = text_of(found, "new")?;
+    Some((file, new, flag_of(found, "sums")))
+}
+
+/// The file and the list of badges among the matches of `run`, `serve` and `counter`.
 fn served_in<'a>(found: &ArgMatches<'a>) -> Option<(&'a str, &'a str)>
     ensures given { IfSome result (λ p. AsksServed (rows_of (found_of found.now)) p.0.now p.1.now) }
     ensures missing { IsNone result → (file badges : List ℕ) → ¬ (AsksServed (rows_of (found_of found.now)) file badges) }
@@ -140,8 +218,8 @@ fn action_in<'a>(name: &str, found: &ArgMatches<'a>) -> Option<Action<'a>>
             moment: moment_in(found)?,
         }),
         "init" => {
-            let (file, dir) = init_in(found)?;
-            Some(Action::Init { file, dir })
+            let (file, dir, sums) = init_in(found)?;
+            Some(Action::Init { file, dir, sums })
         }
         "check" => Some(Action::Check {
             file: text_of(found, "file")?,
@@ -149,6 +227,10 @@ fn action_in<'a>(name: &str, found: &ArgMatches<'a>) -> Option<Action<'a>>
         "upgrade" => Some(Action::Upgrade {
             file: text_of(found, "file")?,
         }),
+        "forward" => {
+            let (file, new, sums) = forward_in(found)?;
+            Some(Action::Forward { file, new, sums })
+        }
         "run" => {
             let (file, badges) = served_in(found)?;
             Some(Action::Run {
@@ -166,6 +248,15 @@ fn action_in<'a>(name: &str, found: &ArgMatches<'a>) -> Option<Action<'a>>
                 requests: requests_in(found)?,
             })
         }
+        "counter" => {
+            let (file, badges) = served_in(found)?;
+            Some(Action::Counter {
+                file,
+                badges,
+                place: place_in(found)?,
+                until_input_ends: flag_of(found, "until-input-ends"),
+            })
+        }
         _ => None,
     }
 }
@@ -179,8 +270,8 @@ fn action_of<'a>(matches: &ArgMatches<'a>) -> Option<Action<'a>>
     action_in(name, found)
 }
 
-/// The action that the words behind the program's name ask for. The error is that the words are refused, that help is
-/// asked for, or that memory is refused: words that are without fault, and name an action, meet the last alone.
+/// The action that the arguments after the program's name ask for. The error is that they are refused, that help is
+/// asked for, or that memory is refused: arguments that are without fault, and name an action, meet the last alone.
 pub fn read_words<'a>(alloc: Global, words: &'a [&'a str]) -> Result<Action<'a>, Error>
     ensures named { IfOk result (IsNamedBy (subcommand_of bank_app (map (λ w. w.now) words.now))) }
     ensures taken { IfOk result (λ _. fault_of bank_app (map (λ w. w.now) words.now) ≡ []) }
@@ -190,6 +281,9 @@ pub fn read_words<'a>(alloc: Global, words: &'a [&'a str]) -> Result<Action<'a>,
     let matches = command.try_get_matches_from_mut(words)?;
     match action_of(&matches) {
         Some(action) => Ok(action),
-        None => Err(command.error(ErrorKind::MissingRequiredArgument, "an argument is missing")?),
+        None => Err(command.error(
+            ErrorKind::MissingRequiredArgument,
+            "counter takes exactly one of --port, --socket and --inherited",
+        )?),
     }
 }

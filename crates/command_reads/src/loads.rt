@@ -1,3 +1,5 @@
+//! The rows of the policy that a command is judged on, loaded by the form of the command.
+
 ghost use Rattle.std.specs.Prelude.{◌≡◌};
 ghost use Rattle.std.specs.List.{list_any};
 ghost use Rattle.bank_policy.specs.HeldRows.{standing, triples_of};
@@ -15,7 +17,7 @@ use policy_commands::{Enrolment, PolicyOp, RelationKey, TripleKey, UserKey};
 use std::alloc::Global;
 use store_rows::PolicyReads;
 
-/// The rows of the policy that a command of this user is judged on, where his own row says this. The
+/// The rows of the policy that a command of this user is judged on, where their own row says this. The
 /// first rule against it is that of its plan.
 pub fn load_command_rows<P: PolicyReads>(
     alloc: Global,

@@ -1,3 +1,5 @@
+//! Whether a user may ask for anything, as their row of the policy says.
+
 ghost use Rattle.std.specs.Prelude.{◌≡◌};
 ghost use Rattle.bank_policy.specs.HeldRows.{standing};
 ghost use Rattle.store_rows.specs.Status.{ReadsRow};
@@ -7,7 +9,7 @@ use money::Fault;
 use std::alloc::Global;
 use store_rows::PolicyReads;
 
-/// What the row of a user says of whether he may ask, or none where he isn't there.
+/// What the row of a user says of whether they may ask, or none where there is no such user.
 pub fn standing_of<P: PolicyReads>(
     alloc: Global,
     store: &mut P,

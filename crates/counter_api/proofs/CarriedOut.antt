@@ -157,7 +157,7 @@ repeat_replied w r bytes is = ap (λ kept. told_again kept (told (first w r) (re
 pub denied_finds : (old new : Status) (r : Request) (rule : Rule) (mark : Option Fault) → Tells old new (λ w. reply w r ≡ Err rule) → Tells old new (FindsRoom r mark)
 denied_finds old new r rule mark denied honest w holds accepted = absurd (not_accepted w r rule mark (denied honest w holds) accepted)
 
--- What deciding a request says of its store and of what it told, where it was carried out or denied in one call.
+-- What deciding a request says of its store and of what it returned, where it was carried out or denied in one call.
 pub record IsDecided (old new : Status) (r : Request) (made : Result (Result (Vec ℕ) Rule) Fault) : Type 0 where
   pub answers : Answers old new (mark_of made)
   pub moved : Moves old new r (mark_of made)

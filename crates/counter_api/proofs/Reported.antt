@@ -39,7 +39,7 @@ module _ (w : WorldLists) (q : Request) (c : Contents) (fresh : repeated w q ≡
       ∙ ap (λ f. if_allowed f (effect w q) w) is.allowed
       ∙ is.same
 
--- a and e are the store before the decision and behind what went out
+-- a and e are the store before the decision and after what went out
 module _ (a b e : Status) (before after : Option (List ℕ)) (m : MessageParts) (q : Request) (c : Contents)
     (kept : Keeps a b None) (reported : Tells a b (λ w. IsReported w (verdict q w) c)) (fresh : Tells a b (λ w. repeated w q ≡ None)) (room : (w : WorldLists) → finds_room w q.asked ≡ true)
     (refused : IsSome q.who.user → IsTrue a.is_stopped → None ≡ Some Stopped) (asks : IsReport q.asked) where

@@ -85,7 +85,7 @@ none_ran how none users s =
       headline = λ w checks. headline w [] checks proper;
     }
 
--- one message in front of others, where what is said of its response and of the replies behind joins
+-- one message in front of others, where what is said of its response and of the replies after it joins
 pub one_more : (how : List ℕ → List ℕ → Type 0) (users : List ℕ → Option ℕ) (old mid new : Status) (m : MarkedMessage) (ms : List MarkedMessage) (says : ResponseParts → Type 0) (later out : List ℕ)
     → ((response : ResponseParts) (replies : List ℕ) → says response → how replies later → how (framed m.message response ++ replies) out)
     → IsHandled users old mid m says → IsRun how users mid new ms later → IsRun how users old new (m ∷ ms) out

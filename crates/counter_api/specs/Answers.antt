@@ -10,17 +10,17 @@ use Rattle.counter_api.specs.Run.{IsAnswered, reply_to}
 use Rattle.counter_api.specs.Sent.{HasHead}
 use Rattle.counter_api.specs.declared.counter.Counter.{Counter}
 
--- The message was answered over its bank, at a moment of its clock, and these bytes stand so to its reply; the bank, the clock and
--- the gate are the same references.
+-- The message was answered over its bank, at a moment of its clock, and these bytes stand so to its reply; bank, clock
+-- and gate are the same references.
 pub record CounterAnswers {S G C : Type 0} (how : List ℕ → List ℕ → Type 0) (status : S → Status) (users : G → List ℕ → Option ℕ) (may_give : C → ℕ → C → Type 0) (old : Counter S G C) (message : MessageParts) (out : List ℕ) (new : Counter S G C) : Type 0 where
   pub answered : IsAnswered how (users old.gate.now) may_give (status old.bank.now.store) (status new.bank.now.store) old.clock.now new.clock.now message out
   pub same_bank : new.bank.ghost_name ≡ old.bank.ghost_name
   pub same_clock : new.clock.ghost_name ≡ old.clock.ghost_name
   pub same_gate : new.gate ≡ old.gate
 
--- The message bore a moment that the clock gave, and asks for a report; and a fault kept its reply from being given whole, once its
--- head had gone out: these bytes are a beginning of the reply, of each World that the store stood for, and no rule denies what was
--- asked there. It stands for the same World, and where there is one it counted the fault.
+-- The message bore a moment that the clock gave, and asks for a report; and a fault broke its reply off, once its head
+-- had gone out: these bytes are a beginning of the reply, of each World that the store represented, and no rule denies
+-- what was asked there. It represents the same World, and where there is one it counted the fault.
 pub record IsBroken {C : Type 0} (users : List ℕ → Option ℕ) (may_give : C → ℕ → C → Type 0) (old new : Status) (from to : C) (message : MessageParts) (sent : List ℕ) : Type 0 where
   pub moment : ℕ
   pub fault : Fault
@@ -33,7 +33,7 @@ pub record IsBroken {C : Type 0} (users : List ℕ → Option ℕ) (may_give : C
   pub allowed : Tells old new (λ w. IsOkAnd (request_of users moment message) (λ r. first w r ≡ None))
   pub begun : Tells old new (λ w. BeginsWith (reply_to users w (record { message = message; moment = moment; mark = None })) sent)
 
--- its reply broke so; the bank, the clock and the gate are the same references
+-- its reply broke so; bank, clock and gate are the same references
 pub record CounterBreaks {S G C : Type 0} (status : S → Status) (users : G → List ℕ → Option ℕ) (may_give : C → ℕ → C → Type 0) (old : Counter S G C) (message : MessageParts) (sent : List ℕ) (new : Counter S G C) : Type 0 where
   pub broken : IsBroken (users old.gate.now) may_give (status old.bank.now.store) (status new.bank.now.store) old.clock.now new.clock.now message sent
   pub same_bank : new.bank.ghost_name ≡ old.bank.ghost_name

@@ -22,8 +22,8 @@ use Rattle.counter_api.specs.declared.counter.Outcome.{Outcome}
 use Rattle.counter_api.specs.declared.counter.Outcome.TheVariants as outcome
 use Rattle.counter_api.specs.declared.sent.Sent.TheVariants as sent
 
--- Of each World that the store stood for: it stands for the World after the request, and this is said of the reply to it; or a
--- fault kept the request from being made. A request of nobody is kept from its reply by want of memory alone.
+-- Of each World that the store represented: it represents the World after the request, and this is said of the reply;
+-- or a fault kept the request from being made. A request of nobody is kept from its reply by want of memory alone.
 pub record IsCarriedOut {A : Type 0} (says : Result ReplyText Rule → A → Type 0) (old new : Status) (request : Request) (result : Result A Fault) : Type 0 where
   pub answers : Answers old new (mark_of result)
   pub moved : Moves old new request (mark_of result)
@@ -47,9 +47,9 @@ IsResponded (Err fault) response = response ≡ Err fault
 abbrev pub IsSent : (List ℕ → List ℕ → Type 0) → MessageParts → Result ReplyText Rule → List ℕ → Type 0
 IsSent how m reply bytes = how (framed m (told_parts reply)) bytes
 
--- A fault broke the reply to a request off, which asks for a report and which no rule denies, once its head had gone out: what went
--- out is a beginning of it, of each World that the store stood for. It stands for the same World, and counted the fault: want of
--- memory counts, too.
+-- A fault broke the reply to a request off, which asks for a report and which no rule denies, once its head had gone
+-- out: what went out is a beginning of it, of each World that the store represented. It represents the same World, and
+-- counted the fault: want of memory counts, too.
 pub record BreaksOff (old new : Status) (r : Request) (m : MessageParts) (fault : Fault) (bytes : List ℕ) : Type 0 where
   pub report : IsReport r.asked
   pub kept : Keeps old new (Some fault)

@@ -14,8 +14,8 @@ use Rattle.bank_meaning.specs.Sums.{AreProper, PassesChecks}
 use Rattle.counter_api.specs.Exit.{IsServed, Place}
 use Rattle.counter_api.specs.Run.{IsPending, MarkedMessage, replies_to, reply_to, requests_of}
 
--- What messages, one after another, made of a store. Of each World that it stood for: it stands for the World after their requests, and
--- each request was treated rightly at its place.
+-- What messages, one after another, made of a store. Of each World that it represented: it represents the World after
+-- their requests, and each request was treated rightly at its place.
 pub record IsDay (users : List ℕ → Option ℕ) (old new : Status) (ms : List MarkedMessage) : Type 0 where
   pub honest : new.is_honest → old.is_honest
   pub moved : Tells old new (λ w. new.holds (world_after w (requests_of users ms)))

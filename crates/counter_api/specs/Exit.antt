@@ -47,8 +47,8 @@ module _ {S C : Type 0} (status : S → Status) (users : List ℕ → Option ℕ
       × GoesOn most before × Tells (status old.store) (status new.store) (λ w. replies ≡ replies_to users w run)
       × Appends old.written new.written (replies ++ sent)
 
-  -- The bytes that were read are these messages, and one more that was handed on last, and a rest. Those before it ran, and left
-  -- the store and the clock here, and replies are those to them. From here on the reply to the last one broke, behind sent.
+  -- The bytes that were read are these messages, one more that was handed on last, and a rest. Those before it ran, left
+  -- the store and the clock here, and have these replies. From here on the reply to the last one broke, after `sent`.
   pub record Breaks (old new : Place S C) (before : List WholeMessage) (last : WholeMessage) (rest : List ℕ) (run : List MarkedMessage) (replies sent : List ℕ) : Type 0 where
     pub bytes : List ℕ
     pub taken : Consumes old.left new.left bytes

@@ -51,18 +51,18 @@ IsWhole whole out = out ≡ whole
 abbrev pub framed : MessageParts → ResponseParts → List ℕ
 framed m parts = reply_bytes parts.status parts.content_type parts.body (closes m.head) (asks_head m.head)
 
--- A request of a user whom the gate knows may be kept from being made by any fault. One of nobody, and a message that states
--- none, may be kept from its reply by want of memory alone.
+-- A request of a user whom the `Gate` knows may be kept from being made by any fault. One of nobody, and a message that
+-- states none, may be kept from its reply by want of memory alone.
 abbrev pub MayBear : Result Request MessageFault → Option Fault → Type 0
 MayBear stated mark = IfOk stated (λ r. IsNone r.who.user) → (mark ≡ None) ⊎ (mark ≡ Some Memory)
 
--- A request of a user whom the gate knows that finds the store stopped is kept from being made: it is told so, or it wanted memory
--- before the store was asked.
+-- A request of a user whom the `Gate` knows that finds the store stopped is kept from being made: its reply says so, or
+-- it wanted memory before the store was asked.
 abbrev pub RefusesRequest : Bool → Option Fault → Type 0
 RefusesRequest stopped mark = IsTrue stopped → (mark ≡ Some Stopped) ⊎ (mark ≡ Some Memory)
 
--- A request that is made, where it is a command that no rule denies, finds a version of the policy left: so it is not told of one
--- that changed nothing.
+-- A request that is made, where it is a command that no rule denies, finds a version of the policy left: so none that
+-- changed nothing is reported as made.
 abbrev pub FindsRoom : Request → Option Fault → WorldLists → Type 0
 FindsRoom r mark w = is_accepted w (record { request = r; mark = mark }) ≡ true → finds_room w r.asked ≡ true
 
@@ -138,8 +138,8 @@ abbrev pub failed_after : List MarkedMessage → ℕ → ℕ
 failed_after [] count = count
 failed_after (m ∷ ms) count = failed_after ms (failures_after m.mark count)
 
--- What messages and the bytes of their replies make of a store, of each World that it stood for: it stands for the World
--- after their requests, and the bytes stand so to the replies to them.
+-- What messages and the bytes of their replies make of a store, of each World that it represented: it represents the
+-- World after their requests, and the bytes stand so to the replies to them.
 pub record IsRun (how : List ℕ → List ℕ → Type 0) (users : List ℕ → Option ℕ) (old new : Status) (ms : List MarkedMessage) (out : List ℕ) : Type 0 where
   pub honest : new.is_honest → old.is_honest
   pub state : new.is_stopped ≡ stopped_after ms old.is_stopped
@@ -149,7 +149,7 @@ pub record IsRun (how : List ℕ → List ℕ → Type 0) (users : List ℕ → 
   pub failed : new.failure_count ≡ failed_after ms old.failure_count
   pub moved : Tells old new (λ w. new.holds (world_after w (requests_of users ms)))
   pub replied : Tells old new (λ w. how (replies_to users w ms) out)
-  -- each command that is accepted has its word: none is told of that changed nothing
+  -- each command that is accepted takes effect: none that changed nothing is reported as made
   pub all_heard : Tells old new (λ w. heard w (requests_of users ms) ≡ accepted w (requests_of users ms))
   -- A crash leaves the World that stands, or one that is pending: no change that was carried out is undone.
   pub leaves : Tells old new (λ w. (left : WorldLists) → new.may_leave left → (left ≡ world_after w (requests_of users ms)) ⊎ IsPending users old.may_leave w ms left)

@@ -36,7 +36,7 @@ pub record OnlyReads {S C : Type 0} (old new : Side S C) : Type 0 where
   pub clock : new.clock ≡ old.clock
   pub bounded : length new.held ≤ max_message_len
 
--- bytes were read, and this was the first message of what was held then, with the rest behind it
+-- bytes were read, and this was the first message of what was held then, with the rest after it
 pub record TakesMessage {S C : Type 0} (old new : Side S C) (message : WholeMessage) (rest : List ℕ) : Type 0 where
   pub came : List ℕ
   pub taken : Consumes old.left new.left came
@@ -58,7 +58,7 @@ module _ {S C : Type 0} (status : S → Status) (users : List ℕ → Option ℕ
   -- How a turn ended. Answered: one message was answered, and more may follow. Closed: one was answered by a reply that ends the
   -- connection, or what came begins none and was refused. Ended, Cut: the input ended between two messages, or in one. Read: less
   -- than one message is held, and the reader had no more at hand, or failed. Write: the writer took a beginning alone of the reply.
-  -- Report: the reply broke behind this beginning, and the message changed nothing
+  -- Report: the reply broke after this beginning, and the message changed nothing
   abbrev pub IsTurn : Side S C → Side S C → Result Turn ServeFault → Type 0
   IsTurn old new (Ok Answered) = AnswersOne false old new
   IsTurn old new (Ok Closed) =

@@ -1,3 +1,5 @@
+//! A bank that answers messages: it decides the request that each states, carries it out, and replies.
+
 ghost use Rattle.std.specs.Prelude.{◌≡◌, ◌≤◌, OnErr, OnOk};
 ghost use Rattle.bank_terms.specs.Limits.{max_moment};
 ghost use Rattle.std.specs.Io.KnownBytes.{Appends};
@@ -99,7 +101,7 @@ fn operation_done<S: Store, W: Write>(
     }
 }
 
-/// Lists the policy to who asks, or tells the rule against that. The moment is not looked at.
+/// Lists the policy to who asks, or returns the rule against that. The moment is not looked at.
 fn policy_listed<S: Store, W: Write>(
     bank: &mut Bank<S>,
     alloc: Global,
@@ -131,7 +133,7 @@ fn responded(alloc: Global, told: Result<Result<Vec<u8>, Rule>, Fault>) -> Resul
     }
 }
 
-/// Opens a session for who asks, or tells the rule against that. The moment is not looked at.
+/// Opens a session for who asks, or returns the rule against that. The moment is not looked at.
 fn session_opened<S: Store>(
     bank: &mut Bank<S>,
     alloc: Global,
@@ -143,7 +145,7 @@ fn session_opened<S: Store>(
     responded(alloc, begin(bank, alloc, who.user))
 }
 
-/// Ends the session of who asks, or tells the rule against that. The moment is not looked at.
+/// Ends the session of who asks, or returns the rule against that. The moment is not looked at.
 fn session_ended<S: Store>(
     bank: &mut Bank<S>,
     alloc: Global,
@@ -155,7 +157,7 @@ fn session_ended<S: Store>(
     responded(alloc, end(bank, alloc, who))
 }
 
-/// Carries a command of the policy out, or tells the rule against it. The moment is not looked at.
+/// Carries a command of the policy out, or returns the rule against it. The moment is not looked at.
 fn command_done<S: Store>(
     bank: &mut Bank<S>,
     alloc: Global,

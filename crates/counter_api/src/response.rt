@@ -1,3 +1,5 @@
+//! What a message is answered, but for a report: a status, a content type and a body.
+
 ghost use Rattle.std.specs.Prelude.{◌≡◌, IfOk};
 ghost use Rattle.counter_api.specs.Fault.{fault_text};
 ghost use Rattle.bank_meaning.specs.Meaning.{json};

@@ -1,3 +1,5 @@
+//! The reply of a report, whose text goes out row by row after its head.
+
 ghost use Rattle.std.specs.Prelude.{◌≡◌};
 ghost use Rattle.money.specs.Counted.{stream_of};
 ghost use Rattle.counter_api.specs.Sent.{CountsBreak, CountsBySent, IsStreamed};

@@ -1,3 +1,5 @@
+//! Serving the messages of one stream over a bank.
+
 ghost use Rattle.std.specs.Prelude.{◌≡◌, ◌≤◌, IfOk, Err};
 ghost use Rattle.money.specs.Counted.{stream_of};
 ghost use Rattle.http_messages.specs.Failures.{CountsByExit};
@@ -35,12 +37,12 @@ fn serve_counter<'b, 'g, 'c, 'r, R: Read, W: Write, S: Store, G: Gate, C: Clock>
 
 /// Answers the messages of a stream over a bank, one after another: until the input ends between
 /// two of them, after a reply that ends the connection, or after `most` replies. Users are those
-/// that the gate names for the badges, and each message bears the moment that the clock gives for
+/// that `gate` names for the badges, and each message bears the moment that the clock gives for
 /// it.
 ///
 /// A message is acted on once its whole body was read. It works in a bounded room, which is
 /// allocated first: where that is refused, nothing is read. A call of the reader or of the writer
-/// that failed ends it, and is told: an `Ok` says that none did.
+/// that failed ends it, and is reported: an `Ok` says that none did.
 pub fn serve<R: Read, W: Write, S: Store, G: Gate, C: Clock>(
     alloc: Global,
     reader: &mut Tallied<R>,

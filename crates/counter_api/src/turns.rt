@@ -1,3 +1,5 @@
+//! One turn of one of many connections over a bank, in which one message is answered at most.
+
 ghost use Rattle.std.specs.Prelude.{◌≡◌};
 ghost use Rattle.money.specs.Counted.{stream_of};
 ghost use Rattle.http_messages.specs.Failures.{CountsByEnd};
@@ -52,10 +54,10 @@ fn counter_turn<'b, 'g, 'c, 'r, R: Read, W: Write, S: Store, G: Gate, C: Clock>(
     serve_turn(counter, reader, outbox, inbox, fields)
 }
 
-/// Takes a turn of a connection over a bank: reads what is at hand, and answers one message where it has come whole. What has
-/// come of one that is not whole stays in the inbox, and acts not at all. A reader that has no more at hand answers an error,
-/// which ends the turn by `Err(Read)`, and the connection may go on with a later turn. Users are those that the gate names
-/// for the badges, and the message bears the moment that the clock gives for it.
+/// Takes a turn of a connection over a bank: reads what is at hand, and answers one message where it has come whole.
+/// What has come of one that is not whole stays in the inbox, and acts not at all. A reader that has no more at hand
+/// answers an error, which ends the turn by `Err(Read)`, and the connection may go on with a later turn. Users are
+/// those that `gate` names for the badges, and the message bears the moment that the clock gives for it.
 pub fn take_turn<R: Read, W: Write, S: Store, G: Gate, C: Clock>(
     desk: &mut Desk,
     inbox: &mut Received,

@@ -3,7 +3,7 @@ use Rattle.std.specs.Prelude.{◌≡◌, ℕ, ◌/◌, min, Option, Some, None}
 use Rattle.bank_terms.specs.Limits.{max_moment}
 use Rattle.counter_clocks.specs.declared.machine.MachineClock.{MachineClock}
 
--- the moment that is given behind the last one, by the nanoseconds since 1970 that the machine's clock reads, if it can be read
+-- the moment that is given after the last one, by the nanoseconds since 1970 that the machine's clock reads, if any
 abbrev pub moment_behind : ℕ → Option ℕ → ℕ
 moment_behind last (Some nanos) = min (nanos / 1000000000) max_moment
 moment_behind last None = last

@@ -1,3 +1,5 @@
+//! The trait of what gives each message its moment.
+
 ghost use Rattle.std.specs.Prelude.{ℕ, ◌≤◌};
 ghost use Rattle.bank_terms.specs.Limits.{max_moment};
 

@@ -1,3 +1,5 @@
+//! A clock that gives every message the same moment.
+
 use crate::clock::Clock;
 use crate::moment::Moment;
 

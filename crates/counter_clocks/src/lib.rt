@@ -1,5 +1,5 @@
 //! Moments, and the clocks that give them to messages. `Moment::new` is the moment at these seconds, from 0
-//! to 99,999,999,999, and none exactly behind that; `Moment::cut` is the last one there; `seconds` gives
+//! to 99,999,999,999, and none exactly past that; `Moment::cut` is the last one there; `seconds` gives
 //! them back. `Fixed` is a clock that stands still: it gives each message the same moment. `MachineClock`
 //! gives what the machine's clock reads. What a clock has to promise is the trait `Clock`.
 #![tactic(auto)]

@@ -1,3 +1,5 @@
+//! A clock that gives messages the seconds that the machine's clock reads.
+
 ghost use Rattle.std.specs.Prelude.{◌≡◌, option_map};
 ghost use Rattle.std.specs.Duration.{as_nanos};
 ghost use Rattle.counter_clocks.specs.Running.{moment_behind};
@@ -38,7 +40,7 @@ impl<'a, T: time::Clock> Clock for MachineClock<'a, T> {
     }
 }
 
-/// The moment that is given behind the last one, by what the machine's clock reads, if it can be read.
+/// The moment that is given after the last one, by what the machine's clock reads, if it can be read.
 fn moment_behind(last: Moment, reading: Option<Duration>) -> Moment
     ensures { result ≡ moment_behind last (option_map as_nanos reading) }
 {

@@ -15,7 +15,7 @@ counted_more [] exit = omega arith
 counted_more (first ∷ exits) exit =
     ap (λ n. counted_by first + n) (counted_more exits exit) ∙ sym (add_assoc (counted_by first) (counted exits) (counted_by exit))
 
--- a connection counts no more than may be answered on it
+-- what a connection counts is at most what may be answered on it
 pub counts_at_most : (exit : Result Served ServeFault) (most : ℕ) → 0 < most → IfOk exit (λ served. served.messages ≤ most)
     → counted_by exit ≤ most
 counts_at_most (Ok served) most some within = omega (arith, some, within)

@@ -70,7 +70,7 @@ module _ {S C : Type 0} (status : S → Status) (users : List ℕ → Option ℕ
       AreReplied status users may_give wanted from to exit one.served w
       × AreAllReplied (wanted - counted_by exit) mid exits new rest (world_after w (requests_of users (answered status users may_give wanted from to exit one.served)))
 
-  -- They were served until so many messages were counted; or until one connection could not be had. Nothing else ends that.
+  -- They were served until so many messages were counted, or one connection was not accepted. Nothing else ends that.
   pub record AreAllServed {E : Type 0} (requests : ℕ) (old new : At S C) (failed_old failed_new : ℕ) (result : Result Unit E) : Type 0 where
     pub exits : List (Result Served ServeFault)
     pub served : AreServed requests old exits new

@@ -18,13 +18,13 @@ abbrev pub listening_line : ℕ → List ℕ
 listening_line port = concat (codes "listening " ∷ decimal port ∷ codes "\n" ∷ [])
 
 module _ {S C : Type 0} (status : S → Status) (users : List ℕ → Option ℕ) (may_give : C → ℕ → C → Type 0) where
-  -- The port was had and told, and connections were served at it. A fault says that one could not be had.
+  -- The port was bound and announced, and connections were served at it. A fault says that one could not be accepted.
   pub record IsListenedTo (requests : ℕ) (old new : At S C) (result : Result Unit PortFault) : Type 0 where
     pub failed : ℕ
     pub served : AreAllServed status users may_give requests old new 0 failed result
     pub fault : (fault : PortFault) → result ≡ Err fault → fault ≡ Broken
 
-  -- It was served so. Or it could not be had, or could not be told of, and nothing was served.
+  -- It was served so. Or it could not be bound, or could not be announced, and nothing was served.
   abbrev pub IsPortServed : ℕ → ℕ → Stream → Stream → At S C → At S C → Result Unit PortFault → Type 0
   IsPortServed port requests output_old output_new old new result =
       (GetsAll output_old output_new (listening_line port) × IsListenedTo requests old new result)
@@ -43,9 +43,9 @@ module _ {S C : Type 0} (status : S → Status) (users : List ℕ → Option ℕ
   IsPortAnswered port requests output_old output_new old new result (inr is) w = ⊤
 
 module _ {S C : Type 0} (status : S → Status) (users : List ℕ → Option ℕ) (may_give : C → ℕ → C → Type 0) where
-  -- It was served so over a cache that kept nothing yet, with the store opened below it; and the store left is what was below the
-  -- cache as that ended. Of the store itself, by its own words and not by the cache's: all connections are one run of it, and what
-  -- went out is the replies.
+  -- It was served so over a cache that kept nothing yet, with the store opened below it; and the store left is what was
+  -- below the cache as that ended. Of the store itself, by its own status and not by the cache's: all connections are
+  -- one run of it, and what went out is the replies.
   pub record IsPortServedThroughCache (port requests : ℕ) (output_old output_new : Stream) (old new : At S C) (result : Result Unit PortFault) : Type 0 where
     pub began : Cached S
     pub ended : Cached S

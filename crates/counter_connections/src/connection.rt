@@ -1,3 +1,5 @@
+//! Serving one connection, within the seconds that its client may use it.
+
 ghost use Rattle.std.specs.Prelude.{◌≡◌, ◌≤◌, None, IfOk};
 ghost use Rattle.counter_connections.specs.Connections.{IsConnection, begun};
 
@@ -45,8 +47,8 @@ pub(crate) fn serve_connection<M: time::Clock, S: Store, G: Gate, C: Clock>(
     served
 }
 
-/// Serves a client by one value, which what he sends is read from and what is for him is written to, so that no reply of his can go
-/// to another. It may be read from for 120 seconds, and written to for 180.
+/// Serves a client by one value, from which its messages are read and to which the replies are written, so that none of
+/// them can go to another. It may be read from for 120 seconds, and written to for 180.
 fn serve_client<K: Read + Write + Copy, M: time::Clock, S: Store, G: Gate, C: Clock>(
     machine: &M,
     alloc: Global,

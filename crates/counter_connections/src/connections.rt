@@ -1,3 +1,5 @@
+//! Serving connections one after another, and how many messages each counts.
+
 ghost use Rattle.std.specs.Prelude.{◌≡◌};
 ghost use Rattle.counter_connections.specs.Connections.{AreAllServed, counted_by};
 
@@ -10,7 +12,7 @@ use store_rows::{Bank, Store};
 
 /// Serves connections, one after another, until so many messages are counted. Each counts those that were answered on it, at
 /// least one, and one where a fault of serving ended it, which ends no other. The error is that a connection could not be
-/// had. How long a connection lasts goes by the machine's running clock, and the moments of messages by `clock`.
+/// accepted. How long a connection lasts goes by the machine's running clock, and the moments of messages by `clock`.
 pub fn serve_connections<M: time::Clock, S: Store, G: Gate, C: Clock>(
     machine: &M,
     alloc: Global,

@@ -1,10 +1,12 @@
+//! A listener that counts the connections that it fails to accept.
+
 ghost use Rattle.std.specs.Prelude.{◌≡◌, OnOk, OnErr};
 ghost use Rattle.money.specs.Counted.{counted_once_more};
 
 use std::io;
 use std::net::{TcpListener, TcpStream};
 
-/// A listener, and how many connections could not be had of it.
+/// A listener, and how many connections it could not accept.
 #[derive(Drop)]
 pub struct CountedListener {
     listener: TcpListener,
@@ -12,7 +14,7 @@ pub struct CountedListener {
 }
 
 impl CountedListener {
-    /// The listener, of which each connection could be had so far.
+    /// The listener, which could accept each connection so far.
     pub fn new(listener: TcpListener) -> CountedListener
         ensures { result.failures ≡ 0 }
     {
@@ -22,7 +24,7 @@ impl CountedListener {
         }
     }
 
-    /// How many connections could not be had. The count stays at the greatest `u64`.
+    /// How many connections could not be accepted. The count stays at the greatest `u64`.
     pub fn failures(&self) -> u64
         ensures { result ≡ self.now.failures }
     {

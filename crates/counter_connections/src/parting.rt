@@ -1,3 +1,5 @@
+//! The end of a connection whose client may have sent more than was read, so that its last reply is not lost.
+
 use crate::limits::Limited;
 use std::io::Read;
 use std::net::{Shutdown, TcpStream};

@@ -1,3 +1,5 @@
+//! Serving a port of 127.0.0.1 over a store, as it is or with a cache in front of it.
+
 ghost use Rattle.money.specs.Counted.{Sends};
 ghost use Rattle.exit_lines.specs.Streams.{stream_at};
 ghost use Rattle.counter_connections.specs.Port.{IsPortServed, IsPortServedBehindCache, listening_line};
@@ -15,8 +17,8 @@ use std::time;
 use store_cached::Cached;
 use store_rows::{Bank, Store};
 
-/// Serves connections at a port of 127.0.0.1, once a line on `output` has said that it is had, until so many messages are
-/// counted.
+/// Serves connections at a port of 127.0.0.1, once a line on `output` has said that it is bound, until so many messages
+/// are counted.
 pub fn serve_port<
     N: Net<Listener = TcpListener, Stream = TcpStream> + time::Clock,
     S: Store,

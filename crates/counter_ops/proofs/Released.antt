@@ -1,4 +1,4 @@
--- The places of a release, behind the first two of which those of the operation stand that it is for.
+-- The places of a release: after the first two stand those of the operation that it is for.
 use Rattle.std.proofs.Common.{◌≡◌, [], ◌∷◌, ℤ, pos}
 use Rattle.bank_terms.specs.Procedure.{number_of}
 use Rattle.bank_terms.specs.declared.procedure.Procedure.{Procedure}

@@ -1,5 +1,5 @@
 -- An operation as a row of the books holds it: the numbers of its members in the order in which its form names them,
--- with 0 behind the last. A release holds the row of the operation that it is for behind whom it is for.
+-- with 0 after the last. A release holds whom it is for, and then the row of the operation that it is for.
 use Rattle.std.specs.Prelude.{ℕ, ℤ, pos, ◌≡◌, ◌-◌, List, [], ◌∷◌, ◌++◌, length, replicate, Option, Some}
 use Rattle.counter_ops.specs.declared.op.Op.{Op}
 use Rattle.counter_ops.specs.declared.op.Op.TheVariants as op
@@ -16,7 +16,7 @@ use Rattle.counter_ops.specs.Statement.{statement_numbers}
 use Rattle.counter_ops.specs.Accounts.{accounts_numbers}
 use Rattle.counter_ops.specs.Release.{release_numbers}
 
--- the eight places of a row, with 0 behind the last number
+-- the eight places of a row, with 0 after the last number
 abbrev pub places : List ℤ → List ℤ
 places numbers = numbers ++ replicate (8 - length numbers) (pos 0)
 

@@ -58,7 +58,7 @@ touched_by_correct correct =
     account_item correct.account
     ∷ (if correct.other == 0 then touched_at correct.teller correct.branch else account_item correct.other ∷ touched_at correct.teller correct.branch)
 
--- a teller and his drawer, where the place is not the vault
+-- a teller and their drawer, where the place is not the vault
 abbrev pub touched_place : ℕ → List Cdi
 touched_place place = if place == 0 then [] else teller_item place ∷ drawer_item place ∷ []
 

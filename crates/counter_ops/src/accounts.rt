@@ -1,3 +1,5 @@
+//! A list of accounts asked for: its members, and how they are written to a row and read back.
+
 ghost use Rattle.std.specs.Prelude.{◌≡◌, IfSome};
 ghost use Rattle.counter_ops.specs.Accounts.{IsAccounts, accounts_numbers};
 ghost use Rattle.counter_ops.specs.Rows.{StandsIn, IsOnlyIn, places};

@@ -1,3 +1,5 @@
+//! The request for an account's balance, which names the account alone.
+
 /// The balance of an account, asked for.
 #[derive(Clone, Copy, Debug, PartialEq, Eq)]
 pub struct Balance {

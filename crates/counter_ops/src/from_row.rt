@@ -1,3 +1,5 @@
+//! Rows read back as operations, form by form.
+
 ghost use Rattle.std.specs.Prelude.{◌≡◌, Some, IfSome};
 ghost use Rattle.counter_ops.specs.Operations.{IsOp};
 ghost use Rattle.counter_ops.specs.Releasable.{IsReleasable, op_of};

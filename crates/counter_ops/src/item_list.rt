@@ -1,3 +1,5 @@
+//! A list of at most six items in fixed room.
+
 ghost use Rattle.std.specs.Prelude.{◌≡◌, ◌+◌, ◌<◌, ◌≤◌, [], ◌∷◌, ◌++◌, length};
 
 use bank_terms::{Cdi, Kind};
@@ -10,7 +12,7 @@ pub const MAX_TOUCHED: usize = 6;
 /// six and takes no memory.
 #[derive(Debug, Drop)]
 pub struct ItemList {
-    // Behind the first `len` stand items of no meaning.
+    // The items after the first `len` have no meaning.
     room: [Cdi; MAX_TOUCHED],
     len: usize,
 }
@@ -59,7 +61,7 @@ impl ItemList {
         list
     }
 
-    /// Puts these items behind the others.
+    /// Appends these items.
     pub(crate) fn extend(&mut self, items: &[Cdi])
         requires { length self.old + length items.now ≤ 6 }
         ensures { self.new ≡ self.old ++ items.now }
@@ -69,7 +71,7 @@ impl ItemList {
         }
     }
 
-    /// Puts the item behind the others.
+    /// Appends the item.
     fn push(&mut self, item: Cdi)
         requires { length self.old < 6 }
         ensures { self.new ≡ self.old ++ item ∷ [] }

@@ -1,3 +1,5 @@
+//! A move of cash: its members, and how they are written to a row and read back.
+
 ghost use Rattle.std.specs.Prelude.{◌≡◌, IfSome};
 ghost use Rattle.counter_ops.specs.MoveCash.{IsMoveCash, move_cash_numbers};
 ghost use Rattle.counter_ops.specs.Rows.{StandsIn, IsOnlyIn, places};

@@ -1,3 +1,5 @@
+//! The thirteen forms of operations, and the procedure of each.
+
 ghost use Rattle.std.specs.Prelude.{◌≡◌};
 ghost use Rattle.counter_ops.specs.Op.{procedure_of};
 
@@ -33,7 +35,7 @@ pub enum Op {
     MoveCash(MoveCash),
     /// A new account.
     NewAccount(NewAccount),
-    /// Leave for another user's operation.
+    /// Authorization for another user's operation.
     Release(Release),
     /// The balance of an account.
     Balance(Balance),

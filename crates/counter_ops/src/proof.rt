@@ -1,3 +1,5 @@
+//! The request for the books of a branch, which names the branch alone.
+
 /// The books of a branch, asked for.
 #[derive(Clone, Copy, Debug, PartialEq, Eq)]
 pub struct Proof {

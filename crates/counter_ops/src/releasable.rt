@@ -1,3 +1,5 @@
+//! The five forms of operations that a release may be for, and the branch of each.
+
 ghost use Rattle.std.specs.Prelude.{◌≡◌};
 ghost use Rattle.counter_ops.specs.Releasable.{branch_of};
 
@@ -7,7 +9,7 @@ use crate::move_cash::MoveCash;
 use crate::post::Post;
 use crate::transfer::Transfer;
 
-/// An operation that a release may give leave for.
+/// An operation that a release may authorize.
 #[derive(Clone, Copy, Debug, PartialEq, Eq)]
 pub enum Releasable {
     /// A post.

@@ -1,3 +1,5 @@
+//! A release: its members, and how they stand in a row with those of the operation that it is for.
+
 ghost use Rattle.std.specs.Prelude.{◌≡◌, pos, Some, IfSome};
 ghost use Rattle.bank_terms.specs.Procedure.{number_of};
 ghost use Rattle.counter_ops.specs.Op.{procedure_of};
@@ -10,7 +12,7 @@ use crate::releasable::Releasable;
 use crate::row_numbers::number;
 use bank_terms::{MAX_USER, OperationRow, Procedure};
 
-/// Leave for one operation of another user.
+/// Authorization for one operation of another user.
 #[derive(Clone, Copy, Debug, PartialEq, Eq)]
 pub struct Release {
     /// Who is given it, 1 to 9,999.

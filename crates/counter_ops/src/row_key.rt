@@ -1,3 +1,5 @@
+//! The row of a form whose only member is a key: a balance, a proof or the end of a day.
+
 ghost use Rattle.std.specs.Prelude.{◌≡◌, IfSome};
 ghost use Rattle.counter_ops.specs.Ranges.{IsKey};
 ghost use Rattle.counter_ops.specs.Rows.{StandsIn, IsOnlyIn, key_numbers, places};

@@ -1,3 +1,5 @@
+//! Numbers of a row read as members, each within its range.
+
 ghost use Rattle.std.specs.Prelude.{◌≡◌, ℕ, ℤ, pos, Some, IfSome};
 ghost use Rattle.money.specs.Range.{IsDelta};
 ghost use Rattle.counter_ops.specs.Ranges.{IsCash, IsFloor, IsKey, IsKeyOrZero, IsWithin};

@@ -1,3 +1,5 @@
+//! The numbers of a row whose other places are 0, for forms of one to six members.
+
 ghost use Rattle.std.specs.Prelude.{◌≡◌, ℤ, [], ◌∷◌, IfSome, IfNone};
 ghost use Rattle.counter_ops.specs.Rows.{places};
 

@@ -1,3 +1,5 @@
+//! Operations written as rows, form by form.
+
 ghost use Rattle.std.specs.Prelude.{◌≡◌};
 ghost use Rattle.counter_ops.specs.Rows.{places, op_numbers, row_of};
 ghost use Rattle.counter_ops.specs.Releasable.{op_of};

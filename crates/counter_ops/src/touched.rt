@@ -1,3 +1,5 @@
+//! Which items an operation touches, and which amount the limit of a triple is compared with.
+
 ghost use Rattle.std.specs.Prelude.{◌≡◌, ◌≤◌, ◌++◌, length, unsigned_abs};
 ghost use Rattle.counter_ops.specs.Touched.{account_item, teller_item, branch_item, history_item, drawer_item, vault_item, touched, touched_by_post, touched_by_transfer, touched_by_correct, touched_by_move_cash, touched_by_drawer, touched_by_books, touched_by_releasable, touched_at, touched_place, amount as amount_of, amount_of_releasable};
 
@@ -144,7 +146,7 @@ fn items_of_move_cash(move_cash: &MoveCash) -> ItemList
     items
 }
 
-/// Puts the teller and his drawer behind the items, where the place is not the vault.
+/// Appends the teller and their drawer to the items, where the place is not the vault.
 fn add_place(items: &mut ItemList, place: u32)
     requires { length items.old ≤ 4 }
     ensures { items.new ≡ items.old ++ touched_place place }

@@ -1,3 +1,5 @@
+//! A transfer: its members, and how they are written to a row and read back.
+
 ghost use Rattle.std.specs.Prelude.{◌≡◌, IfSome};
 ghost use Rattle.counter_ops.specs.Transfer.{IsTransfer, transfer_numbers};
 ghost use Rattle.counter_ops.specs.Rows.{StandsIn, IsOnlyIn, places};

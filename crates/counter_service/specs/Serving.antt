@@ -56,9 +56,9 @@ module _ {S : Type 0} (status : S → Status) (users : List ℕ → Option ℕ) 
       result is.exit w
 
 module _ {S : Type 0} (status : S → Status) (users : List ℕ → Option ℕ) where
-  -- It was served so over a cache that kept nothing yet, with the store opened below it; and the store left is what was below the
-  -- cache as that ended. Of the store itself, by its own words and not by the cache's: the messages are one run of it, and what went
-  -- out is the replies to them.
+  -- It was served so over a cache that kept nothing yet, with the store opened below it; and the store left is what was
+  -- below the cache as that ended. Of the store itself, by its own status and not by the cache's: the messages are one
+  -- run of it, and what went out is the replies to them.
   pub record IsServedThroughCache (opened : S) (moment : ℕ) (old new : Streams) (left : S) (result : Result Served ServeFault) : Type 0 where
     pub began : Cached S
     pub ended : Cached S

@@ -1,3 +1,5 @@
+//! Serving one stream over a store, as it is or with a cache in front of it.
+
 ghost use Rattle.std.specs.Prelude.{◌≡◌, ◌≤◌, IfOk, Err};
 ghost use Rattle.counter_service.specs.Serving.{IsServedBehindCache, IsServedOver, most_messages};
 ghost use Rattle.exit_lines.specs.Streams.{streams_at};

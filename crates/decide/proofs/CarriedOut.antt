@@ -1,4 +1,4 @@
--- What a plan that was applied, or a report that was counted, makes of the Worlds that gave leave for it.
+-- What a plan that was applied, or a report that was counted, makes of the Worlds that authorized it.
 use Rattle.std.proofs.Common.{◌≡◌, None, inl, inr, refl, subst, ◌⊎◌, sym}
 use Rattle.bank_books.specs.WorldLists.{WorldLists}
 use Rattle.store_rows.specs.Status.{Status}

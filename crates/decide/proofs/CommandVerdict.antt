@@ -19,7 +19,7 @@ of_known : (w : WorldLists) (who : Who) (command : PolicyOp) → is_identified (
     → first w (commands command who) ≡ first_against_command (command_rows w.policy (asker who) command) (asker who) command
 of_known w who command is = ap (λ known. cond (not known) (Some rule.Identity) (first_against_command (command_rows w.policy (asker who) command) (asker who) command)) is
 
--- by what was read of him and for it
+-- by what was read of the user and for the command
 pub by_rows : (w : WorldLists) (who : Who) (command : PolicyOp) (user : ℕ) (row : Option Standing) (rows : CommandRows) → who.user ≡ Some user → row ≡ standing w.policy user → is_identified row who.session ≡ true
     → rows ≡ command_rows w.policy user command → first w (commands command who) ≡ first_against_command rows user command
 by_rows w who command user row rows named is known read =

@@ -1,4 +1,4 @@
--- The compact text of the value behind a denial is the reply.
+-- The reply to a denial is the compact text of its JSON value.
 use Rattle.std.proofs.Common.{◌≡◌, refl}
 use Rattle.serde_json.specs.Written.{compact_text}
 use Rattle.serde_json.proofs.OnLiterals.{serde_json_on_literals}

@@ -29,7 +29,7 @@ use Rattle.bank_meaning.specs.declared.leave.Leave.TheVariants as leave
 use Rattle.op_prepare.specs.declared.prepared.Prepared.{Prepared}
 use Rattle.bank_meaning.proofs.PolicyLemmas.{books_decide, leave_given}
 
--- where the policy gives leave, what the books say is all that is said
+-- where the policy authorizes it, what the books say is all that is said
 pub denied_by_books : (w : WorldLists) (x : Execution) (l : Leave) (r : Rule) → leave_by_policy (grounds w x) ≡ Ok l → (by_books (books_meaning w x)).first ≡ Some r → (execution_verdict x w).first ≡ Some r
 denied_by_books w x l r leave books = books_decide w x (leave_given (grounds w x) l leave).0 ∙ books
 
@@ -40,7 +40,7 @@ books_deny w x l by is leave some =
     let same : (execution_verdict x w).first ≡ (by_books (meaning_of x.op by w)).first = books_decide w x (leave_given (grounds w x) l leave).0 ∙ ap (λ s. (by_books (meaning_of x.op s w)).first) (sym is) in
     subst IsSome same some
 
--- and the plan of the books, with what the leave takes, makes the effect
+-- and the plan of the books, with what the authorization takes, makes the effect
 pub prepared : (w : WorldLists) (x : Execution) (l : Leave) (p : Prepared) (plan : Vec RowWrite) → leave_by_policy (grounds w x) ≡ Ok l → IsPrepared w (by_books (books_meaning w x)) p
     → applied plan.items w ≡ used_by l (asker x.who) (applied p.plan.items w) → IsPrepared w (execution_verdict x w) (record { plan = plan; text = p.text })
 prepared w x l p plan leave books takes =
@@ -78,7 +78,7 @@ by_triple w x report passes =
     ap (λ b. if b then leave.Triple else leave.Release x.who.release)
     (ap (is_held_for (grounds w x).held (grounds w x).items) (no_amount x.op report) ∙ held_for_none (grounds w x).held (grounds w x).items ∙ held)
 
--- where the policy gives leave, a report of the books is one of all
+-- where the policy authorizes it, a report of the books is one of all
 pub reported : (w : WorldLists) (x : Execution) (l : Leave) (c : Contents) → is_report x.op ≡ true → leave_by_policy (grounds w x) ≡ Ok l → IsReported w (by_books (books_meaning w x)) c
     → IsReported w (execution_verdict x w) c
 reported w x l c report leave books =

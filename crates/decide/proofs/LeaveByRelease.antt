@@ -1,4 +1,4 @@
--- What a release that was looked up tells of the leave.
+-- What follows for the authorization from a release that was looked up.
 use Rattle.std.proofs.Common.{◌≡◌, ℕ, Bool, true, false, Option, Some, Ok, Err, ap, sym, ◌∙◌}
 use Rattle.std.specs.Prelude.{option_map}
 use Rattle.std.specs.Option.{option_map_or}
@@ -38,6 +38,6 @@ refused_by_release w x user number named asks sought is counts =
     ∙ ap (λ b. if_counts b (leave_sought (grounds w x))) (sym (counts ∙ told w x user number named asks (sym sought) is))
     ∙ ap (if_counts false) (sym sought))
 
--- a rule in front of that on releases is the first against the leave
+-- a rule before that on releases is the first against the authorization
 pub refused_before : (w : WorldLists) (x : Execution) (r : Rule) → Err r ≡ leave_sought (grounds w x) → Err r ≡ leave_by_policy (grounds w x)
 refused_before w x r sought = sym (leave_joined (grounds w x) ∙ ap (if_counts (is_released (grounds w x))) (sym sought))

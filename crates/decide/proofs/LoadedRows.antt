@@ -1,4 +1,4 @@
--- What rows that were loaded tell of the first rule against an operation.
+-- The first rule against an operation, by rows that were loaded for it.
 use Rattle.std.proofs.Common.{◌≡◌, ◌==◌, ◌&&◌, ℕ, Bool, true, false, not, cond, List, Option, Some, None, Ok, Err, Result, ap, sym, ◌∙◌}
 use Rattle.std.specs.Prelude.{if◌then◌else◌}
 use Rattle.std.specs.Prelude.{option_map}
@@ -68,7 +68,7 @@ first_by_tests true true true true none_named counts release r known cert is = a
 first_by_tests true true true false true counts release r known cert is = cc
 first_by_tests true true true false false counts release r known cert is = absurd cc
 
--- a rule by which the triples give no leave is the first of the policy, where the user is known and the procedure certified
+-- a rule by which triples authorize nothing is the policy's first, where the user is known and the procedure certified
 pub first_by_triples : (g : Grounds) (r : Rule) → is_identified g.standing g.session ≡ true → is_certified g.relations g.items ≡ true → leave_by_triples g.held g.items g.amount g.release ≡ Err r
     → first_of_policy g ≡ Some r
 first_by_triples g r =

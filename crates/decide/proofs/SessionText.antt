@@ -1,4 +1,4 @@
--- The compact texts of the values behind the replies to sessions are the replies.
+-- The replies to sessions are the compact texts of their JSON values.
 use Rattle.std.proofs.Common.{◌≡◌, ℕ, append_assoc}
 use Rattle.serde_json.specs.Written.{compact_text}
 use Rattle.serde_json.proofs.OnLiterals.{serde_json_on_literals}

@@ -18,7 +18,7 @@ use Rattle.bank_meaning.specs.declared.leave.Leave.TheVariants as leave
 pub same_behind : (plan : List RowWrite) (row : RowWrite) → is_of_policy row ≡ false → changes_policy (plan ++ row ∷ []) ≡ changes_policy plan
 same_behind plan row none = list_any-append is_of_policy plan (row ∷ []) ∙ ap (λ b. changes_policy plan || (b || false)) none ∙ or-false (changes_policy plan)
 
--- a slip that is taken behind it
+-- a slip that is taken after it
 pub taken_behind : (plan : List RowWrite) (row : SlipRow) → changes_policy plan ≡ false → (w : WorldLists) → applied (plan ++ write.Slip row ∷ []) w ≡ written (write.Slip row) (applied plan w)
 taken_behind plan row none w = applied-append plan (write.Slip row) w refl (ap (λ b. not b || nat_lt w.version max_version) none)
 

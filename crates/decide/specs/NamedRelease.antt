@@ -1,4 +1,4 @@
--- What the rows of a release that is named tell of it.
+-- What the rows of a release that is named say of it.
 use Rattle.std.specs.Prelude.{ℕ, Bool, Option, false, option_map}
 use Rattle.std.specs.Option.{option_map_or}
 use Rattle.std.specs.Rc.{rc_slice_items}
@@ -14,6 +14,6 @@ use Rattle.decide.specs.declared.named_release.NamedRelease.{NamedRelease}
 abbrev pub grounds_of : ℕ → NamedRelease → ReleaseGrounds
 grounds_of moment r = record { row = r.row; today = r.today; giver = r.giver; held = current moment (rc_slice_items r.held) }
 
--- it is there and counts for the operation that is asked for
+-- it is there and is valid for the operation that is asked for
 abbrev pub is_released_by : Option NamedRelease → Execution → Bool
 is_released_by named x = option_map_or (λ g. counts g (asker x.who) (row_of x.op) (touched x.op) (amount x.op)) (option_map (grounds_of x.moment) named) false

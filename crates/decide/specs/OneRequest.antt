@@ -1,4 +1,4 @@
--- What one request makes of a store, and what is told of it.
+-- What one request makes of a store, and what is returned for it.
 use Rattle.std.specs.Prelude.{◌≡◌, ◌<◌, ◌⊎◌, ℕ, Option, None, Result, Ok, Err, IfOk, OnOk}
 use Rattle.std.specs.Global.{Vec}
 use Rattle.money.specs.declared.fault.Fault.{Fault}
@@ -11,7 +11,7 @@ use Rattle.bank_meaning.specs.Run.{reply, step}
 use Rattle.bank_meaning.specs.declared.request.Request.{Request}
 
 module _ (old new : Status) (r : Request) where
-  -- of each World that the store stood for, it stands for the World after the request; where a fault is answered, for the same
+  -- where the store represented a World, it represents the World after the request; where a fault is answered, the same
   abbrev pub Moves : Option Fault → Type 0
   Moves mark = Tells old new (λ w. new.holds (after_mark mark (step w r) w))
 
@@ -28,7 +28,7 @@ module _ (old new : Status) (r : Request) where
   Settles mark = mark ≡ None → Tells old new (λ w. ((left : WorldLists) → new.may_leave left → left ≡ step w r)
       ⊎ ((step w r ≡ w) × ((left : WorldLists) → new.may_leave left → old.may_leave left)))
 
--- A command that is done found a version of the policy to make: it is not told of one that changed nothing.
+-- Where a command is reported done, there was a next version of the policy: none is reported done that changed nothing.
 abbrev pub FindsVersion : Status → Status → Result (Result (Vec ℕ) Rule) Fault → Type 0
 FindsVersion old new result = Tells old new (λ w. IfOk result (λ told. OnOk told (w.version < max_version)))
 

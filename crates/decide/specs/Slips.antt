@@ -51,7 +51,7 @@ JudgesReportsOnly is (judgement.Ready r) = IsReadyFor is r
 abbrev pub DeniesNewOrCounts : Status → Status → ℕ → ℕ → Execution → Result Judgement Fault → Type 0
 DeniesNewOrCounts old new user number x result = Tells old new (λ w. slip w user number ≡ None → IsSome (denied_by w (executes x)) → CountsFault old new result)
 
--- the first rule where the slip has no room: that its counts are full comes behind each other rule that denies
+-- the first rule where the slip has no room: that its counts are full comes after each other rule that denies
 abbrev pub or_full : Option Rule → Rule
 or_full None = rule.Full
 or_full (Some r) = r

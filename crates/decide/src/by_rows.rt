@@ -1,3 +1,5 @@
+//! The rows that a request is judged by, once they are loaded, and the first rule that denies it by them.
+
 ghost use Rattle.std.specs.Prelude.{◌≡◌, ◌==◌, ◌&&◌, not, false, nat_le, is_none};
 ghost use Rattle.std.specs.Option.{option_map_or};
 ghost use Rattle.bank_terms.specs.Limits.{max_slips};
@@ -27,7 +29,7 @@ use std::rc::RcSlice;
 /// The rows of the policy by which an operation is judged.
 #[derive(Drop)]
 pub struct PolicyRows {
-    /// What the row of the user who asks says of whether he may, or none where he isn't there.
+    /// What the row of the user who asks says of whether they may, or none where there is no such user.
     pub standing: Option<Standing>,
     /// The relations of the procedure.
     pub relations: RcSlice<CertifiedRow>,
@@ -60,9 +62,9 @@ pub struct SlipRows {
 /// All rows by which one command of the policy is judged.
 #[derive(Drop)]
 pub struct CommandGrounds {
-    /// What the row of the user who asks says of whether he may, or none where he isn't there.
+    /// What the row of the user who asks says of whether they may, or none where there is no such user.
     pub standing: Option<Standing>,
-    /// What the policy has of him and of what the command names.
+    /// What the policy has of that user and of what the command names.
     pub rows: CommandRows,
 }
 
@@ -72,7 +74,7 @@ pub enum Loaded {
     /// Of an operation.
     Operation(OperationRows),
     /// Of the opening or the ending of a session, or of the listing: what the row of the user who asks says of whether
-    /// he may, or none where he isn't there.
+    /// they may, or none where there is no such user.
     Session(Option<Standing>),
     /// Of a command of the policy.
     Command(CommandGrounds),
@@ -106,8 +108,8 @@ pub fn first_rule(rows: &Loaded, request: &Request) -> Option<Rule>
     }
 }
 
-/// The same of an operation: the rule on slips comes right behind that on identity, and the slip is the last
-/// that its counts are asked about.
+/// The same of an operation: the rule on slips comes right after that on identity, and whether there is room for a
+/// new slip is asked last.
 fn first_of_operation(rows: &OperationRows, execution: &Execution) -> Option<Rule>
     ensures { (w : WorldLists) → IsLoadedFor w execution.now rows.now → result ≡ first w (executes execution.now) }
 {

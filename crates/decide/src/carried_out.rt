@@ -1,3 +1,5 @@
+//! How a session or a command that was judged is carried out, or denied.
+
 ghost use Rattle.decide.specs.Judged.{IsCarriedOut};
 
 use crate::permit::apply_plan;

@@ -1,4 +1,4 @@
-//! Commands of the policy: an officer or a certifier asks for each, in his session.
+//! Commands of the policy: an officer or a certifier asks for each, in their session.
 
 ghost use Rattle.std.specs.Prelude.{◌≡◌, Ok, Err, IfOk, IsNone, IsSome};
 ghost use Rattle.serde_json.specs.View.{view};
@@ -29,8 +29,8 @@ use store_rows::{Bank, PolicyReads, Store};
 
 /// Carries a command of the policy out, whose members are in their ranges, and replies that it is done. Else the first
 /// rule that denies it. At a fault nothing has changed: `Fault::Size` says that the policy was changed as often as it can
-/// be. Where a rule denies, a fault is one that the store counted. Nobody is denied whatever the store holds, and so can't
-/// fail.
+/// be. Where a rule denies, a fault is one that the store counted. A request of no user is denied whatever the store
+/// holds, and so can't fail.
 pub fn decide_policy<S: Store>(
     bank: &mut Bank<S>,
     alloc: Global,

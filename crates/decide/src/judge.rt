@@ -1,3 +1,5 @@
+//! An operation judged without its slip: by the policy first, and then by the books.
+
 ghost use Rattle.std.specs.Prelude.{◌≡◌, IfOk, IsSome, false};
 ghost use Rattle.bank_books.specs.Effects.{applied};
 ghost use Rattle.bank_books.specs.Version.{changes_policy};
@@ -49,7 +51,7 @@ pub(crate) fn prepare<S: PolicyReads + BookReads + ReportReads>(
     }
 }
 
-/// A plan of the books with what its leave takes: a release is used up with it.
+/// A plan of the books with what its authorization takes: a release is used up with it.
 fn with_leave(mut plan: Plan, leave: Leave, user: u32) -> Result<Plan, AllocError>
     ensures used { IfOk result (λ p. changes_policy plan.items ≡ false → (w : WorldLists) → applied p.items w ≡ used_by leave user (applied plan.items w)) }
     ensures policy { IfOk result (λ p. changes_policy p.items ≡ changes_policy plan.items) }

@@ -1,4 +1,4 @@
-//! The listing of the policy: an officer asks for it, in his session.
+//! The listing of the policy: an officer asks for it, in their session.
 
 ghost use Rattle.std.specs.Prelude.{◌≡◌, IfErr, IfOk, IsNone, IsOkAnd, IsSome, None};
 ghost use Rattle.std.specs.Borrow.{sem, RestsIfErr};
@@ -30,8 +30,8 @@ pub enum Listed<'b, S> {
 }
 
 /// Counts the lines of the policy for who asks, and replies with their report; else the first rule that denies it. Nothing
-/// is changed. Where a rule denies, a fault is one that the store counted. Nobody is denied whatever the store holds, and
-/// so can't fail.
+/// is changed. Where a rule denies, a fault is one that the store counted. A request of no user is denied whatever the
+/// store holds, and so can't fail.
 pub fn list_policy<'b, S: Store>(
     bank: &'b mut Bank<S>,
     alloc: Global,

@@ -1,4 +1,4 @@
-//! A release that a request names: what it is judged by, and whether it counts.
+//! A release that a request names: what it is judged by, and whether it is valid.
 
 ghost use Rattle.std.specs.Prelude.{◌≡◌, ℕ, option_map};
 ghost use Rattle.bank_policy.specs.Tests.{current, is_held_for};
@@ -24,7 +24,7 @@ pub struct NamedRelease {
     pub row: Release,
     /// The present day of its branch, or none where the branch isn't there.
     pub today: Option<u32>,
-    /// What the row of the user who gave it says of whether he may, or none where he isn't there.
+    /// What the row of the user who gave it says of whether they may, or none where there is no such user.
     pub giver: Option<Standing>,
     /// That user's triples for releases.
     pub held: RcSlice<HeldRow>,
@@ -64,7 +64,7 @@ fn load_grounds_of<S: PolicyReads + BookReads>(
     })
 }
 
-/// Whether a release is there and counts for what is asked for.
+/// Whether a release is there and is valid for what is asked for.
 pub(crate) fn is_released(named: &Option<NamedRelease>, execution: &Execution) -> bool
     ensures { result ≡ is_released_by named.now execution.now }
 {
@@ -84,7 +84,7 @@ pub(crate) fn is_released(named: &Option<NamedRelease>, execution: &Execution) -
     )
 }
 
-/// Whether a release counts for an operation of this user: it is unused, names exactly that
+/// Whether a release is valid for an operation of this user: it is unused, names exactly that
 /// operation, is of the present day, and who gave it could give it now.
 fn counts(
     named: &NamedRelease,
@@ -119,7 +119,7 @@ fn is_of_today(named: &NamedRelease) -> bool
     }
 }
 
-/// Whether who gave a release could give it now: he is another than this user, may ask, and holds
+/// Whether who gave a release could give it now: they are another than this user, may ask, and hold
 /// one triple for releases that has these items, up to the amount.
 fn is_giver_for(named: &NamedRelease, user: u32, items: &[Cdi], amount: u32, moment: u64) -> bool
     ensures { result ≡ is_giver_for (grounds_of moment named.now) user items.now amount }
@@ -139,7 +139,7 @@ fn is_active(standing: Option<Standing>) -> bool
     }
 }
 
-/// Whether some one of these triples that counts at the moment has the items, up to the amount.
+/// Whether one of these triples that is valid at the moment has the items, up to the amount.
 fn is_held_for(held: &[HeldRow], items: &[Cdi], amount: u32, moment: u64) -> bool
     ensures { result ≡ is_held_for (current moment held.now) items.now amount }
 {

@@ -1,4 +1,4 @@
-//! Sessions: a user opens one before he asks for anything else, and ends it.
+//! Sessions: a user opens one before asking for anything else, and ends it.
 
 ghost use Rattle.std.specs.Prelude.{◌≡◌, ◌+◌, None, Some, Ok, Err, IfErr, IfOk, IsNone, IsSome, OnOk};
 ghost use Rattle.serde_json.specs.View.{view};
@@ -22,10 +22,10 @@ use serde_json::{Value, json};
 use std::alloc::{AllocError, Global};
 use store_rows::{Bank, PolicyReads, Store};
 
-/// Opens the next session of the user whom the gate names, and replies its number: from then on it is the one that he
-/// has to name. Where a session of his is open, it is replaced. Else the first rule that denies: he isn't there or is
-/// suspended, or his sessions have no number left. At a fault nothing has changed. Where a rule denies, a fault is one
-/// that the store counted. Nobody is denied whatever the store holds, and so can't fail.
+/// Opens the next session of the user whom the authenticator names, and replies its number, which the user has to name
+/// from then on. A session of theirs that is open is replaced. Else the first rule that denies: there is no such user,
+/// they are suspended, or their sessions have no number left. At a fault nothing has changed. Where a rule denies, a
+/// fault is one that the store counted. A request of no user is denied whatever the store holds, and so can't fail.
 pub fn begin<S: Store>(
     bank: &mut Bank<S>,
     alloc: Global,
@@ -48,9 +48,10 @@ pub fn begin<S: Store>(
     carry_out_prepared(alloc, &mut bank.store, judged)
 }
 
-/// Ends the session of who asks, and replies its number, which stays: until he opens the next one, he can ask for
-/// nothing else. Else the first rule that denies: he is not known by it. At a fault nothing has changed. Where a rule
-/// denies, a fault is one that the store counted. Nobody is denied whatever the store holds, and so can't fail.
+/// Ends the session of who asks, and replies its number, which stays: until they open the next one, they can ask
+/// for nothing else. Else the first rule that denies: they are not known by it. At a fault nothing has changed. Where
+/// a rule denies, a fault was counted by the store. A request of no user is denied whatever the store holds, and so
+/// can't fail.
 pub fn end<S: Store>(
     bank: &mut Bank<S>,
     alloc: Global,

@@ -42,7 +42,7 @@ pub(crate) enum Judgement {
 }
 
 /// What is judged of an operation with its slip. Whether it repeats one that was made is asked right
-/// behind the rule on identity.
+/// after the rule on identity.
 pub(crate) fn prepare_with_slip<S: PolicyReads + BookReads + ReportReads + SlipReads>(
     alloc: Global,
     store: &mut S,
@@ -146,7 +146,7 @@ fn prepare_with_new_slip<S: PolicyReads + BookReads + ReportReads + SlipReads>(
     }
 }
 
-/// The first rule against an operation whose slip has no room: the counts are full, which comes behind each other
+/// The first rule against an operation whose slip has no room: that the counts are full comes after each other
 /// rule that denies it. The rows that it is judged on are read alone, and no plan is formed.
 fn rule_with_no_room<S: PolicyReads + BookReads>(
     alloc: Global,
@@ -169,7 +169,7 @@ fn rule_with_no_room<S: PolicyReads + BookReads>(
     }
 }
 
-/// A plan and, behind it, a slip that is taken with this operation and this reply.
+/// A plan and, after it, a slip that is taken with this operation and this reply.
 fn with_slip(
     alloc: Global,
     mut plan: Plan,

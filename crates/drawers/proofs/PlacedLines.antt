@@ -39,7 +39,7 @@ pub record IsPlaced (w : WorldLists) (branch : ℕ) (l : CashLine) : Type 0 wher
 abbrev pub ArePlaced : WorldLists → ℕ → List CashLine → Type 0
 ArePlaced w branch lines = AllByRecursion (IsPlaced w branch) lines
 
--- numbered behind so many
+-- numbered one by one, after so many
 abbrev pub AreNumberedBehind : ℕ → List CashLine → Type 0
 AreNumberedBehind n [] = ⊤
 AreNumberedBehind n (l ∷ lines) = (l.number ≡ n + 1) × AreNumberedBehind (n + 1) lines

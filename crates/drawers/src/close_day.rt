@@ -1,3 +1,5 @@
+//! The closing of a branch's day: the rules against it, and the proof and the next day that it writes.
+
 ghost use Rattle.std.specs.Prelude.{◌≡◌, ◌+◌, ◌<◌, ◌≤◌, ◌&&◌, [], ◌∷◌, is_some, not, nat_le, true, false, pos, int_lt, option_map, IfOk, IfSome, IsNone, IsOkUnless, Ok, Err};
 ghost use Rattle.std.specs.List.{list_any};
 ghost use Rattle.std.specs.Option.{option_map_or};

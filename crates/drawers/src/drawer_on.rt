@@ -1,3 +1,5 @@
+//! A drawer put on: the rules against it, and the two cash lines that it writes.
+
 ghost use Rattle.std.specs.Prelude.{◌≡◌, ◌+◌, ◌≤◌, ◌+ℤ◌, [], ◌∷◌, IfOk, IfSome, IsNone, IsOkUnless, Ok, Err};
 ghost use Rattle.bank_terms.specs.Limits.{max_key};
 ghost use Rattle.money.specs.Range.{IsCents};

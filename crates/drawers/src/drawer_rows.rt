@@ -1,3 +1,5 @@
+//! What putting a drawer on or off is judged on: the teller, the cash book and the vault.
+
 ghost use Rattle.std.specs.Prelude.{◌≡◌, option_map};
 ghost use Rattle.rule_tests.specs.BranchParts.{cash_book_of};
 ghost use Rattle.drawers.specs.DrawerRows.{is_unknown};
@@ -8,7 +10,7 @@ use rule_tests::CashBook;
 /// The rows that a drawer which is put on or off is judged on, as far as they are there.
 #[derive(Clone, Copy, Debug, PartialEq, Eq)]
 pub struct DrawerRows {
-    /// The teller, with his drawer.
+    /// The teller, with its drawer.
     pub teller: Option<TellerRecord>,
     /// The cash book of the branch.
     pub cash_book: Option<CashBook>,

@@ -1,3 +1,5 @@
+//! Cash moved between two places of a branch: the rules against it, and the two cash lines that it writes.
+
 ghost use Rattle.std.specs.Prelude.{◌≡◌, ◌+◌, ◌≤◌, ◌+ℤ◌, ◌||◌, ◌&&◌, [], ◌∷◌, None, option_map, if◌then◌else◌, IfOk, IfSome, IsNone, IsSomeAnd, IsOkUnless, Ok, Err};
 ghost use Rattle.bank_terms.specs.Limits.{max_key};
 ghost use Rattle.money.specs.Range.{IsCents};

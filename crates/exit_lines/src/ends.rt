@@ -1,3 +1,5 @@
+//! The statuses that a program ends with, and the lines on standard error that go with them.
+
 ghost use Rattle.std.specs.Prelude.{◌≡◌};
 ghost use Rattle.money.specs.Counted.{Sends};
 ghost use Rattle.exit_lines.specs.Ends.{IsFailed, IsShown, IsTold};
@@ -14,8 +16,8 @@ pub const DONE: u8 = 0;
 /// The status of a program that was kept from it by a stream or by want of memory.
 pub const FAILED: u8 = 3;
 
-/// Writes a text to standard output and flushes it, and answers `DONE`; or where it can't be written whole, or the flush
-/// fails, `FAILED`, behind the line of a broken stream.
+/// Writes a text to standard output and flushes it, and returns `DONE`; or where it can't be written whole, or the
+/// flush fails, `FAILED`, after the line of a broken stream.
 pub fn show<W: Write, E: Write>(output: &mut Tallied<W>, errors: &mut Tallied<E>, text: &str) -> u8
     ensures { IsShown (stream_at W.contents output.old) (stream_at W.contents output.new)
         (stream_at E.contents errors.old) (stream_at E.contents errors.new) text.now result }
@@ -26,7 +28,7 @@ pub fn show<W: Write, E: Write>(output: &mut Tallied<W>, errors: &mut Tallied<E>
     }
 }
 
-/// Writes a text whole, and flushes behind it. Where a call fails a beginning of the text is written, which is all of it
+/// Writes a text whole, and then flushes. Where a call fails a beginning of the text is written, which is all of it
 /// where that is the flush.
 fn send<W: Write>(output: &mut Tallied<W>, text: &str) -> Result<(), WriteStopped>
     ensures { Sends W.contents output.old output.new text.now result }
@@ -64,8 +66,8 @@ pub fn line_of(fault: ServeFault) -> &'static str
     }
 }
 
-/// Tells how serving a stream ended, and answers the status for it: `DONE` exactly where that went well, otherwise
-/// `FAILED` behind the line of the fault.
+/// Reports how serving a stream ended, and returns the status for it: `DONE` exactly where that went well, otherwise
+/// `FAILED` after the line of the fault.
 pub fn tell_end<E: Write>(errors: &mut Tallied<E>, served: Result<Served, ServeFault>) -> u8
     ensures { IsTold served (stream_at E.contents errors.old) (stream_at E.contents errors.new) result }
 {

@@ -26,7 +26,7 @@ IsLine line = (text : List ℕ) × HasNoFeed text × (line ≡ text ++ 10 ∷ []
 abbrev pub AreWhole : List ℕ → Type 0
 AreWhole lines = (lines ≡ []) ⊎ EndsLine lines
 
--- what is behind the first bytes of whole lines
+-- what follows the first bytes of whole lines
 abbrev pub Behind : List ℕ → List ℕ → List ℕ → List ℕ → Type 0
 Behind front lines rest more = (behind : List ℕ) × (lines ≡ front ++ behind) × (rest ≡ behind ++ more) × AreWhole behind
 

@@ -33,7 +33,7 @@ waits_for lines more h some reads = (
   inr (more, h, reads),
 )
 
--- a least head behind line ends
+-- a least head after line ends
 abbrev least_head : List LineEnd → RequestHead
 least_head ends = record { blank = ends; method = 65 ∷ []; target = 47 ∷ []; minor = 1; line_end = lf; fields = []; last = lf }
 
@@ -152,7 +152,7 @@ not_both : (lines : List ℕ) → LacksLastLine lines → IsBlank lines → ⊥
 not_both lines (h, reads) ends =
     (ends_wait (lines ++ print_end h.last) (more_ends lines (print_end h.last) ends (h.last ∷ [], sym (append-nil (print_end h.last))))).0 h [] reads
 
--- what is behind lines that lack a last line, in longer ones, lacks it of a section
+-- what follows lines that lack a last line, in longer ones that lack it too, is a section but for its last line
 lacks_behind : (front lines : List ℕ) → LacksLastLine front → LacksLastLine (front ++ lines)
     → (fields : List Field) × (last : LineEnd) × ReadsSection (lines ++ print_end last) fields last []
 lacks_behind front lines lacking (h, reads) =
@@ -181,7 +181,7 @@ has_room front lines room lacking all short enough over =
     let few = fields_len behind.0 behind.2.0 in
     omega (arith, few, over more behind.0 behind.1 [] behind.2, ap length behind.2.1, length-append lines more, length-append (flat_map print_field behind.0 ++ more) [], length-append (flat_map print_field behind.0) more)
 
--- what is behind line ends, in longer ones, is line ends
+-- what follows line ends, among line ends alone, is line ends
 pub ends_behind : (front lines : List ℕ) → IsBlank front → IsBlank (front ++ lines) → IsBlank lines
 ends_behind front lines (ends, is) all = go ends (subst (λ l. IsBlank (l ++ lines)) is all)
   where
@@ -224,7 +224,7 @@ started_now was n lines first no_more whole waits =
     go true first no_more ends =
         not_both (take n lines) first (ends_before (take n lines) (drop n lines) (first_whole true (take n lines) first) (subst IsBlank (sym (take-append-drop n lines)) ends))
 
--- no line ends behind the last line feed of all the bytes
+-- no line ends after the last line feed of all the bytes
 pub part_of : (bytes : List ℕ) (m n : ℕ) → m ≡ min (length bytes) max_head_len → length bytes < max_head_len → NoLineAfter bytes m n
     → EndNoLine bytes n (length bytes)
 part_of bytes m n is short after k from to feed =

@@ -52,7 +52,7 @@ head_fault p =
 abbrev pub asks_head : HeadParts → Bool
 asks_head p = bytes_eq p.method (codes "HEAD")
 
--- the words of every Connection field
+-- the elements of every Connection field
 unfoldable pub connection_words : HeadParts → List (List ℕ)
 connection_words p = flat_map words (values_named (codes "connection") p.fields)
 

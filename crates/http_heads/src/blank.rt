@@ -1,7 +1,9 @@
+//! Bytes that are line ends alone, as may come before a head or at the end of a stream.
+
 ghost use Rattle.std.specs.Prelude.{◌≡◌, ◌≢◌, ◌↔◌, ◌++◌, ℕ, List, IsTrue, IsNone, IfSome};
 ghost use Rattle.httparse.specs.Grammar.{LineEnd, print_end, print_blank};
 
-/// What is behind a line end, LF or CR LF, where the bytes begin with one.
+/// What follows a line end, LF or CR LF, where the bytes begin with one.
 fn strip_line_end(bytes: &[u8]) -> Option<&[u8]>
     ensures some { IfSome result (λ rest. (end : LineEnd) × (bytes.now ≡ print_end end ++ rest.now)) }
     ensures none { IsNone result → (end : LineEnd) (rest : List ℕ) → bytes.now ≢ print_end end ++ rest }

@@ -1,3 +1,5 @@
+//! The faults of messages, M1 to M6, each with the status and the body of the reply to it.
+
 ghost use Rattle.std.specs.Prelude.{◌≡◌};
 ghost use Rattle.http_heads.specs.Fault.{fault_status, fault_text};
 

@@ -1,3 +1,5 @@
+//! A search of a head's fields by name, and what it finds: no value, one, or several.
+
 ghost use Rattle.std.specs.Prelude.{◌≡◌, ◌++◌, ◌∷◌, [], List, ℕ, length, map, All, if◌then◌else◌};
 ghost use Rattle.httparse.specs.Spans.{IsHeaderWithin, header_bytes};
 ghost use Rattle.http_heads.specs.Fields.{eq_ignore_case, values_named};

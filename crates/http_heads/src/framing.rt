@@ -1,3 +1,5 @@
+//! How the reply to a message is framed: whether the connection ends after it, and whether its body is sent.
+
 /// What a reply owes to the message that it answers.
 #[derive(Clone, Copy, Debug, PartialEq, Eq)]
 pub struct Framing {

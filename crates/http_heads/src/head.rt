@@ -1,3 +1,5 @@
+//! A head that was read: the parts that its reply depends on, the length of its body, and its fault.
+
 ghost use Rattle.std.specs.Prelude.{◌≡◌, ◌+◌, ◌≤◌, min, option_map, Some, None, IfOk, IfErr};
 ghost use Rattle.httparse.specs.Spans.{IsRequestAt, IsRequestWithin};
 ghost use Rattle.httparse.specs.Grammar.{RequestHead};
@@ -136,8 +138,8 @@ impl<'b> Head<'b> {
         }
     }
 
-    /// Whether the connection ends after the reply: the head is of HTTP/1.0, or one of the words of a Connection field
-    /// is `close`.
+    /// Whether the connection ends after the reply: the head is of HTTP/1.0, or one of the elements of a Connection
+    /// field is `close`.
     pub fn closes(&self) -> bool
         ensures { result ≡ closes self.now }
     {

@@ -1,3 +1,5 @@
+//! Whether the first bytes of a stream begin with a head, can begin none, are too long, or may still become one.
+
 ghost use Rattle.std.specs.Prelude.{◌≡◌, ◌≤◌, ◌⊎◌, [], length};
 ghost use Rattle.http_heads.specs.Stream.{max_head_len, max_fields, EndsLine};
 ghost use Rattle.http_heads.specs.Judged.{IsJudged, AreLinesJudged};

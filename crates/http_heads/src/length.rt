@@ -1,3 +1,5 @@
+//! The value of a Content-Length field as a number, cut just above the longest body.
+
 ghost use Rattle.std.specs.Prelude.{◌≡◌, ◌+◌, min, Some, None, if◌then◌else◌};
 ghost use Rattle.std.specs.Str.Parse.{digits_value};
 ghost use Rattle.http_heads.specs.Framing.{is_digits, max_body_len};

@@ -1,6 +1,6 @@
-//! Heads of HTTP/1.1 messages, by the grammar of `httparse`. `judge` tells exactly whether bytes begin with
-//! a head, can begin none, are too long, or may still become one; `judge_from` tells it of pieces. `Head`
-//! tells the method, the target and the fields; `find_field` ignores letter case. `Head::body_len` is the
+//! Heads of HTTP/1.1 messages, by the grammar of `httparse`. `judge` says exactly whether bytes begin with
+//! a head, can begin none, are too long, or may still become one; `judge_from` does so piece by piece. `Head`
+//! has the method, the target and the fields; `find_field` ignores letter case. `Head::body_len` is the
 //! length of the body, 1,024 at most, or the least fault. `closes` and `framing` say how the reply ends.
 #![tactic(auto)]
 

@@ -1,3 +1,5 @@
+//! How far the lines of a head were judged, so that only further ones are looked at while the head is awaited.
+
 ghost use Rattle.std.specs.Prelude.{◌≡◌, ◌⊎◌, ◌↔◌, ℕ, ◌-◌, ◌<◌, ◌≤◌, List, [], length, take, drop, get_or, IsTrue};
 ghost use Rattle.http_heads.specs.Seen.{AreFirstLines, EndNoLine, IsSeen};
 ghost use Rattle.http_heads.specs.Stream.{max_head_len, max_fields, EndsLine};
@@ -11,7 +13,7 @@ use httparse::spans::{HeaderSpan, parse_headers_from};
 pub struct Seen {
     /// How many bytes were judged.
     pub(crate) len: usize,
-    /// How many of them are whole lines. Behind these no line ended.
+    /// How many of them are whole lines. No line ended after these.
     pub(crate) lines: usize,
     /// Whether a start line is among the lines. Else they are line ends alone.
     pub(crate) started: bool,
@@ -44,8 +46,8 @@ pub(crate) fn lines_end(bytes: &[u8], seen: Seen) -> usize
     if end > seen.len { end } else { seen.lines }
 }
 
-/// Whether all of the lines are first lines of a head as those that were seen are: with further fields behind a start line,
-/// else with further line ends. Those that were seen are not looked at again.
+/// Whether all of the lines are first lines of a head as those that were seen are: with further fields after a start
+/// line, else with further line ends. Those that were seen are not looked at again.
 pub(crate) fn go_on(lines: &[u8], headers: &mut [HeaderSpan], seen: Seen) -> bool
     requires within { seen.lines ≤ length lines.now }
     requires short { length lines.now ≤ max_head_len }

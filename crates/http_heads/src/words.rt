@@ -1,3 +1,5 @@
+//! The elements of Connection fields: whether `close` is one of them, without letter case.
+
 ghost use Rattle.std.specs.Prelude.{◌≡◌, length, map, All, reverse, codes, flat_map};
 ghost use Rattle.std.specs.List.{list_any};
 ghost use Rattle.httparse.specs.Grammar.{skip_ows, trim_ows};
@@ -40,7 +42,7 @@ fn trim(text: &[u8]) -> &[u8]
     trim_end(trim_start(text))
 }
 
-/// Whether one of the words of a value, which commas part, is `close`.
+/// Whether one of the elements of a value, which commas separate, is `close`.
 fn has_close(value: &[u8]) -> bool
     ensures { result ≡ list_any (λ word. eq_ignore_case word (codes "close")) (words value.now) }
 {
@@ -54,7 +56,7 @@ fn has_close(value: &[u8]) -> bool
     eq_ignore_case(trim(rest), b"close")
 }
 
-/// Whether one of the words of the Connection fields is `close`.
+/// Whether one of the elements of the Connection fields is `close`.
 pub(crate) fn lists_close(bytes: &[u8], headers: &[HeaderSpan]) -> bool
     requires { All (IsHeaderWithin (length bytes.now)) headers.now }
     ensures { result ≡ list_any (λ word. eq_ignore_case word (codes "close"))

@@ -83,7 +83,7 @@ module _ {S : Type 0} (answers : S → MessageParts → List ℕ → S → Type 
         reached = l.reached;
       }
 
-  -- a flush failed behind these replies: the last of them stopped
+  -- a flush failed after these replies: the last of them stopped
   flush_failed : (most : ℕ) (old new : Point S) (ms : List WholeMessage) (rest out : List ℕ) → length ms ≤ most → 0 < length ms → All StaysOpen ms
       → Reads answers old new ms rest out → Appends old.written new.written out → StopsInReply answers answers most old new
   flush_failed most old new ms rest out fits some stays reads wrote =
@@ -123,7 +123,7 @@ module _ {S : Type 0} (answers stops breaks : S → MessageParts → List ℕ �
     bounded = run.bounded;
   }
 
-  -- more bytes were read behind it
+  -- more bytes were read after it
   reads_on : (old mid new : At S) (w : Option (List ℕ)) (ms : List WholeMessage) (out : List ℕ) → old.held ≡ [] → Runs answers stops breaks old mid ms out → OnlyReads mid new
       → Reads answers (seen old old.written) (seen new w) ms new.held out
   reads_on old mid new w ms out none run x = record {

@@ -1,4 +1,4 @@
--- What was counted behind a call that counted nothing.
+-- What was counted after a call that counted nothing.
 use Rattle.std.proofs.Common.{◌≡◌, ◌⊎◌, Result, Ok, Err, IfErr, inl, inr, ap, ◌∙◌}
 use Rattle.money.specs.Counted.{counted_once_more}
 use Rattle.money.specs.declared.tallied.Tallied.{Tallied}
@@ -9,7 +9,7 @@ use Rattle.http_messages.specs.Failures.{CountsByCall, CountsByEnd, CountsByExit
 pub one_behind : {T : Type 0} (old mid new : Tallied T) → CountsNone old mid → CountsOne mid new → CountsOne old new
 one_behind old mid new none one = one ∙ ap counted_once_more none
 
--- an engine's answer behind it
+-- an engine's answer after it
 pub turn_behind : {R W : Type 0} (A B : Type 0) (r s : Tallied R) (u v w : Tallied W) (f : ServeFault) → CountsNone r s × CountsNone u v
     → CountsByTurnOf {A = A} v w (Err f) → CountsByEnd {A = B} r s u w (Err f)
 turn_behind A B r s u v w Write before one = (before.0, one_behind u v w before.1 one)
@@ -18,7 +18,7 @@ turn_behind A B r s u v w Read before never = absurd never
 turn_behind A B r s u v w Cut before never = absurd never
 turn_behind A B r s u v w Memory before never = absurd never
 
--- a turn behind it
+-- a turn after it
 pub end_behind : {R W : Type 0} (A B : Type 0) (q r s : Tallied R) (u v w : Tallied W) (f : ServeFault) → CountsNone q r × CountsNone u v
     → CountsByEnd {A = A} r s v w (Err f) → CountsByEnd {A = B} q s u w (Err f)
 end_behind A B q r s u v w Read before end = (one_behind q r s before.0 end.0, end.1 ∙ before.1)
@@ -27,7 +27,7 @@ end_behind A B q r s u v w Cut before end = (end.0 ∙ before.0, end.1 ∙ befor
 end_behind A B q r s u v w Report before end = (end.0 ∙ before.0, end.1 ∙ before.1)
 end_behind A B q r s u v w Memory before end = (end.0 ∙ before.0, end.1 ∙ before.1)
 
--- the last flush behind it
+-- the last flush after it
 pub flush_behind : {R W A : Type 0} (r s : Tallied R) (u v w : Tallied W) (end : Result A ServeFault) → CountsNone r s × CountsNone u v
     → IfErr end (λ f. f ≡ Write) → CountsByCall v w end → CountsByExit r s u w end
 flush_behind r s u v w (Ok x) before is none = (before.0, none ∙ before.1)
@@ -37,7 +37,7 @@ flush_behind r s u v w (Err Cut) before is one = let e = is in absurd cc
 flush_behind r s u v w (Err Memory) before is one = let e = is in absurd cc
 flush_behind r s u v w (Err Report) before is one = let e = is in absurd cc
 
--- the flush behind a broken report
+-- the flush after a broken report
 pub report_behind : {R W : Type 0} (r s : Tallied R) (u v w : Tallied W) (flush : Result Unit ServeFault) → CountsNone r s × CountsNone u v → CountsByCall v w flush
     → CountsNone r s × (CountsNone u w ⊎ CountsOne u w)
 report_behind r s u v w (Ok x) before none = (before.0, inl (none ∙ before.1))

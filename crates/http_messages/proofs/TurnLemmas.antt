@@ -30,7 +30,7 @@ kept_Appends (Some x) (Some y) (Some z) bs p q = q ∙ ap (λ l. l ++ bs) p
 kept_beginning : (a b c : Option (List ℕ)) (bs : List ℕ) → Keeps a b → AppendsBeginning b c bs → AppendsBeginning a c bs
 kept_beginning a b c bs p (n, fits, some) = (n, fits, kept_Appends a b c (take n bs) p some)
 
--- the bytes are the message and what is behind it
+-- the bytes are the message and what follows it
 split_message : (bytes : List ℕ) (h : RequestHead) (len n : ℕ) → bytes ≡ print_request h ++ drop len bytes
     → bytes ≡ (print_request h ++ take n (drop len bytes)) ++ drop (len + n) bytes
 split_message bytes h len n whole =

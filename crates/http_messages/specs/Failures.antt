@@ -44,7 +44,7 @@ CountsByEnd read_from read_to write_from write_to (Err Cut) = CountsNone read_fr
 CountsByEnd read_from read_to write_from write_to (Err Report) = CountsNone read_from read_to × CountsNone write_from write_to
 CountsByEnd read_from read_to write_from write_to (Err Memory) = CountsNone read_from read_to × CountsNone write_from write_to
 
--- the same of a whole call: behind a broken report its beginning is flushed, and that may fail too
+-- the same of a whole call: after a broken report its beginning is flushed, and that may fail too
 abbrev pub CountsByExit : {R W A : Type 0} → Tallied R → Tallied R → Tallied W → Tallied W → Result A ServeFault → Type 0
 CountsByExit read_from read_to write_from write_to (Err Report) =
     CountsNone read_from read_to × (CountsNone write_from write_to ⊎ CountsOne write_from write_to)

@@ -8,7 +8,7 @@ use Rattle.http_heads.specs.Framing.{max_body_len}
 abbrev pub max_message_len : ℕ
 max_message_len = max_head_len + max_body_len
 
--- these bytes were taken off the reader, and put behind those that were held
+-- these bytes were taken off the reader, and appended to those that were held
 pub record Takes (old_left new_left : Option (List ℕ)) (old_held new_held more : List ℕ) : Type 0 where
   pub taken : Consumes old_left new_left more
   pub held : new_held ≡ old_held ++ more

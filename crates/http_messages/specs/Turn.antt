@@ -32,7 +32,7 @@ pub record OnlyReads {S : Type 0} (old new : At S) : Type 0 where
   pub engine : new.engine ≡ old.engine
   pub bounded : length new.held ≤ max_message_len
 
--- bytes were read, and the first message of what was held then was handed to the engine, with the rest behind it
+-- bytes were read, and the first message of what was held then was handed to the engine, with the rest after it
 pub record Handles {S : Type 0} (answers : S → MessageParts → List ℕ → S → Type 0) (old new : At S) (rest reply : List ℕ) : Type 0 where
   pub more : List ℕ
   pub message : WholeMessage

@@ -1,3 +1,5 @@
+//! The trait of what answers messages, what it promises of each reply, and why it may give one up.
+
 use crate::message::Message;
 use money::{Tallied, WriteStopped};
 use std::io::Write;

@@ -1,3 +1,5 @@
+//! What holds of every reading of a stream as messages. The functions do nothing; their contracts are the laws.
+
 ghost use Rattle.std.specs.Prelude.{◌≡◌, ◌≤◌, ℕ, List, length};
 ghost use Rattle.http_messages.specs.Next.{IsPartial};
 ghost use Rattle.http_messages.specs.Refusal.{IsRefusal, HoldsNoMessage};

@@ -1,3 +1,5 @@
+//! What the bytes that were read begin with: a whole message, a part of one, or a fault.
+
 ghost use Rattle.std.specs.Prelude.{◌≤◌, List, length};
 ghost use Rattle.httparse.specs.declared.spans.HeaderSpan.{HeaderSpan};
 ghost use Rattle.http_heads.specs.Framing.{max_body_len};

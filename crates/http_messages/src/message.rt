@@ -1,3 +1,5 @@
+//! A whole message as an engine is handed it, and how the reply to it is written.
+
 ghost use Rattle.std.specs.Prelude.{◌≡◌, OnOk, OnErr};
 ghost use Rattle.std.specs.Io.KnownBytes.{Appends};
 ghost use Rattle.money.specs.Counted.{stream_of, AppendsBeginning};
@@ -30,7 +32,7 @@ impl<'b> Model for Message<'b> {
 }
 
 impl<'b> Message<'b> {
-    /// A head, and the body behind it.
+    /// A head, and the body that follows it.
     pub(crate) fn new(head: Head<'b>, body: &'b [u8]) -> Message<'b>
         ensures { result ≡ record { head = head.entry; body = body.now } }
     {
@@ -80,7 +82,7 @@ impl<'b> Message<'b> {
     }
 
     /// Writes the head of a reply to this message, whose body has this length: with `Connection: close` where the
-    /// connection ends after it. The body goes behind it, where the method is not HEAD. It takes no memory. After an
+    /// connection ends after it. The body follows it, where the method is not HEAD. It takes no memory. After an
     /// error a beginning of it was written.
     pub fn reply_head<W: Write>(
         &self,

@@ -1,3 +1,5 @@
+//! The bytes that were read and are not answered yet, and the room for them and for the fields of a head.
+
 ghost use Rattle.std.specs.Prelude.{◌≡◌, ◌+◌, ◌<◌, ◌≤◌, ℕ, List, [], length, take, drop, nat_lt, false, Ok, IfOk, OnErr};
 ghost use Rattle.std.specs.Io.KnownBytes.{Keeps, IsAtEnd};
 ghost use Rattle.money.specs.Counted.{stream_of};
@@ -18,7 +20,7 @@ pub(crate) const MAX_MESSAGE_LEN: usize = MAX_HEAD_LEN + MAX_BODY_LEN;
 #[derive(Clone, Copy, Drop)]
 pub(crate) struct ReadFailed;
 
-/// Reads once into the room behind the bytes that are held, and answers how many are held then.
+/// Reads once into the room after the bytes that are held, and returns how many are held then.
 fn read_behind<R: Read>(
     reader: &mut Tallied<R>,
     room: &mut [u8],

@@ -1,3 +1,5 @@
+//! The bytes of a reply, written from a status, a content type and a body, with no memory taken.
+
 ghost use Rattle.std.specs.Prelude.{◌≡◌, [], if◌then◌else◌, OnOk, OnErr};
 ghost use Rattle.std.specs.Io.KnownBytes.{Appends};
 ghost use Rattle.money.specs.Counted.{stream_of, AppendsBeginning};
@@ -68,7 +70,7 @@ fn phrase(status: StatusCode) -> &'static str
     status.canonical_reason().unwrap_or("")
 }
 
-/// The field that ends the connection, behind the line before it.
+/// The field that ends the connection, after the end of the line before it.
 fn connection_field(close: bool) -> &'static [u8]
     ensures { result.now ≡ connection_field close }
 {

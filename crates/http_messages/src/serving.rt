@@ -1,3 +1,5 @@
+//! The loop that reads the messages of a stream and has each of them answered, and one turn of that loop.
+
 ghost use Rattle.std.specs.Prelude.{◌≡◌, ◌≤◌, ◌<◌, ◌+◌, ◌⊎◌, ℕ, Bool, List, length, true, false, IfOk, IfErr, Ok, Err};
 ghost use Rattle.std.specs.Io.KnownBytes.{Appends, Keeps, IsAtEnd};
 ghost use Rattle.money.specs.Counted.{stream_of, AppendsBeginning};
@@ -89,7 +91,7 @@ fn flush_written<W: Write>(writer: &mut Tallied<W>, written: &mut bool) -> Resul
 }
 
 /// Reads until a whole message or a fault has come, or the input ends. Before each read the writer is flushed. What was
-/// found of the message is kept from read to read: how far its head was judged, or the head, behind which the body is
+/// found of the message is kept from read to read: how far its head was judged, or the head, after which the body is
 /// only counted.
 fn read_next<R: Read, W: Write>(
     reader: &mut Tallied<R>,

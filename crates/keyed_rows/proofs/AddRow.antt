@@ -8,7 +8,7 @@ use Rattle.std.proofs.lemmas.List.Sums.{prefix_len_passes, prefix_len_stops, pre
 use Rattle.std.proofs.lemmas.List.Sorted.{IsNonDecreasingBy-insert}
 use Rattle.keyed_rows.specs.Ordered.{add_row}
 
--- the place behind the rows at the front whose keys are not above the row's
+-- the place after the rows at the front whose keys are not above the row's
 abbrev pub place : {T : Type 0} → (T → ℕ) → T → List T → ℕ
 place key e xs = prefix_len (λ x. nat_le (key x) (key e)) xs
 

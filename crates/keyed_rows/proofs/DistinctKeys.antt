@@ -45,7 +45,7 @@ rises a b e = grind (arith, nat_tests)
 stays : (a b : ℕ) → false ≡ ltb a b → b ≤ a
 stays a b e = grind (arith, nat_tests)
 
--- what the test of each row against the next tells of rows in order
+-- what the test of each row against the next says of rows in order
 pub distinct_by_neighbours : {X : Type 0} (key : X → ℕ) (xs : List X) (r : Bool) → IsAllAdjacentAnswer (λ x y b. b ≡ ltb (key x) (key y)) xs r → IsNonDecreasingBy key xs
     → (IsTrue r → AreDistinct (map key xs)) × (AreDistinct (map key xs) → IsTrue r)
 distinct_by_neighbours key xs true all order = (
@@ -70,7 +70,7 @@ follows a b e = grind (arith, nat_tests)
 exceeds : (a b : ℕ) → false ≡ leb a b → b < a
 exceeds a b e = grind (arith, nat_tests)
 
--- what the test of each row against the next tells of the order of all
+-- what the test of each row against the next says of the order of all
 pub in_order_by_neighbours : {X : Type 0} (key : X → ℕ) (xs : List X) (r : Bool) → IsAllAdjacentAnswer (λ x y b. b ≡ leb (key x) (key y)) xs r
     → (IsTrue r → IsNonDecreasingBy key xs) × (IsNonDecreasingBy key xs → IsTrue r)
 in_order_by_neighbours key xs true all = (λ _. IsNonDecreasingBy-from_all_adjacent key xs (λ k d below. follows _ _ (all k d below)), λ _. refl)
@@ -82,6 +82,6 @@ in_order_by_neighbours key (x ∷ xs) false (k, below, some) = (
       absurd (omega (arith, falls, order k (k + 1) x (omega arith) below)),
 )
 
--- a key that is made of two numbers tells both, where the second is of 32 bits
+-- a key that is made of two numbers determines both, where the second is of 32 bits
 pub key_parts : (b n b' n' : ℕ) → n < 2 ^ 32 → n' < 2 ^ 32 → 2 ^ 32 * b + n ≡ 2 ^ 32 * b' + n' → (b ≡ b') × (n ≡ n')
 key_parts b n b' n' small small' same = (omega arith, omega arith)

@@ -1,4 +1,4 @@
--- What a binary search by key over rows in order of key tells of the rows that are there.
+-- What a binary search by key over rows in order of key says of the rows that are there.
 use Rattle.std.proofs.Common.{◌≡◌, ℕ, ◌<◌, ◌≤◌, List, [], ◌∷◌, length, get_or, Bool, true, false, Result, Ok, Err, IsTrue, ap, arith, sym, ◌∙◌, inl, inr}
 use Rattle.std.specs.Prelude.{is_ok}
 use Rattle.std.specs.Ordering.{nat_cmp, ordering_index}

@@ -1,3 +1,5 @@
+//! The rows of one key made anew at their places, or removed.
+
 ghost use Rattle.std.specs.Prelude.{◌≡◌, ◌==◌, ◌≤◌, if◌then◌else◌, vec_len, vec_capacity};
 ghost use Rattle.std.specs.List.Sorted.{IsNonDecreasingBy};
 ghost use Rattle.keyed_rows.specs.Changed.{change_rows, delete_rows};

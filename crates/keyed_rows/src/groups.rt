@@ -1,3 +1,5 @@
+//! Rows in order of their groups, and whether any group has too many.
+
 ghost use Rattle.std.specs.Prelude.{◌≡◌, ◌==◌, ◌↔◌, ◌≤◌, ℕ, count_by, IsTrue};
 ghost use Rattle.std.specs.List.Sorted.{IsNonDecreasingBy};
 
@@ -10,8 +12,8 @@ pub trait Grouped {
         ensures { result ≡ group self.now };
 }
 
-/// Whether each group has this many rows at most. The rows stand in order of their groups, so each is compared alone to the
-/// row that stands so many places behind it.
+/// Whether each group has this many rows at most. The rows stand in order of their groups, so each is compared to one
+/// row alone, that many places after it.
 pub fn has_small_groups<T: Grouped>(rows: &[T], most: usize) -> bool
     ensures { IsNonDecreasingBy T.group rows.now → (IsTrue result ↔ ((group : ℕ) → count_by (λ row. T.group row == group) rows.now ≤ most)) }
 {

@@ -1,5 +1,5 @@
 //! Rows in order of their keys, as functions on lists. `find_row`, `is_there` and `rows_between` look rows
-//! up. `insert_row` adds a row behind those of its key and of lower keys. `change_rows` and `remove_rows`
+//! up. `insert_row` adds a row after those of its key and of lower keys. `change_rows` and `remove_rows`
 //! act on the rows of one key, and take no memory. All of them keep the order and every other row.
 //! `has_distinct_keys`, `has_small_groups` and `are_in_order` judge rows. `sum_of` is exact for any number
 //! of rows. What rows mean is said in other crates.

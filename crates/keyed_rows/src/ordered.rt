@@ -1,3 +1,5 @@
+//! Rows in order of their keys: where a row belongs, how it is written there, and how it is found.
+
 ghost use Rattle.std.specs.Prelude.{◌≡◌, ◌==◌, ◌&&◌, ◌+◌, ◌<◌, ◌≤◌, ◌↔◌, ℕ, nat_le, nat_lt, length, map, IsTrue, vec_len, vec_capacity, OnOk, OnErr};
 ghost use Rattle.std.specs.List.{filter, find, prefix_len};
 ghost use Rattle.std.specs.Option.{option_copied};
@@ -15,7 +17,7 @@ pub trait Keyed {
         ensures { result ≡ key self.now };
 }
 
-/// The place behind the rows at the front whose keys are not above this one.
+/// The place after the rows at the front whose keys are not above this one.
 pub fn place_of<T: Keyed>(rows: &[T], key: u128) -> usize
     ensures place { result ≡ prefix_len (λ x. nat_le (T.key x) key) rows.now }
     ensures within { result ≤ length rows.now }
@@ -30,7 +32,7 @@ pub fn place_of<T: Keyed>(rows: &[T], key: u128) -> usize
     place
 }
 
-/// Writes a row at its place, behind the rows of its key and of lower ones. Where memory is refused the rows stay.
+/// Writes a row at its place, after the rows of its key and of lower ones. Where memory is refused the rows stay.
 pub fn insert_row<T: Keyed + Drop>(rows: &mut Vec<T>, row: T) -> Result<(), AllocError>
     ensures ok { OnOk result (rows.new.items ≡ add_row T.key row rows.old.items) }
     ensures len { OnOk result (vec_len rows.new ≡ vec_len rows.old + 1) }
@@ -94,7 +96,7 @@ pub fn rows_between<T: Keyed>(rows: &[T], low: u128, high: u128) -> &[T]
     &from_low[..end_below(from_low, high)]
 }
 
-/// The place behind the rows whose keys are below this one.
+/// The place after the rows whose keys are below this one.
 fn end_below<T: Keyed>(rows: &[T], key: u128) -> usize
     ensures place { IsNonDecreasingBy T.key rows.now → IsPartitionPoint (λ row. T.key row < key) (λ row. key ≤ T.key row) rows.now result }
     ensures within { result ≤ length rows.now }

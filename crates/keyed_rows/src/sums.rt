@@ -1,3 +1,5 @@
+//! Exact sums over rows, each of which adds its share.
+
 ghost use Rattle.std.specs.Prelude.{◌≡◌, ◌*◌, ◌^◌, ◌≤ℤ◌, ℤ, pos, neg_ℤ, length, map};
 ghost use Rattle.keyed_rows.specs.Totals.{total};
 

@@ -1,3 +1,5 @@
+//! Names, badges, and yes or no, as a field states them.
+
 ghost use Rattle.std.specs.Prelude.{◌≡◌, Some, None, if◌then◌else◌, option_map};
 ghost use Rattle.bank_terms.specs.Procedure.{procedure_named};
 ghost use Rattle.list_fields.specs.Names.{flag_of, is_badge, is_name, kind_named};

@@ -1,3 +1,5 @@
+//! Numbers and amounts of money that a field states in decimal.
+
 ghost use Rattle.std.specs.Prelude.{◌≡◌, ◌==◌, ◌<◌, ◌||◌, ◌∷◌, [], slice_index, length, IsTrue};
 ghost use Rattle.std.specs.Int.{is_in_range};
 ghost use Rattle.std.specs.Str.{bytes_eq};

@@ -117,6 +117,6 @@ opening (branches ∷ tellers ∷ accounts ∷ users ∷ sets ∷ relations ∷ 
   Ok (opened books policy)
 opening _ = Err Memory
 
--- It is what the lists say; or memory was refused, and that is told.
+-- It is what the lists say; or memory was refused, and that is reported.
 abbrev pub IsTold : {S : Type 0} → Result S ListFault → Result S ListFault → Type 0
 IsTold says result = (result ≡ says) ⊎ (result ≡ Err Memory)

@@ -110,7 +110,7 @@ relation_row (procedure ∷ set ∷ by ∷ []) = do
   Some (record { procedure = certified; set = number; by = user })
 relation_row _ = None
 
--- the triple of these fields that counts from one moment to another
+-- the triple of these fields that is in effect from one moment to another
 abbrev pub triple_during : List ℕ → List ℕ → List ℕ → List ℕ → ℕ → ℕ → Option Triple
 triple_during user procedure set limit first last = do
   number ← user_number user
@@ -119,12 +119,12 @@ triple_during user procedure set limit first last = do
   most ← limit_of limit
   Some (record { user = number; procedure = held; set = items; limit = most; first = first; last = last })
 
--- a triple whose record states no moments counts at each of them
+-- a triple whose record states no moments is in effect at each of them
 abbrev pub triple_row : Record → Option Triple
 triple_row (user ∷ procedure ∷ set ∷ limit ∷ []) = triple_during user procedure set limit 0 max_moment
 triple_row _ = None
 
--- one whose record states them counts from the one to the other
+-- one whose record states them is in effect from the one to the other
 abbrev pub timed_row : Record → Option Triple
 timed_row (user ∷ procedure ∷ set ∷ limit ∷ first ∷ last ∷ []) = do
   moments ← moments_of first last

@@ -20,12 +20,12 @@ TriplesRead = Bool × List Triple
 abbrev pub none_read : TriplesRead
 none_read = (false, [])
 
--- behind the heading, which is one of the two
+-- after the heading, which is one of the two
 abbrev pub begun_triples : TriplesRead → Record → Option TriplesRead
 begun_triples so_far r =
     if is_record timed_names r then Some (true, so_far.1) else if is_record triple_names r then Some (false, so_far.1) else None
 
--- the triple that a record states behind such a heading
+-- the triple that a record states under such a heading
 abbrev pub triple_behind : Bool → Record → Option Triple
 triple_behind timed r = if timed then timed_row r else triple_row r
 

@@ -1,3 +1,5 @@
+//! The list of badges, and the user of a badge.
+
 ghost use Rattle.std.specs.Prelude.{◌≡◌, option_map, map};
 ghost use Rattle.list_records.specs.Records.{IsTold};
 ghost use Rattle.list_opening.specs.Badges.{badge_row, badges_of, user_of};

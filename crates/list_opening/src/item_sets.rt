@@ -1,3 +1,5 @@
+//! Members of sets grouped into their sets.
+
 ghost use Rattle.std.specs.Prelude.{◌≡◌, ◌<◌, IfOk, drop, length};
 ghost use Rattle.list_opening.specs.Sets.{ends_set, grouped};
 
@@ -22,7 +24,7 @@ pub(crate) fn item_sets(alloc: Global, rows: &[SetMember]) -> Result<Vec<ItemSet
     Ok(sets)
 }
 
-/// Whether no member of the same set stands behind this place.
+/// Whether no member of the same set stands after this place.
 fn ends_set(rows: &[SetMember], i: usize) -> bool
     requires { i < length rows.now }
     ensures { result ≡ ends_set rows.now i }

@@ -1,6 +1,6 @@
 //! The opening lists of a bank, read from bytes. `read_lists` answers exactly the World that the eight lists
 //! state, or the list and the number of the first bad record; memory may be refused at any point.
-//! `read_badges` does so for the list of badges, and `Badges` tells whose a badge is. Whether the books hold
+//! `read_badges` does so for the list of badges, and `Badges` finds the user of a badge. Whether the books hold
 //! and the policy is sound is not looked at: the checks do that.
 #![tactic(auto)]
 

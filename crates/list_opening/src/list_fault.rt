@@ -1,3 +1,5 @@
+//! The names of the opening lists, and why they state no World.
+
 use std::alloc::AllocError;
 use thiserror::Error;
 

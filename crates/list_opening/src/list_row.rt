@@ -1,3 +1,5 @@
+//! What makes a row one of a list, its heading and its fields, and the rows of a list as they are gathered.
+
 ghost use Rattle.std.specs.Prelude.{◌≡◌, ℕ, List, Option, IfOk, map};
 ghost use Rattle.list_records.specs.Records.{is_record};
 

@@ -1,3 +1,5 @@
+//! The World that the eight opening lists state together: books of three lists, and a policy of five.
+
 ghost use Rattle.std.specs.Prelude.{◌≡◌, ◌⊎◌, [], IfErr, IfOk, Ok, Err, map};
 ghost use Rattle.std.specs.List.Sorted.{IsNonDecreasingBy};
 ghost use Rattle.bank_books.specs.Room.{AreInOrder, world_of};

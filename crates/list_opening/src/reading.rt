@@ -1,3 +1,5 @@
+//! One list read into rows in order of their keys, with the list's name in a fault.
+
 ghost use Rattle.std.specs.Prelude.{◌≡◌, ◌⊎◌, IfErr, IfOk, Ok, Err, map};
 ghost use Rattle.std.specs.List.Sorted.{IsNonDecreasingBy};
 ghost use Rattle.bank_policy.specs.PolicyKeys.{triple_key};

@@ -1,3 +1,5 @@
+//! The rows of the opening lists, each read from the fields of its record.
+
 ghost use Rattle.std.specs.Prelude.{◌≡◌, ◌∷◌, [], IfOk, map};
 ghost use Rattle.list_opening.specs.Rows.{account_row, branch_row, certifier_row, floor_of, key_of, limit_of, member_row, moment_of, moments_of, relation_row, teller_row, timed_row, triple_during, triple_row, user_number, user_row};
 ghost use Rattle.list_opening.specs.Opening.{account_names, branch_names, certifier_names, member_names, relation_names, teller_names, user_names};
@@ -186,7 +188,7 @@ fn relation_row(fields: &[&[u8]]) -> Option<Relation>
     }
 }
 
-/// The triple of these fields that counts from one moment to another.
+/// The triple of these fields that is in effect from one moment to another.
 fn triple_during(
     user: &[u8],
     procedure: &[u8],
@@ -207,7 +209,7 @@ fn triple_during(
     })
 }
 
-/// The triple of a record that states no moments: it counts at each of them.
+/// The triple of a record that states no moments: it is in effect at each of them.
 pub(crate) fn triple_row(fields: &[&[u8]]) -> Option<Triple>
     ensures { result ≡ triple_row (map (λ f. f.now) fields.now) }
 {

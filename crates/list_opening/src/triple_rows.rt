@@ -1,3 +1,5 @@
+//! The list of triples, whose heading says whether its records state moments.
+
 ghost use Rattle.std.specs.Prelude.{◌≡◌, map};
 ghost use Rattle.list_records.specs.Records.{is_record};
 ghost use Rattle.list_opening.specs.Triples.{timed_names, triple_behind, triple_names};
@@ -46,7 +48,7 @@ impl TripleRows {
     }
 }
 
-/// The triple that a record states behind a heading with moments, or behind one without.
+/// The triple that a record states under a heading with moments, or under one without.
 fn triple_behind(timed: bool, fields: &[&[u8]]) -> Option<Triple>
     ensures { result ≡ triple_behind timed (map (λ f. f.now) fields.now) }
 {

@@ -14,7 +14,7 @@ module _ {T : Type 0} (key : T → ℕ) where
   abbrev like : ℕ → List T → List T
   like k rows = filter (λ row. key row == k) rows
 
-  -- no key is above one behind it
+  -- no key is above one after it
   abbrev pub Rises : List T → Type 0
   Rises [] = Unit {0}
   Rises (x ∷ xs) = AllByRecursion (λ y. key x ≤ key y) xs × Rises xs

@@ -1,3 +1,5 @@
+//! The sort of rows by their keys, in which those of one key keep their order.
+
 ghost use Rattle.std.specs.Prelude.{◌≡◌, OnOk};
 ghost use Rattle.std.specs.List.Sorted.{IsNonDecreasingBy};
 ghost use Rattle.list_order.specs.Sorted.{in_order};

@@ -18,7 +18,7 @@ take-fields [] (suc i) is = refl
 take-fields (g ∷ fs) zero is = cc
 take-fields (g ∷ fs) (suc i) is = ap (λ l. g ∷ l) (take-fields fs i is)
 
--- fields that are compared behind their references
+-- fields that are compared through their references
 pub same_fields : (xs ys : List (Bor (List ℕ))) → pointwise (λ x y. bytes_eq x.now y.now) xs ys ≡ is_record (map (λ n. n.now) xs) (map (λ f. f.now) ys)
 same_fields [] [] = refl
 same_fields [] (y ∷ ys) = refl

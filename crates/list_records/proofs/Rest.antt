@@ -53,7 +53,7 @@ leaves_less cfg s fields field (c ∷ rest) p is = go (leaves_less cfg (step cfg
 
 -- ---- the records that are left
 
--- nothing behind the end
+-- nothing after the end
 ended : (cfg : Config) (n : ℕ) → records_from cfg n st.StartRecord [] ≡ []
 unfolding records_from next_record
 ended cfg zero = refl
@@ -235,7 +235,7 @@ module _ {S : Type 0} (begun_by with_record : S → Record → Option S) where
   still zero s rows = gathered begun_by with_record s rows
   still (suc n) s rows = gathered_from begun_by with_record (suc n + 1) s rows
 
-  -- a record behind the heading
+  -- a record after the heading
   behind : (n : ℕ) (s : S) (r : Record) → taken begun_by with_record (suc n + 1) s r ≡ with_record s r
   behind n s r = ap (λ b. cond b (begun_by s r) (with_record s r)) (not_first n)
 

@@ -20,8 +20,8 @@ records_of text = records default_config (strip_bom text)
 abbrev pub is_record : Record → Record → Bool
 is_record names r = pointwise bytes_eq names r
 
--- The records of a list are gathered into a state. `begun_by` makes it what it is behind the heading, and `with_record` what it is
--- with one more record, or none where the record is bad.
+-- The records of a list are gathered into a state. `begun_by` makes it what it is after the heading, and
+-- `with_record` what it is with one more record, or none where the record is bad.
 module _ {S : Type 0} (begun_by with_record : S → Record → Option S) where
   -- what these records make of it, one after another, where the first of them has this number; or the first that is bad
   abbrev pub gathered_from : ℕ → S → List Record → Result S RecordFault
@@ -37,10 +37,10 @@ module _ {S : Type 0} (begun_by with_record : S → Record → Option S) where
   abbrev pub taken : ℕ → S → Record → Option S
   taken number s r = if number == 1 then begun_by s r else with_record s r
 
--- a list that has this heading is behind it what it was before
+-- a list that has this heading is after it what it was before
 abbrev pub begun_behind : {S : Type 0} → Record → S → Record → Option S
 begun_behind heading s r = if is_record heading r then Some s else None
 
--- It is what the list says; or memory was refused, and that is told.
+-- It is what the list says; or memory was refused, and that is reported.
 abbrev pub IsTold : {S : Type 0} → Result S RecordFault → Result S RecordFault → Type 0
 IsTold says result = (result ≡ says) ⊎ (result ≡ Err Memory)

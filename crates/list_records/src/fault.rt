@@ -1,3 +1,5 @@
+//! Why a list is not gathered: the number of a bad record, or memory that was refused.
+
 use std::alloc::AllocError;
 use thiserror::Error;
 

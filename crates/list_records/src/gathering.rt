@@ -1,10 +1,12 @@
+//! What gathers the records of a list: it takes the heading and adds each record, or says that one is bad.
+
 ghost use Rattle.std.specs.Prelude.{◌≡◌, ℕ, List, Option, Some, None, IfOk, map, if◌then◌else◌};
 
 use std::alloc::{AllocError, Global};
 
 /// What the records of a list are gathered into. After an error it may hold anything.
 pub trait Gather {
-    /// What it is behind this heading, by the heading's fields; or none where it is no heading of this list.
+    /// What it is after this heading, by the heading's fields; or none where it is no heading of this list.
     ghost begun_by: { Self → List (List ℕ) → Option Self };
 
     /// What it is with one more record, by its fields; or none where the record is bad.

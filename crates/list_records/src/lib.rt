@@ -1,5 +1,5 @@
 //! The records of a list in comma-separated values (RFC 4180), read from bytes in memory. `gather` takes the heading, and
-//! then each record behind it, into whatever implements `Gather`: rows, or badges. It promises what all records together
+//! then each record after it, into whatever implements `Gather`: rows, or badges. It promises what all records together
 //! make, or the number of the first bad one, of which the heading is 1, or that memory was refused. No other crate names
 //! the library that reads comma-separated values.
 #![tactic(auto)]

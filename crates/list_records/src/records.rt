@@ -1,3 +1,5 @@
+//! The records of a list gathered one by one, with the number of the first bad one.
+
 ghost use Rattle.std.specs.Prelude.{◌≡◌, ◌==◌, IfOk, Some, None, map, if◌then◌else◌};
 ghost use Rattle.csv.specs.Records.{fields_of};
 ghost use Rattle.list_records.specs.Records.{IsTold, gathered, is_record, records_of, taken};
@@ -43,7 +45,7 @@ fn take_record<G: Gather>(
     }
 }
 
-/// Gathers the records of a list, its heading first and then those behind it, one after another. The fault is the first
+/// Gathers the records of a list, its heading first and then the others, one by one. The fault is the first
 /// record that is bad, or that memory was refused, which may come at any record. The heading is record 1, and a text
 /// without records is bad at it.
 pub fn gather<G: Gather + Drop>(alloc: Global, text: &[u8], begun: G) -> Result<G, RecordFault>

@@ -1,3 +1,5 @@
+//! Amounts in cents within two ranges, that of a balance and that of one entry, and sums checked against the first.
+
 ghost use Rattle.std.specs.Prelude.{◌≡◌, ◌+ℤ◌, ◌↔◌, IsSome, IfSome};
 ghost use Rattle.money.specs.Range.{IsCents, IsDelta};
 

@@ -1,7 +1,9 @@
+//! The reasons for which a call of a store, or the forming of a reply, is given up.
+
 use std::alloc::{AllocError, AllocFailed};
 use thiserror::Error;
 
-/// Why a call of a store, or one that forms a reply, gave up. What the store stands for is as it was.
+/// Why a call of a store, or one that forms a reply, gave up. What the store represents is as it was.
 #[derive(Clone, Copy, Debug, PartialEq, Eq, Error)]
 pub enum Fault {
     /// Memory was refused. The next call may succeed.

@@ -1,3 +1,5 @@
+//! Whole writes to a counted stream: all bytes go out, or a beginning of them and one failure is counted.
+
 ghost use Rattle.money.specs.Counted.{Sends, joined};
 
 use crate::tallied::Tallied;

@@ -1,3 +1,5 @@
+//! Amounts as decimal text in fixed room, and written to a stream right in a width.
+
 ghost use Rattle.std.specs.Prelude.{◌≡◌, replicate};
 ghost use Rattle.money.specs.Counted.{Sends};
 ghost use Rattle.money.specs.Text.{cents_text, right};

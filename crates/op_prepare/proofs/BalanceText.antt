@@ -1,4 +1,4 @@
--- The compact text of the value behind the reply to the question for a balance is the reply.
+-- The reply to the question for a balance is the compact text of its JSON value.
 use Rattle.std.proofs.Common.{◌≡◌, ℤ, append_assoc}
 use Rattle.serde_json.specs.Written.{compact_text}
 use Rattle.serde_json.proofs.OnLiterals.{serde_json_on_literals}

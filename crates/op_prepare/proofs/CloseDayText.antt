@@ -1,4 +1,4 @@
--- The compact text of the value behind the reply to a day that is closed is the reply.
+-- The reply to the closing of a day is the compact text of its JSON value.
 use Rattle.std.proofs.Common.{◌≡◌, append_assoc}
 use Rattle.serde_json.specs.Written.{compact_text}
 use Rattle.serde_json.proofs.OnLiterals.{serde_json_on_literals}

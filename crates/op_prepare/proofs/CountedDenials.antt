@@ -14,7 +14,7 @@ pub read_counted : {A : Type 0} (a b : ℕ) (result : Result A Fault) → b ≡ 
 read_counted a b (Ok x) more = tt
 read_counted a b (Err fault) more = rose_by_one a b more
 
--- behind a read that answered
+-- after a read that answered
 pub counted_behind : {A : Type 0} (a b c : ℕ) (result : Result A Fault) → b ≡ a → c ≡ counted_once_more b → OnErr result (RoseBy 1 a c)
 counted_behind a b c result kept more = read_counted a c result (more ∙ ap counted_once_more kept)
 
@@ -27,7 +27,7 @@ pub none_denies : {R A : Type 0} (said : Option R) → said ≡ None → IsSome 
 none_denies None is some = absurd (cc)
 none_denies (Some rule) is some = absurd (cc)
 
--- who answers each denial with its rule tells a fault where no rule denies
+-- a call that answers each denial with its rule reports a fault only where no rule denies
 pub not_denied : {A : Type 0} (said : Option Rule) (result : Result (Result A Rule) Fault) (fault : Fault) → result ≡ Err fault → IfSome said (λ rule. result ≡ Ok (Err rule)) → said ≡ None
 not_denied None result fault is told = refl
 not_denied (Some rule) result fault is told = cc

@@ -35,7 +35,7 @@ keeps_then old mid new m a b = (kept_then old mid new m a.0 b.0, b.1 ∙ ap (cou
 pub answered : {A : Type 0} {f : Fault} → None ≡ Some f → A
 answered e = absurd (cc)
 
--- behind calls that answer, a call ends in a fault
+-- after calls that answer, a call ends in a fault
 pub fails : {A : Type 0} (old new : Status) (r : Result A Fault) (e : Fault) (P : WorldLists → A → Type 0) → r ≡ Err e
     → (IsTrue old.is_stopped → None ≡ Some fault.Stopped) → KeepsAndCounts old new (Some e) → ReadsRow old new r P
 fails old new r e P is refused kept = rw is (record { told = λ honest w holds. tt; kept = kept.0; refused = λ stopped. answered (refused stopped); counted = kept.1 })

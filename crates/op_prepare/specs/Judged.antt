@@ -32,7 +32,7 @@ LeavesPolicy result = IfOk result (λ judged. IfOk judged (λ p. changes_policy 
 abbrev pub CountsFault : {A : Type 0} → Status → Status → Result A Fault → Type 0
 CountsFault old new result = OnErr result (RoseBy 1 old.fault_count new.fault_count)
 
--- Where one of these rules denies, a fault is one that the store counted: a denial is never told as want of memory.
+-- Where one of these rules denies, a fault is one that the store counted: a denial is never reported as want of memory.
 abbrev pub DeniesOrCounts : {A : Type 0} → Status → Status → (WorldLists → Option Rule) → Result A Fault → Type 0
 DeniesOrCounts old new first_of result = Tells old new (λ w. IsSome (first_of w) → CountsFault old new result)
 

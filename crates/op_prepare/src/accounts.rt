@@ -1,3 +1,5 @@
+//! The question for a list of accounts, which no rule of the books denies.
+
 ghost use Rattle.std.specs.Prelude.{◌≡◌};
 ghost use Rattle.store_rows.specs.Status.{MayRead};
 ghost use Rattle.bank_meaning.specs.Accounts.{accounts_meaning, accounts_of};
@@ -12,7 +14,7 @@ use reports::{AfterAccount, Contents, Listing, counted};
 use std::alloc::Global;
 use store_rows::ReportReads;
 
-/// The accounts that are listed to who asks, by his triples that count at the moment.
+/// The accounts that are listed to the user who asks, by those of their triples that are valid at the moment.
 fn accounts_of(form: &Accounts, by: Signature) -> Listing
     ensures { result ≡ accounts_of form.now by }
 {

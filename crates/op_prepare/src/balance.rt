@@ -1,3 +1,5 @@
+//! The question for a balance: the account that it is judged on, and the reply with its balance.
+
 ghost use Rattle.std.specs.Prelude.{◌≡◌, None, Some, is_some, true, IfErr, IfOk, IfSome, OnOk};
 ghost use Rattle.money.specs.Range.{is_cents};
 ghost use Rattle.serde_json.specs.View.{view};
@@ -50,7 +52,7 @@ pub(crate) fn prepare_balance<B: BookReads>(
     }
 }
 
-/// The balance that is told of an account, or the first rule that denies it.
+/// The balance that is reported of an account, or the first rule that denies it.
 fn balance_told(row: Option<AccountRecord>) -> Result<Cents, Rule>
     ensures allowed { OnOk result (first_against_balance row ≡ None) }
     ensures value { IfOk result (λ balance. IfSome row (λ a. a.balance ≡ balance)) }

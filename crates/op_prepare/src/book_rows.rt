@@ -1,3 +1,5 @@
+//! The rows of the books that each form of operation is judged on, and their loading for a form that takes a slip.
+
 ghost use Rattle.std.specs.Prelude.{◌≡◌, true};
 ghost use Rattle.bank_terms.specs.Procedure.{takes_slip};
 ghost use Rattle.counter_ops.specs.Op.{procedure_of};

@@ -1,3 +1,5 @@
+//! What prepares an operation of each form, and the first rule against it by rows that were loaded.
+
 ghost use Rattle.std.specs.Prelude.{◌≡◌, false, true};
 ghost use Rattle.counter_ops.specs.Operations.{IsOp};
 ghost use Rattle.bank_books.specs.WorldLists.{WorldLists};

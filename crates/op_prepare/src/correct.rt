@@ -1,3 +1,5 @@
+//! Correcting an entry: the rows that it is judged on, with the other leg of a transfer, its plan, and its reply.
+
 ghost use Rattle.std.specs.Prelude.{◌≡◌, IfOk, option_and_then};
 ghost use Rattle.store_rows.specs.Status.{MayRead, Reads, ReadsRow, count_after, mark_of};
 ghost use Rattle.op_prepare.specs.Judged.{DeniesOrCounts, IsJudged, LeavesPolicy};

@@ -1,3 +1,5 @@
+//! Putting a drawer off: its plan and its reply. It is judged on the same rows as putting one on.
+
 ghost use Rattle.std.specs.Prelude.{◌≡◌, IfOk};
 ghost use Rattle.serde_json.specs.View.{view};
 ghost use Rattle.store_rows.specs.Status.{Reads};

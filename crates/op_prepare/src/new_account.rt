@@ -1,3 +1,5 @@
+//! Opening an account: the rows that it is judged on, the rules against it, its plan, and its reply.
+
 ghost use Rattle.std.specs.Prelude.{◌≡◌, false, nat_le, IfOk};
 ghost use Rattle.std.specs.Option.{option_map_or};
 ghost use Rattle.bank_terms.specs.Limits.{max_accounts};

@@ -1,3 +1,5 @@
+//! Posting to an account: the rows that it is judged on, its plan, and its reply.
+
 ghost use Rattle.std.specs.Prelude.{◌≡◌, IfOk};
 ghost use Rattle.serde_json.specs.View.{view};
 ghost use Rattle.store_rows.specs.Status.{Reads, ReadsRow};

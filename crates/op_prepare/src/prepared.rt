@@ -1,3 +1,5 @@
+//! What judging a request leads to where no rule denies it: a plan and its reply, or a report.
+
 use bank_books::Plan;
 use reports::Contents;
 

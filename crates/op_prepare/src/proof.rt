@@ -1,3 +1,5 @@
+//! The question for the proof of a branch: the branch that it is judged on, and the tellers that it lists.
+
 ghost use Rattle.std.specs.Prelude.{◌≡◌};
 ghost use Rattle.reports.specs.Listing.{proof_of};
 ghost use Rattle.store_rows.specs.Status.{Reads};
@@ -25,7 +27,7 @@ pub(crate) fn rule_against_proof(row: Option<BranchRecord>) -> Option<Rule>
 }
 
 /// The proof of a branch.
-fn proof_of(branch: &BranchRecord) -> Listing
+fn proof_listing(branch: &BranchRecord) -> Listing
     ensures { result ≡ proof_of branch.now }
 {
     Listing::Tellers(AfterTeller {
@@ -48,6 +50,6 @@ pub(crate) fn prepare_proof<S: BookReads + ReportReads>(
     let Some(branch) = store.branch(alloc, form.branch)? else {
         return Ok(Err(Rule::Unknown));
     };
-    let contents = counted(alloc, store, proof_of(&branch), u32::MAX)?;
+    let contents = counted(alloc, store, proof_listing(&branch), u32::MAX)?;
     Ok(Ok(contents))
 }

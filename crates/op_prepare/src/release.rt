@@ -1,3 +1,5 @@
+//! Giving a release: the rows that it is judged on, the rules against it, its plan, and its reply.
+
 ghost use Rattle.std.specs.Prelude.{◌≡◌, ◌+◌, ◌<◌, false, is_none, nat_le, IfOk, IfSome, IsNone};
 ghost use Rattle.std.specs.Option.{option_map_or};
 ghost use Rattle.bank_terms.specs.Limits.{max_releases};

@@ -1,3 +1,5 @@
+//! The question for a statement: the account that it is judged on, and the entries that it lists.
+
 ghost use Rattle.std.specs.Prelude.{◌≡◌};
 ghost use Rattle.store_rows.specs.Status.{Reads};
 ghost use Rattle.bank_meaning.specs.Meaning.{by_books};

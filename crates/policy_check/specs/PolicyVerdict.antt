@@ -16,7 +16,7 @@ IsLeastOfficer policy user = OfficerHolds policy user × ((other : ℕ) → othe
 abbrev pub IsBefore : ℕ → Procedure → ℕ → Procedure → Type 0
 IsBefore user procedure other_user other = (user < other_user) ⊎ ((user ≡ other_user) × (number_of procedure < number_of other))
 
--- the least user who breaks separation, with the least of the procedures at which he does
+-- the least user who breaks separation, with the least of the procedures at which they do
 abbrev pub IsLeastBreak : PolicyLists → ℕ → Procedure → Type 0
 IsLeastBreak policy user procedure =
     BreaksSeparation policy user procedure

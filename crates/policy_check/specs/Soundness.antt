@@ -48,7 +48,7 @@ pub record AreSetsSound (sets : List SetRow) : Type 0 where
   pub few : length sets ≤ max_sets
   pub each : All IsSetSound sets
 
--- the first moment of a triple is none behind its last, which is none behind the last of all
+-- the first moment of a triple is not after its last, which is not after the greatest moment
 pub record IsSpan (row : Triple) : Type 0 where
   pub ordered : row.first ≤ row.last
   pub within : row.last ≤ max_moment

@@ -1,11 +1,13 @@
+//! The faults of a policy, and the text in which each is reported.
+
 use bank_terms::Procedure;
 use thiserror::Error;
 
 /// Why a policy is refused. It is sound where none of its rows dangles.
 #[derive(Clone, Copy, Debug, PartialEq, Eq, Error)]
 pub enum PolicyFault {
-    /// In a sound policy in which no officer holds anything, this user may execute a procedure that he certifies. He is
-    /// the least user who may, and the procedure the one of the least number.
+    /// In a sound policy in which no officer holds anything, this user may execute a procedure that they certify. It is
+    /// the least user who may, and the procedure is the one of the least number.
     #[error("separation, user {user}, procedure {}", .procedure.name())]
     Separation {
         /// The user.
@@ -13,7 +15,7 @@ pub enum PolicyFault {
         /// The procedure.
         procedure: Procedure,
     },
-    /// In a sound policy, this officer has a triple, is a certifier, or a relation stands by him. It is the officer of
+    /// In a sound policy, this officer has a triple, is a certifier, or certified a relation. It is the officer of
     /// the least number of whom that is so.
     #[error("officer holds, user {user}")]
     OfficerHolds {

@@ -1,3 +1,5 @@
+//! Tests of the rows that name others: relations, triples and certifiers.
+
 ghost use Rattle.std.specs.Prelude.{◌↔◌, ◌≤◌, All, IsTrue, map};
 ghost use Rattle.bank_terms.specs.Limits.{max_limit};
 ghost use Rattle.keyed_rows.specs.Ordered.{AreDistinct};

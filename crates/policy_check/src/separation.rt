@@ -1,3 +1,5 @@
+//! Who breaks the separation of duty: an officer who holds something, or a user who may execute what they certify.
+
 ghost use Rattle.std.specs.Prelude.{◌↔◌, ◌<◌, ℕ, IsTrue, MatchOption};
 ghost use Rattle.policy_check.specs.PolicyVerdict.{IsLeastBreak, IsLeastOfficer};
 ghost use Rattle.policy_check.specs.Soundness.{IsPolicySound};
@@ -17,7 +19,7 @@ pub(crate) fn first_officer(policy: &Policy) -> Option<u32>
         .map(|row| row.user)
 }
 
-/// The least user, and of him the procedure of the least number, such that he may execute what he certifies.
+/// The least user who may execute a procedure that they certify, with the least number of such a procedure.
 pub(crate) fn first_break(policy: &Policy) -> Option<(u32, Procedure)>
     requires { IsPolicySound policy.now }
     ensures { MatchOption result

@@ -1,3 +1,5 @@
+//! Tests that no row of a policy dangles: users and sets here, the rows that name them in `references`.
+
 ghost use Rattle.std.specs.Prelude.{◌↔◌, IsTrue};
 ghost use Rattle.policy_check.specs.Soundness.{AreSetsSound, AreUsersSound, IsMemberSound, IsName, IsNumber, IsPolicySound, IsSetSound, IsUserSound};
 

@@ -51,7 +51,7 @@ IsUserKey key = IsUserNumber key.user
 abbrev pub IsPolicyOp : PolicyOp → Type 0
 -- a set for relations and triples to name, which is never another afterwards
 IsPolicyOp (asked.DefineSet set) = IsSetSound set
--- E1: a relation more, by a certifier of the procedure, and one less; the list changes by him alone, as E4 has it
+-- E1: a relation more, by a certifier of the procedure, and one less; only that certifier changes the list, by E4
 IsPolicyOp (asked.Certify relation) = IsRelationKey relation
 IsPolicyOp (asked.Withdraw relation) = IsRelationKey relation
 -- E2: a triple more, and one less, by the same certifier under the same E4

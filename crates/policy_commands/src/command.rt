@@ -1,3 +1,5 @@
+//! The ten commands of the policy, and the names that paths and replies write.
+
 ghost use Rattle.std.specs.Prelude.{◌≡◌};
 ghost use Rattle.policy_commands.specs.Command.{command_named, name_of};
 

@@ -1,3 +1,5 @@
+//! What each command of the policy asks for: its members, as data.
+
 ghost use Rattle.std.specs.Prelude.{◌≡◌};
 ghost use Rattle.policy_commands.specs.PolicyOp.{command_of};
 

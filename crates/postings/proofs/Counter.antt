@@ -16,7 +16,7 @@ use Rattle.keyed_rows.proofs.Rows.{found_row}
 use Rattle.counter_ops.specs.Ranges.{IsKeyOrZero}
 use Rattle.rule_tests.specs.Signed.{IsSigned}
 
--- the teller is there, his branch is, and he is of it
+-- the teller and the branch are there, and the teller is of the branch
 pub record IsCounter (w : WorldLists) (branch teller : ℕ) : Type 0 where
   pub row : Teller
   pub is : teller_row teller w.tellers ≡ Some row

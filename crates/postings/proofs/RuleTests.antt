@@ -1,4 +1,4 @@
--- What the tests of a rule tell where it does not deny.
+-- What follows from the tests of a rule where it does not deny.
 use Rattle.std.proofs.Common.{◌≡◌, ◌+◌, ◌+ℤ◌, ◌<◌, ℕ, ℤ, arith, cond, false, sym, true, None, Option, Some}
 use Rattle.std.specs.Prelude.{Bool, IfSome, nat_lt}
 use Rattle.std.proofs.lemmas.Bool.{ltb-false, true≢false}

@@ -1,3 +1,5 @@
+//! The parts of a branch's record that posts and corrections are judged on.
+
 ghost use Rattle.std.specs.Prelude.{◌≡◌, option_map};
 ghost use Rattle.rule_tests.specs.BranchParts.{cash_book_of, ledger_of};
 

@@ -1,3 +1,5 @@
+//! Corrections: the rules against one, and the entries, or the entry and the cash line, that it writes.
+
 ghost use Rattle.std.specs.Prelude.{◌≡◌, [], ◌∷◌, ◌+◌, ◌<◌, ◌+ℤ◌, true, false, option_map, IfOk, IfSome, IsNone, IsSome, IsOkUnless, Ok, Err};
 ghost use Rattle.money.specs.Range.{IsCents};
 ghost use Rattle.bank_terms.specs.Limits.{max_key};
@@ -29,7 +31,7 @@ pub struct CorrectRows {
     pub account: Option<AccountRecord>,
     /// The other account that it names, of a transfer.
     pub other: Option<AccountRecord>,
-    /// The teller that it names, with his drawer.
+    /// The teller that it names, with its drawer.
     pub teller: Option<TellerRecord>,
     /// The history of the branch that it names.
     pub ledger: Option<Ledger>,

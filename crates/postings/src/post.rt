@@ -1,3 +1,5 @@
+//! Posts: the rules against one, and the entry and the cash line that it writes.
+
 ghost use Rattle.std.specs.Prelude.{◌≡◌, ◌<◌, ◌+ℤ◌, false, option_map, IfOk, IfSome, IsNone, IsOkUnless, Ok, Err};
 ghost use Rattle.money.specs.Range.{IsCents};
 ghost use Rattle.bank_terms.specs.Limits.{max_key};
@@ -27,7 +29,7 @@ use std::alloc::Global;
 pub struct PostRows {
     /// The account that it names.
     pub account: Option<AccountRecord>,
-    /// The teller that it names, with his drawer.
+    /// The teller that it names, with its drawer.
     pub teller: Option<TellerRecord>,
     /// The history of the branch that it names.
     pub ledger: Option<Ledger>,

@@ -1,3 +1,5 @@
+//! Transfers: the rules against one, and the two entries that it writes.
+
 ghost use Rattle.std.specs.Prelude.{◌≡◌, ◌+◌, ◌<◌, ◌≤◌, ◌+ℤ◌, false, option_map, IfOk, IfSome, IsNone, IsOkUnless, Ok, Err};
 ghost use Rattle.money.specs.Range.{IsCents};
 ghost use Rattle.bank_terms.specs.Limits.{max_key, max_transfer};
@@ -24,7 +26,7 @@ pub struct TransferRows {
     pub source: Option<AccountRecord>,
     /// The account that takes.
     pub target: Option<AccountRecord>,
-    /// The teller that it names, with his drawer.
+    /// The teller that it names, with its drawer.
     pub teller: Option<TellerRecord>,
     /// The history of the branch that it names.
     pub ledger: Option<Ledger>,

@@ -16,8 +16,8 @@ use Rattle.reports.specs.declared.proof.AfterTeller.{AfterTeller}
 abbrev pub HasSumRoom : AfterTeller → TellerRecord → Type 0
 HasSumRoom from t = FitsSigned w128 (from.tellers +ℤ t.balance)
 
--- The next line of a listing has room, and what follows it a place: there is a turn behind this one, the sum of the tellers is in
--- range, the name is short enough. Where no line comes next there is nothing to ask for.
+-- The next line of a listing has room, and what follows it a place: there is a turn after this one, the sum of the
+-- tellers is in range, the name is short enough. Where no line comes next there is nothing to ask for.
 abbrev pub HasRoom : WorldLists → Listing → Type 0
 HasRoom w (listing.Statement from) = IfSome (entry_at w from.account from.turn) (λ e. from.turn + 1 < 2 ^ 32)
 HasRoom w (listing.Accounts from) = ⊤

@@ -1,3 +1,5 @@
+//! The list of the accounts that a user is shown: where it goes on, and its next line, read from a store.
+
 ghost use Rattle.std.specs.Prelude.{◌≤◌, IfOk, IfSome};
 ghost use Rattle.arrayvec.specs.ArrayVec.{array_vec_len};
 ghost use Rattle.store_rows.specs.Status.{MayRead, mark_of};
@@ -18,7 +20,7 @@ pub struct AfterAccount {
     pub user: u32,
     /// The number above which they lie.
     pub after: u32,
-    /// The moment at which his triples have to count, in seconds.
+    /// The moment at which the user's triples have to be valid, in seconds.
     pub moment: u64,
 }
 

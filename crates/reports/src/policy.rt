@@ -1,3 +1,5 @@
+//! The listing of the policy: its next line, read from a store.
+
 ghost use Rattle.std.specs.Prelude.{◌≤◌, IfOk, IfSome};
 ghost use Rattle.arrayvec.specs.ArrayVec.{array_vec_len};
 ghost use Rattle.store_rows.specs.Status.{MayRead, mark_of};

@@ -1,3 +1,5 @@
+//! The proof of a branch: the lines of its tellers, read from a store and added up, and then its totals.
+
 ghost use Rattle.std.specs.Prelude.{◌≡◌, ◌≤◌, IfOk, IfSome, MatchOption, option_map};
 ghost use Rattle.arrayvec.specs.ArrayVec.{array_vec_len};
 ghost use Rattle.store_rows.specs.Status.{MayRead, mark_of};
@@ -13,7 +15,7 @@ use report_lines::{Total, teller_line, total_line};
 use std::alloc::Global;
 use store_rows::ReportReads;
 
-/// What the proof of a branch tells of it beside its tellers: the branch as it was read. All amounts are in cents.
+/// What the proof of a branch shows beside its tellers: the branch as it was read. All amounts are in cents.
 #[derive(Clone, Copy, Debug, PartialEq, Eq)]
 pub struct BranchNumbers {
     /// Its number.
@@ -58,7 +60,7 @@ impl BranchNumbers {
     }
 }
 
-/// The tellers of a branch above a number, and behind them the totals of its proof.
+/// The tellers of a branch above a number, and after them the totals of its proof.
 #[derive(Clone, Copy, Debug, PartialEq, Eq)]
 pub struct AfterTeller {
     /// The branch, as it was read.
@@ -76,11 +78,11 @@ pub struct FromTotal {
     pub branch: BranchNumbers,
     /// What the balances of its tellers come to.
     pub tellers: i128,
-    /// The next one, or none behind the last.
+    /// The next one, or none after the last.
     pub next: Option<Total>,
 }
 
-/// The line of the next teller of a branch, or behind the last the first total.
+/// The line of the next teller of a branch, or of the first total after the last teller.
 pub(crate) fn next_teller<S: ReportReads>(
     alloc: Global,
     store: &mut S,

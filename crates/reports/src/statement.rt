@@ -1,3 +1,5 @@
+//! The statement of an account: where it goes on, and its next line, read from a store.
+
 ghost use Rattle.std.specs.Prelude.{◌≤◌, IfOk, IfSome};
 ghost use Rattle.arrayvec.specs.ArrayVec.{array_vec_len};
 ghost use Rattle.store_rows.specs.Status.{MayRead, mark_of};
@@ -20,7 +22,7 @@ pub struct FromTurn {
     pub turn: u32,
 }
 
-/// The line of the next entry of an account. Behind the greatest `u32` there is no turn.
+/// The line of the next entry of an account. No turn follows the greatest `u32`.
 pub(crate) fn next_entry<S: ReportReads>(
     alloc: Global,
     store: &mut S,

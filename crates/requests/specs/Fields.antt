@@ -49,7 +49,7 @@ who_of users fields =
 abbrev pub who_by_badge : (List ℕ → Option ℕ) → List (List ℕ × List ℕ) → Result Who MessageFault
 who_by_badge users fields = who_from (user_of users (values_named (codes "Bank-Badge") fields)) (Ok 0)
 
--- who asks, with the release that he names
+-- who asks, with the release that they name
 abbrev pub with_release : Result Who MessageFault → Result ℕ MessageFault → Result Who MessageFault
 with_release (Ok who) (Ok release) = Ok (record who { release = release })
 with_release (Ok who) (Err fault) = Err fault

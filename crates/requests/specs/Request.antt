@@ -47,7 +47,7 @@ asked_of users moment m None = Err NoSuchRoute
 abbrev pub request_of : (List ℕ → Option ℕ) → ℕ → MessageParts → Result Request MessageFault
 request_of users moment m = asked_of users moment m (asked_route m.head.method m.head.target)
 
--- what is asked for is answered by a report, which is written row by row behind its head
+-- what is asked for is answered by a report, which is written row by row after its head
 abbrev pub IsReport : Asked → Type 0
 IsReport (asked.Operation op) = is_report op ≡ true
 IsReport asked.Listing = ⊤

@@ -1,3 +1,5 @@
+//! Who asks, by the fields of a message: the user of a badge, a session, a release and a slip.
+
 ghost use Rattle.std.specs.Prelude.{◌≡◌, ◌≤◌, IfOk, IfSome, if◌then◌else◌, List, ℕ, Some, None, get_or};
 ghost use Rattle.bank_terms.specs.Limits.{max_key};
 ghost use Rattle.std.specs.Int.{is_in_range};
@@ -16,8 +18,8 @@ use std::str;
 const MAX_BADGE_LEN: usize = 64;
 
 /// Who asks, as the fields of a message say it, or the fault M6 where one of them is not of its form. The user is none
-/// where there is no badge, or one that the gate does not know, and the session is 0 where there is none. Bank-Release
-/// is not read, and is no fault however it looks.
+/// where there is no badge, or one that the `Gate` does not know, and the session is 0 where there is none.
+/// Bank-Release is not read, and is no fault however it looks.
 pub(crate) fn who_of<G: Gate>(message: &Message<'_>, gate: &G) -> Result<Who, MessageFault>
     ensures value { result ≡ who_of (G.users gate.now) message.now.head.fields }
     ensures small { IfOk result (λ who. who.slip ≤ max_key) }
@@ -80,7 +82,7 @@ pub(crate) fn who_by_badge<G: Gate>(message: &Message<'_>, gate: &G) -> Result<W
     })
 }
 
-/// The user whom the gate names for the badge, if there is one.
+/// The user whom the `Gate` names for the badge, if there is one.
 fn user_of<G: Gate>(badge: Found<'_>, gate: &G) -> Result<Option<u32>, MessageFault>
     ensures { (values : List (List ℕ)) → IsFound values badge.entry → result ≡ user_of (G.users gate.now) values }
 {

@@ -1,3 +1,5 @@
+//! The trait of what knows which user each badge names.
+
 ghost use Rattle.std.specs.Prelude.{ℕ, List, Option, ◌≡◌};
 
 /// Who is let in: the users whom badges name. That a badge is in the right hands is not its affair.

@@ -1,3 +1,5 @@
+//! The table of paths: what a method and a target ask for.
+
 ghost use Rattle.std.specs.Prelude.{◌≡◌, [], ◌++◌, ℕ, List, None, IsOkAnd, OnOk, option_map};
 ghost use Rattle.matchit.specs.Seek.{first};
 ghost use Rattle.matchit.specs.Route.{parse_route};

@@ -1,3 +1,5 @@
+//! The request that a message states at a moment, from its path, its fields and its body.
+
 ghost use Rattle.std.specs.Prelude.{◌≡◌, ◌≤◌, IfOk, IsOkUnless};
 ghost use Rattle.bank_terms.specs.Limits.{max_moment};
 ghost use Rattle.money.specs.declared.fault.Fault.TheVariants.{Memory};

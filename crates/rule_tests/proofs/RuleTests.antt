@@ -1,4 +1,4 @@
--- What a test that a rule computes tells, where it lets an operation pass.
+-- What follows from a test that a rule computes, where it lets an operation pass.
 use Rattle.std.proofs.Common.{◌≡◌, ℕ, ◌+◌, ◌≤◌, ◌==◌, ℤ, Bool, true, false, cond, not, refl, arith, List, [], ◌∷◌, Option, Some, None, int_lt}
 use Rattle.std.specs.Prelude.{◌≤ℤ◌, IsNone, is_none, nat_le, option_map}
 use Rattle.std.proofs.lemmas.Bool.{and_parts, leb-false, true≢false}
@@ -14,7 +14,7 @@ pub none_of : {A : Type 0} (o : Option A) → IsNone o → o ≡ None
 none_of None none = refl
 none_of (Some a) none = absurd (true≢false none)
 
--- a rule in front does not deny, and neither do those behind it
+-- the first rule does not deny, and neither do those after it
 pub passed_by : {R : Type 0} (b : Bool) (r : R) (rest : Option R) → cond b (Some r) rest ≡ None → (b ≡ false) × (rest ≡ None)
 passed_by true r rest is = absurd cc
 passed_by false r rest is = (refl, is)

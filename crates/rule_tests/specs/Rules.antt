@@ -26,7 +26,7 @@ account_in_range row added = option_map_or (λ a. is_cents (a.balance +ℤ added
 abbrev pub account_is_full : Option AccountRecord → Bool
 account_is_full row = option_map_or (λ a. is_full a.turns 1) row false
 
--- ---- a teller, and the history of his branch
+-- ---- a teller, and the history of its branch
 
 abbrev pub teller_is_of : Option TellerRecord → ℕ → Bool
 teller_is_of row branch = option_map_or (λ t. t.row.branch == branch) row true
@@ -80,7 +80,7 @@ drawers_in_range row added = option_map_or (λ b. is_cents (b.drawers +ℤ added
 abbrev pub cash_entries_in_range : Option CashBook → ℤ → Bool
 cash_entries_in_range row added = option_map_or (λ b. is_cents (b.cash_entries +ℤ added)) row true
 
--- the sum of its lines that tell what counts differed by
+-- the sum of its lines that record what counts differed by
 abbrev pub differences_in_range : Option CashBook → ℤ → Bool
 differences_in_range row added = option_map_or (λ b. is_cents (b.differences +ℤ added)) row true
 

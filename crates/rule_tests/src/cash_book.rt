@@ -1,3 +1,5 @@
+//! The sums of a branch's cash lines, as the rules on cash judge them.
+
 ghost use Rattle.std.specs.Prelude.{◌≡◌};
 ghost use Rattle.rule_tests.specs.BranchParts.{cash_book_of};
 
@@ -14,7 +16,7 @@ pub struct CashBook {
     pub drawers: i128,
     /// The sum of its cash lines that came with entries.
     pub cash_entries: i128,
-    /// The sum of its cash lines that tell what counts of drawers differed by.
+    /// The sum of its cash lines that record what counts of drawers differed by.
     pub differences: i128,
 }
 

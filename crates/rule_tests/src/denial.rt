@@ -1,3 +1,5 @@
+//! Which of several rules, tested in their order, denies first.
+
 ghost use Rattle.std.specs.Prelude.{◌≡◌};
 ghost use Rattle.rule_tests.specs.Denial.{first_denial};
 

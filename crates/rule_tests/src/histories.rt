@@ -1,4 +1,4 @@
-//! What is asked of a teller and of the history of his branch.
+//! What is asked of a teller and of the history of its branch.
 
 ghost use Rattle.std.specs.Prelude.{◌≡◌};
 ghost use Rattle.rule_tests.specs.Rules.{ledger_in_range, ledger_is_full, teller_in_range, teller_is_of};

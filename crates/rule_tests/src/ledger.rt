@@ -1,3 +1,5 @@
+//! The balance and the totals of a branch's history, as the rules on entries judge them.
+
 ghost use Rattle.std.specs.Prelude.{◌≡◌};
 ghost use Rattle.rule_tests.specs.BranchParts.{ledger_of};
 

@@ -1,3 +1,5 @@
+//! Numbers of the books, and sums and differences of them, against their limits.
+
 ghost use Rattle.std.specs.Prelude.{◌≡◌, ◌↔◌, ◌+ℤ◌, int_lt, neg_ℤ, IfSome, IsSome};
 ghost use Rattle.money.specs.Range.{IsCents, is_cents};
 ghost use Rattle.rule_tests.specs.Rules.{is_full};

@@ -14,7 +14,7 @@ use Rattle.bank_policy.specs.declared.rows.Relation.{Relation}
 use Rattle.bank_policy.specs.declared.rows.Triple.{Triple}
 use Rattle.bank_policy.specs.declared.rows.User.{User}
 
--- a user whose first session is open, and whether he is an officer
+-- a user whose first session is open, and whether the user is an officer
 abbrev pub user : ℕ → List ℕ → Bool → User
 user number name officer = record { user = number; name = name; officer = officer; suspended = false; session = 1; on = true }
 

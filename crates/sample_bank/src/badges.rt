@@ -1,3 +1,5 @@
+//! The badges of the sample bank's six users.
+
 ghost use Rattle.std.specs.Prelude.{◌≡◌};
 ghost use Rattle.sample_bank.specs.Badges.{badge_user};
 

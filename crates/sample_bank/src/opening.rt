@@ -1,3 +1,5 @@
+//! The books of the sample bank: its branches, tellers and accounts, and the cash lines that put two drawers on.
+
 ghost use Rattle.std.specs.Prelude.{◌≡◌, [], pos, OnOk, IfOk};
 ghost use Rattle.money.specs.Range.{IsCents};
 ghost use Rattle.sample_bank.specs.Opening.{accounts, branches, line_of, lines, opened_books, sample_opening, tellers};

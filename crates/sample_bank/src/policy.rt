@@ -1,3 +1,5 @@
+//! The users, sets, certified relations, triples and certifiers of the sample bank.
+
 ghost use Rattle.std.specs.Prelude.{◌≡◌, [], IfOk, OnOk, fold};
 ghost use Rattle.keyed_rows.specs.Ordered.{add_row};
 ghost use Rattle.bank_policy.specs.PolicyKeys.{certifier_key, relation_key, triple_key};
@@ -192,7 +194,7 @@ fn add_triples(policy: &mut Policy) -> Result<(), AllocError>
     write_triples(policy, 9, &of_sue)
 }
 
-/// Writes what a user may carry out, on the items of which set and up to which limit in cents. He may at every moment.
+/// Writes what a user may carry out at every moment, on the items of which set and up to which limit in cents.
 #[tactic(auto, using(std::proofs::lemmas::List::Sums::fold_more))]
 fn write_triples(
     policy: &mut Policy,

@@ -14,7 +14,7 @@ use Rattle.store_rows.specs.ListStore.{list_status}
 use Rattle.store_rows.specs.Status.{Status}
 use Rattle.store_rows.specs.declared.list_store.ListStore.{ListStore}
 
--- one that stands for these books alone
+-- one that represents these books alone
 pub opens_with : (store : ListStore) (world : WorldLists) → world ≡ sample_opening → PassesChecks world → (list_status store).holds world
     → ((w : WorldLists) → (list_status store).holds w → w ≡ world) → IsOpening list_status store
 opens_with store world same passes holds only = record {
@@ -35,7 +35,7 @@ opens_behind status cached store same empty unread opens = record {
   only = λ w h. opens.only w (subst (λ s. (status s).holds w) same h.0);
 }
 
--- What was served behind a cache was served over a store with its cache.
+-- What was served with a cache in front was served over a store together with its cache.
 pub served_through : {S : Type 0} (status : S → Status) (moment : ℕ) (old new : Streams) (left : Option S) (result : Result Served ServeFault)
     → IsSampleServedBehindCache status moment old new left result
     → (ended : Option (Cached S)) × IsSampleServed (cached_status status) moment old new ended result

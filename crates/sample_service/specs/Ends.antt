@@ -7,8 +7,8 @@ use Rattle.exit_lines.specs.Streams.{Stream, Streams}
 use Rattle.sample_service.specs.Serving.{IsSampleServed}
 use Rattle.store_rows.specs.Status.{Status}
 
--- A stream was served over the sample bank, in a store that stands for what this says; it was told how that ended, and what was left
--- of the store was let go.
+-- A stream was served over the sample bank, in a store that represents what this says; how that ended was reported, and
+-- what was left of the store was dropped.
 pub record IsSampleEnd {S : Type 0} (stands : S → Status) (moment : ℕ) (old new : Streams) (errors_old errors_new : Stream) (status : ℕ) : Type 0 where
   pub left : Option S
   pub result : Result Served ServeFault

@@ -12,7 +12,7 @@ use Rattle.sample_bank.specs.Opening.{sample_opening}
 use Rattle.store_rows.specs.Status.{Status}
 
 module _ {S : Type 0} (status : S → Status) where
-  -- The store stands for the opening books of the sample bank, and for no others. They pass both checks.
+  -- The store represents the opening books of the sample bank, and no others. They pass both checks.
   pub record IsOpening (store : S) : Type 0 where
     pub passes : PassesChecks sample_opening
     pub holds : (status store).holds sample_opening
@@ -25,7 +25,7 @@ module _ {S : Type 0} (status : S → Status) where
       (opened : S) × IsOpening opened × IsServedOver status badge_user opened moment old new left result
   IsSampleServed moment old new None result = (result ≡ Err Memory) × (new ≡ old)
 
-  -- the same behind a cache, which is gone again
+  -- the same with a cache in front, which is gone after that
   abbrev pub IsSampleServedBehindCache : ℕ → Streams → Streams → Option S → Result Served ServeFault → Type 0
   IsSampleServedBehindCache moment old new (Some left) result =
       (opened : S) × IsOpening opened × IsServedBehindCache status badge_user opened moment old new left result

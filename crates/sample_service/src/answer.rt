@@ -1,3 +1,5 @@
+//! The sample bank served over a stream up to the exit status, with or without a cache in front.
+
 ghost use Rattle.std.specs.Prelude.{IfOk};
 ghost use Rattle.store_cached.specs.Standing.{cached_status};
 ghost use Rattle.exit_lines.specs.Streams.{stream_at, streams_at};
@@ -12,8 +14,8 @@ use std::alloc::{AllocError, Global};
 use std::io::{Read, Write};
 use store_rows::Store;
 
-/// Serves a stream over a store of the sample bank, as `serve_sample` does, and answers the status: `DONE` exactly where
-/// that went well, otherwise `FAILED` behind a line on `errors` that says what failed.
+/// Serves a stream over a store of the sample bank, as `serve_sample` does, and returns the status: `DONE` exactly
+/// where that went well, otherwise `FAILED`, after a line on `errors` that says what failed.
 pub fn answer_sample<S: Store + Drop, R: Read, W: Write, E: Write>(
     alloc: Global,
     store: Result<S, AllocError>,

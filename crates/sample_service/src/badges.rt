@@ -1,7 +1,9 @@
+//! Which user of the sample bank a badge belongs to.
+
 use counter_service::Gate;
 use sample_bank::badge_user;
 
-/// The gate of the sample bank, which knows its six users by their badges.
+/// Knows the six users of the sample bank by their badges.
 #[derive(Clone, Copy, Debug, PartialEq, Eq)]
 pub struct SampleBadges;
 

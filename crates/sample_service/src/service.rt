@@ -1,3 +1,5 @@
+//! The sample bank served over a stream, with or without a cache in front.
+
 ghost use Rattle.std.specs.Prelude.{◌≡◌, ◌≤◌, IfOk, Err};
 ghost use Rattle.counter_service.specs.Serving.{most_messages};
 ghost use Rattle.sample_service.specs.Serving.{IsOpening, IsSampleServed, IsSampleServedBehindCache};

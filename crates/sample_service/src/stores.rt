@@ -1,3 +1,5 @@
+//! The sample bank in lists, whose books and policy are checked first.
+
 ghost use Rattle.std.specs.Prelude.{IfOk, OnOk};
 ghost use Rattle.bank_meaning.specs.Sums.{PassesChecks};
 ghost use Rattle.store_rows.specs.ListStore.{list_status};

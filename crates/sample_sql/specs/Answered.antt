@@ -8,7 +8,7 @@ use Rattle.sample_sql.specs.declared.store_name.StoreName.{StoreName}
 use Rattle.sample_sql.specs.declared.store_name.StoreName.TheVariants.{Cached, List, Tables}
 use Rattle.store_rows.specs.ListStore.{list_status}
 
--- it was served over that store, and the status and standard error tell how that ended
+-- it was served over that store, and the status and standard error say how that ended
 abbrev pub IsAnswered : StoreName → ℕ → Streams → Streams → Stream → Stream → ℕ → Type 0
 IsAnswered List moment old new errors_old errors_new status =
     IsSampleEnd list_status moment old new errors_old errors_new status

@@ -1,4 +1,4 @@
--- What the sample's stores over SQL stand for.
+-- What the sample's stores over SQL represent.
 use Rattle.store_cached.specs.Standing.{cached_status}
 use Rattle.store_cached.specs.declared.cached.Cached.{Cached}
 use Rattle.sqlite.specs.Held.{state}
@@ -12,6 +12,6 @@ use Rattle.store_sql.specs.declared.sql_store.SqlStore.{SqlStore}
 abbrev pub memory_status : SqlStore MemStore over_memory → Status
 memory_status store = sql_status (state over_memory store.conn) store.is_stopped store.faults store.failures
 
--- the same behind a cache
+-- the same with a cache in front
 abbrev pub cached_sql_status : Cached (SqlStore MemStore over_memory) → Status
 cached_sql_status = cached_status memory_status

@@ -1,7 +1,7 @@
-//! The sample bank in SQL tables in memory. `sql_sample` stands for the sample's opening and for no other
-//! books, and passes both checks. `answer_in` serves the sample in the store that a `StoreName` names
-//! (lists, lists behind a cache, or tables) and ends as `answer_sample` of `sample_service` says. That only
-//! memory keeps one from such a store is only tested.
+//! The sample bank in SQL tables in memory. The store of `sql_sample` represents the sample's opening and no other
+//! books, and passes both checks. `answer_in` serves the sample in the store that a `StoreName` names (lists,
+//! lists with a cache in front, or tables) and ends as `answer_sample` of `sample_service` says. That only memory
+//! keeps one from such a store is only tested.
 #![tactic(auto)]
 
 mod store_name;

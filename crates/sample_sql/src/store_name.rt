@@ -1,3 +1,5 @@
+//! The sample bank served in whichever store a name picks.
+
 ghost use Rattle.exit_lines.specs.Streams.{stream_at, streams_at};
 ghost use Rattle.sample_sql.specs.Answered.{IsAnswered};
 
@@ -12,13 +14,13 @@ use std::io::{Read, Write};
 pub enum StoreName {
     /// Lists.
     List,
-    /// Lists behind a cache.
+    /// Lists with a cache in front.
     Cached,
     /// SQL tables in memory.
     Tables,
 }
 
-/// Serves a stream over the sample bank in the store of this name, and answers the status as `answer_sample` does.
+/// Serves a stream over the sample bank in the store of this name, and returns the status as `answer_sample` does.
 pub fn answer_in<R: Read, W: Write, E: Write>(
     alloc: Global,
     store: StoreName,

@@ -1,3 +1,5 @@
+//! The store of the sample bank over SQL, made by creating the tables in memory.
+
 ghost use Rattle.std.specs.Prelude.{IfOk};
 ghost use Rattle.sample_service.specs.Serving.{IsOpening};
 ghost use Rattle.sample_sql.specs.Stores.{memory_status};

@@ -1,5 +1,6 @@
 -- That tables which were read whole hold the World that their rows are of.
 use Rattle.std.proofs.Common.{◌≡◌, ◌∙◌, ℕ, List, ap, sym, subst}
+use Rattle.std.specs.Prelude.{IfOk, IsTrue, OnOk, Result, Ok, Err}
 use Rattle.sqlite.specs.Effect.{Database, IsDatabase}
 use Rattle.sqlite.specs.State.{State}
 use Rattle.sqlite.specs.Tree.{Trees}
@@ -26,6 +27,7 @@ use Rattle.sql_whole.specs.declared.book_rows.BookRows.{BookRows}
 use Rattle.sql_whole.specs.declared.policy_tables.PolicyTables.{PolicyTables}
 use Rattle.sql_adopt.specs.Adopted.{Adopts, Finds, IsBankFile, IsBankRow, IsLeft}
 use Rattle.sql_adopt.specs.Told.{AreBankOf, sheets_read}
+use Rattle.sql_adopt.specs.declared.bank_rows.BankRows.{BankRows}
 
 held_slips : (e : Edition) (db : Trees) (rows : List SlipRow) → AreSlips e db rows → IsOrdered slip_key rows → (IsIn e in_slips → IsKeptTable (db 25)) → HoldsSlipsIn e rows (db 25)
 held_slips First db rows are ordered kept = are
@@ -81,3 +83,9 @@ adopted old new w file found left settled =
       alone = λ left (trees, may, of). same_world left w trees of (durable trees may);
       holds = λ is_open. record { now = subst (λ (d : Database). HoldsWorld d w) (sym (left.now is_open)) found.held; settled = left.settled is_open };
     }
+
+-- the same of a reading that may be refused
+pub adopted_if : {E : Type 0} (old new : State) (r : Result BankRows E) → IsBankFile old → IfOk r (λ bank. Finds newest old.now bank.world) → IsLeft old new → OnOk r (IsTrue old.is_open)
+    → (IsTrue old.is_open → (trees : Trees) → new.may_leave trees → trees ≡ old.committed.trees) → OnOk r (Adopts old new)
+adopted_if old new (Ok bank) file found left is_open settled = adopted old new bank.world file found left (settled is_open)
+adopted_if old new (Err e) file found left is_open settled = tt

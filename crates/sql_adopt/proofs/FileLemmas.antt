@@ -89,7 +89,7 @@ kept_sheets e db s holds in_releases inside = kept_beside_rowid _ _ _ _ _ (λ x.
 kept_sheets e db s holds in_slips inside = kept_slips e s.slips (db 25) inside (holds in_slips)
 kept_sheets e db s holds in_slip_counts inside = kept_counts e s (db 27) inside (holds in_slip_counts)
 
--- what holds a World, with nothing uncommitted, is a bank's file in its edition
+-- what holds a World, with nothing uncommitted, is a bank's file in its schema version
 bank_is_file_in : (e : Edition) (s : State) (w : WorldLists) → HoldsBankIn e s w → IsBankFileIn e s
 bank_is_file_in e s w bank = record {
   schema = bank.now.schema;
@@ -103,7 +103,7 @@ bank_is_file s w bank = bank_is_file_in newest s w (record { now = bank.now; set
 pub newest_bank_is_file : (s : State) (w : WorldLists) → HoldsBank s w → IsNewestFile s
 newest_bank_is_file s w bank = record { file = bank_is_file s w bank; version = w.version; row = bank.now.world.rows in_bank }
 
--- ---- the row of the bank names the edition
+-- ---- the row of the bank names the schema version
 
 one_edition : (e other : Edition) → edition_number e ≡ edition_number other → other ≡ e
 one_edition First First same = refl

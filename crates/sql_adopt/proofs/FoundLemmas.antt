@@ -1,4 +1,4 @@
--- That the members of sets with numbers that differ are told apart, so that each set has those that stand behind one another.
+-- That the members of sets with numbers that differ are distinguished: each set has those that follow one another.
 use Rattle.std.proofs.Common.{◌≡◌, ◌≢◌, ◌≤◌, ◌<◌, ◌+◌, ◌==◌, ℕ, zero, suc, false, true, List, [], ◌∷◌, ◌++◌, map, take, drop, length, get_or, refl, sym, ap, ap₂, subst, arith, ◌∙◌, Contains}
 use Rattle.std.specs.Prelude.{None, Option, Some}
 use Rattle.std.specs.Option.{IsSomeAnd}
@@ -19,7 +19,7 @@ use Rattle.sql_adopt.proofs.SetLemmas.{AreOwn, AreSoFar}
 
 -- ---- the members of one set
 
--- they stand in front at their places, from this one on, and no row behind them is of the set
+-- they stand in front at their places, from this one on, and no row after them is of the set
 abbrev Fronts : ℕ → ℕ → List MemberRow → List Member → List MemberRow → Type 0
 Fronts set first rows members behind = (map (member_row set) (enumerate_from first members) ++ behind ≡ rows) × ((m : MemberRow) → Contains behind m → m.set ≢ set)
 
@@ -65,7 +65,7 @@ module _ (set : ℕ) (rows : List MemberRow) (i : ℕ) (own members : List Membe
       all_are set 1 own members (row ∷ drop (i + 1) rows) rows front.behind (ap (λ l. map (member_row set) (enumerate_from 1 own) ++ l) (sym left) ∙ read_is) (front.front, front.others)
       (λ d some same. false≢true (sym other ∙ eq-eqb row.set set same))
 
-  -- behind the last row
+  -- past the last row
   pub own_to_end : length rows ≤ i → own ≡ members
   own_to_end past =
       all_are set 1 own members [] rows front.behind (ap (λ l. map (member_row set) (enumerate_from 1 own) ++ l) (sym (drop_all i rows past)) ∙ read_is) (front.front, front.others)

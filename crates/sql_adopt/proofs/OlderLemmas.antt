@@ -1,4 +1,4 @@
--- A bank that is read in the edition which its row names.
+-- A bank that is read in the schema version which its row names.
 use Rattle.std.proofs.Common.{◌≡◌, ◌≢◌, ◌∙◌, ℕ, ℤ, pos, [], ◌∷◌, Ok, Err, IfErr, IfOk, IsErrAnd, IsTrue, OnOk, Option, Some, Result, refl, sym, ap, ap₂, subst}
 use Rattle.sqlite.specs.State.{HasCleanDisk, IsUnchanged, KeepsCommit, State}
 use Rattle.sqlite.specs.Tree.{Trees}
@@ -20,9 +20,9 @@ use Rattle.sql_adopt.specs.declared.adopt_fault.AdoptFault.{AdoptFault}
 use Rattle.sql_adopt.specs.declared.adopt_fault.AdoptFault.TheVariants.{Version}
 use Rattle.sql_adopt.proofs.TakenLemmas.{first_found}
 
--- ---- the edition that a row names
+-- ---- the schema version that a row names
 
--- it is told that a row is of no older edition
+-- a row of no older schema version is refused as of another version
 pub version_refused : (e : Edition) → e ≢ newest → (db : Trees) (found : Option BankRow) (row : BankRow) → found ≡ Some row → row.id ≡ pos 1 → row.version ≢ pos 1 → row.version ≢ pos 2 → IsBankTable db found
     → IsRefusedIn e db Version
 version_refused First older db found row is id one two table = (row, id, one, subst (IsBankTable db) is table)
@@ -32,7 +32,7 @@ version_refused Third older db found row is id one two table = absurd (older ref
 same_version : (id version policy : ℤ) (row : BankRow) → ◌≡◌ {A = Option BankRow} (Some (record { id = id; version = version; policy = policy })) (Some row) → version ≡ row.version
 same_version id version policy row is = cc
 
--- the row of an edition bears its number
+-- the row of a schema version bears its number
 pub version_there : (e : Edition) (db : Trees) (version : ℕ) (found : Option BankRow) (row : BankRow) → found ≡ Some row → IsBankTable db found → IsBankRow e db version → row.version ≡ pos (edition_number e)
 version_there e db version found row is table there = sym (same_version _ _ _ row (sym (first_found e db found version table there) ∙ is))
 
@@ -42,7 +42,7 @@ first_older same = absurd cc
 pub second_older : Second ≢ Third
 second_older same = absurd cc
 
--- a row of an older edition is not that of the newest
+-- a row of an older schema version is not that of the newest
 pub not_newest : (e : Edition) → e ≢ newest → (db : Trees) (version : ℕ) (found : Option BankRow) (row : BankRow) → found ≡ Some row → IsBankTable db found → IsBankRow newest db version → row.version ≡ pos (edition_number e) → ⊥
 not_newest First older db version found row is table there number = absurd (let both : pos 1 ≡ pos 3 = sym number ∙ version_there newest db version found row is table there in cc)
 not_newest Second older db version found row is table there number = absurd (let both : pos 2 ≡ pos 3 = sym number ∙ version_there newest db version found row is table there in cc)
@@ -72,13 +72,13 @@ pub is_older : {E : Type 0} (found : Option BankRow) (r : Result Edition E) → 
 is_older found (Ok e) named = named.older
 is_older found (Err x) named = tt
 
--- ---- what is read in that edition
+-- ---- what is read in that schema version
 
 module _ (e edition : Edition) (a b c : State) (over : LeavesNone b c) (bears : BearsNoOther e a.now.trees) (first : Done e a b (λ db. IsOlderRow db edition)) where
   edition_is : HasCleanDisk c → HasBankTables e a → edition ≡ e
   edition_is clean has = let it = (first (early b c _ over clean) has).0 in bears edition it.policy it.row
 
-  -- the tables are in that edition, so what a read in it tells holds of them
+  -- the tables are in that schema version, so what a read in it says holds of them
   pub older_then : (P : Edition → Trees → Type 0) → (HasCleanDisk c → HasBankTables edition b → P edition b.now.trees × KeepsCommit b c) → HasCleanDisk c → HasBankTables e a → ((edition ≡ e) × P e a.now.trees) × KeepsCommit a c
   older_then P second clean has =
       let one = first (early b c _ over clean) has in

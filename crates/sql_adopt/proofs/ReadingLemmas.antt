@@ -51,7 +51,7 @@ store_refused e db (Books fault) store = absurd store
 store_refused e db (Policy fault) store = absurd store
 store_refused e db (Fault fault) store = tt
 
--- A fault that says nothing of the row, where that is one of this edition, with a count: all rows were read.
+-- A fault that says nothing of the row, where that is one of this schema version, with a count: all rows were read.
 pub beyond_row : (e : Edition) (db : Trees) (version : ℕ) → IsBankRow e db version → ((t : Sheet) → HasUnread e db t → ⊥) → (fault : AdoptFault) → IsBeyondBankRow fault → IsRefusedIn e db fault
 beyond_row e db version row read NotABank none = absurd none
 beyond_row e db version row read Version none = absurd none
@@ -79,7 +79,7 @@ unread_row e db version row (Books fault) range = record { policy = pos version;
 unread_row e db version row (Policy fault) dangles = record { version = version; row = row; unread = λ t there. dangles }
 unread_row e db version row (Fault fault) beyond = tt
 
--- what is told of books that were read says nothing of the row of the bank
+-- a fault reported of books that were read says nothing of the row of the bank
 pub beyond_books : (fault : AdoptFault) → IsOfBooksRead fault → IsBeyondBankRow fault
 beyond_books NotABank none = absurd none
 beyond_books Version none = absurd none
@@ -95,7 +95,7 @@ pub handed_refused : {X : Type 0} (e : Edition) (db : Trees) (r : Result X Adopt
 handed_refused e db (Ok x) fault same refused = tt
 handed_refused e db (Err x) fault same refused = subst (IsRefusedIn e db) (sym same) refused
 
--- the version of the policy is out of range where the row is one of this edition
+-- the version of the policy is out of range where the row is one of this schema version
 pub range_refused : {X : Type 0} (e : Edition) (db : Trees) (policy : ℤ) → IsBankNumber e db policy → (r : Result X AdoptFault) → IfErr r IsOutOfRange → IfErr r (IsRefusedIn e db)
 range_refused e db policy number (Ok x) range = tt
 range_refused e db policy number (Err fault) range = subst (IsRefusedIn e db) (sym range) (record { policy = policy; row = number; range = λ none. refl; unread = λ t beside there. refl })

@@ -1,4 +1,4 @@
--- That the rows of a bank tell its World, its policy and its numbers, and that a verdict on it is no fault.
+-- That the rows of a bank give its World, its policy and its numbers, and that a verdict on it is no fault.
 use Rattle.std.proofs.Common.{IfErr, Result, ◌≡◌, ◌≢◌, ◌==◌, ℕ, ap, sym, subst, ◌∙◌, None, Some, Ok, Err, Option, List, refl, map}
 use Rattle.std.specs.Prelude.{if◌then◌else◌, unwrap_or}
 use Rattle.std.proofs.lemmas.Bool.{ne_eqb}
@@ -73,7 +73,7 @@ books_in_order books policy version can = record {
   slips = can.slips.ordered.in_order;
 }
 
--- ---- what is told of a teller of whom it is kept
+-- ---- the teller that its kept row gives
 
 holder_told : (holder : Option ℕ) → holder ≢ Some 0 → (if unwrap_or holder 0 == 0 then None else Some (unwrap_or holder 0)) ≡ holder
 holder_told None some = refl
@@ -82,7 +82,7 @@ holder_told (Some n) some = ap (λ b. if b then None else Some n) (ne_eqb n 0 (�
 teller_there : (t : TellerRecord) → t.holder ≢ Some 0 → teller_told (kept_teller t) ≡ t
 teller_there t some = ap (λ h. record t { holder = h }) (holder_told t.holder some)
 
--- ---- what is told of the rows of a bank
+-- ---- what the rows of a bank give
 
 module _ (books : BookRows) (tables : PolicyTables) (version : ℕ) (bank : IsBankOf (sheets_read books tables version)) where
   pub policy_is : (users : List KeptUser) → users ≡ books.users.users.items → IsPolicyOf users tables bank.world.policy

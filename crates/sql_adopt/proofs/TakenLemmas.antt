@@ -1,4 +1,4 @@
--- That tables which hold a sound bank are read whole, and tell its rows, or the database fails.
+-- That tables which hold a sound bank are read whole, and give its rows, or the database fails.
 use Rattle.std.proofs.Common.{◌≡◌, ◌≢◌, ◌∙◌, ℕ, ℤ, pos, List, [], ◌∷◌, map, Ok, Err, IfErr, IfOk, IsErrAnd, IsOk, Option, Some, None, Result, refl, sym, ap, subst}
 use Rattle.sqlite.specs.Order.{Row}
 use Rattle.sqlite.specs.Tree.{Trees}
@@ -103,7 +103,7 @@ sheets_are_read e db s books tables version h row b p =
     let version_is : s.version ≡ version = ap (λ rows. cells.version_back (first_row rows)) (sym (h in_bank) ∙ row) in
     λ i. record { users = users i; sets = sets i; members = members i; relations = relations i; triples = triples i; certifiers = certifiers i; branches = branches i; tellers = tellers i; accounts = accounts i; entries = entries i; lines = lines i; proofs = proofs i; releases = releases i; slips = slips i; slip_counts = slip_counts i; version = version_is i }
 
--- ---- tables of another edition
+-- ---- tables of another schema version
 
 pub same_number : (e edition : Edition) → pos (edition_number edition) ≡ pos (edition_number e) → edition_number e ≡ edition_number edition
 same_number e edition is = cc
@@ -115,7 +115,7 @@ told_other e edition db version row differs (Books fault) refused = absurd (diff
 told_other e edition db version row differs (Policy fault) refused = absurd (differs (same_number e edition (ap (number_in 2) (sym refused.row ∙ row))))
 told_other e edition db version row differs (Fault fault) refused = tt
 
--- the row of one edition is not taken for that of another
+-- the row of one schema version is not taken for that of another
 pub other_told : (e edition : Edition) (db : Trees) (version : ℕ) (found : Option BankRow) (r : Result BankRow AdoptFault) → IsBankTable db found → IsBankRow e db version → edition_number e ≢ edition_number edition
     → IfOk r (λ row. (found ≡ Some row) × (row.id ≡ pos 1) × (row.version ≡ pos (edition_number edition))) → IfErr r (IsRefusedIn edition db) → IsErrAnd r IsOfOther
 other_told e edition db version found (Ok got) table row differs is refused =

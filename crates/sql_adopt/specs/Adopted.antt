@@ -18,8 +18,8 @@ use Rattle.sql_whole.specs.Typed.{AreBooksTyped, AreTablesTyped}
 use Rattle.sql_whole.specs.Whole.{HasBankTables, IsKeptTable}
 use Rattle.sql_adopt.specs.declared.reading.FileRows.{FileRows}
 
--- A connection to a file whose tables are as they were made for a bank in this edition, and as a store keeps tables. What stands in them may
--- be anything.
+-- A connection to a file whose tables are as they were made for a bank in this schema version, and as a store keeps
+-- tables. What stands in them may be anything.
 pub record IsBankFileIn (e : Edition) (s : State) : Type 0 where
   pub schema : s.now.schema ≡ schema_of e
   pub kept : (t : Sheet) → IsIn e t → IsKeptTable (s.now.trees (tree_of t))
@@ -28,12 +28,24 @@ pub record IsBankFileIn (e : Edition) (s : State) : Type 0 where
 abbrev pub IsBankFile : State → Type 0
 IsBankFile = IsBankFileIn newest
 
--- Between calls the tables hold this World as an edition lays it out: the last commit has it too.
+-- What a call on such a file comes to, where the disk has shown no fault after it.
+abbrev pub OnFileIn : Edition → State → State → Type 0 → Type 0
+OnFileIn e old new follows = HasCleanDisk new → IsBankFileIn e old → follows
+
+-- the same of the newest schema version
+abbrev pub OnFile : State → State → Type 0 → Type 0
+OnFile old new follows = HasCleanDisk new → IsBankFile old → follows
+
+-- the same of any
+abbrev pub OnAnyFile : State → State → (Edition → Type 0) → Type 0
+OnAnyFile old new follows = HasCleanDisk new → (e : Edition) → IsBankFileIn e old → follows e
+
+-- Between calls the tables hold this World as a schema version lays it out: the last commit has it too.
 pub record HoldsBankIn (e : Edition) (s : State) (w : WorldLists) : Type 0 where
   pub now : HoldsWorldIn e s.now w
   pub settled : s.committed ≡ s.now
 
--- The one row of the bank, of this edition, with this number for the version of its policy.
+-- The one row of the bank, of this schema version, with this number for the version of its policy.
 abbrev pub IsBankNumber : Edition → Trees → ℤ → Type 0
 IsBankNumber e db policy = db 0 ≡ bank_row_cells (record { id = pos 1; version = pos (edition_number e); policy = policy }) ∷ []
 
@@ -49,7 +61,7 @@ pub record AreFileRows (e : Edition) (db : Trees) (rows : FileRows) : Type 0 whe
   pub policy : IfSome rows.policy (ArePolicyTables e db)
   pub policy_typed : IfSome rows.policy AreTablesTyped
 
--- The row of the bank says that the file is of another edition than this.
+-- The row of the bank says that the file is of another schema version than this.
 pub record IsOfAnother (edition : Edition) (s : State) : Type 0 where
   pub is : Edition
   pub file : IsBankFileIn is s
@@ -61,7 +73,7 @@ pub record IsOfAnother (edition : Edition) (s : State) : Type 0 where
 abbrev pub ReadsLast : {X E : Type 0} → Edition → State → State → (Trees → X → Type 0) → Result X E → Type 0
 ReadsLast e old new says result = HasCleanDisk new → HasBankTables e old → IfOk result (says old.now.trees) × KeepsCommit old new
 
--- The tables hold this World as an edition lays it out, its books hold and its policy is sound, and they hold no other.
+-- The tables hold this World and no other, as a schema version lays it out; its books hold and its policy is sound.
 pub record Finds (e : Edition) (db : Database) (world : WorldLists) : Type 0 where
   pub books : Books world
   pub policy : IsPolicyVerdict world.policy (Ok tt)

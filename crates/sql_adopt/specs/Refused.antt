@@ -1,4 +1,4 @@
--- What it tells of a file that it is refused.
+-- What the refusal of a file says of the file.
 use Rattle.std.specs.Prelude.{ℕ, ℤ, pos, ◌≡◌, ◌≢◌, [], ◌∷◌, IfErr, IsErrAnd, Ok, Err, Result, ⊤}
 use Rattle.sqlite.specs.Effect.{Database}
 use Rattle.sqlite.specs.State.{HasCleanDisk, State}
@@ -31,22 +31,22 @@ use Rattle.sql_adopt.specs.Told.{AreBooksJudged, IsPolicyIn}
 use Rattle.sql_adopt.specs.Unread.{HasUnread, IsBesideBooks}
 use Rattle.sql_adopt.specs.declared.adopt_fault.AdoptFault.TheVariants.{Books, Fault, NotABank, Policy, Version}
 
--- Of the books it is told where the row of the bank is of this edition, and that they are out of range where its version of the policy
--- is no count, or a row of them or of the users can't be read.
+-- A fault of the books is reported where the row of the bank is of this schema version. It is `Range` where the version
+-- of the policy in that row is no count, or a row of the books or of the users can't be read.
 pub record TellsOfBooks (e : Edition) (db : Trees) (fault : BooksFault) : Type 0 where
   pub policy : ℤ
   pub row : IsBankNumber e db policy
   pub range : ((version : ℕ) → policy ≢ pos version) → fault ≡ Range
   pub unread : (t : Sheet) → IsBesideBooks t → HasUnread e db t → fault ≡ Range
 
--- and of the policy where that is one, and that it dangles where any row can't be read
+-- and one of the policy where that version is a count. It is `Dangling` where any row can't be read.
 pub record TellsOfPolicy (e : Edition) (db : Trees) (fault : PolicyFault) : Type 0 where
   pub version : ℕ
   pub row : IsBankRow e db version
   pub unread : (t : Sheet) → HasUnread e db t → fault ≡ Dangling
 
--- It is no bank where its table has not the one row of a bank, it is of another version where that row says so, and no other fault but one of
--- the database is told before these.
+-- It is no bank where its table does not have the one row of a bank, it is of another version where that row says so,
+-- and no other fault but one of the database is reported before these.
 abbrev pub IsRefusedIn : Edition → Trees → AdoptFault → Type 0
 IsRefusedIn e db NotABank = (b : BankRow) → b.id ≡ pos 1 → db 0 ≢ bank_row_cells b ∷ []
 IsRefusedIn e db Version = (b : BankRow) × (b.id ≡ pos 1) × (b.version ≢ pos (edition_number e)) × (db 0 ≡ bank_row_cells b ∷ [])
@@ -96,11 +96,11 @@ IsOfOther Version = ⊤
 IsOfOther (Fault _) = ⊤
 IsOfOther _ = ⊥
 
--- Of tables whose row says that they are of another edition this is told.
+-- Of tables whose row says that they are of another schema version this is reported.
 abbrev pub TellsOther : {X : Type 0} → Edition → State → State → Result X AdoptFault → Type 0
 TellsOther edition old new result = HasCleanDisk new → (e : Edition) → HasBankTables e old → (version : ℕ) → IsBankRow e old.now.trees version → edition_number e ≢ edition_number edition → IsErrAnd result IsOfOther
 
--- what a read inside a transaction tells where it is refused
+-- what a read inside a transaction reports where it is refused
 abbrev pub RefusesFor : {X : Type 0} → Edition → State → State → Result X AdoptFault → Type 0
 RefusesFor e old new result = HasCleanDisk new → HasBankTables e old → IfErr result (IsRefusedIn e old.now.trees)
 
@@ -130,14 +130,14 @@ abbrev pub IsOfPolicy : PolicyLists → AdoptFault → Type 0
 IsOfPolicy policy (Policy fault) = IsPolicyVerdict policy (Err fault)
 IsOfPolicy policy _ = ⊥
 
--- Of rows among which there is no policy: the books are told before that.
+-- Of rows among which there is no policy: a fault of the books is reported before that.
 abbrev pub IsOfNoPolicy : Sheets → AdoptFault → Type 0
 IsOfNoPolicy s (Books fault) = AreBooksJudged s (Err fault)
 IsOfNoPolicy s (Policy fault) = AreBooksJudged s (Ok tt) × (fault ≡ Dangling)
 IsOfNoPolicy s (Fault _) = ⊤
 IsOfNoPolicy s _ = ⊥
 
--- The books of these rows hold, and it is the first fault of the policy that they tell, or that it dangles where they tell none.
+-- The books of these rows hold, and it is the first fault of their policy, or that it dangles where they have none.
 pub record IsOfPolicyIn (s : Sheets) (fault : PolicyFault) : Type 0 where
   pub books : AreBooksJudged s (Ok tt)
   pub told : (policy : PolicyLists) → IsPolicyIn s policy → IsPolicyKeepable policy → IsPolicyVerdict policy (Err fault)

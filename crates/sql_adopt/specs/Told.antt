@@ -1,4 +1,4 @@
--- What rows of tables tell: the World that they are of, and the numbers that are kept beside its rows.
+-- What rows of tables give: the World that they are of, and the numbers that are kept beside its rows.
 use Rattle.std.specs.Prelude.{ℕ, slice_get, ◌≡◌, ◌≢◌, ◌==◌, ◌++◌, List, [], ◌∷◌, map, Contains, None, Ok, Result, Some, if◌then◌else◌}
 use Rattle.std.specs.List.{enumerate_from, flat_map}
 use Rattle.std.specs.Option.{option_map_or}
@@ -56,7 +56,7 @@ pub record AreSetsOf (numbers : List ℕ) (members : List MemberRow) (sets : Lis
   pub numbers_are : map (λ s. s.set) sets ≡ numbers
   pub members_are : flat_map member_rows sets ≡ members
 
--- These members of the set stand in front of the rows, each at its place, and no row behind them is of the set.
+-- These members of the set are the first of the rows, each at its place, and no row after them is of the set.
 pub record AreInFront (set : ℕ) (rows : List MemberRow) (members : List Member) : Type 0 where
   pub behind : List MemberRow
   pub front : map (member_row set) (enumerate_from 1 members) ++ behind ≡ rows

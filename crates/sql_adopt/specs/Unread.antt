@@ -14,7 +14,7 @@ use Rattle.sql_schema.specs.Readable.{IsReadableAccount, IsReadableBranch, IsRea
 abbrev pub HasStranger : {X : Type 0} → (Row → Row) → (X → Row) → (X → Type 0) → List Row → Type 0
 HasStranger {X = X} shows cells Readable tree = (row : Row) × Contains tree row × ((x : X) → Readable x → cells x ≢ shows row)
 
--- editions before the third have no slips
+-- schema versions before the third have no slips
 abbrev pub HasUnreadSlip : Edition → List Row → Type 0
 HasUnreadSlip First tree = ⊥
 HasUnreadSlip Second tree = ⊥

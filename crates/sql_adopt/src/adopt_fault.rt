@@ -1,3 +1,5 @@
+//! The faults for which a bank is not adopted, and which of them is given for a table that was not read.
+
 ghost use Rattle.std.specs.Prelude.{◌≡◌, ◌⊎◌};
 ghost use Rattle.sql_adopt.specs.Refused.{IsMissing, IsOfStore, IsOfUnread};
 ghost use Rattle.sql_whole.specs.Faults.{IsOfDatabase};
@@ -16,7 +18,7 @@ pub enum AdoptFault {
     #[error("not a bank")]
     NotABank,
     /// The books do not hold, or a row of them, the version of the policy, or what a user's row says beside
-    /// his number and name is out of its limits.
+    /// the user's number and name is out of its limits.
     #[error("books: {0}")]
     Books(BooksFault),
     /// The books hold, and the policy is refused, or a row of it is out of its limits; or a user's number or

@@ -1,3 +1,5 @@
+//! The rows of the books and a policy put together: a World with the numbers that are kept beside its rows.
+
 ghost use Rattle.std.specs.Prelude.{◌≡◌, IfOk, IfSome, IsSome};
 ghost use Rattle.sql_adopt.specs.Told.{AreBooksInOrder, kept_read, world_read};
 

@@ -1,3 +1,5 @@
+//! How many releases and slips each user has, from the rows of users and those of slip counts.
+
 ghost use Rattle.std.specs.Prelude.{◌≡◌, IfOk};
 ghost use Rattle.sql_adopt.specs.Told.{counts_told, releases_at};
 

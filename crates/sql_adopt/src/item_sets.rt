@@ -1,3 +1,5 @@
+//! Sets with their members, taken in order from the one table of all members.
+
 ghost use Rattle.std.specs.Prelude.{◌≡◌, ◌==◌, ◌≤◌, drop, length, map, take, IfOk, IfSome, List, Some};
 ghost use Rattle.std.specs.List.{enumerate_from};
 ghost use Rattle.std.specs.Option.{IsSomeAnd};

@@ -1,6 +1,9 @@
+//! Whether rows that were read are those of a bank whose books hold and whose policy is sound.
+
 ghost use Rattle.std.specs.Prelude.{◌≡◌, IfErr, IfOk, IsSome, Ok, OnOk};
 ghost use Rattle.sqlite.specs.Effect.{Database, IsDatabase};
 ghost use Rattle.sqlite.specs.Tree.{Trees};
+ghost use Rattle.bank_books.specs.Books.{Books};
 ghost use Rattle.bank_books.specs.Records.{kept_of};
 ghost use Rattle.sql_schema.specs.Held.{HoldsSheetsIn, IsIn, Sheet, tree_of};
 ghost use Rattle.sql_schema.specs.Schema.{schema_of};
@@ -32,6 +35,7 @@ pub(crate) fn judge_file(alloc: Global, rows: FileRows) -> Result<BankRows, Adop
     ensures sound { (e : Edition) (db : Database) → AreFileRows e db.trees rows → IsSome rows.policy → HoldsSoundBankIn e db → IfErr result IsOfStore }
     ensures named { (e : Edition) (db : Trees) → AreFileRows e db rows → IsSome rows.policy → (s : Sheets) → HoldsSheetsIn e db s → IfErr result (IsNamedBy s) }
     ensures kept { IfOk result (λ bank. (bank.kept ≡ kept_of bank.world) × IsKeepable bank.world) }
+    ensures checked { IfOk result (λ bank. Books bank.world × IsPolicyVerdict bank.world.policy (Ok tt)) }
 {
     let FileRows {
         version,
@@ -71,7 +75,7 @@ fn judge(
     }
 }
 
-/// Why a bank is not adopted of whose policy the tables tell none: its books are judged before.
+/// Why a bank whose tables give no policy is not adopted: its books are judged first.
 fn with_no_policy(alloc: Global, books: BookRows, version: u64) -> AdoptFault
     ensures beyond { IsOfBooksRead result }
     ensures named { (tables : PolicyTables) → AreBooksInOrder books → AreUsersOrdered books.users.users.items → IsOfNoPolicy (sheets_read books tables version) result }

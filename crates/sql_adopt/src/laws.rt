@@ -41,6 +41,6 @@ pub fn opened_world_is_bank<S: Alter>(conn: &Connection<S>)
     ensures older { (e : Edition) (w : WorldLists) → e ≢ newest → Opens (state S.Store conn.now) → AreOfWorldIn e w (state S.Store conn.now).committed.trees → IsOlderFile e (state S.Store conn.now) }
     ensures sound { (e : Edition) (w : WorldLists) → Opens (state S.Store conn.now) → AreOfWorldIn e w (state S.Store conn.now).committed.trees → Books w → IsPolicyVerdict w.policy (Ok tt) → AreReadable (sheets_of w) → HoldsSoundBankIn e (state S.Store conn.now).now }
 {
-    // With its schema a connection tells that its state is one that it can be in, on which the law rests.
+    // Reading the schema ensures that the connection's state is one that it can be in, on which the law rests.
     let _schema = conn.schema();
 }

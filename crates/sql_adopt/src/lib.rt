@@ -1,7 +1,7 @@
-//! Finds a bank in a SQL database. `read_bank` goes through only where the tables of an edition hold a World
-//! with its kept numbers, whose books hold and whose policy is sound and separated, and refuses such a bank
-//! for a fault of the database alone; `read_older_bank` does so in the older edition that its row names.
-//! Nothing is changed. `adopt` answers the store of a bank of the newest edition, or hands the connection
+//! Finds a bank in a SQL database. `read_bank` goes through only where the tables of a schema version hold a
+//! World with its kept numbers, whose books hold and whose policy is sound and separated, and refuses such a bank
+//! for a database fault alone; `read_older_bank` does so in the older schema version that its row names.
+//! Nothing is changed. `adopt` returns the store of a bank of the newest schema version, or hands the connection
 //! back with the fault.
 #![tactic(auto)]
 
@@ -19,7 +19,7 @@ mod reading;
 mod whole_policy;
 
 pub use adopt_fault::AdoptFault;
-pub use adopting::{adopt_bank, read_bank};
+pub use adopting::{adopt_bank, adopt_rows, read_bank};
 pub use bank_rows::BankRows;
 pub use older::{OlderBank, read_older_bank};
 pub use opening::adopt;

@@ -1,3 +1,5 @@
+//! Rows of a World, made from rows of tables with the numbers that are kept beside them.
+
 ghost use Rattle.std.specs.Prelude.{◌≡◌, map, IfOk};
 
 use bank_books::{

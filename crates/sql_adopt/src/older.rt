@@ -1,4 +1,4 @@
-//! A file of an edition before the newest, read in the edition that its own row names.
+//! A file of a schema version before the newest, read in the version that its own row of the bank names.
 
 ghost use Rattle.std.specs.Prelude.{ℕ, ◌≡◌, ◌≢◌, ◌↔◌, Some, false, pos, IfErr, IfOk, IsErrAnd, IsOk, IsSome, IsTrue, OnOk};
 ghost use Rattle.sqlite.specs.Effect.{IsDatabase};
@@ -16,8 +16,8 @@ ghost use Rattle.sql_schema.specs.Steps.{LeavesNone, WasOpen};
 ghost use Rattle.book_kept.specs.Sheets.{Sheets};
 ghost use Rattle.sql_whole.specs.BankRow.{IsBankTable};
 ghost use Rattle.sql_whole.specs.Whole.{HasBankTables, OnReadable, Reads};
-ghost use Rattle.sql_adopt.specs.Adopted.{AreFileRows, Finds, IsBankFileIn, IsBankRow, IsLeft, ReadsLast};
-ghost use Rattle.sql_adopt.specs.Older.{BearsNoOther, IsNewestFile, IsNoBank, IsOlderFile, IsOlderRow, NamesOlder};
+ghost use Rattle.sql_adopt.specs.Adopted.{AreFileRows, Finds, IsBankRow, IsLeft, OnAnyFile, ReadsLast};
+ghost use Rattle.sql_adopt.specs.Older.{BearsNoOther, IsNewestFile, IsNoBank, IsOlderRow, NamesOlder, OnOlderFile};
 ghost use Rattle.sql_adopt.specs.Refused.{HoldsSoundBankIn, IsNamedBy, IsOfOther, IsOfStore, IsRefusedIn, RefusesFor};
 
 use crate::adopt_fault::{AdoptFault, table_unread};
@@ -29,10 +29,10 @@ use sql_whole::{BankRow, bank_row};
 use sqlite::{Alter, Connection, Transaction};
 use std::alloc::Global;
 
-/// A bank of an edition before the newest.
+/// A bank of a schema version before the newest.
 #[derive(Drop)]
 pub struct OlderBank {
-    /// The edition of its tables.
+    /// The schema version of its tables.
     pub edition: Edition,
     /// Its World with the numbers that are kept beside it.
     pub bank: BankRows,
@@ -56,14 +56,14 @@ fn bank_row_in(found: Option<BankRow>) -> Result<BankRow, AdoptFault>
     }
 }
 
-/// Whether the row of the bank is of this edition.
+/// Whether the row of the bank is of this schema version.
 fn is_of(row: &BankRow, edition: Edition) -> bool
     ensures { IsTrue result ↔ (row.now.version ≡ pos (edition_number edition)) }
 {
     row.version == edition.number()
 }
 
-/// The edition that the row of the bank names, where that is not the newest.
+/// The schema version that the row of the bank names, where that is not the newest.
 fn older_in(found: Option<BankRow>) -> Result<Edition, AdoptFault>
     ensures row { IfOk result (NamesOlder found) }
     ensures refused { (e : TheEdition) → e ≢ newest → (db : Trees) → IsBankTable db found → IfErr result (IsRefusedIn e db) }
@@ -96,7 +96,7 @@ fn told_edition<S: Alter>(tx: &mut Transaction<'_, S>) -> Result<Edition, AdoptF
     }
 }
 
-/// The rows of all tables, in the edition that the row of the bank names.
+/// The rows of all tables, in the schema version that the row of the bank names.
 fn older_inside<S: Alter>(
     alloc: Global,
     tx: &mut Transaction<'_, S>,
@@ -122,17 +122,17 @@ fn read_older_file<S: Alter>(
 ) -> Result<OlderRows, AdoptFault>
     requires { conn.old.in_transaction ≡ false }
     ensures mode { conn.new.in_transaction ≡ false }
-    ensures whole { HasCleanDisk (state S.Store conn.new) → (e : TheEdition) → IsOlderFile e (state S.Store conn.old) → IfOk result (λ file. (file.edition ≡ e) × AreFileRows e (state S.Store conn.old).now.trees file.rows) }
+    ensures whole { OnOlderFile (state S.Store conn.old) (state S.Store conn.new) (λ e. IfOk result (λ file. (file.edition ≡ e) × AreFileRows e (state S.Store conn.old).now.trees file.rows)) }
     ensures older { IfOk result (λ file. file.edition ≢ newest) }
-    ensures refused { HasCleanDisk (state S.Store conn.new) → (e : TheEdition) → IsOlderFile e (state S.Store conn.old) → IfErr result (IsRefusedIn e (state S.Store conn.old).now.trees) }
+    ensures refused { OnOlderFile (state S.Store conn.old) (state S.Store conn.new) (λ e. IfErr result (IsRefusedIn e (state S.Store conn.old).now.trees)) }
     ensures other { HasCleanDisk (state S.Store conn.new) → IsNewestFile (state S.Store conn.old) → IsErrAnd result IsOfOther }
-    ensures takes { HasCleanDisk (state S.Store conn.new) → (e : TheEdition) → IsOlderFile e (state S.Store conn.old) → (s : Sheets) → HoldsSheetsIn e (state S.Store conn.old).now.trees s → AreReadable s → IfOk result (λ file. IsSome file.rows.policy) × IfErr result IsOfStore }
-    ensures left { HasCleanDisk (state S.Store conn.new) → (is : TheEdition) → IsBankFileIn is (state S.Store conn.old) → IsLeft (state S.Store conn.old) (state S.Store conn.new) }
+    ensures takes { OnOlderFile (state S.Store conn.old) (state S.Store conn.new) (λ e. (s : Sheets) → HoldsSheetsIn e (state S.Store conn.old).now.trees s → AreReadable s → IfOk result (λ file. IsSome file.rows.policy) × IfErr result IsOfStore) }
+    ensures left { OnAnyFile (state S.Store conn.old) (state S.Store conn.new) (λ is. IsLeft (state S.Store conn.old) (state S.Store conn.new)) }
     ensures open { HasCleanDisk (state S.Store conn.new) → OnOk result (IsTrue (state S.Store conn.old).is_open) }
-    ensures sound { HasCleanDisk (state S.Store conn.new) → (e : TheEdition) → IsOlderFile e (state S.Store conn.old) → OnOk result (IsDatabase (state S.Store conn.old).now) }
+    ensures sound { OnOlderFile (state S.Store conn.old) (state S.Store conn.new) (λ e. OnOk result (IsDatabase (state S.Store conn.old).now)) }
     ensures survives { LeavesNone (state S.Store conn.old) (state S.Store conn.new) }
 {
-    // With its schema a connection tells that its state is one that it can be in, which the clauses rest on.
+    // Reading the schema ensures that the connection's state is one that it can be in, which the clauses rest on.
     let _schema = conn.schema();
     let mut tx = conn.transaction();
     let rows = older_inside(alloc, &mut tx);
@@ -141,8 +141,8 @@ fn read_older_file<S: Alter>(
     rows
 }
 
-/// The bank that stands in the tables of an edition before the newest, which its row names: it is read whole
-/// and judged as `read_bank` says. One of the newest edition, or of none, is told as of another version.
+/// The bank that stands in the tables of a schema version before the newest, which its row names: it is read whole
+/// and judged as `read_bank` says. One of the newest schema version, or of none, is reported as of another version.
 /// Nothing is changed.
 pub fn read_older_bank<S: Alter>(
     alloc: Global,
@@ -150,13 +150,13 @@ pub fn read_older_bank<S: Alter>(
 ) -> Result<OlderBank, AdoptFault>
     requires { conn.old.in_transaction ≡ false }
     ensures mode { conn.new.in_transaction ≡ false }
-    ensures found { HasCleanDisk (state S.Store conn.new) → (e : TheEdition) → IsOlderFile e (state S.Store conn.old) → IfOk result (λ older. (older.edition ≡ e) × Finds e (state S.Store conn.old).now older.bank.world) }
+    ensures found { OnOlderFile (state S.Store conn.old) (state S.Store conn.new) (λ e. IfOk result (λ older. (older.edition ≡ e) × Finds e (state S.Store conn.old).now older.bank.world)) }
     ensures older { IfOk result (λ older. older.edition ≢ newest) }
-    ensures refused { HasCleanDisk (state S.Store conn.new) → (e : TheEdition) → IsOlderFile e (state S.Store conn.old) → IfErr result (IsRefusedIn e (state S.Store conn.old).now.trees) }
+    ensures refused { OnOlderFile (state S.Store conn.old) (state S.Store conn.new) (λ e. IfErr result (IsRefusedIn e (state S.Store conn.old).now.trees)) }
     ensures other { HasCleanDisk (state S.Store conn.new) → IsNewestFile (state S.Store conn.old) → IsErrAnd result IsOfOther }
-    ensures sound { HasCleanDisk (state S.Store conn.new) → (e : TheEdition) → IsOlderFile e (state S.Store conn.old) → HoldsSoundBankIn e (state S.Store conn.old).now → IfErr result IsOfStore }
-    ensures named { HasCleanDisk (state S.Store conn.new) → (e : TheEdition) → IsOlderFile e (state S.Store conn.old) → (s : Sheets) → HoldsSheetsIn e (state S.Store conn.old).now.trees s → AreReadable s → IfErr result (IsNamedBy s) }
-    ensures left { HasCleanDisk (state S.Store conn.new) → (is : TheEdition) → IsBankFileIn is (state S.Store conn.old) → IsLeft (state S.Store conn.old) (state S.Store conn.new) }
+    ensures sound { OnOlderFile (state S.Store conn.old) (state S.Store conn.new) (λ e. HoldsSoundBankIn e (state S.Store conn.old).now → IfErr result IsOfStore) }
+    ensures named { OnOlderFile (state S.Store conn.old) (state S.Store conn.new) (λ e. (s : Sheets) → HoldsSheetsIn e (state S.Store conn.old).now.trees s → AreReadable s → IfErr result (IsNamedBy s)) }
+    ensures left { OnAnyFile (state S.Store conn.old) (state S.Store conn.new) (λ is. IsLeft (state S.Store conn.old) (state S.Store conn.new)) }
     ensures open { HasCleanDisk (state S.Store conn.new) → OnOk result (IsTrue (state S.Store conn.old).is_open) }
     ensures kept { IfOk result (λ older. (older.bank.kept ≡ kept_of older.bank.world) × IsKeepable older.bank.world) }
     ensures survives { LeavesNone (state S.Store conn.old) (state S.Store conn.new) }

@@ -1,3 +1,5 @@
+//! A store made from a connection where the newest tables hold a bank.
+
 ghost use Rattle.std.specs.Prelude.{◌≡◌, false, IfErr, IfOk, MatchResult};
 ghost use Rattle.sqlite.specs.Held.{state};
 ghost use Rattle.sqlite.specs.State.{HasCleanDisk};
@@ -7,7 +9,7 @@ ghost use Rattle.sql_schema.specs.Schema.{newest};
 ghost use Rattle.sql_schema.specs.Steps.{LeavesNone};
 ghost use Rattle.sql_schema.specs.declared.edition.Edition.{Edition};
 ghost use Rattle.book_kept.specs.Sheets.{Sheets};
-ghost use Rattle.sql_adopt.specs.Adopted.{Adopts, IsBankFile, IsBankFileIn, IsLeft, IsOfAnother};
+ghost use Rattle.sql_adopt.specs.Adopted.{Adopts, IsBankFileIn, IsLeft, IsOfAnother, OnFile};
 ghost use Rattle.sql_adopt.specs.Refused.{HoldsSoundBank, IsNamedBy, IsOfOther, IsOfStore, IsRefused};
 
 use crate::adopt_fault::AdoptFault;
@@ -23,12 +25,12 @@ pub fn adopt<S: Alter>(
     mut conn: Connection<S>,
 ) -> Result<SqlStore<S>, (AdoptFault, Connection<S>)>
     requires { conn.in_transaction ≡ false }
-    ensures adopts { IfOk result (λ store. HasCleanDisk (state S.Store store.conn) → IsBankFile (state S.Store conn) → Adopts (state S.Store conn) (state S.Store store.conn)) }
-    ensures left { IfOk result (λ store. HasCleanDisk (state S.Store store.conn) → IsBankFile (state S.Store conn) → IsLeft (state S.Store conn) (state S.Store store.conn)) }
+    ensures adopts { IfOk result (λ store. OnFile (state S.Store conn) (state S.Store store.conn) (Adopts (state S.Store conn) (state S.Store store.conn))) }
+    ensures left { IfOk result (λ store. OnFile (state S.Store conn) (state S.Store store.conn) (IsLeft (state S.Store conn) (state S.Store store.conn))) }
     ensures works { IfOk result (λ store. (store.is_stopped ≡ false) × (store.faults ≡ 0) × (store.failures ≡ 0)) }
-    ensures refused { IfErr result (λ e. HasCleanDisk (state S.Store e.1) → IsBankFile (state S.Store conn) → IsRefused (state S.Store conn).now.trees e.0) }
-    ensures sound { IfErr result (λ e. HasCleanDisk (state S.Store e.1) → IsBankFile (state S.Store conn) → HoldsSoundBank (state S.Store conn).now → IsOfStore e.0) }
-    ensures named { IfErr result (λ e. HasCleanDisk (state S.Store e.1) → IsBankFile (state S.Store conn) → (s : Sheets) → HoldsSheets (state S.Store conn).now.trees s → AreReadable s → IsNamedBy s e.0) }
+    ensures refused { IfErr result (λ e. OnFile (state S.Store conn) (state S.Store e.1) (IsRefused (state S.Store conn).now.trees e.0)) }
+    ensures sound { IfErr result (λ e. OnFile (state S.Store conn) (state S.Store e.1) (HoldsSoundBank (state S.Store conn).now → IsOfStore e.0)) }
+    ensures named { IfErr result (λ e. OnFile (state S.Store conn) (state S.Store e.1) ((s : Sheets) → HoldsSheets (state S.Store conn).now.trees s → AreReadable s → IsNamedBy s e.0)) }
     ensures other { MatchResult result (λ store. HasCleanDisk (state S.Store store.conn) → IsOfAnother newest (state S.Store conn) → ⊥) (λ e. HasCleanDisk (state S.Store e.1) → IsOfAnother newest (state S.Store conn) → IsOfOther e.0) }
     ensures unchanged { IfErr result (λ e. HasCleanDisk (state S.Store e.1) → (is : Edition) → IsBankFileIn is (state S.Store conn) → IsLeft (state S.Store conn) (state S.Store e.1)) }
     ensures mode { IfErr result (λ e. e.1.in_transaction ≡ false) }

@@ -1,3 +1,5 @@
+//! A whole file read: the bank's row first, then whether each table is there, then the books and the policy.
+
 ghost use Rattle.std.specs.Prelude.{ℕ, ◌≡◌, ◌≢◌, Some, false, pos, IfErr, IfOk, IsErrAnd, IfSome, IsOk, IsSome, IsTrue, OnOk};
 ghost use Rattle.sqlite.specs.Effect.{IsDatabase};
 ghost use Rattle.sqlite.specs.Held.{state};
@@ -7,14 +9,13 @@ ghost use Rattle.sql_schema.specs.Cells.{edition_number};
 ghost use Rattle.sql_schema.specs.Held.{HoldsSheetsIn};
 ghost use Rattle.sql_schema.specs.Readable.{AreReadable};
 ghost use Rattle.sql_schema.specs.Steps.{LeavesNone, WasOpen};
-ghost use Rattle.sql_schema.specs.declared.edition.Edition.{Edition as TheEdition};
 ghost use Rattle.book_kept.specs.Sheets.{Sheets};
 ghost use Rattle.sql_whole.specs.PolicyTables.{ArePolicyTables};
 ghost use Rattle.sql_whole.specs.BookRows.{AreBookRows};
 ghost use Rattle.sql_whole.specs.BankRow.{IsBankTable};
 ghost use Rattle.sql_whole.specs.Typed.{AreBooksTyped, AreTablesTyped};
 ghost use Rattle.sql_whole.specs.Whole.{OnReadable, Reads};
-ghost use Rattle.sql_adopt.specs.Adopted.{AreFileRows, IsBankFileIn, IsBankNumber, IsBankRow, IsLeft, IsOfAnother, ReadsLast};
+ghost use Rattle.sql_adopt.specs.Adopted.{AreFileRows, IsBankNumber, IsBankRow, IsLeft, IsOfAnother, OnAnyFile, OnFileIn, ReadsLast};
 ghost use Rattle.sql_adopt.specs.Refused.{IsOfOther, IsOfStore, IsOfUnread, IsOutOfRange, IsRefusedIn, RefusesFor, TellsOther};
 
 use crate::adopt_fault::{AdoptFault, books_unread, table_unread};
@@ -38,7 +39,7 @@ pub(crate) struct FileRows {
     pub policy: Option<PolicyTables>,
 }
 
-/// The row of the bank, where this is what its table has, and it is of this edition.
+/// The row of the bank, where this is what its table has, and it is of this schema version.
 fn row_of_edition(found: Option<BankRow>, edition: Edition) -> Result<BankRow, AdoptFault>
     ensures row { IfOk result (λ row. (found ≡ Some row) × (row.id ≡ pos 1) × (row.version ≡ pos (edition_number edition))) }
     ensures refused { (db : Trees) → IsBankTable db found → IfErr result (IsRefusedIn edition db) }
@@ -83,8 +84,8 @@ fn version_in(row: &BankRow) -> Result<u64, AdoptFault>
     }
 }
 
-/// The version of the policy. It is not judged before each of the other tables was asked for its rows: the row
-/// of the bank is told first, then that a table is not there, then what is out of its limits.
+/// The version of the policy. It is not judged before each of the other tables was asked for its rows: a fault of
+/// the bank's row is reported first, then a missing table, then what is out of its limits.
 fn bank_version<S: Alter>(tx: &mut Transaction<'_, S>, edition: Edition) -> Result<u64, AdoptFault>
     ensures same_reference { tx.new.conn.ghost_name ≡ tx.old.conn.ghost_name }
     ensures whole { Reads edition (state S.Store tx.old.conn.now) (state S.Store tx.new.conn.now) (IsBankRow edition) result }
@@ -171,16 +172,16 @@ pub(crate) fn read_file<S: Alter>(
 ) -> Result<FileRows, AdoptFault>
     requires { conn.old.in_transaction ≡ false }
     ensures mode { conn.new.in_transaction ≡ false }
-    ensures whole { HasCleanDisk (state S.Store conn.new) → IsBankFileIn edition (state S.Store conn.old) → IfOk result (AreFileRows edition (state S.Store conn.old).now.trees) }
-    ensures refused { HasCleanDisk (state S.Store conn.new) → IsBankFileIn edition (state S.Store conn.old) → IfErr result (IsRefusedIn edition (state S.Store conn.old).now.trees) }
+    ensures whole { OnFileIn edition (state S.Store conn.old) (state S.Store conn.new) (IfOk result (AreFileRows edition (state S.Store conn.old).now.trees)) }
+    ensures refused { OnFileIn edition (state S.Store conn.old) (state S.Store conn.new) (IfErr result (IsRefusedIn edition (state S.Store conn.old).now.trees)) }
     ensures other { HasCleanDisk (state S.Store conn.new) → IsOfAnother edition (state S.Store conn.old) → IsErrAnd result IsOfOther }
-    ensures takes { HasCleanDisk (state S.Store conn.new) → IsBankFileIn edition (state S.Store conn.old) → (s : Sheets) → HoldsSheetsIn edition (state S.Store conn.old).now.trees s → AreReadable s → IfOk result (λ rows. IsSome rows.policy) × IfErr result IsOfStore }
-    ensures left { HasCleanDisk (state S.Store conn.new) → (is : TheEdition) → IsBankFileIn is (state S.Store conn.old) → IsLeft (state S.Store conn.old) (state S.Store conn.new) }
+    ensures takes { OnFileIn edition (state S.Store conn.old) (state S.Store conn.new) ((s : Sheets) → HoldsSheetsIn edition (state S.Store conn.old).now.trees s → AreReadable s → IfOk result (λ rows. IsSome rows.policy) × IfErr result IsOfStore) }
+    ensures left { OnAnyFile (state S.Store conn.old) (state S.Store conn.new) (λ is. IsLeft (state S.Store conn.old) (state S.Store conn.new)) }
     ensures open { HasCleanDisk (state S.Store conn.new) → OnOk result (IsTrue (state S.Store conn.old).is_open) }
     ensures sound { HasCleanDisk (state S.Store conn.new) → OnOk result (IsDatabase (state S.Store conn.old).now) }
     ensures survives { LeavesNone (state S.Store conn.old) (state S.Store conn.new) }
 {
-    // With its schema a connection tells that its state is one that it can be in, which the clauses rest on.
+    // Reading the schema ensures that the connection's state is one that it can be in, which the clauses rest on.
     let _schema = conn.schema();
     let mut tx = conn.transaction();
     let rows = rows_inside(alloc, &mut tx, edition);

@@ -1,3 +1,5 @@
+//! A policy put together from the users and the tables of its rows, where each stands in order of its key.
+
 ghost use Rattle.std.specs.Prelude.{◌≡◌, ◌↔◌, map, IfOk, IfSome, IsSome, IsTrue, Some};
 ghost use Rattle.bank_policy.specs.Policy.{PolicyLists};
 ghost use Rattle.book_kept.specs.Keepable.{IsPolicyKeepable};

@@ -31,7 +31,7 @@ use Rattle.sql_schema.proofs.ScanLemmas.{scan}
 use Rattle.sql_schema.proofs.WriteLemmas.{cast_int, cast_null}
 use Rattle.sql_books.specs.Texts.{set_version_text, version_text}
 
--- ---- one row, of which the version alone is told
+-- ---- one row, which its version alone determines
 
 -- the key of the row, whatever its version is
 abbrev only : ℕ → ℕ

@@ -1,12 +1,12 @@
-ghost use Rattle.std.specs.Prelude.{◌≡◌, ◌<◌, ◌^◌, IsTrue};
+//! The proofs of days that were closed, added to their table and never changed.
+
+ghost use Rattle.std.specs.Prelude.{◌≡◌, ◌<◌, ◌^◌};
 ghost use Rattle.sqlite.specs.Held.{state};
-ghost use Rattle.sqlite.specs.State.{HasCleanDisk};
 ghost use Rattle.bank_books.specs.Keys.{proof_key};
 ghost use Rattle.book_kept.specs.Changes.{proof_sheets};
 ghost use Rattle.book_kept.specs.Named.{IsFree};
 ghost use Rattle.sql_schema.specs.Cells.{proof_cells};
-ghost use Rattle.sql_schema.specs.Steps.{LeavesNone, Steps, Tells};
-ghost use Rattle.sql_schema.specs.Told.{Runs};
+ghost use Rattle.sql_schema.specs.Steps.{LeavesNone, RunsInside, Steps, Tells};
 ghost use Rattle.sql_books.specs.Given.{given_proof};
 ghost use Rattle.sql_books.specs.Texts.{add_proof_text};
 
@@ -39,7 +39,7 @@ fn cells_of(proof: &Proof) -> ProofCells
 
 fn insert_proof<S: Alter>(tx: &mut Transaction<'_, S>, cells: &ProofCells) -> Result<usize, Fault>
     ensures same_reference { tx.new.conn.ghost_name ≡ tx.old.conn.ghost_name }
-    ensures runs { HasCleanDisk (state S.Store tx.new.conn.now) → IsTrue (state S.Store tx.old.conn.now).in_transaction → Runs add_proof_text (given_proof cells.now) (state S.Store tx.old.conn.now) (state S.Store tx.new.conn.now) result }
+    ensures runs { RunsInside add_proof_text (given_proof cells.now) (state S.Store tx.old.conn.now) (state S.Store tx.new.conn.now) result }
     ensures small { cells.now.day < 2 ^ 32 }
     ensures survives { LeavesNone (state S.Store tx.old.conn.now) (state S.Store tx.new.conn.now) }
 {

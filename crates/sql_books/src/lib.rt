@@ -1,5 +1,5 @@
 //! The row of the bank, branches, tellers, accounts, entries, cash lines and proofs of days in SQL tables,
-//! inside a transaction. Reads such as `account_of`, `entry_at` and `roster` tell exactly the rows of their
+//! inside a transaction. Reads such as `account_of`, `entry_at` and `roster` return exactly the rows of their
 //! key or range, as `sql_schema` reads them. Writes such as `add_entry`, `set_account` and `set_version` leave
 //! exactly the rows that they say, and all others. Nothing is committed. That a call goes through, and which
 //! fault it gives, is not said.

@@ -1,12 +1,12 @@
-ghost use Rattle.std.specs.Prelude.{◌≡◌, IfOk, IsTrue};
+//! The lines of the cash books, added to their table and never changed.
+
+ghost use Rattle.std.specs.Prelude.{◌≡◌, IfOk};
 ghost use Rattle.sqlite.specs.Held.{state};
-ghost use Rattle.sqlite.specs.State.{HasCleanDisk};
 ghost use Rattle.keyed_rows.specs.Ordered.{add_row};
 ghost use Rattle.bank_books.specs.Keys.{line_key};
 ghost use Rattle.sql_schema.specs.Cells.{LineFits, line_cells};
 ghost use Rattle.sql_schema.specs.Numbers.{line_form_number};
-ghost use Rattle.sql_schema.specs.Steps.{LeavesNone, Steps};
-ghost use Rattle.sql_schema.specs.Told.{Runs};
+ghost use Rattle.sql_schema.specs.Steps.{LeavesNone, RunsInside, Steps};
 ghost use Rattle.sql_books.specs.Given.{given_line};
 ghost use Rattle.sql_books.specs.Texts.{add_line_text};
 
@@ -59,7 +59,7 @@ fn cells_of(line: &CashLine) -> Result<LineCells, Fault>
 
 fn insert_line<S: Alter>(tx: &mut Transaction<'_, S>, cells: &LineCells) -> Result<usize, Fault>
     ensures same_reference { tx.new.conn.ghost_name ≡ tx.old.conn.ghost_name }
-    ensures runs { HasCleanDisk (state S.Store tx.new.conn.now) → IsTrue (state S.Store tx.old.conn.now).in_transaction → Runs add_line_text (given_line cells.now) (state S.Store tx.old.conn.now) (state S.Store tx.new.conn.now) result }
+    ensures runs { RunsInside add_line_text (given_line cells.now) (state S.Store tx.old.conn.now) (state S.Store tx.new.conn.now) result }
     ensures survives { LeavesNone (state S.Store tx.old.conn.now) (state S.Store tx.new.conn.now) }
 {
     run(

@@ -1,12 +1,12 @@
+//! The entries of an account, found by their turns: one of them, or several in a row.
+
 ghost use Rattle.std.specs.Prelude.{◌≡◌, ◌<◌, ◌≤◌, ◌∷◌, ◌^◌, [], pos, IfErr, IfOk, IsTrue, OnOk};
 ghost use Rattle.std.specs.List.{find};
 ghost use Rattle.money.specs.declared.fault.Fault.TheVariants.{Size};
 ghost use Rattle.sqlite.specs.Held.{state};
 ghost use Rattle.sqlite.specs.State.{HasCleanDisk};
 ghost use Rattle.sqlite.specs.declared.types.Value.TheVariants.{Int};
-ghost use Rattle.book_kept.specs.Sheets.{Sheets};
-ghost use Rattle.sql_schema.specs.Held.{HoldsTables};
-ghost use Rattle.sql_schema.specs.Steps.{LeavesNone, Stays, WasOpen};
+ghost use Rattle.sql_schema.specs.Steps.{FindsHeld, FindsHeldInside, LeavesNone, Stays, WasOpen};
 ghost use Rattle.sql_books.specs.Given.{given_turn};
 ghost use Rattle.sql_books.specs.Picks.{is_entry_at};
 ghost use Rattle.sql_books.specs.Turns.{entries_from};
@@ -40,7 +40,7 @@ fn entry_of_turn<S: Alter>(
     turn: u64,
 ) -> Result<Option<EntryRecord>, Fault>
     ensures same_reference { tx.new.conn.ghost_name ≡ tx.old.conn.ghost_name }
-    ensures found { HasCleanDisk (state S.Store tx.new.conn.now) → (s : Sheets) → HoldsTables (state S.Store tx.old.conn.now).now s → IfOk result (λ found. found ≡ find (is_entry_at account turn) s.entries) }
+    ensures found { FindsHeld (state S.Store tx.old.conn.now) (state S.Store tx.new.conn.now) result (λ s found. found ≡ find (is_entry_at account turn) s.entries) }
     ensures steps { Stays (state S.Store tx.old.conn.now) (state S.Store tx.new.conn.now) result }
     ensures open { WasOpen (state S.Store tx.old.conn.now) (state S.Store tx.new.conn.now) result }
     ensures survives { LeavesNone (state S.Store tx.old.conn.now) (state S.Store tx.new.conn.now) }
@@ -61,7 +61,7 @@ pub fn entry_at<S: Alter>(
     turn: u32,
 ) -> Result<Option<EntryRecord>, Fault>
     ensures same_reference { tx.new.conn.ghost_name ≡ tx.old.conn.ghost_name }
-    ensures found { HasCleanDisk (state S.Store tx.new.conn.now) → (s : Sheets) → HoldsTables (state S.Store tx.old.conn.now).now s → IfOk result (λ found. found ≡ find (is_entry_at account turn) s.entries) }
+    ensures found { FindsHeld (state S.Store tx.old.conn.now) (state S.Store tx.new.conn.now) result (λ s found. found ≡ find (is_entry_at account turn) s.entries) }
     ensures steps { Stays (state S.Store tx.old.conn.now) (state S.Store tx.new.conn.now) result }
     ensures open { WasOpen (state S.Store tx.old.conn.now) (state S.Store tx.new.conn.now) result }
     ensures survives { LeavesNone (state S.Store tx.old.conn.now) (state S.Store tx.new.conn.now) }
@@ -79,7 +79,7 @@ pub fn entries_from<S: Alter>(
     count: u32,
 ) -> Result<Vec<EntryRecord>, Fault>
     ensures same_reference { tx.new.conn.ghost_name ≡ tx.old.conn.ghost_name }
-    ensures listed { HasCleanDisk (state S.Store tx.new.conn.now) → IsTrue (state S.Store tx.old.conn.now).in_transaction → (s : Sheets) → HoldsTables (state S.Store tx.old.conn.now).now s → IfOk result (λ rows. rows.items ≡ entries_from s.entries account start count) }
+    ensures listed { FindsHeldInside (state S.Store tx.old.conn.now) (state S.Store tx.new.conn.now) result (λ s rows. rows.items ≡ entries_from s.entries account start count) }
     ensures steps { Stays (state S.Store tx.old.conn.now) (state S.Store tx.new.conn.now) result }
     ensures open { HasCleanDisk (state S.Store tx.new.conn.now) → OnOk result (0 < count → IsTrue (state S.Store tx.old.conn.now).is_open) × (IsTrue (state S.Store tx.new.conn.now).is_open → IsTrue (state S.Store tx.old.conn.now).is_open) }
     ensures survives { LeavesNone (state S.Store tx.old.conn.now) (state S.Store tx.new.conn.now) }

@@ -40,14 +40,14 @@ use Rattle.sql_create.specs.Filled.{filled, with_account, with_all, with_branch,
 at_most : (a b : ℕ) → a < b → nat_le a b ≡ true
 at_most a b low = grind (arith, nat_tests)
 
--- behind rows of lower keys a row stands last
+-- after rows of lower keys a row stands last
 add_row-last : {X : Type 0} (key : X → ℕ) (e : X) (xs : List X) → ((x : X) → Contains xs x → key x < key e) → add_row key e xs ≡ xs ++ e ∷ []
 add_row-last key e [] low = refl
 add_row-last key e (x ∷ xs) low =
     ap (λ b. cond b (x ∷ add_row key e xs) (e ∷ x ∷ xs)) (at_most (key x) (key e) (low x (Contains-head x xs)))
     ∙ ap (λ ys. x ∷ ys) (add_row-last key e xs (λ y there. low y (Contains-tail x xs y there)))
 
--- where rows rise, those in front lie below one behind them
+-- where rows rise, those in front lie below one that follows
 in_front : {X : Type 0} (key : X → ℕ) (xs : List X) (e : X) (ys : List X) → Rises key (xs ++ e ∷ ys) → (x : X) → Contains xs x → key x < key e
 in_front key [] e ys rises x (k, within, is) = absurd (omega (arith, within))
 in_front key (y ∷ xs) e ys rises x (zero, within, is) = subst (λ z. key z < key e) is (rises.0 e (Contains-append_right xs (e ∷ ys) e (Contains-head e ys)))

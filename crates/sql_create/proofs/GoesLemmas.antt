@@ -78,7 +78,7 @@ stepped_on old mid new one two first over second clean inside s holds =
     let it = second clean before.0.0 (one s) before.0.1 in
     (it.0, kept_then old mid new before.1 it.1)
 
--- a step that is refused, alone and behind another
+-- a step that is refused, alone and after another
 pub fails_first : {X Y E F : Type 0} (old new : State) (one to : Sheets → Sheets) (step : Result X E) (result : Result Y F) → Steps old new one step → IsErr result → Steps old new to result
 fails_first old new one to step result first err clean inside s holds = (none_ok result _ err, (first clean inside s holds).1)
 

@@ -1,4 +1,4 @@
--- The users, each with the number of his releases.
+-- The users, each with the number of their releases.
 use Rattle.std.proofs.Common.{◌≡◌, ◌∙◌, ℕ, ◌+◌, ◌<◌, List, [], ◌∷◌, ◌++◌, length, map, take, get_or, ap, arith, sym}
 use Rattle.std.proofs.lemmas.List.{get_or-map, length-map, length-take-le, map-append, take_more}
 use Rattle.bank_policy.specs.declared.rows.User.{User}

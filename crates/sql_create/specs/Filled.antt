@@ -68,7 +68,7 @@ with_release r s = record s { releases = add_row release_key r s.releases }
 abbrev pub with_slip : SlipRow → Sheets → Sheets
 with_slip row s = record s { slips = add_row slip_key row s.slips }
 
--- how many slips a user has, of what is counted of him
+-- how many slips a user has, of what is counted of the user
 abbrev pub slips_in : ReleaseCount → SlipCount
 slips_in c = record { user = c.user; slips = c.slips }
 

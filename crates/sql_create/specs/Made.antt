@@ -14,7 +14,7 @@ use Rattle.sql_create.specs.Blank.{no_schema}
 use Rattle.sql_create.specs.declared.open_fault.OpenFault.{OpenFault}
 use Rattle.sql_create.specs.declared.open_fault.OpenFault.TheVariants as fault
 
--- its books hold, its policy is sound, and nobody may execute what he certifies
+-- its books hold, its policy is sound, and nobody may execute what they certify
 pub record IsBank (w : WorldLists) : Type 0 where
   pub books : Books w
   pub policy : IsPolicyVerdict w.policy (Ok tt)

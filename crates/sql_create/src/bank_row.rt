@@ -1,12 +1,12 @@
-ghost use Rattle.std.specs.Prelude.{◌≡◌, ◌≤◌, ◌∷◌, ◌^◌, [], pos, IfErr, IfOk, IsTrue};
+//! The row of the bank: its schema version, and the version of its policy.
+
+ghost use Rattle.std.specs.Prelude.{◌≡◌, ◌≤◌, ◌∷◌, ◌^◌, [], pos, IfErr, IfOk};
 ghost use Rattle.money.specs.declared.fault.Fault.TheVariants.{Size};
 ghost use Rattle.sqlite.specs.Held.{state};
-ghost use Rattle.sqlite.specs.State.{HasCleanDisk};
 ghost use Rattle.sqlite.specs.declared.types.Value.TheVariants.{Int};
 ghost use Rattle.sql_schema.specs.Held.{HoldsTables};
 ghost use Rattle.sql_schema.specs.Schema.{bank_schema};
-ghost use Rattle.sql_schema.specs.Told.{Runs};
-ghost use Rattle.sql_schema.specs.Steps.{LeavesNone};
+ghost use Rattle.sql_schema.specs.Steps.{LeavesNone, RunsInside};
 ghost use Rattle.sql_create.specs.Blank.{IsBlank, bare};
 ghost use Rattle.sql_create.specs.Goes.{Goes};
 ghost use Rattle.sql_create.specs.Texts.{add_bank_text};
@@ -32,7 +32,7 @@ fn cells_of(version: u64) -> Result<BankCells, Fault>
 
 fn insert_bank<S: Alter>(tx: &mut Transaction<'_, S>, cells: &BankCells) -> Result<usize, Fault>
     ensures same_reference { tx.new.conn.ghost_name ≡ tx.old.conn.ghost_name }
-    ensures runs { HasCleanDisk (state S.Store tx.new.conn.now) → IsTrue (state S.Store tx.old.conn.now).in_transaction → Runs add_bank_text (Int cells.now.policy ∷ []) (state S.Store tx.old.conn.now) (state S.Store tx.new.conn.now) result }
+    ensures runs { RunsInside add_bank_text (Int cells.now.policy ∷ []) (state S.Store tx.old.conn.now) (state S.Store tx.new.conn.now) result }
     ensures survives { LeavesNone (state S.Store tx.old.conn.now) (state S.Store tx.new.conn.now) }
 {
     run(

@@ -1,3 +1,5 @@
+//! What a World has to pass before a bank is made of it.
+
 ghost use Rattle.std.specs.Prelude.{◌≡◌, IfErr, IfOk, OnOk};
 ghost use Rattle.bank_books.specs.Records.{kept_of};
 ghost use Rattle.book_kept.specs.Keepable.{IsKeepable};
@@ -13,7 +15,7 @@ use policy_check::check_policy;
 use std::alloc::Global;
 
 /// The numbers that are kept beside the rows of a World whose books hold and whose policy is sound: the
-/// books are told before the policy.
+/// books are checked before the policy.
 pub(crate) fn checked(alloc: Global, world: &World) -> Result<Kept, OpenFault>
     ensures kept { IfOk result (λ kept. kept ≡ kept_of world.now) }
     ensures bank { OnOk result (IsBank world.now) }

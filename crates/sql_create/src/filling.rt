@@ -34,7 +34,7 @@ fn kept_user(alloc: Global, user: &User, releases: u64) -> Result<KeptUser, Faul
     })
 }
 
-/// The users, each with the number of his releases.
+/// The users, each with the number of their releases.
 fn kept_users(alloc: Global, world: &World, kept: &Kept) -> Result<Vec<KeptUser>, Fault>
     requires { kept.now ≡ kept_of world.now }
     ensures { IfOk result (λ users. users.items ≡ map (kept_user_of world.now) world.now.policy.users) }

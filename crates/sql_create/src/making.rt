@@ -1,3 +1,5 @@
+//! A bank made of a World in one transaction, in a database that is empty.
+
 ghost use Rattle.std.specs.Prelude.{◌≡◌, ◌↔◌, false, ℕ, IfErr, IfOk, IsTrue, OnErr, OnOk};
 ghost use Rattle.sqlite.specs.Held.{state};
 ghost use Rattle.sqlite.specs.State.{HasCleanDisk, KeepsCommit, Survives};
@@ -29,7 +31,7 @@ fn is_empty(schema: &Schema) -> bool
     schema.tables.is_empty() && schema.indexes.is_empty() && schema.views.is_empty()
 }
 
-/// Makes the tables of the bank in the newest edition and writes all its rows.
+/// Makes the tables of the bank in the newest schema version and writes all its rows.
 pub fn write_bank<S: Alter>(
     alloc: Global,
     tx: &mut Transaction<'_, S>,

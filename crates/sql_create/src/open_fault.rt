@@ -1,3 +1,5 @@
+//! What is reported where no bank is made: the books, the policy, a database that isn't empty, or a fault.
+
 use book_check::BooksFault;
 use money::Fault;
 use policy_check::PolicyFault;

@@ -1,3 +1,5 @@
+//! How rows are written to the tables of a new bank, whatever table they are of.
+
 ghost use Rattle.std.specs.Prelude.{◌≡◌};
 ghost use Rattle.sqlite.specs.Held.{state};
 ghost use Rattle.book_kept.specs.Sheets.{Sheets};

@@ -107,7 +107,7 @@ fn make_history<S: Alter>(tx: &mut Transaction<'_, S>) -> Result<(), Fault>
     )
 }
 
-/// The indexes by which rows are looked up that no key finds, behind the tables of earlier editions.
+/// The indexes by which rows are looked up that no key finds, after the tables of earlier schema versions.
 fn make_indexes<S: Alter>(tx: &mut Transaction<'_, S>) -> Result<(), Fault>
     ensures same_reference { tx.new.conn.ghost_name ≡ tx.old.conn.ghost_name }
     ensures goes { Goes (state S.Store tx.old.conn.now) (state S.Store tx.new.conn.now) (IsBlank (begun 14 9)) (IsBlank (begun 14 11)) result }
@@ -123,7 +123,7 @@ fn make_indexes<S: Alter>(tx: &mut Transaction<'_, S>) -> Result<(), Fault>
     )
 }
 
-/// The tables of slips and of how many each user has, behind all others.
+/// The tables of slips and of how many each user has, after all others.
 fn make_slips<S: Alter>(tx: &mut Transaction<'_, S>) -> Result<(), Fault>
     ensures same_reference { tx.new.conn.ghost_name ≡ tx.old.conn.ghost_name }
     ensures goes { Goes (state S.Store tx.old.conn.now) (state S.Store tx.new.conn.now) (IsBlank (begun 14 11)) (IsBlank (begun 16 12)) result }

@@ -77,7 +77,7 @@ never true true = refl
 never true false = refl
 never false c = refl
 
--- ---- behind one column, two and three
+-- ---- after one column, two and three
 
 abbrev one_asked : ℕ → ℤ → Value
 one_asked a l = binary (Compare Gt Binary) (Int (pos a)) (Int l)
@@ -108,7 +108,7 @@ above_none a = grind (arith, nat_tests)
 from_none : (a : ℕ) → from a (negsuc 0) ≡ true
 from_none a = grind (arith, nat_tests)
 
--- what is behind in a key is not before in its first column
+-- what comes after in a key does not come before in its first column
 not_before : (k a : ℕ) (b : Bool) → (nat_le k a && (nat_lt k a || (k == a && b))) ≡ (nat_lt k a || (k == a && b))
 not_before k a true = grind (arith, nat_tests)
 not_before k a false = grind (arith, nat_tests)

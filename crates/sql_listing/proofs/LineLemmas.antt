@@ -1,4 +1,4 @@
--- Lines of the policy that are read one after another, and the one behind another.
+-- Lines of the policy that are read one after another, and the line that follows another.
 use Rattle.std.proofs.Common.{◌≡◌, ◌<◌, ◌≤◌, ◌+◌, ◌++◌, append-nil, append_assoc, ℕ, Contains, List, [], ◌∷◌, map, filter, take, slice_get, length, get_or, Bool, true, Option, Some, None, Result, refl, ap, arith, sym, subst, ◌∙◌, ℤ}
 use Rattle.std.specs.Prelude.{IfOk, Vec, option_map}
 use Rattle.std.specs.declared.alloc.Global.{Global}
@@ -28,7 +28,7 @@ module _ {X Y : Type 0} (cells : X → Row) (Fits : X → Type 0) (f : X → Y) 
   abbrev Each : List X → Type 0
   Each xs = (x : X) → Contains xs x → Fits x
 
-  -- the lines of the rows before the i-th stand behind those that were there
+  -- the lines of the rows before the i-th stand after those that were there
   abbrev pub AreAdded : List Row → ℕ → List Y → List Y → Type 0
   AreAdded rows i old ys = (there : List X) → Each there → rows ≡ map cells there → ys ≡ old ++ map f (take i there)
 
@@ -108,7 +108,7 @@ from_next s kind.Member next is = ap (lines_from s) (the_kind next kind.Relation
 from_next s kind.Relation next is = ap (lines_from s) (the_kind next kind.Triple is) ∙ behind_last s
 from_next s kind.Triple next is = absurd cc
 
--- the first line of the kinds behind one is that of the next kind, or else of those behind that
+-- the first line of the kinds after one is that of the next kind, or else of those after that
 pub first_behind : (s : Sheets) (k next : LineKind) → ◌≡◌ {A = Option LineKind} (Some next) (following k) → or_first (find (is_past None) (lines_in s next)) (lines_behind s next) ≡ slice_get (lines_behind s k) 0
 first_behind s k next is = first_of_all (lines_in s next) (lines_behind s next) ∙ ap (λ l. slice_get l 0) (from_next s k next is)
 

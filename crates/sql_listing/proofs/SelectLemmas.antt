@@ -1,4 +1,4 @@
--- What the statements on the tables of the policy show: the rows behind some columns, in order of key.
+-- What the statements on the tables of the policy show: the rows after some columns, in order of key.
 use Rattle.std.proofs.Common.{◌≡◌, ℕ, ℤ, pos, negsuc, List, [], ◌∷◌, map, filter, drop, codes, false, Option, refl, ◌∙◌}
 use Rattle.sqlite.specs.declared.types.Value.TheVariants.{Null, Int}
 use Rattle.sqlite.specs.Command.TheVariants.{Select}
@@ -37,7 +37,7 @@ counted : {X : Type 0} (count : ℤ) (xs : List X) → limited (as_count (Int co
 counted (pos n) xs = refl
 counted (negsuc n) xs = refl
 
--- ---- WHERE the first columns are behind those that are given, and ORDER BY them
+-- ---- WHERE the first columns come after those that are given, and ORDER BY them
 
 abbrev is_above : ℕ → ℕ → Term
 is_above place parameter = op2 (Compare Gt Binary) (col 1 place) (col 0 parameter)

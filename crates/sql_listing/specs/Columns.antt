@@ -12,19 +12,19 @@ use Rattle.sql_listing.specs.declared.parts.Part.{Part}
 
 -- ---- keys
 
-abbrev pub kind_at : PolicyKey → LineKind
-kind_at (key.User user) = kind.User
-kind_at (key.Certifier user procedure) = kind.Certifier
-kind_at (key.Member set place) = kind.Member
-kind_at (key.Relation procedure set) = kind.Relation
-kind_at (key.Triple user procedure set) = kind.Triple
+abbrev pub key_kind : PolicyKey → LineKind
+key_kind (key.User user) = kind.User
+key_kind (key.Certifier user procedure) = kind.Certifier
+key_kind (key.Member set place) = kind.Member
+key_kind (key.Relation procedure set) = kind.Relation
+key_kind (key.Triple user procedure set) = kind.Triple
 
-abbrev pub columns_at : PolicyKey → Columns
-columns_at (key.User user) = record { first = user; second = 0; third = 0 }
-columns_at (key.Certifier user procedure) = record { first = user; second = number_of procedure; third = 0 }
-columns_at (key.Member set place) = record { first = set; second = min place (2 ^ 32 - 1); third = 0 }
-columns_at (key.Relation procedure set) = record { first = number_of procedure; second = set; third = 0 }
-columns_at (key.Triple user procedure set) = record { first = user; second = number_of procedure; third = set }
+abbrev pub key_columns : PolicyKey → Columns
+key_columns (key.User user) = record { first = user; second = 0; third = 0 }
+key_columns (key.Certifier user procedure) = record { first = user; second = number_of procedure; third = 0 }
+key_columns (key.Member set place) = record { first = set; second = min place (2 ^ 32 - 1); third = 0 }
+key_columns (key.Relation procedure set) = record { first = number_of procedure; second = set; third = 0 }
+key_columns (key.Triple user procedure set) = record { first = user; second = number_of procedure; third = set }
 
 -- numbers of 32 bits, and places of 64
 abbrev pub FitsKey : PolicyKey → Type 0
@@ -47,7 +47,7 @@ line_columns (row.Triple t) = record { first = t.user; second = number_of t.proc
 abbrev pub is_less : Columns → Columns → Bool
 is_less a b = nat_lt a.first b.first || (a.first == b.first && (nat_lt a.second b.second || (a.second == b.second && nat_lt a.third b.third)))
 
--- behind these columns, or behind none
+-- after these columns, or after none
 abbrev pub are_past : Option Columns → Columns → Bool
 are_past None there = true
 are_past (Some columns) there = is_less columns there
@@ -69,7 +69,7 @@ abbrev pub third_of : Option Columns → ℕ
 third_of None = 0
 third_of (Some columns) = columns.third
 
--- at most so many rows behind these columns
+-- at most so many rows after these columns
 abbrev pub part_of : Option Columns → ℤ → Part
 part_of after count = record { first = first_of after; second = second_of after; third = third_of after; count = count }
 

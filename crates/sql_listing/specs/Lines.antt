@@ -67,7 +67,7 @@ line_of kind.Triple t = row.Triple t
 abbrev pub lines_in : Sheets → LineKind → List PolicyRow
 lines_in s k = map (line_of k) (rows_of s k)
 
--- the lines of the kinds behind one
+-- the lines of the kinds after one
 abbrev pub lines_behind : Sheets → LineKind → List PolicyRow
 lines_behind s kind.User = lines_in s kind.Certifier ++ (lines_in s kind.Member ++ (lines_in s kind.Relation ++ lines_in s kind.Triple))
 lines_behind s kind.Certifier = lines_in s kind.Member ++ (lines_in s kind.Relation ++ lines_in s kind.Triple)
@@ -75,7 +75,7 @@ lines_behind s kind.Member = lines_in s kind.Relation ++ lines_in s kind.Triple
 lines_behind s kind.Relation = lines_in s kind.Triple
 lines_behind s kind.Triple = []
 
--- the lines of a kind and of those behind it
+-- the lines of a kind and of those that follow it
 abbrev pub lines_from : Sheets → LineKind → List PolicyRow
 lines_from s k = lines_in s k ++ lines_behind s k
 

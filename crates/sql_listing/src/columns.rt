@@ -2,7 +2,7 @@
 
 ghost use Rattle.std.specs.Prelude.{◌≡◌, ◌<◌, ◌^◌, ◌-◌, min};
 ghost use Rattle.bank_terms.specs.Procedure.{number_of};
-ghost use Rattle.sql_listing.specs.Columns.{FitsKey, columns_at, kind_at};
+ghost use Rattle.sql_listing.specs.Columns.{FitsKey, key_columns, key_kind};
 
 use crate::kinds::LineKind;
 use bank_terms::Procedure;
@@ -16,7 +16,7 @@ pub(crate) struct Columns {
     pub(crate) third: u32,
 }
 
-/// A place as a column holds it. No row has a place above 32 bits, so the last of those stands for each of them.
+/// A place as a column holds it. No row has a place above 32 bits, so the greatest of 32 bits represents those above.
 fn place_column(place: u64) -> u32
     ensures value { result ≡ min place (2 ^ 32 - 1) }
     ensures small { place < 2 ^ 64 }
@@ -35,8 +35,8 @@ fn procedure_column(procedure: Procedure) -> u32
 }
 
 /// The kind of the line of this key.
-pub(crate) fn kind_at(key: PolicyKey) -> LineKind
-    ensures { result ≡ kind_at key }
+pub(crate) fn key_kind(key: PolicyKey) -> LineKind
+    ensures { result ≡ key_kind key }
 {
     match key {
         PolicyKey::User { .. } => LineKind::User,
@@ -48,8 +48,8 @@ pub(crate) fn kind_at(key: PolicyKey) -> LineKind
 }
 
 /// Its columns.
-pub(crate) fn columns_at(key: PolicyKey) -> Columns
-    ensures value { result ≡ columns_at key }
+pub(crate) fn key_columns(key: PolicyKey) -> Columns
+    ensures value { result ≡ key_columns key }
     ensures small { FitsKey key }
 {
     match key {

@@ -1,3 +1,5 @@
+//! The kinds of lines of the policy, in the order in which they are listed.
+
 ghost use Rattle.std.specs.Prelude.{◌≡◌};
 ghost use Rattle.sql_listing.specs.Lines.{following};
 
@@ -17,7 +19,7 @@ pub(crate) enum LineKind {
 }
 
 impl LineKind {
-    /// The kind that is listed behind it, if it isn't the last.
+    /// The kind that is listed after it, if it isn't the last.
     pub(crate) fn following(self) -> Option<LineKind>
         ensures { result ≡ following self }
     {

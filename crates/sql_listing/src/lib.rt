@@ -1,5 +1,5 @@
 //! The lines of the policy, in the order in which they are listed, read from its tables inside a
-//! transaction. `policy_rows` answers all of them and `next_policy` the first behind a key, exactly as the
+//! transaction. `policy_rows` answers all of them and `next_policy` the first after a key, exactly as the
 //! rows that the tables hold say. Neither changes anything. That a call goes through, and which fault it
 //! gives, is not said. The tables themselves are those of `sql_schema`.
 #![tactic(auto)]

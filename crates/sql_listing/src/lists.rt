@@ -1,11 +1,11 @@
 //! All lines of the policy.
 
-ghost use Rattle.std.specs.Prelude.{◌≡◌, ◌++◌, IfOk, IsTrue, OnOk};
+ghost use Rattle.std.specs.Prelude.{◌≡◌, ◌++◌, IsTrue, OnOk};
 ghost use Rattle.sqlite.specs.Held.{state};
 ghost use Rattle.sqlite.specs.State.{HasCleanDisk};
 ghost use Rattle.book_kept.specs.Sheets.{Sheets};
 ghost use Rattle.sql_schema.specs.Held.{HoldsTables};
-ghost use Rattle.sql_schema.specs.Steps.{LeavesNone, Stays, WasOpen};
+ghost use Rattle.sql_schema.specs.Steps.{FindsHeldInside, LeavesNone, Stays, WasOpen};
 ghost use Rattle.sql_listing.specs.Lines.{lines_from, lines_in, lines_of};
 
 use crate::kinds::LineKind;
@@ -35,7 +35,7 @@ fn add_lines<S: Alter>(
     read_lines(alloc, kind, &rows, lines)
 }
 
-/// Adds the lines of this kind and of those behind it.
+/// Adds the lines of this kind and of those that follow it.
 fn add_from<S: Alter>(
     alloc: Global,
     tx: &mut Transaction<'_, S>,
@@ -62,7 +62,7 @@ pub fn policy_rows<S: Alter>(
     tx: &mut Transaction<'_, S>,
 ) -> Result<Vec<PolicyRow>, Fault>
     ensures same_reference { tx.new.conn.ghost_name ≡ tx.old.conn.ghost_name }
-    ensures found { HasCleanDisk (state S.Store tx.new.conn.now) → IsTrue (state S.Store tx.old.conn.now).in_transaction → (s : Sheets) → HoldsTables (state S.Store tx.old.conn.now).now s → IfOk result (λ rows. rows.items ≡ lines_of s) }
+    ensures found { FindsHeldInside (state S.Store tx.old.conn.now) (state S.Store tx.new.conn.now) result (λ s rows. rows.items ≡ lines_of s) }
     ensures steps { Stays (state S.Store tx.old.conn.now) (state S.Store tx.new.conn.now) result }
     ensures open { WasOpen (state S.Store tx.old.conn.now) (state S.Store tx.new.conn.now) result }
     ensures survives { LeavesNone (state S.Store tx.old.conn.now) (state S.Store tx.new.conn.now) }

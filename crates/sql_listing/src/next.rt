@@ -1,17 +1,14 @@
-//! The line of the policy behind another.
+//! The line of the policy that follows another.
 
-ghost use Rattle.std.specs.Prelude.{◌≡◌, IfOk, IsTrue};
+ghost use Rattle.std.specs.Prelude.{◌≡◌};
 ghost use Rattle.std.specs.List.{find};
 ghost use Rattle.sqlite.specs.Held.{state};
-ghost use Rattle.sqlite.specs.State.{HasCleanDisk};
-ghost use Rattle.book_kept.specs.Sheets.{Sheets};
-ghost use Rattle.sql_schema.specs.Held.{HoldsTables};
-ghost use Rattle.sql_schema.specs.Steps.{LeavesNone, Stays, WasOpen};
+ghost use Rattle.sql_schema.specs.Steps.{FindsHeld, FindsHeldInside, LeavesNone, Stays, WasOpen};
 ghost use Rattle.world_reads.specs.PolicyListing.{is_row_behind};
 ghost use Rattle.sql_listing.specs.Columns.{is_past, or_first};
 ghost use Rattle.sql_listing.specs.Lines.{lines_behind, lines_in, lines_of};
 
-use crate::columns::{Columns, columns_at, kind_at};
+use crate::columns::{Columns, key_columns, key_kind};
 use crate::kinds::LineKind;
 use crate::parts::next_behind;
 use crate::read::read_line;
@@ -21,7 +18,7 @@ use sqlite::{Alter, Transaction};
 use std::alloc::Global;
 use world_reads::{PolicyKey, PolicyRow};
 
-/// The first line of this kind behind these columns, or the first of all.
+/// The first line of this kind after these columns, or the first of all.
 fn next_line<S: Alter>(
     alloc: Global,
     tx: &mut Transaction<'_, S>,
@@ -29,7 +26,7 @@ fn next_line<S: Alter>(
     after: Option<Columns>,
 ) -> Result<Option<PolicyRow>, Fault>
     ensures same_reference { tx.new.conn.ghost_name ≡ tx.old.conn.ghost_name }
-    ensures found { HasCleanDisk (state S.Store tx.new.conn.now) → (s : Sheets) → HoldsTables (state S.Store tx.old.conn.now).now s → IfOk result (λ line. line ≡ find (is_past after) (lines_in s kind)) }
+    ensures found { FindsHeld (state S.Store tx.old.conn.now) (state S.Store tx.new.conn.now) result (λ s line. line ≡ find (is_past after) (lines_in s kind)) }
     ensures steps { Stays (state S.Store tx.old.conn.now) (state S.Store tx.new.conn.now) result }
     ensures open { WasOpen (state S.Store tx.old.conn.now) (state S.Store tx.new.conn.now) result }
     ensures survives { LeavesNone (state S.Store tx.old.conn.now) (state S.Store tx.new.conn.now) }
@@ -42,7 +39,7 @@ fn next_line<S: Alter>(
     }
 }
 
-/// The first line of this kind behind these columns, or else the first of the kinds behind it.
+/// The first line of this kind after these columns, or else the first of the kinds that follow it.
 fn next_from<S: Alter>(
     alloc: Global,
     tx: &mut Transaction<'_, S>,
@@ -50,7 +47,7 @@ fn next_from<S: Alter>(
     after: Option<Columns>,
 ) -> Result<Option<PolicyRow>, Fault>
     ensures same_reference { tx.new.conn.ghost_name ≡ tx.old.conn.ghost_name }
-    ensures found { HasCleanDisk (state S.Store tx.new.conn.now) → IsTrue (state S.Store tx.old.conn.now).in_transaction → (s : Sheets) → HoldsTables (state S.Store tx.old.conn.now).now s → IfOk result (λ line. line ≡ or_first (find (is_past after) (lines_in s kind)) (lines_behind s kind)) }
+    ensures found { FindsHeldInside (state S.Store tx.old.conn.now) (state S.Store tx.new.conn.now) result (λ s line. line ≡ or_first (find (is_past after) (lines_in s kind)) (lines_behind s kind)) }
     ensures steps { Stays (state S.Store tx.old.conn.now) (state S.Store tx.new.conn.now) result }
     ensures open { WasOpen (state S.Store tx.old.conn.now) (state S.Store tx.new.conn.now) result }
     ensures survives { LeavesNone (state S.Store tx.old.conn.now) (state S.Store tx.new.conn.now) }
@@ -64,21 +61,21 @@ fn next_from<S: Alter>(
     }
 }
 
-/// The line of the policy that is listed behind the one of this key, or the first where there is
-/// none; none where no line is listed there.
+/// The first line of the policy that is listed after this key, or the first of all where no key is
+/// given; none where no line is listed there.
 pub fn next_policy<S: Alter>(
     alloc: Global,
     tx: &mut Transaction<'_, S>,
     after: Option<PolicyKey>,
 ) -> Result<Option<PolicyRow>, Fault>
     ensures same_reference { tx.new.conn.ghost_name ≡ tx.old.conn.ghost_name }
-    ensures found { HasCleanDisk (state S.Store tx.new.conn.now) → IsTrue (state S.Store tx.old.conn.now).in_transaction → (s : Sheets) → HoldsTables (state S.Store tx.old.conn.now).now s → IfOk result (λ line. line ≡ find (is_row_behind after) (lines_of s)) }
+    ensures found { FindsHeldInside (state S.Store tx.old.conn.now) (state S.Store tx.new.conn.now) result (λ s line. line ≡ find (is_row_behind after) (lines_of s)) }
     ensures steps { Stays (state S.Store tx.old.conn.now) (state S.Store tx.new.conn.now) result }
     ensures open { WasOpen (state S.Store tx.old.conn.now) (state S.Store tx.new.conn.now) result }
     ensures survives { LeavesNone (state S.Store tx.old.conn.now) (state S.Store tx.new.conn.now) }
 {
     match after {
-        Some(key) => next_from(alloc, tx, kind_at(key), Some(columns_at(key))),
+        Some(key) => next_from(alloc, tx, key_kind(key), Some(key_columns(key))),
         None => next_from(alloc, tx, LineKind::User, None),
     }
 }

@@ -1,4 +1,4 @@
-//! Questions that list the policy: all of its lines, or the one behind another.
+//! Questions that list the policy: all of its lines, or the line that follows another.
 
 ghost use Rattle.std.specs.Prelude.{◌≡◌};
 ghost use Rattle.world_reads.specs.PolicyListing.{next_policy, policy_rows};
@@ -29,7 +29,7 @@ impl Question for PolicyRows {
     }
 }
 
-/// The line of the policy that is listed behind the one of a key, or the first where there is none;
+/// The first line of the policy that is listed after a key, or the first of all where no key is given;
 /// none where no line is listed there.
 #[derive(Clone, Copy)]
 pub struct NextPolicy {

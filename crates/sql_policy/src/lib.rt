@@ -1,5 +1,5 @@
 //! Users, sets, members, relations, triples and certifiers in SQL tables, inside a transaction. Reads such
-//! as `user_of`, `triples_of` and `relations_of` tell exactly the rows of their key, as `sql_schema` reads
+//! as `user_of`, `triples_of` and `relations_of` return exactly the rows of their key, as `sql_schema` reads
 //! them. Writes such as `add_triple`, `set_user` and `remove_relation` leave exactly the rows that they say,
 //! and all others; a relation takes its triples with it. Nothing is committed. That a call goes through, and
 //! which fault it gives, is not said.

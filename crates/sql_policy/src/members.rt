@@ -1,14 +1,13 @@
-ghost use Rattle.std.specs.Prelude.{◌≡◌, ◌^◌, ◌<◌, ◌∷◌, [], pos, map, IfOk, IsTrue};
+//! The members of sets in their table, in order of their places.
+
+ghost use Rattle.std.specs.Prelude.{◌≡◌, ◌^◌, ◌<◌, ◌∷◌, [], pos, map, IfOk};
 ghost use Rattle.std.specs.List.{filter};
 ghost use Rattle.sqlite.specs.Held.{state};
-ghost use Rattle.sqlite.specs.State.{HasCleanDisk};
 ghost use Rattle.sqlite.specs.declared.types.Value.TheVariants.{Int};
 ghost use Rattle.keyed_rows.specs.Ordered.{add_row};
 ghost use Rattle.book_kept.specs.Named.{IsFree};
-ghost use Rattle.book_kept.specs.Sheets.{Sheets, member_no};
-ghost use Rattle.sql_schema.specs.Held.{HoldsTables};
-ghost use Rattle.sql_schema.specs.Steps.{LeavesNone, Stays, Steps, Tells, WasOpen};
-ghost use Rattle.sql_schema.specs.Told.{Runs};
+ghost use Rattle.book_kept.specs.Sheets.{member_no};
+ghost use Rattle.sql_schema.specs.Steps.{FindsHeld, LeavesNone, RunsInside, Stays, Steps, Tells, WasOpen};
 ghost use Rattle.sql_policy.specs.Tests.{is_member_of};
 ghost use Rattle.sql_policy.specs.Texts.{add_member_text};
 
@@ -37,7 +36,7 @@ pub fn members_of<S: Alter>(
     set: u32,
 ) -> Result<Vec<Member>, Fault>
     ensures same_reference { tx.new.conn.ghost_name ≡ tx.old.conn.ghost_name }
-    ensures found { HasCleanDisk (state S.Store tx.new.conn.now) → (s : Sheets) → HoldsTables (state S.Store tx.old.conn.now).now s → IfOk result (λ members. members.items ≡ map (λ m. m.member) (filter (is_member_of set) s.members)) }
+    ensures found { FindsHeld (state S.Store tx.old.conn.now) (state S.Store tx.new.conn.now) result (λ s members. members.items ≡ map (λ m. m.member) (filter (is_member_of set) s.members)) }
     ensures steps { Stays (state S.Store tx.old.conn.now) (state S.Store tx.new.conn.now) result }
     ensures open { WasOpen (state S.Store tx.old.conn.now) (state S.Store tx.new.conn.now) result }
     ensures survives { LeavesNone (state S.Store tx.old.conn.now) (state S.Store tx.new.conn.now) }
@@ -56,7 +55,7 @@ fn insert_member<S: Alter>(
     kind: u32,
 ) -> Result<usize, Fault>
     ensures same_reference { tx.new.conn.ghost_name ≡ tx.old.conn.ghost_name }
-    ensures runs { HasCleanDisk (state S.Store tx.new.conn.now) → IsTrue (state S.Store tx.old.conn.now).in_transaction → Runs add_member_text (Int (pos member.now.set) ∷ Int (pos member.now.place) ∷ Int (pos kind) ∷ Int (pos member.now.member.low) ∷ Int (pos member.now.member.high) ∷ []) (state S.Store tx.old.conn.now) (state S.Store tx.new.conn.now) result }
+    ensures runs { RunsInside add_member_text (Int (pos member.now.set) ∷ Int (pos member.now.place) ∷ Int (pos kind) ∷ Int (pos member.now.member.low) ∷ Int (pos member.now.member.high) ∷ []) (state S.Store tx.old.conn.now) (state S.Store tx.new.conn.now) result }
     ensures small { member.now.place < 2 ^ 32 }
     ensures survives { LeavesNone (state S.Store tx.old.conn.now) (state S.Store tx.new.conn.now) }
 {

@@ -1,16 +1,14 @@
-ghost use Rattle.std.specs.Prelude.{◌≡◌, ◌==◌, ◌^◌, ◌<◌, ◌≤◌, ◌⊎◌, ◌∷◌, [], length, pos, IfErr, IfOk, IsTrue};
+//! The triples of users, procedures and sets in their table, with their moments and limits.
+
+ghost use Rattle.std.specs.Prelude.{◌≡◌, ◌==◌, ◌^◌, ◌<◌, ◌≤◌, ◌⊎◌, ◌∷◌, [], length, pos, IfErr, IfOk};
 ghost use Rattle.std.specs.List.{filter, find};
 ghost use Rattle.money.specs.declared.fault.Fault.TheVariants.{Size};
 ghost use Rattle.sqlite.specs.Held.{state};
-ghost use Rattle.sqlite.specs.State.{HasCleanDisk};
 ghost use Rattle.sqlite.specs.declared.types.Value.TheVariants.{Int};
 ghost use Rattle.keyed_rows.specs.Changed.{delete_rows};
 ghost use Rattle.keyed_rows.specs.Ordered.{add_row};
 ghost use Rattle.book_kept.specs.Named.{IsFree};
-ghost use Rattle.book_kept.specs.Sheets.{Sheets};
-ghost use Rattle.sql_schema.specs.Held.{HoldsTables};
-ghost use Rattle.sql_schema.specs.Steps.{LeavesNone, Stays, Steps, Tells, WasOpen};
-ghost use Rattle.sql_schema.specs.Told.{Runs};
+ghost use Rattle.sql_schema.specs.Steps.{FindsHeld, LeavesNone, RunsInside, Stays, Steps, Tells, WasOpen};
 ghost use Rattle.bank_policy.specs.HeldRows.{is_triple_of};
 ghost use Rattle.bank_policy.specs.PolicyKeys.{triple_key, triple_number};
 ghost use Rattle.sql_schema.specs.Cells.{TripleFits, triple_cells};
@@ -27,7 +25,7 @@ use sqlite::{Alter, Row, Transaction, params};
 /// The rows of the user, by procedure and set.
 fn select_user_triples<S: Alter>(tx: &mut Transaction<'_, S>, user: u32) -> Result<Vec<Row>, Fault>
     ensures same_reference { tx.new.conn.ghost_name ≡ tx.old.conn.ghost_name }
-    ensures rows { HasCleanDisk (state S.Store tx.new.conn.now) → (s : Sheets) → HoldsTables (state S.Store tx.old.conn.now).now s → IfOk result (λ rows. length rows.items ≡ length (filter (is_triple_by user) s.triples)) }
+    ensures rows { FindsHeld (state S.Store tx.old.conn.now) (state S.Store tx.new.conn.now) result (λ s rows. length rows.items ≡ length (filter (is_triple_by user) s.triples)) }
     ensures steps { Stays (state S.Store tx.old.conn.now) (state S.Store tx.new.conn.now) result }
     ensures open { WasOpen (state S.Store tx.old.conn.now) (state S.Store tx.new.conn.now) result }
     ensures survives { LeavesNone (state S.Store tx.old.conn.now) (state S.Store tx.new.conn.now) }
@@ -47,7 +45,7 @@ pub fn triple_of<S: Alter>(
     set: u32,
 ) -> Result<Option<Triple>, Fault>
     ensures same_reference { tx.new.conn.ghost_name ≡ tx.old.conn.ghost_name }
-    ensures found { HasCleanDisk (state S.Store tx.new.conn.now) → (s : Sheets) → HoldsTables (state S.Store tx.old.conn.now).now s → IfOk result (λ found. found ≡ find (λ r. triple_key r == triple_number user procedure set) s.triples) }
+    ensures found { FindsHeld (state S.Store tx.old.conn.now) (state S.Store tx.new.conn.now) result (λ s found. found ≡ find (λ r. triple_key r == triple_number user procedure set) s.triples) }
     ensures steps { Stays (state S.Store tx.old.conn.now) (state S.Store tx.new.conn.now) result }
     ensures open { WasOpen (state S.Store tx.old.conn.now) (state S.Store tx.new.conn.now) result }
     ensures survives { LeavesNone (state S.Store tx.old.conn.now) (state S.Store tx.new.conn.now) }
@@ -66,7 +64,7 @@ pub fn triples_in<S: Alter>(
     procedure: Procedure,
 ) -> Result<Vec<Triple>, Fault>
     ensures same_reference { tx.new.conn.ghost_name ≡ tx.old.conn.ghost_name }
-    ensures found { HasCleanDisk (state S.Store tx.new.conn.now) → (s : Sheets) → HoldsTables (state S.Store tx.old.conn.now).now s → IfOk result (λ list. list.items ≡ filter (is_triple_of user procedure) s.triples) }
+    ensures found { FindsHeld (state S.Store tx.old.conn.now) (state S.Store tx.new.conn.now) result (λ s list. list.items ≡ filter (is_triple_of user procedure) s.triples) }
     ensures steps { Stays (state S.Store tx.old.conn.now) (state S.Store tx.new.conn.now) result }
     ensures open { WasOpen (state S.Store tx.old.conn.now) (state S.Store tx.new.conn.now) result }
     ensures survives { LeavesNone (state S.Store tx.old.conn.now) (state S.Store tx.new.conn.now) }
@@ -81,7 +79,7 @@ pub fn triples_in<S: Alter>(
 /// How many triples the user has.
 pub fn triple_count<S: Alter>(tx: &mut Transaction<'_, S>, user: u32) -> Result<u64, Fault>
     ensures same_reference { tx.new.conn.ghost_name ≡ tx.old.conn.ghost_name }
-    ensures found { HasCleanDisk (state S.Store tx.new.conn.now) → (s : Sheets) → HoldsTables (state S.Store tx.old.conn.now).now s → IfOk result (λ count. count ≡ length (filter (is_triple_by user) s.triples)) }
+    ensures found { FindsHeld (state S.Store tx.old.conn.now) (state S.Store tx.new.conn.now) result (λ s count. count ≡ length (filter (is_triple_by user) s.triples)) }
     ensures steps { Stays (state S.Store tx.old.conn.now) (state S.Store tx.new.conn.now) result }
     ensures open { WasOpen (state S.Store tx.old.conn.now) (state S.Store tx.new.conn.now) result }
     ensures survives { LeavesNone (state S.Store tx.old.conn.now) (state S.Store tx.new.conn.now) }
@@ -119,7 +117,7 @@ fn cells_of(triple: &Triple) -> Result<TripleCells, Fault>
 
 fn insert_triple<S: Alter>(tx: &mut Transaction<'_, S>, cells: &TripleCells) -> Result<usize, Fault>
     ensures same_reference { tx.new.conn.ghost_name ≡ tx.old.conn.ghost_name }
-    ensures runs { HasCleanDisk (state S.Store tx.new.conn.now) → IsTrue (state S.Store tx.old.conn.now).in_transaction → Runs add_triple_text (given_triple cells.now) (state S.Store tx.old.conn.now) (state S.Store tx.new.conn.now) result }
+    ensures runs { RunsInside add_triple_text (given_triple cells.now) (state S.Store tx.old.conn.now) (state S.Store tx.new.conn.now) result }
     ensures survives { LeavesNone (state S.Store tx.old.conn.now) (state S.Store tx.new.conn.now) }
 {
     run(
@@ -154,7 +152,7 @@ fn delete_triple<S: Alter>(
     procedure: u32,
 ) -> Result<usize, Fault>
     ensures same_reference { tx.new.conn.ghost_name ≡ tx.old.conn.ghost_name }
-    ensures runs { HasCleanDisk (state S.Store tx.new.conn.now) → IsTrue (state S.Store tx.old.conn.now).in_transaction → Runs remove_triple_text (Int (pos key.now.user) ∷ Int (pos procedure) ∷ Int (pos key.now.set) ∷ []) (state S.Store tx.old.conn.now) (state S.Store tx.new.conn.now) result }
+    ensures runs { RunsInside remove_triple_text (Int (pos key.now.user) ∷ Int (pos procedure) ∷ Int (pos key.now.set) ∷ []) (state S.Store tx.old.conn.now) (state S.Store tx.new.conn.now) result }
     ensures small { key.now.set < 2 ^ 32 }
     ensures survives { LeavesNone (state S.Store tx.old.conn.now) (state S.Store tx.new.conn.now) }
 {

@@ -1,16 +1,15 @@
-ghost use Rattle.std.specs.Prelude.{◌≡◌, ◌==◌, ◌≤◌, ◌^◌, pos, IfErr, IfOk, IsTrue};
+//! The users of the policy in their table, each with how many releases they were given.
+
+ghost use Rattle.std.specs.Prelude.{◌≡◌, ◌==◌, ◌≤◌, ◌^◌, pos, IfErr, IfOk};
 ghost use Rattle.std.specs.List.{find};
 ghost use Rattle.money.specs.declared.fault.Fault.TheVariants.{Size};
 ghost use Rattle.sqlite.specs.Held.{state};
-ghost use Rattle.sqlite.specs.State.{HasCleanDisk};
 ghost use Rattle.sqlite.specs.declared.types.Value.TheVariants.{Int};
 ghost use Rattle.keyed_rows.specs.Ordered.{add_row};
 ghost use Rattle.book_kept.specs.Named.{IsFree};
-ghost use Rattle.book_kept.specs.Sheets.{Sheets, set_row, user_no};
-ghost use Rattle.sql_schema.specs.Held.{HoldsTables};
+ghost use Rattle.book_kept.specs.Sheets.{set_row, user_no};
 ghost use Rattle.sql_schema.specs.Numbers.{truth_cell};
-ghost use Rattle.sql_schema.specs.Steps.{LeavesNone, Stays, Steps, Tells, WasOpen};
-ghost use Rattle.sql_schema.specs.Told.{Runs};
+ghost use Rattle.sql_schema.specs.Steps.{FindsHeld, LeavesNone, RunsInside, Stays, Steps, Tells, WasOpen};
 ghost use Rattle.sql_schema.specs.Shown.{shown_user};
 ghost use Rattle.sql_policy.specs.Given.{given_user};
 ghost use Rattle.sql_policy.specs.Texts.{add_user_text, set_user_text};
@@ -20,10 +19,10 @@ use money::Fault;
 use sql_schema::{count_cell, picked, run, select_users};
 use sqlite::{Alter, Transaction, params};
 
-/// The user of this number with how many releases he was given, if he is there.
+/// The user of this number, if there is one, with how many releases they were given.
 pub fn user_of<S: Alter>(tx: &mut Transaction<'_, S>, user: u32) -> Result<Option<KeptUser>, Fault>
     ensures same_reference { tx.new.conn.ghost_name ≡ tx.old.conn.ghost_name }
-    ensures found { HasCleanDisk (state S.Store tx.new.conn.now) → (s : Sheets) → HoldsTables (state S.Store tx.old.conn.now).now s → IfOk result (λ found. found ≡ find (λ u. user_no u == user) s.users) }
+    ensures found { FindsHeld (state S.Store tx.old.conn.now) (state S.Store tx.new.conn.now) result (λ s found. found ≡ find (λ u. user_no u == user) s.users) }
     ensures steps { Stays (state S.Store tx.old.conn.now) (state S.Store tx.new.conn.now) result }
     ensures open { WasOpen (state S.Store tx.old.conn.now) (state S.Store tx.new.conn.now) result }
     ensures survives { LeavesNone (state S.Store tx.old.conn.now) (state S.Store tx.new.conn.now) }
@@ -31,7 +30,7 @@ pub fn user_of<S: Alter>(tx: &mut Transaction<'_, S>, user: u32) -> Result<Optio
     picked(tx, select_users!("WHERE user_no = ?1"), params![user])
 }
 
-/// What is given with the statement that writes a user, beside his name.
+/// What is given with the statement that writes a user, beside the name.
 #[derive(Clone, Copy)]
 struct UserCells {
     user: u32,
@@ -68,7 +67,7 @@ fn insert_user<S: Alter>(
     name: &str,
 ) -> Result<usize, Fault>
     ensures same_reference { tx.new.conn.ghost_name ≡ tx.old.conn.ghost_name }
-    ensures runs { HasCleanDisk (state S.Store tx.new.conn.now) → IsTrue (state S.Store tx.old.conn.now).in_transaction → Runs add_user_text (given_user cells.now name.now) (state S.Store tx.old.conn.now) (state S.Store tx.new.conn.now) result }
+    ensures runs { RunsInside add_user_text (given_user cells.now name.now) (state S.Store tx.old.conn.now) (state S.Store tx.new.conn.now) result }
     ensures survives { LeavesNone (state S.Store tx.old.conn.now) (state S.Store tx.new.conn.now) }
 {
     run(
@@ -86,7 +85,7 @@ fn insert_user<S: Alter>(
     )
 }
 
-/// Adds a user. One of his number who is there already is a fault of the disk, and a number of releases of more than 63 bits one of size.
+/// Adds a user. A number that is taken is a fault of the disk, and a count of releases over 63 bits one of size.
 pub fn add_user<S: Alter>(tx: &mut Transaction<'_, S>, kept: &KeptUser) -> Result<(), Fault>
     ensures same_reference { tx.new.conn.ghost_name ≡ tx.old.conn.ghost_name }
     ensures steps { Steps (state S.Store tx.old.conn.now) (state S.Store tx.new.conn.now) (λ s. record s { users = add_row user_no kept.now s.users }) result }
@@ -104,7 +103,7 @@ fn update_user<S: Alter>(
     name: &str,
 ) -> Result<usize, Fault>
     ensures same_reference { tx.new.conn.ghost_name ≡ tx.old.conn.ghost_name }
-    ensures runs { HasCleanDisk (state S.Store tx.new.conn.now) → IsTrue (state S.Store tx.old.conn.now).in_transaction → Runs set_user_text (given_user cells.now name.now) (state S.Store tx.old.conn.now) (state S.Store tx.new.conn.now) result }
+    ensures runs { RunsInside set_user_text (given_user cells.now name.now) (state S.Store tx.old.conn.now) (state S.Store tx.new.conn.now) result }
     ensures survives { LeavesNone (state S.Store tx.old.conn.now) (state S.Store tx.new.conn.now) }
 {
     run(
@@ -122,8 +121,8 @@ fn update_user<S: Alter>(
     )
 }
 
-/// Writes this user in place of the one of his number. Where there is none it writes nothing. A number of releases of more than 63 bits is
-/// a fault of size.
+/// Writes this user in place of the one of the same number. Where there is none it writes nothing. A count of releases
+/// of more than 63 bits is a fault of size.
 pub fn set_user<S: Alter>(tx: &mut Transaction<'_, S>, kept: &KeptUser) -> Result<(), Fault>
     ensures same_reference { tx.new.conn.ghost_name ≡ tx.old.conn.ghost_name }
     ensures steps { Steps (state S.Store tx.old.conn.now) (state S.Store tx.new.conn.now) (λ s. record s { users = set_row user_no kept.now s.users }) result }

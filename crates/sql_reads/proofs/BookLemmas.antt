@@ -1,4 +1,4 @@
--- What the tables of the books tell of a World.
+-- What the tables of the books say of a World.
 use Rattle.std.proofs.Common.{◌≡◌, ◌≢◌, ◌∙◌, ◌+◌, ◌<◌, ◌==◌, ◌++◌, ℕ, zero, suc, Bool, true, false, cond, List, [], ◌∷◌, map, filter, take, length, get_or, Contains, Option, Some, None, ap, arith, find, refl, subst, sym, inl, inr}
 use Rattle.std.specs.Prelude.{option_map}
 use Rattle.std.proofs.lemmas.List.{take_more}

@@ -1,4 +1,4 @@
--- Rows that were read, and are lent.
+-- Rows that were read, and are shared.
 use Rattle.std.proofs.Common.{◌≡◌, ◌∙◌, Result, Ok, Err, IsTrue, refl, subst}
 use Rattle.std.specs.Prelude.{IfOk}
 use Rattle.std.proofs.lemmas.Result.{IfOk-weaker}
@@ -12,7 +12,7 @@ use Rattle.sql_schema.proofs.WorldLemmas.{moves_nothing, tables_of}
 use Rattle.sql_schema.proofs.StepLemmas.{always_ok}
 use Rattle.sql_schema.specs.Reads.{ReadsWorld}
 
--- A World is told of what was made of rows that were read inside a transaction. Nothing is told where it was not made.
+-- What was made of rows that were read in a transaction is exact of a World. Where it was not made, nothing is said.
 pub reads_lent : {X A E : Type 0} (old new : State) (rows : X) (finds : Sheets → Type 0) (says : WorldLists → A → Type 0) (result : Result A E)
     → ((w : WorldLists) → IsKeepable w → finds (sheets_of w) → IfOk result (says w))
     → (HasCleanDisk new → IsTrue old.in_transaction → (s : Sheets) → HoldsTables old.now s → finds s)

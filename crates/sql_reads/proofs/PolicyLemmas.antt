@@ -1,4 +1,4 @@
--- What the tables of the policy tell of a World.
+-- What the tables of the policy say of a World.
 use Rattle.std.proofs.Common.{◌≡◌, ◌<◌, ◌^◌, ℕ, List, [], ◌∷◌, map, Bool, cond, Option, Some, None, refl, ap, sym, ◌∙◌, ◌==◌, ◌||◌, Contains}
 use Rattle.std.specs.Prelude.{option_map}
 use Rattle.std.specs.List.{find, list_any}

@@ -1,4 +1,4 @@
--- What the tables of the books tell reports of a World.
+-- What the tables of the books say of a World for reports.
 use Rattle.std.proofs.Common.{◌≡◌, ◌≢◌, ◌+◌, ℕ, zero, suc, ◌∷◌, [], Option, Some, None, refl, subst, ◌∙◌}
 use Rattle.std.specs.Prelude.{option_map}
 use Rattle.std.specs.List.{find}

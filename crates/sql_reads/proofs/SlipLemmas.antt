@@ -1,4 +1,4 @@
--- What the tables of slips tell of a World.
+-- What the tables of slips say of a World.
 use Rattle.std.proofs.Common.{◌≡◌, ◌<◌, ◌^◌, ℕ, Option, Some, None, refl, ap, sym, ◌∙◌, ◌==◌}
 use Rattle.std.specs.Option.{option_map_or}
 use Rattle.std.specs.Prelude.{option_map}

@@ -29,7 +29,7 @@ steps_both a b c first result ok survives one two clean inside s holds =
     let next = two clean then.0 s then.1 in
     (next.0, kept_then a b c was.1 next.1)
 
--- what a read finds behind another that went through
+-- what a read finds after another that went through
 pub reads_then : {X A E F : Type 0} (a b c : State) (first : Result X E) (finds : Sheets → A → Type 0) (says : WorldLists → A → Type 0) (result : Result A F)
     → ((w : WorldLists) → IsKeepable w → (a : A) → finds (sheets_of w) a → says w a)
     → IsOk first → Stays a b first → WasOpen a b first → LeavesNone a b
@@ -51,7 +51,7 @@ reads_then {A = A} {F = F} a b c first finds says result means ok steps stays su
     yes (Ok z) h = h
     yes (Err e) h = tt
 
--- what was refused tells nothing
+-- of a read that was refused nothing is said
 pub reads_failed : {X A E F : Type 0} (a b : State) (says : WorldLists → A → Type 0) (first : Result X E) (result : Result A F) → IsErr result
     → Stays a b first → WasOpen a b first → LeavesNone a b → ReadsWorld a b says result
 reads_failed a b says first result failed steps stays survives =

@@ -18,7 +18,7 @@ use std::alloc::Global;
 use std::rc::RcSlice;
 use world_reads::UserRecord;
 
-/// What a store answers of a user, by the row that is kept of him.
+/// What a store answers of a user, by the row that is kept of them.
 fn record_of(found: Option<KeptUser>) -> Option<UserRecord>
     ensures { result ≡ option_map user_told found }
 {
@@ -36,7 +36,7 @@ fn record_of(found: Option<KeptUser>) -> Option<UserRecord>
     }
 }
 
-/// The user of this number and how many releases he was given, or none where he isn't there.
+/// The user of this number and how many releases they were given, or none where there is no such user.
 #[derive(Clone, Copy)]
 pub struct UserRow {
     /// The number.

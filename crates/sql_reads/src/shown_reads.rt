@@ -1,16 +1,14 @@
 //! The accounts that members of sets hold, found one after another, each with no other account read.
 
-ghost use Rattle.std.specs.Prelude.{◌≡◌, map, take, IfOk, IsTrue};
+ghost use Rattle.std.specs.Prelude.{◌≡◌, map, take, IsTrue};
 ghost use Rattle.std.specs.List.{filter};
 ghost use Rattle.sqlite.specs.Held.{state};
 ghost use Rattle.sqlite.specs.State.{HasCleanDisk};
 ghost use Rattle.bank_policy.specs.HeldRows.{is_triple_of};
 ghost use Rattle.bank_policy.specs.Tests.{current};
 ghost use Rattle.bank_terms.specs.declared.procedure.Procedure.TheVariants as procedure;
-ghost use Rattle.book_kept.specs.Sheets.{Sheets};
 ghost use Rattle.sql_policy.specs.HeldRows.{held_in};
-ghost use Rattle.sql_schema.specs.Held.{HoldsTables};
-ghost use Rattle.sql_schema.specs.Steps.{LeavesNone, Stays, WasOpen};
+ghost use Rattle.sql_schema.specs.Steps.{FindsHeldInside, LeavesNone, Stays, WasOpen};
 ghost use Rattle.sql_reads.specs.LeastShown.{is_held_above};
 
 use crate::least_reads::least_of;
@@ -21,7 +19,7 @@ use money::Fault;
 use sqlite::{Alter, Transaction};
 use std::alloc::Global;
 
-/// The user's triples for the list of accounts that count at the moment, each with the members of its set.
+/// The user's triples for the list of accounts, those valid at the moment, each with the members of its set.
 pub fn accounts_triples<S: Alter>(
     alloc: Global,
     tx: &mut Transaction<'_, S>,
@@ -29,7 +27,7 @@ pub fn accounts_triples<S: Alter>(
     moment: u64,
 ) -> Result<Vec<HeldRow>, Fault>
     ensures same_reference { tx.new.conn.ghost_name ≡ tx.old.conn.ghost_name }
-    ensures found { HasCleanDisk (state S.Store tx.new.conn.now) → IsTrue (state S.Store tx.old.conn.now).in_transaction → (s : Sheets) → HoldsTables (state S.Store tx.old.conn.now).now s → IfOk result (λ rows. rows.items ≡ current moment (map (held_in s) (filter (is_triple_of user procedure.Accounts) s.triples))) }
+    ensures found { FindsHeldInside (state S.Store tx.old.conn.now) (state S.Store tx.new.conn.now) result (λ s rows. rows.items ≡ current moment (map (held_in s) (filter (is_triple_of user procedure.Accounts) s.triples))) }
     ensures steps { Stays (state S.Store tx.old.conn.now) (state S.Store tx.new.conn.now) result }
     ensures open { WasOpen (state S.Store tx.old.conn.now) (state S.Store tx.new.conn.now) result }
     ensures survives { LeavesNone (state S.Store tx.old.conn.now) (state S.Store tx.new.conn.now) }
@@ -49,7 +47,7 @@ pub fn held_above<S: Alter>(
     count: u32,
 ) -> Result<Vec<AccountRecord>, Fault>
     ensures same_reference { tx.new.conn.ghost_name ≡ tx.old.conn.ghost_name }
-    ensures found { HasCleanDisk (state S.Store tx.new.conn.now) → IsTrue (state S.Store tx.old.conn.now).in_transaction → (s : Sheets) → HoldsTables (state S.Store tx.old.conn.now).now s → IfOk result (λ rows. rows.items ≡ take count (filter (is_held_above held.now after) s.accounts)) }
+    ensures found { FindsHeldInside (state S.Store tx.old.conn.now) (state S.Store tx.new.conn.now) result (λ s rows. rows.items ≡ take count (filter (is_held_above held.now after) s.accounts)) }
     ensures steps { Stays (state S.Store tx.old.conn.now) (state S.Store tx.new.conn.now) result }
     ensures open { HasCleanDisk (state S.Store tx.new.conn.now) → IsTrue (state S.Store tx.new.conn.now).is_open → IsTrue (state S.Store tx.old.conn.now).is_open }
     ensures survives { LeavesNone (state S.Store tx.old.conn.now) (state S.Store tx.new.conn.now) }

@@ -1,17 +1,15 @@
-ghost use Rattle.std.specs.Prelude.{◌≡◌, ◌==◌, ◌<◌, ◌^◌, ◌∷◌, [], pos, IfOk, IsTrue};
+//! The releases in their table: one is read by its key, added, or marked as used.
+
+ghost use Rattle.std.specs.Prelude.{◌≡◌, ◌==◌, ◌<◌, ◌^◌, ◌∷◌, [], pos};
 ghost use Rattle.std.specs.List.{find};
 ghost use Rattle.sqlite.specs.Held.{state};
-ghost use Rattle.sqlite.specs.State.{HasCleanDisk};
 ghost use Rattle.sqlite.specs.declared.types.Value.TheVariants.{Int};
 ghost use Rattle.keyed_rows.specs.Ordered.{add_row};
 ghost use Rattle.bank_books.specs.Keys.{release_key, release_number};
 ghost use Rattle.book_kept.specs.Changes.{used_sheets};
-ghost use Rattle.book_kept.specs.Sheets.{Sheets};
 ghost use Rattle.sql_schema.specs.Cells.{ReleaseFits, release_cells};
-ghost use Rattle.sql_schema.specs.Held.{HoldsTables};
 ghost use Rattle.sql_schema.specs.Numbers.{truth_cell};
-ghost use Rattle.sql_schema.specs.Steps.{LeavesNone, Stays, Steps, WasOpen};
-ghost use Rattle.sql_schema.specs.Told.{Runs};
+ghost use Rattle.sql_schema.specs.Steps.{FindsHeld, LeavesNone, RunsInside, Stays, Steps, WasOpen};
 ghost use Rattle.sql_releases.specs.Given.{given_release};
 ghost use Rattle.sql_releases.specs.Texts.{add_release_text, use_up_text};
 
@@ -27,7 +25,7 @@ pub fn release_of<S: Alter>(
     number: u32,
 ) -> Result<Option<Release>, Fault>
     ensures same_reference { tx.new.conn.ghost_name ≡ tx.old.conn.ghost_name }
-    ensures found { HasCleanDisk (state S.Store tx.new.conn.now) → (s : Sheets) → HoldsTables (state S.Store tx.old.conn.now).now s → IfOk result (λ found. found ≡ find (λ r. release_key r == release_number user number) s.releases) }
+    ensures found { FindsHeld (state S.Store tx.old.conn.now) (state S.Store tx.new.conn.now) result (λ s found. found ≡ find (λ r. release_key r == release_number user number) s.releases) }
     ensures steps { Stays (state S.Store tx.old.conn.now) (state S.Store tx.new.conn.now) result }
     ensures open { WasOpen (state S.Store tx.old.conn.now) (state S.Store tx.new.conn.now) result }
     ensures survives { LeavesNone (state S.Store tx.old.conn.now) (state S.Store tx.new.conn.now) }
@@ -94,7 +92,7 @@ fn insert_release<S: Alter>(
     cells: &ReleaseCells,
 ) -> Result<usize, Fault>
     ensures same_reference { tx.new.conn.ghost_name ≡ tx.old.conn.ghost_name }
-    ensures runs { HasCleanDisk (state S.Store tx.new.conn.now) → IsTrue (state S.Store tx.old.conn.now).in_transaction → Runs add_release_text (given_release cells.now) (state S.Store tx.old.conn.now) (state S.Store tx.new.conn.now) result }
+    ensures runs { RunsInside add_release_text (given_release cells.now) (state S.Store tx.old.conn.now) (state S.Store tx.new.conn.now) result }
     ensures survives { LeavesNone (state S.Store tx.old.conn.now) (state S.Store tx.new.conn.now) }
 {
     run(
@@ -133,7 +131,7 @@ pub fn add_release<S: Alter>(tx: &mut Transaction<'_, S>, release: &Release) -> 
 
 fn update_used<S: Alter>(tx: &mut Transaction<'_, S>, key: &ReleaseKey) -> Result<usize, Fault>
     ensures same_reference { tx.new.conn.ghost_name ≡ tx.old.conn.ghost_name }
-    ensures runs { HasCleanDisk (state S.Store tx.new.conn.now) → IsTrue (state S.Store tx.old.conn.now).in_transaction → Runs use_up_text (Int (pos key.now.user) ∷ Int (pos key.now.number) ∷ []) (state S.Store tx.old.conn.now) (state S.Store tx.new.conn.now) result }
+    ensures runs { RunsInside use_up_text (Int (pos key.now.user) ∷ Int (pos key.now.number) ∷ []) (state S.Store tx.old.conn.now) (state S.Store tx.new.conn.now) result }
     ensures small { key.now.number < 2 ^ 32 }
     ensures survives { LeavesNone (state S.Store tx.old.conn.now) (state S.Store tx.new.conn.now) }
 {

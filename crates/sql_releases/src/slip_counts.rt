@@ -1,13 +1,12 @@
-ghost use Rattle.std.specs.Prelude.{◌≡◌, ◌==◌, ◌≤◌, ◌^◌, IfErr, IfOk, IsTrue};
+//! How many slips each user has, in a table with one row per user.
+
+ghost use Rattle.std.specs.Prelude.{◌≡◌, ◌==◌, ◌≤◌, ◌^◌, IfErr, IfOk};
 ghost use Rattle.std.specs.List.{find};
 ghost use Rattle.money.specs.declared.fault.Fault.TheVariants.{Size};
 ghost use Rattle.sqlite.specs.Held.{state};
-ghost use Rattle.sqlite.specs.State.{HasCleanDisk};
 ghost use Rattle.keyed_rows.specs.Ordered.{add_row};
-ghost use Rattle.book_kept.specs.Sheets.{Sheets, set_row, slip_no};
-ghost use Rattle.sql_schema.specs.Held.{HoldsTables};
-ghost use Rattle.sql_schema.specs.Steps.{LeavesNone, Stays, Steps, WasOpen};
-ghost use Rattle.sql_schema.specs.Told.{Runs};
+ghost use Rattle.book_kept.specs.Sheets.{set_row, slip_no};
+ghost use Rattle.sql_schema.specs.Steps.{FindsHeld, LeavesNone, RunsInside, Stays, Steps, WasOpen};
 ghost use Rattle.sql_schema.specs.Shown.{shown_slip_count};
 ghost use Rattle.sql_releases.specs.Given.{given_slip_count};
 ghost use Rattle.sql_releases.specs.Texts.{add_slip_count_text, set_slip_count_text};
@@ -17,13 +16,13 @@ use money::Fault;
 use sql_schema::{count_cell, picked, run, select_slip_counts};
 use sqlite::{Alter, Transaction, params};
 
-/// How many slips the user of this number has, if there is a row for him.
+/// How many slips the user of this number has, if there is a row for them.
 pub fn slip_count_of<S: Alter>(
     tx: &mut Transaction<'_, S>,
     user: u32,
 ) -> Result<Option<SlipCount>, Fault>
     ensures same_reference { tx.new.conn.ghost_name ≡ tx.old.conn.ghost_name }
-    ensures found { HasCleanDisk (state S.Store tx.new.conn.now) → (s : Sheets) → HoldsTables (state S.Store tx.old.conn.now).now s → IfOk result (λ found. found ≡ find (λ c. slip_no c == user) s.slip_counts) }
+    ensures found { FindsHeld (state S.Store tx.old.conn.now) (state S.Store tx.new.conn.now) result (λ s found. found ≡ find (λ c. slip_no c == user) s.slip_counts) }
     ensures steps { Stays (state S.Store tx.old.conn.now) (state S.Store tx.new.conn.now) result }
     ensures open { WasOpen (state S.Store tx.old.conn.now) (state S.Store tx.new.conn.now) result }
     ensures survives { LeavesNone (state S.Store tx.old.conn.now) (state S.Store tx.new.conn.now) }
@@ -53,7 +52,7 @@ fn insert_slip_count<S: Alter>(
     cells: &CountCells,
 ) -> Result<usize, Fault>
     ensures same_reference { tx.new.conn.ghost_name ≡ tx.old.conn.ghost_name }
-    ensures runs { HasCleanDisk (state S.Store tx.new.conn.now) → IsTrue (state S.Store tx.old.conn.now).in_transaction → Runs add_slip_count_text (given_slip_count cells.now) (state S.Store tx.old.conn.now) (state S.Store tx.new.conn.now) result }
+    ensures runs { RunsInside add_slip_count_text (given_slip_count cells.now) (state S.Store tx.old.conn.now) (state S.Store tx.new.conn.now) result }
     ensures survives { LeavesNone (state S.Store tx.old.conn.now) (state S.Store tx.new.conn.now) }
 {
     run(
@@ -79,7 +78,7 @@ fn update_slip_count<S: Alter>(
     cells: &CountCells,
 ) -> Result<usize, Fault>
     ensures same_reference { tx.new.conn.ghost_name ≡ tx.old.conn.ghost_name }
-    ensures runs { HasCleanDisk (state S.Store tx.new.conn.now) → IsTrue (state S.Store tx.old.conn.now).in_transaction → Runs set_slip_count_text (given_slip_count cells.now) (state S.Store tx.old.conn.now) (state S.Store tx.new.conn.now) result }
+    ensures runs { RunsInside set_slip_count_text (given_slip_count cells.now) (state S.Store tx.old.conn.now) (state S.Store tx.new.conn.now) result }
     ensures survives { LeavesNone (state S.Store tx.old.conn.now) (state S.Store tx.new.conn.now) }
 {
     run(

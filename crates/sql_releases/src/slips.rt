@@ -1,15 +1,13 @@
-ghost use Rattle.std.specs.Prelude.{◌≡◌, ◌==◌, ◌<◌, ◌^◌, IfOk, IsTrue};
+//! The slips in their table, each with its operation and its stored reply.
+
+ghost use Rattle.std.specs.Prelude.{◌≡◌, ◌==◌, ◌<◌, ◌^◌};
 ghost use Rattle.std.specs.List.{find};
 ghost use Rattle.sqlite.specs.Held.{state};
-ghost use Rattle.sqlite.specs.State.{HasCleanDisk};
 ghost use Rattle.keyed_rows.specs.Ordered.{add_row};
 ghost use Rattle.bank_books.specs.Keys.{slip_key, slip_number};
 ghost use Rattle.book_kept.specs.Named.{IsFree};
-ghost use Rattle.book_kept.specs.Sheets.{Sheets};
 ghost use Rattle.sql_schema.specs.Cells.{SlipFits, slip_cells};
-ghost use Rattle.sql_schema.specs.Held.{HoldsTables};
-ghost use Rattle.sql_schema.specs.Steps.{LeavesNone, Stays, Steps, Tells, WasOpen};
-ghost use Rattle.sql_schema.specs.Told.{Runs};
+ghost use Rattle.sql_schema.specs.Steps.{FindsHeld, LeavesNone, RunsInside, Stays, Steps, Tells, WasOpen};
 ghost use Rattle.sql_releases.specs.Given.{given_slip};
 ghost use Rattle.sql_releases.specs.Texts.{add_slip_text};
 
@@ -25,7 +23,7 @@ pub fn slip_of<S: Alter>(
     number: u32,
 ) -> Result<Option<Slip>, Fault>
     ensures same_reference { tx.new.conn.ghost_name ≡ tx.old.conn.ghost_name }
-    ensures found { HasCleanDisk (state S.Store tx.new.conn.now) → (s : Sheets) → HoldsTables (state S.Store tx.old.conn.now).now s → IfOk result (λ found. found ≡ find (λ r. slip_key r == slip_number user number) s.slips) }
+    ensures found { FindsHeld (state S.Store tx.old.conn.now) (state S.Store tx.new.conn.now) result (λ s found. found ≡ find (λ r. slip_key r == slip_number user number) s.slips) }
     ensures steps { Stays (state S.Store tx.old.conn.now) (state S.Store tx.new.conn.now) result }
     ensures open { WasOpen (state S.Store tx.old.conn.now) (state S.Store tx.new.conn.now) result }
     ensures survives { LeavesNone (state S.Store tx.old.conn.now) (state S.Store tx.new.conn.now) }
@@ -80,7 +78,7 @@ fn insert_slip<S: Alter>(
     reply: &[u8],
 ) -> Result<usize, Fault>
     ensures same_reference { tx.new.conn.ghost_name ≡ tx.old.conn.ghost_name }
-    ensures runs { HasCleanDisk (state S.Store tx.new.conn.now) → IsTrue (state S.Store tx.old.conn.now).in_transaction → Runs add_slip_text (given_slip cells.now reply.now) (state S.Store tx.old.conn.now) (state S.Store tx.new.conn.now) result }
+    ensures runs { RunsInside add_slip_text (given_slip cells.now reply.now) (state S.Store tx.old.conn.now) (state S.Store tx.new.conn.now) result }
     ensures survives { LeavesNone (state S.Store tx.old.conn.now) (state S.Store tx.new.conn.now) }
 {
     run(

@@ -44,7 +44,7 @@ pub unread_slip_members : {R : Type 0} (there : Row) (r : Result R Fault) (fault
 unread_slip_members there r fault handed unread =
     unread_part slip_cells IsReadableSlip there (columns_from 3 8) (map Int) (λ members. length members ≡ 8) (λ x. x.operation.members) r fault handed unread (λ x can. (sym (all_eight x.operation.members can.members), can.members))
 
--- eight members are told by their cells
+-- eight members are determined by their cells
 pub same_eight : (xs ys : List ℤ) → length xs ≡ 8 → length ys ≡ 8 → eight_cells xs ≡ eight_cells ys → xs ≡ ys
 same_eight (a ∷ b ∷ c ∷ d ∷ e ∷ f ∷ g ∷ h ∷ []) (i ∷ j ∷ k ∷ l ∷ m ∷ n ∷ o ∷ p ∷ []) all others same = cc
 same_eight xs ys all others same = absurd (omega (arith, all, others))

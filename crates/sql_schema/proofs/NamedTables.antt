@@ -1,4 +1,4 @@
--- Each table stands in the schema of each edition that has it, and so does the index of its key.
+-- Each table is in the schema of each schema version that has it, and so is the index of its key.
 use Rattle.std.proofs.Common.{inl, inr, refl}
 use Rattle.sqlite_rules.specs.Lists.{Has}
 use Rattle.sql_schema.specs.declared.edition.Edition.{Edition}

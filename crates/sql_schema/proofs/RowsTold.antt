@@ -1,4 +1,4 @@
--- Rows that are told, one after another.
+-- Rows that are read, one after another.
 use Rattle.std.proofs.Common.{◌≡◌, ◌<◌, ◌≤◌, ◌+◌, ℕ, zero, suc, List, [], ◌∷◌, ◌++◌, map, take, length, get_or, Contains, inl, inr, refl, sym, ap, arith, subst, ◌∙◌}
 use Rattle.std.proofs.lemmas.List.{map-append, take_all, take_more}
 use Rattle.money.specs.declared.fault.Fault.{Fault}
@@ -8,7 +8,7 @@ use Rattle.sqlite_rules.proofs.ListLemmas.{contains_had, has_contained}
 use Rattle.sql_schema.specs.Readable.{IsUnread}
 
 module _ {X : Type 0} (told : Row → Row) (cells : X → Row) (fits : X → Type 0) where
-  -- what was told of the rows before the i-th
+  -- what was read of the rows before the i-th
   pub record AreTold (rows : List Row) (i : ℕ) (xs : List X) : Type 0 where
     pub same : map told (take i rows) ≡ map cells xs
     pub fit : (x : X) → Contains xs x → fits x

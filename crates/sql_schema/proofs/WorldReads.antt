@@ -28,7 +28,7 @@ module _ {A E : Type 0} (old new : State) (finds : Sheets → A → Type 0) (say
       → Stays old new result → WasOpen old new result → LeavesNone old new → ReadsWorld old new says result
   reads_world found = reads_inside (λ clean inside. found clean)
 
--- a World is told of what is made of what was read
+-- what is made of what was read says something of a World
 pub reads_made : {A E : Type 0} (old new : State) (finds : Sheets → Type 0) (says : WorldLists → A → Type 0) (made : A)
     → ((w : WorldLists) → IsKeepable w → finds (sheets_of w) → says w made) → (HasCleanDisk new → (s : Sheets) → HoldsTables old.now s → finds s)
     → Steps {X = A} {E = E} old new (λ s. s) (Ok made) → WasOpen {X = A} {E = E} old new (Ok made) → LeavesNone old new → ReadsWorld {A = A} {E = E} old new says (Ok made)
@@ -46,7 +46,7 @@ reads_then {A} {E} old new finds says result means found steps stays survives = 
   survives = survives;
 }
 
--- nothing is told where a fault is answered
+-- a fault that is answered says nothing of a World
 pub reads_none : {A E : Type 0} (old new : State) (says : WorldLists → A → Type 0) (fault : E)
     → Steps {X = A} {E = E} old new (λ s. s) (Err fault) → WasOpen {X = A} {E = E} old new (Err fault) → LeavesNone old new → ReadsWorld {A = A} {E = E} old new says (Err fault)
 reads_none old new says fault = reads_world old new (λ _ _. ⊥) says (Err fault) (λ w can _ none. absurd none) (λ clean s holds. tt)

@@ -24,13 +24,13 @@ use Rattle.sql_schema.specs.declared.edition.Edition.TheVariants.{First, Second,
 use Rattle.sql_schema.specs.Numbers.{entry_form_number, kind_cell, line_form_number, procedure_cell, truth_cell}
 use Rattle.sql_schema.specs.Schema.{newest}
 
--- the number of the edition, as the row of the bank bears it
+-- the number of the schema version, as the row of the bank has it
 abbrev pub edition_number : Edition → ℕ
 edition_number First = 1
 edition_number Second = 2
 edition_number Third = 3
 
--- the edition, and the version of the policy
+-- the schema version, and the version of the policy
 abbrev pub bank_cells_in : Edition → ℕ → Row
 bank_cells_in e policy = Int (pos 1) ∷ Null ∷ Int (pos (edition_number e)) ∷ Int (pos policy) ∷ []
 
@@ -111,7 +111,7 @@ slip_cells s =
 abbrev pub slip_count_cells : SlipCount → Row
 slip_count_cells c = Int (pos c.user) ∷ Null ∷ Int (pos c.slips) ∷ []
 
--- ---- what is asked of a row, so that its key and its cells tell it
+-- ---- what is required of a row, so that its key and its cells determine it
 
 abbrev pub AnyRow : {X : Type 0} → X → Type 0
 AnyRow _ = ⊤
@@ -125,7 +125,7 @@ RelationFits r = r.set < 2 ^ 32
 abbrev pub TripleFits : Triple → Type 0
 TripleFits t = t.set < 2 ^ 32
 
--- A triple as an edition can keep it: in the first it has the widest moments.
+-- A triple as a schema version can keep it: in the first it has the widest moments.
 abbrev pub TripleFitsIn : Edition → Triple → Type 0
 TripleFitsIn First t = TripleFits t × (t.first ≡ 0) × (t.last ≡ max_moment)
 TripleFitsIn Second t = TripleFits t

@@ -1,4 +1,4 @@
--- Which fault an error of the database is: memory and size are told apart, and any other cause is the disk.
+-- Which fault an error of the database is: memory and size are distinguished, and any other cause is the disk.
 use Rattle.std.specs.Prelude.{◌≡◌}
 use Rattle.sqlite.specs.declared.error.Error.{Error}
 use Rattle.sqlite.specs.declared.error.Error.TheVariants.{SqliteFailure}

@@ -1,4 +1,4 @@
--- The columns of a branch's row that tell its row of the books, as an answer shows them: the first four.
+-- The columns of a branch's row that hold its row of the books, as an answer shows them: the first four.
 use Rattle.std.specs.Prelude.{pos, [], ◌∷◌}
 use Rattle.money.specs.Range.{IsCents}
 use Rattle.sqlite.specs.declared.types.Value.TheVariants.{Int}

@@ -55,13 +55,13 @@ tree_of releases = 21
 tree_of slips = 25
 tree_of slip_counts = 27
 
--- the third edition alone has the tables of slips
+-- the third schema version alone has the tables of slips
 abbrev pub HasSlips : Edition → Type 0
 HasSlips First = ⊥
 HasSlips Second = ⊥
 HasSlips Third = ⊤
 
--- the tables that an edition has
+-- the tables that a schema version has
 abbrev pub IsIn : Edition → Sheet → Type 0
 IsIn e bank = ⊤
 IsIn e users = ⊤
@@ -84,7 +84,7 @@ IsIn e slip_counts = HasSlips e
 abbrev pub set_no : ℕ → ℕ
 set_no set = set
 
--- the slips, which editions before the third can not keep: there are none
+-- the slips, which schema versions before the third can not keep: there are none
 abbrev pub HoldsSlipsIn : Edition → List SlipRow → List Row → Type 0
 HoldsSlipsIn First rows tree = rows ≡ []
 HoldsSlipsIn Second rows tree = rows ≡ []
@@ -94,7 +94,7 @@ HoldsSlipsIn Third rows tree = HoldsRows all_but_rowid slip_cells slip_key SlipF
 abbrev pub without_slips : KeptUser → SlipCount
 without_slips u = record { user = u.row.user; slips = 0 }
 
--- how many slips each user has, which editions before the third do not keep: none
+-- how many slips each user has, which schema versions before the third do not keep: none
 abbrev pub HoldsSlipCountsIn : Edition → Sheets → List Row → Type 0
 HoldsSlipCountsIn First s tree = s.slip_counts ≡ map without_slips s.users
 HoldsSlipCountsIn Second s tree = s.slip_counts ≡ map without_slips s.users
@@ -122,7 +122,7 @@ HoldsSheetIn e slip_counts s tree = HoldsSlipCountsIn e s tree
 abbrev pub HoldsSheetsIn : Edition → Trees → Sheets → Type 0
 HoldsSheetsIn e trees s = (t : Sheet) → HoldsSheetIn e t s (trees (tree_of t))
 
--- as the newest edition has them
+-- as the newest schema version has them
 abbrev pub HoldsSheet : Sheet → Sheets → List Row → Type 0
 HoldsSheet = HoldsSheetIn newest
 
@@ -135,8 +135,8 @@ pub record HoldsTables (db : Database) (s : Sheets) : Type 0 where
   pub sound : IsDatabase db
   pub rows : HoldsSheets db.trees s
 
--- These trees list the tables of a bank as an edition lays them out and keep the rules of its schema, and hold the rows and the numbers of
--- this World.
+-- These trees list the tables of a bank as a schema version lays them out, keep the rules of its schema, and hold the
+-- rows and the numbers of this World.
 pub record AreOfWorldIn (e : Edition) (w : WorldLists) (trees : Trees) : Type 0 where
   pub listed : IsDatabase (record { schema = schema_of e; trees = trees })
   pub rows : HoldsSheetsIn e trees (sheets_of w)
@@ -146,7 +146,7 @@ pub record HoldsWorldIn (e : Edition) (db : Database) (w : WorldLists) : Type 0 
   pub schema : db.schema ≡ schema_of e
   pub world : AreOfWorldIn e w db.trees
 
--- as the newest edition has it
+-- as the newest schema version has it
 abbrev pub AreOfWorld : WorldLists → Trees → Type 0
 AreOfWorld = AreOfWorldIn newest
 

@@ -1,4 +1,4 @@
--- Numbers in columns that stand for something else.
+-- Numbers in columns that represent something else.
 use Rattle.std.specs.Prelude.{ℕ, pos, Bool, true, false, ◌==◌, List, [], ◌∷◌, Option}
 use Rattle.std.specs.List.{find}
 use Rattle.sqlite.specs.declared.types.Value.{Value}

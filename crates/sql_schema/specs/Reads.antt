@@ -1,4 +1,4 @@
--- What reads of the tables tell of a World, and that they change nothing.
+-- What reads of the tables say of a World, and that they change nothing.
 use Rattle.std.specs.Prelude.{IfOk, IsTrue, Result}
 use Rattle.sqlite.specs.State.{HasCleanDisk, State}
 use Rattle.bank_books.specs.WorldLists.{WorldLists}

@@ -1,4 +1,4 @@
--- The tables of a bank's file, edition by edition: each as the text of its definition makes it.
+-- The tables of a bank's file in each schema version: each as the text of its definition makes it.
 use Rattle.std.specs.Prelude.{ℕ, true, false, List, [], ◌∷◌, Some, None, codes, map}
 use Rattle.sqlite.specs.Collation.TheVariants.{Binary}
 use Rattle.sqlite.specs.declared.types.Value.TheVariants.{Null}
@@ -143,7 +143,7 @@ proofs_table = by_columns (codes "proofs") 19
     (whole (codes "branch") ∷ whole (codes "day") ∷ whole (codes "entries") ∷ whole (codes "balance") ∷ whole (codes "cash") ∷ [])
     (1 ∷ 2 ∷ []) [] []
 
--- with the members of its operation, in the order in which the form names them, and 0 behind the last
+-- with the members of its operation, in the order in which the form names them, and 0 after the last
 abbrev pub releases_table : Table
 releases_table = by_columns (codes "releases") 21
     (whole (codes "user_no") ∷ whole (codes "number") ∷ whole (codes "giver") ∷ whole (codes "branch") ∷ whole (codes "day") ∷ whole (codes "form")
@@ -169,7 +169,7 @@ slip_counts_table = by_rowid (codes "slip_counts") 27 (rowid_key (codes "user_no
 abbrev pub key_index : List ℕ → ℕ → ℕ → List ℕ → Index
 key_index name tree table columns = record { name = name; tree = tree; table = table; columns = columns; order = plain; is_unique = true }
 
--- the table that differs from one edition to another, and its index
+-- the table that differs from one schema version to another, and its index
 abbrev pub triples_table_of : Edition → Table
 triples_table_of First = triples_table
 triples_table_of Second = grants_table
@@ -211,7 +211,7 @@ releases_index = key_index (codes "sqlite_autoindex_releases_1") 22 21 (1 ∷ 2 
 abbrev pub slips_index : Index
 slips_index = key_index (codes "sqlite_autoindex_slips_1") 26 25 (1 ∷ 2 ∷ [])
 
--- the tables behind all others, which the third edition alone has
+-- the tables after all others, which the third schema version alone has
 abbrev pub slip_tables_of : Edition → List Table
 slip_tables_of First = []
 slip_tables_of Second = []
@@ -229,14 +229,14 @@ entries_look_up = look_up_index (codes "entries_by_undoes") 23 14 (1 ∷ 12 ∷ 
 abbrev pub tellers_look_up : Index
 tellers_look_up = look_up_index (codes "tellers_by_branch") 24 12 (2 ∷ 0 ∷ [])
 
--- the indexes behind those that all editions have: those of look-ups, and that of the slips' key
+-- the indexes after those that all schema versions have: those of look-ups, and that of the slips' key
 abbrev pub last_indexes_of : Edition → List Index
 last_indexes_of First = []
 last_indexes_of Second = entries_look_up ∷ tellers_look_up ∷ []
 last_indexes_of Third = entries_look_up ∷ tellers_look_up ∷ slips_index ∷ []
 
--- Trees are numbered as they are made: each table of the first edition, and behind it the indexes of its keys; then the indexes of
--- look-ups, and the tables of slips.
+-- Trees are numbered as they are made: each table of the first schema version, followed by the indexes of its keys;
+-- then the indexes of look-ups, and the tables of slips.
 abbrev pub schema_of : Edition → Schema
 schema_of e = record {
   tables = bank_table ∷ users_table ∷ sets_table ∷ members_table ∷ relations_table ∷ triples_table_of e ∷ certifiers_table
@@ -254,7 +254,7 @@ schema_of e = record {
   views = [];
 }
 
--- the edition of the files that are made and adopted
+-- the schema version of the files that are made and adopted
 abbrev pub newest : Edition
 newest = Third
 

@@ -1,9 +1,12 @@
 -- Steps inside a transaction.
-use Rattle.std.specs.Prelude.{IsTrue, OnOk, Result}
+use Rattle.std.specs.Prelude.{ℕ, IfOk, IsTrue, List, OnOk, Result}
+use Rattle.money.specs.declared.fault.Fault.{Fault}
+use Rattle.sqlite.specs.Order.{Row}
 use Rattle.sqlite.specs.State.{HasCleanDisk, KeepsCommit, State, Survives}
 use Rattle.bank_books.specs.WorldLists.{WorldLists}
 use Rattle.book_kept.specs.Sheets.{Sheets}
 use Rattle.sql_schema.specs.Held.{HoldsTables, HoldsWorld}
+use Rattle.sql_schema.specs.Told.{Runs}
 
 -- Where the tables held these rows they hold what the step makes of them, and nothing is committed. A step that is refused says nothing
 -- of what they hold, since the transaction is then rolled back.
@@ -32,9 +35,21 @@ MovedBy old new after =
     HasCleanDisk new → IsTrue old.in_transaction → (w : WorldLists) → HoldsWorld old.now w →
     (IsTrue new.in_transaction × HoldsWorld new.now (after w)) × KeepsCommit old new
 
--- What a step that went through tells of the rows that the tables held before it.
+-- What a step that went through says of the rows that the tables held before it.
 abbrev pub Tells : {X E : Type 0} → State → State → (Sheets → Type 0) → Result X E → Type 0
 Tells old new says result = HasCleanDisk new → IsTrue old.in_transaction → (s : Sheets) → HoldsTables old.now s → OnOk result (says s)
+
+-- What a read returns, where it goes through, by the rows that the tables hold.
+abbrev pub FindsHeld : {X E : Type 0} → State → State → Result X E → (Sheets → X → Type 0) → Type 0
+FindsHeld old new result is = HasCleanDisk new → (s : Sheets) → HoldsTables old.now s → IfOk result (is s)
+
+-- the same inside a transaction
+abbrev pub FindsHeldInside : {X E : Type 0} → State → State → Result X E → (Sheets → X → Type 0) → Type 0
+FindsHeldInside old new result is = HasCleanDisk new → IsTrue old.in_transaction → (s : Sheets) → HoldsTables old.now s → IfOk result (is s)
+
+-- a statement that is run inside a transaction
+abbrev pub RunsInside : List ℕ → Row → State → State → Result ℕ Fault → Type 0
+RunsInside sql params old new result = HasCleanDisk new → IsTrue old.in_transaction → Runs sql params old new result
 
 -- a connection that a call finds open was open, and one that answers is
 abbrev pub WasOpen : {X E : Type 0} → State → State → Result X E → Type 0

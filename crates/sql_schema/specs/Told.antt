@@ -1,4 +1,4 @@
--- What a row of an answer tells of the row of a table that it shows, and what a call of the database tells.
+-- What a row of an answer says of the row of a table that it shows, and what a call of the database returns.
 use Rattle.std.specs.Prelude.{ℕ, zero, suc, ◌⊎◌, List, [], ◌∷◌, Result, Ok, Err}
 use Rattle.money.specs.declared.fault.Fault.{Fault}
 use Rattle.sqlite.specs.State.{ExecutesInside, FailsToQuery, IsTooLate, State}
@@ -25,7 +25,7 @@ told_by_columns count row = columns_from 0 count row
 abbrev pub Refuses : List ℕ → Row → State → State → Error → Type 0
 Refuses sql params old new e = FailsToQuery sql params old new e ⊎ IsTooLate sql params old new e
 
--- a statement wrote so many rows, or its error is told by its name
+-- a statement wrote so many rows, or the fault is the name of its error
 abbrev pub Runs : List ℕ → Row → State → State → Result ℕ Fault → Type 0
 Runs sql params old new (Ok count) = ExecutesInside 0 sql params old new (Ok count)
 Runs sql params old new (Err fault) = IsNameOf (λ e. ExecutesInside 0 sql params old new (Err e)) fault

@@ -1,4 +1,4 @@
-//! The calls of the database. Each names the error that it told.
+//! The calls of the database. A fault of theirs is the name of the error that was returned.
 
 ghost use Rattle.std.specs.Prelude.{◌≡◌, false, [], IfErr, IfOk, IsTrue, OnOk};
 ghost use Rattle.sqlite.specs.Held.{state};
@@ -7,14 +7,14 @@ ghost use Rattle.sqlite.specs.Steps.{FailsToCommit};
 ghost use Rattle.sqlite.specs.Values.{bound};
 ghost use Rattle.sql_schema.specs.Faults.{IsNameOf};
 ghost use Rattle.sql_schema.specs.Told.{Refuses, Runs};
-ghost use Rattle.sql_schema.specs.Steps.{LeavesNone};
+ghost use Rattle.sql_schema.specs.Steps.{LeavesNone, RunsInside};
 
 use crate::cells::fault_of;
 use money::Fault;
 use sqlite::types::ValueRef;
 use sqlite::{Alter, Row, Transaction};
 
-/// What a query shows. A fault is the name of the error that it told.
+/// What a query shows. A fault is the name of the error that was returned.
 pub(crate) fn shown_rows<S: Alter>(
     tx: &mut Transaction<'_, S>,
     sql: &str,
@@ -31,14 +31,14 @@ pub(crate) fn shown_rows<S: Alter>(
     }
 }
 
-/// Has a statement write, and tells how many rows it wrote. A fault is the name of the error that it told.
+/// Runs a statement that writes, and returns how many rows it wrote. A fault is the name of the error returned.
 pub fn run<S: Alter>(
     tx: &mut Transaction<'_, S>,
     sql: &str,
     params: &[ValueRef<'_>],
 ) -> Result<usize, Fault>
     ensures same_reference { tx.new.conn.ghost_name ≡ tx.old.conn.ghost_name }
-    ensures runs { HasCleanDisk (state S.Store tx.new.conn.now) → IsTrue (state S.Store tx.old.conn.now).in_transaction → Runs sql.now (bound params.now) (state S.Store tx.old.conn.now) (state S.Store tx.new.conn.now) result }
+    ensures runs { RunsInside sql.now (bound params.now) (state S.Store tx.old.conn.now) (state S.Store tx.new.conn.now) result }
     ensures survives { LeavesNone (state S.Store tx.old.conn.now) (state S.Store tx.new.conn.now) }
 {
     match tx.execute(sql, params) {
@@ -47,7 +47,7 @@ pub fn run<S: Alter>(
     }
 }
 
-/// Commits the transaction. A fault is the name of the error that this told.
+/// Commits the transaction. A fault is the name of the error that was returned.
 pub fn commit<S: Alter>(tx: Transaction<'_, S>) -> Result<(), Fault>
     ensures ended { tx.exit.0.now.in_transaction ≡ false }
     ensures ok { HasCleanDisk (state S.Store tx.exit.0.now) → OnOk result (IsTrue (state S.Store tx.entry.conn.now).in_transaction × Shows (state S.Store tx.entry.conn.now) (state S.Store tx.exit.0.now) (state S.Store tx.entry.conn.now).now (state S.Store tx.entry.conn.now).now false × KeepsCounts (state S.Store tx.entry.conn.now) (state S.Store tx.exit.0.now) × ((state S.Store tx.exit.0.now).marks ≡ [])) }

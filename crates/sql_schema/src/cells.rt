@@ -1,3 +1,5 @@
+//! Numbers in columns, read and written: amounts, counts, truths, procedures and kinds, and the faults of bad ones.
+
 ghost use Rattle.std.specs.Prelude.{◌≡◌, ◌≤◌, ◌^◌, pos, IfErr, IfOk};
 ghost use Rattle.money.specs.Range.{IsCents};
 ghost use Rattle.money.specs.declared.fault.Fault.TheVariants.{Size};

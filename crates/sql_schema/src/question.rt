@@ -1,3 +1,5 @@
+//! What is asked of a bank's tables inside a transaction, without changing them.
+
 ghost use Rattle.std.specs.Prelude.{◌≡◌};
 ghost use Rattle.sqlite.specs.Held.{state};
 ghost use Rattle.bank_books.specs.WorldLists.{WorldLists};

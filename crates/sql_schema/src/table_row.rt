@@ -1,3 +1,5 @@
+//! How the rows that a query shows are read as rows of a table of a bank.
+
 ghost use Rattle.std.specs.Prelude.{◌≡◌, List, map, Contains, IfErr, IfOk};
 ghost use Rattle.sql_schema.specs.Readable.{IsUnread};
 
@@ -12,8 +14,8 @@ pub trait TableRow: Sized {
     ghost use Rattle.sql_schema.specs.Held.{Sheet};
     ghost use Rattle.sql_schema.specs.Readable.{IsUnread};
 
-    // the table, its row and its key, what of a row counts, what a row of an answer tells of it, how an answer shows it, that its numbers are
-    // small enough for its key, and that they are of the types that they are read as
+    // the table; its row and its key; what of a row is compared; the row that a row of an answer shows; how an answer
+    // shows it; that its numbers are small enough for its key; and that they are of the types that they are read as
     ghost sheet: { Sheet };
 
     ghost cells: { Self → Cells };
@@ -30,8 +32,8 @@ pub trait TableRow: Sized {
 
     ghost readable: { Self → Type 0 };
 
-    /// The row that a row of an answer tells, whose columns stand as the queries for the table name them. Only memory, or a value that its
-    /// column may not have, keeps it from being read.
+    /// The row that a row of an answer shows, whose columns stand as the queries for the table name them. Only memory,
+    /// or a value that its column may not have, keeps it from being read.
     fn read(alloc: Global, row: &Row) -> Result<Self, Fault>
         ensures same { IfOk result (λ x. told row.now ≡ cells x) }
         ensures there { IfOk result (λ x. (there : Self) → fits there → row.now ≡ shown there → x ≡ there) }
@@ -40,7 +42,7 @@ pub trait TableRow: Sized {
         ensures unread { IfErr result (IsUnread cells readable (told row.now)) };
 }
 
-/// What all of these rows tell.
+/// The rows that all of these show, in their order.
 pub fn read_rows<T: TableRow + Drop>(alloc: Global, rows: &[Row]) -> Result<Vec<T>, Fault>
     ensures same { IfOk result (λ list. map T.told rows.now ≡ map T.cells list.items) }
     ensures there { IfOk result (λ list. (there : List T) → ((x : T) → Contains there x → T.fits x) → rows.now ≡ map T.shown there → list.items ≡ there) }

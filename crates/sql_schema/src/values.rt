@@ -1,3 +1,5 @@
+//! Names, bytes, sums, forms and the members of operations, read from the columns of a row.
+
 ghost use Rattle.std.specs.Prelude.{ℤ, List, ◌≡◌, pos, length, map, IfErr, IfOk, IsUtf8};
 ghost use Rattle.money.specs.Range.{IsDelta};
 ghost use Rattle.sqlite.specs.declared.types.Value.TheVariants.{Blob, Int, Text};

@@ -34,7 +34,7 @@ survives_more old new Commits s = record {
 
 module _ (edition : Edition) (old mid new : State) (w : WorldLists) (read : LeavesNone old mid) (found : HasCleanDisk mid → (e : Edition) → IsOlderFile e old → (edition ≡ e) × Finds e old.now w)
     (left : HasCleanDisk mid → (is : Edition) → IsBankFileIn is old → IsLeft old mid) (written : Survives mid new (λ trees. IsOf edition mid → AreOfWorld w trees)) where
-  -- the file is in the edition in which it was read
+  -- the file is in the schema version in which it was read
   pub is_of : HasCleanDisk mid → (e : Edition) → IsOlderFile e old → IsOf edition mid
   is_of clean e older = subst (λ x. IsOf x mid) (sym (found clean e older).0) (still_of e old mid older.file (left clean e older.file))
 

@@ -6,7 +6,7 @@ use Rattle.sql_schema.specs.declared.edition.Edition.TheVariants.{First, Second,
 use Rattle.sql_create.specs.Blank.{no_schema}
 use Rattle.sql_upgrade.specs.Left.{left}
 
--- before the newest edition there are no tables but these
+-- before the newest schema version there are no tables but these
 pub whole_left : (e : Edition) → e ≢ newest → left e 14 9 0 ≡ schema_of e
 whole_left First older = refl
 whole_left Second older = refl

@@ -1,4 +1,4 @@
--- A file of an edition of which only the first tables are left.
+-- A file of a schema version of which only the first tables are left.
 use Rattle.std.specs.Prelude.{◌≡◌, ◌++◌, ℕ, List, [], codes, drop, take}
 use Rattle.sqlite.specs.Effect.{Database}
 use Rattle.sqlite.specs.Schema.{Schema}
@@ -6,8 +6,8 @@ use Rattle.sql_schema.specs.Schema.{last_indexes_of, schema_of}
 use Rattle.sql_schema.specs.declared.edition.Edition.{Edition}
 use Rattle.sql_schema.specs.declared.edition.Edition.TheVariants.{First, Second, Third}
 
--- The first so many tables, and the first so many of the indexes of their keys. Of the two indexes for look-ups, where the edition has them,
--- so many are gone.
+-- The first so many tables, and the first so many of the indexes of their keys. Of the two indexes for look-ups, where
+-- the schema version has them, so many are gone.
 abbrev pub left : Edition → ℕ → ℕ → ℕ → Schema
 left e tables indexes gone = record { tables = take tables (schema_of e).tables; indexes = take indexes (schema_of e).indexes ++ drop gone (take 2 (last_indexes_of e)); views = [] }
 

@@ -1,4 +1,4 @@
-//! The tables of an edition before the newest, replaced by those of the newest.
+//! The tables of a schema version before the newest, replaced by those of the newest.
 
 ghost use Rattle.std.specs.Prelude.{◌≡◌, ◌≢◌, false, IsTrue, OnErr, OnOk};
 ghost use Rattle.sqlite.specs.Held.{state};
@@ -21,7 +21,7 @@ use sql_schema::{Edition, commit};
 use sqlite::{Alter, Connection, Transaction};
 use std::alloc::Global;
 
-/// Takes the tables of an older edition away, and writes the bank to those of the newest.
+/// Takes the tables of an older schema version away, and writes the bank to those of the newest.
 fn rewrite_bank<S: Alter>(
     alloc: Global,
     tx: &mut Transaction<'_, S>,
@@ -41,7 +41,7 @@ fn rewrite_bank<S: Alter>(
 }
 
 /// Carries a bank over in one transaction, or at a fault nothing of it: whatever stood in the tables of the
-/// older edition, those of the newest hold this World then.
+/// older schema version, those of the newest hold this World then.
 pub(crate) fn carry_bank<S: Alter>(
     alloc: Global,
     conn: &mut Connection<S>,

@@ -1,5 +1,5 @@
-//! The tables of a file of an edition before the newest, taken away: the last that was made first, so that no
-//! key of another table acts on the rows that go.
+//! The tables of a file of a schema version before the newest, taken away: the last that was made first, so that
+//! no key of another table acts on the rows that go.
 
 ghost use Rattle.std.specs.Prelude.{◌≡◌};
 ghost use Rattle.sqlite.specs.Held.{state};
@@ -36,7 +36,7 @@ fn drop_books<S: Alter>(tx: &mut Transaction<'_, S>) -> Result<(), Fault>
     define(tx, "DROP TABLE branches")
 }
 
-/// What takes away the table of the triples, which is not the same in all editions.
+/// What takes away the table of the triples, which is not the same in all schema versions.
 fn triples_text(edition: Edition) -> &'static str
     ensures { result.now ≡ triples_text edition }
 {
@@ -71,7 +71,7 @@ fn drop_bank_and_sets<S: Alter>(tx: &mut Transaction<'_, S>) -> Result<(), Fault
     define(tx, "DROP TABLE bank")
 }
 
-/// Takes away all tables that each edition has, whatever stands in them.
+/// Takes away all tables that each schema version has, whatever stands in them.
 pub(crate) fn drop_tables<S: Alter>(
     tx: &mut Transaction<'_, S>,
     edition: Edition,

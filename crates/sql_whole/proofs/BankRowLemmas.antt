@@ -1,4 +1,4 @@
--- What the rows of an answer tell of the table of the bank.
+-- What the rows of an answer say of the table of the bank.
 use Rattle.std.proofs.Common.{◌≡◌, List, [], ◌∷◌, map, IsPermutation, Option, None, Some, Ok, Err, IfOk, OnOk, Result, refl, ap, subst}
 use Rattle.std.proofs.lemmas.List.Sorted.{IsPermutation-sym}
 use Rattle.sqlite.specs.Order.{Row}

@@ -1,4 +1,4 @@
--- Rows of an answer that are taken one after another: what they tell so far, and at the end that they are the table.
+-- Rows of an answer that are taken one after another: which rows they represent so far, and at the end the table.
 use Rattle.std.proofs.Common.{◌≡◌, ℕ, List, [], ◌∷◌, ◌++◌, map, Contains, refl, ap, sym, subst, arith, ◌∙◌, ◌⊎◌, inl, inr}
 use Rattle.keyed_rows.proofs.Rows.{Contains-cons_cases, Contains-head, Contains-tail}
 use Rattle.sqlite_trees.specs.declared.store.Store.{Ghosts}
@@ -18,7 +18,7 @@ use Rattle.sql_whole.specs.Whole.{AreAll, HasBankTables, TellsWhole}
 use Rattle.sql_whole.proofs.ReadsLemmas.{still_bank}
 use Rattle.sql_whole.proofs.WholeLemmas.{are_all, plain_there}
 
--- The answer has given rows, which tell those that were taken, and all is as it was.
+-- The answer has given rows, which represent those that were taken, and all is as it was.
 pub record Taken {S X : Type 0} (g : Ghosts S) (text : List ℕ) (conn : Held S) (old : State) (told : Row → Row) (cells : X → Row) (Fits Readable : X → Type 0) (Holds : List X → Type 0) : Type 0 where
   pub given : List Row
   pub answer : HasGiven g text [] conn given

@@ -91,7 +91,7 @@ tells_releases e =
     (releases_there e) refl (λ db. refl) refl refl (λ r. refl) releases_alike (λ x. refl)
     (λ x y p q less. rises_by_two x.user x.number y.user y.number p.number q.number less)
 
--- ---- slips, which the third edition alone has
+-- ---- slips, which the third schema version alone has
 
 abbrev slips_columns : List Term
 slips_columns = col 1 1 ∷ col 1 2 ∷ col 1 3 ∷ col 1 4 ∷ col 1 5 ∷ col 1 6 ∷ col 1 7 ∷ col 1 8 ∷ col 1 9 ∷ col 1 10 ∷ col 1 11 ∷ col 1 12 ∷ []

@@ -115,7 +115,7 @@ tells_relations e =
 abbrev triples_order : List (Term × Key)
 triples_order = (col 1 1, rising_key) ∷ (col 1 2, rising_key) ∷ (col 1 3, rising_key) ∷ []
 
--- as the first edition has them
+-- as the first schema version has them
 
 abbrev first_triples_columns : List Term
 first_triples_columns = col 1 1 ∷ col 1 2 ∷ col 1 3 ∷ col 1 4 ∷ []

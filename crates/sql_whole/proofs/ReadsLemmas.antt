@@ -11,7 +11,7 @@ use Rattle.sql_schema.proofs.StepLemmas.{early, kept_then}
 use Rattle.sql_schema.specs.Steps.{LeavesNone}
 use Rattle.sql_whole.specs.Whole.{HasBankTables, IsKeptTable, OnReadable, Reads}
 
--- reads that went through, which told this
+-- reads that went through and say this
 abbrev pub Done : Edition → State → State → (Trees → Type 0) → Type 0
 Done e old new says = HasCleanDisk new → HasBankTables e old → says old.now.trees × IsUnchanged old new × KeepsCommit old new
 

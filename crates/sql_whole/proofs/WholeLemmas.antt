@@ -74,7 +74,7 @@ module _ (tree : ℕ) (over : (db : Trees) → overlay db [] tree ≡ db tree) (
       let moved = IsPermutation-map (λ (o : Output). o.1) _ _ (subst (λ l. IsPermutation l s.0) one s.1) in
       subst (IsPermutation (map (λ r. (output q ([] ∷ r ∷ [])).1) (db tree))) (sym s.3) (subst (λ l. IsPermutation l (map (λ (o : Output). o.1) s.0)) (map-map (λ (o : Output). o.1) (λ r. output q ([] ∷ r ∷ [])) (db tree)) moved)
 
-  -- so what the rows of the answer tell are the rows of the table, where each of them tells its own
+  -- so the rows of the answer represent the rows of the table, where each of them represents its own
   pub all_told : (shows told : Row → Row) (db : Trees) (rows : List Row) → ((r : Row) → Has (db tree) r → told (output q ([] ∷ r ∷ [])).1 ≡ shows r) → IsProgramAnswer [] q db [] rows
       → IsPermutation (map told rows) (map shows (db tree))
   all_told shows told db rows tells h =
@@ -90,7 +90,7 @@ ComesInOrder {X = X} row key Fits q = (x y : X) → Fits x → Fits y → key x 
 module _ {X : Type 0} (shows back told : Row → Row) (cells : X → Row) (key : X → ℕ) (Fits : X → Type 0) (tree : ℕ) (over : (db : Trees) → overlay db [] tree ≡ db tree) (project : List Term) (order : List (Term × Key))
     (reads : (r : Row) → output (whole_scan tree project order) ([] ∷ r ∷ []) ≡ output (whole_scan tree project order) ([] ∷ back (shows r) ∷ []))
     (tells : (x : X) → told (output (whole_scan tree project order) ([] ∷ back (cells x) ∷ [])).1 ≡ cells x) where
-  -- what the rows of the answer tell are the rows that the table holds, in their order
+  -- the rows of the answer represent the rows that the table holds, in their order
   pub told_in_order : ComesInOrder (λ x. back (cells x)) key Fits (whole_scan tree project order) → (db : Trees) (xs : List X) (rows : List Row) → HoldsRows shows cells key Fits xs (db tree)
       → IsProgramAnswer [] (whole_scan tree project order) db [] rows → map told rows ≡ map cells xs
   told_in_order rises db xs rows holds h =
@@ -103,7 +103,7 @@ module _ {X : Type 0} (shows back told : Row → Row) (cells : X → Row) (key :
 abbrev pub ReadsNoRowid : Query → Type 0
 ReadsNoRowid q = (r : Row) → output q ([] ∷ r ∷ []) ≡ output q ([] ∷ (Null ∷ drop 1 r) ∷ [])
 
--- ---- what a row tells
+-- ---- the row of the table that a row of an answer represents
 
 width : (table : Table) (row : Row) → are_typed table.key 0 table.columns (drop 1 row) ≡ true → length table.columns < length row → length row ≡ length table.columns + 1
 width table [] typed long = absurd (omega (arith, long))
@@ -163,7 +163,7 @@ module _ {X : Type 0} (e : Edition) (shows told : Row → Row) (cells : X → Ro
       let asks = tells.asks in
       (reads_as text [] old new (schema_of e) has.schema (Select (record { lets = []; body = asks.query }) asks.names) (known asks.query asks.names (understood (schema_of e) text) asks.is) asks.plain asks.unlisted rows h).answer
 
-  -- what the rows of an answer tell are the rows of the table
+  -- the rows of an answer represent the rows of the table
   pub all_answered : (old new : State) (rows : List Row) → HasBankTables e old → Shown text [] old new rows → IsPermutation (map told rows) (map shows (old.now.trees (tree_of t)))
   all_answered old new rows has h =
       let sound = has.sound (shown_open text [] old new rows h) in

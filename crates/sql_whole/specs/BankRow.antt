@@ -14,7 +14,7 @@ abbrev pub IsBankTable : Trees → Option BankRow → Type 0
 IsBankTable db (Some b) = db 0 ≡ bank_row_cells b ∷ []
 IsBankTable db None = (b : BankRow) → db 0 ≢ bank_row_cells b ∷ []
 
--- the same of what the rows of an answer tell
+-- the same of the rows that the rows of an answer represent
 abbrev pub IsToldBy : List Row → Option BankRow → Type 0
 IsToldBy rows (Some b) = map (told_by_key 2) rows ≡ bank_row_cells b ∷ []
 IsToldBy rows None = (b : BankRow) → map (told_by_key 2) rows ≢ bank_row_cells b ∷ []

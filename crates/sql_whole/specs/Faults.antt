@@ -1,5 +1,5 @@
--- Why a query for a whole table was refused: memory, a size, the disk and a limit on steps are told, and any other cause is that the table is
--- not there as it was asked for.
+-- Why a query for a whole table was refused: memory, a size, the disk and a limit on steps are reported, and any other
+-- cause is that the table is not there as it was asked for.
 use Rattle.std.specs.Prelude.{⊤}
 use Rattle.sql_schema.specs.Faults.{fault_named}
 use Rattle.sqlite.specs.declared.error.Error.{Error}

@@ -69,7 +69,7 @@ AreProofs db rows = AreAll all_but_rowid proof_cells proof_key ProofFits in_proo
 abbrev pub AreReleases : Trees → List Release → Type 0
 AreReleases db rows = AreAll all_but_rowid release_cells release_key ReleaseFits in_releases db rows
 
--- editions before the third have no slips
+-- schema versions before the third have no slips
 abbrev pub AreSlips : Edition → Trees → List SlipRow → Type 0
 AreSlips First db rows = rows ≡ []
 AreSlips Second db rows = rows ≡ []

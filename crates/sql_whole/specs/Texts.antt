@@ -18,7 +18,7 @@ all_members_text = codes "SELECT set_no, place, kind, low, high FROM members ORD
 abbrev pub all_relations_text : List ℕ
 all_relations_text = codes "SELECT procedure, set_no, by_user FROM relations ORDER BY procedure, set_no"
 
--- the triples of the first edition, and of the later ones
+-- the triples of the first schema version, and of the later ones
 
 abbrev pub first_triples_text : List ℕ
 first_triples_text = codes "SELECT user_no, procedure, set_no, ceiling FROM triples ORDER BY user_no, procedure, set_no"

@@ -1,4 +1,4 @@
--- What a read of whole tables tells of them, and what it leaves.
+-- What a read of whole tables says of them, and what it leaves.
 use Rattle.std.specs.Prelude.{ℕ, ◌≡◌, ◌<◌, List, [], length, map, Contains, false, true, IfErr, IfOk, IsTrue, OnOk, Ok, Err, Result}
 use Rattle.std.specs.List.Sorted.{IsPermutation}
 use Rattle.sqlite.specs.Command.TheVariants.{Select}
@@ -30,7 +30,7 @@ pub record IsKeptTable (tree : List Row) : Type 0 where
   pub shaped : IsShaped Table tree
   pub beside : (row : Row) → Contains tree row → 1 < length row
 
--- A connection to tables as they were made for a bank, in an edition. What stands in them may be anything.
+-- A connection to tables as they were made for a bank, in a schema version. What stands in them may be anything.
 pub record HasBankTables (e : Edition) (s : State) : Type 0 where
   pub schema : s.now.schema ≡ schema_of e
   pub sound : IsTrue s.is_open → IsDatabase s.now
@@ -43,7 +43,7 @@ pub record AreAll {X : Type 0} (shows : Row → Row) (cells : X → Row) (key : 
   pub fit : (x : X) → Contains rows x → Fits x
   pub in_order : (xs : List X) → HoldsRows shows cells key Fits xs (db (tree_of t)) → map cells rows ≡ map cells xs
 
--- A read that went through tells this of the trees, and leaves all as it was. One that failed commits nothing.
+-- A read that went through says this of the trees, and leaves all as it was. One that failed commits nothing.
 abbrev pub Reads : {X E : Type 0} → Edition → State → State → (Trees → X → Type 0) → Result X E → Type 0
 Reads e old new says result = HasCleanDisk new → HasBankTables e old → IfOk result (says old.now.trees) × OnOk result (IsUnchanged old new) × KeepsCommit old new
 
@@ -78,8 +78,8 @@ pub record IsAnswered (e : Edition) (text : List ℕ) : Type 0 where
   pub typed : accepts_program (schema_of e) [] query [] ≡ true
   pub adds_nothing : (db : Trees) → ProgramOverflows db [] [] [] query → ⊥
 
--- The text is a query of which each answer tells the rows of a table, each once, in order of their keys where these differ: `shows` gives
--- what of a row counts, and `told` what a row of the answer tells of it.
+-- The text is a query of which each answer represents the rows of a table, each once, in order of their keys where
+-- these differ: `shows` gives the part of a row that is compared, and `told` the same part from a row of the answer.
 pub record TellsWhole {X : Type 0} (e : Edition) (shows told : Row → Row) (cells : X → Row) (key : X → ℕ) (Fits : X → Type 0) (t : Sheet) (text : List ℕ) : Type 0 where
   pub inside : IsIn e t
   pub asks : IsAnswered e text

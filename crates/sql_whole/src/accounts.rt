@@ -1,3 +1,5 @@
+//! The whole table of accounts: its query, and its rows as records of accounts.
+
 ghost use Rattle.std.specs.Prelude.{◌≡◌, IfErr, IfOk};
 ghost use Rattle.sqlite.specs.Held.{state};
 ghost use Rattle.sql_schema.specs.Readable.{IsReadableAccount};

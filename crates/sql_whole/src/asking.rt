@@ -1,3 +1,5 @@
+//! Whether all tables but the bank's own are there, asked by the queries that read them whole.
+
 ghost use Rattle.std.specs.Prelude.{◌≡◌, IfSome, IsTrue, ⊤};
 ghost use Rattle.sqlite.specs.Held.{state};
 ghost use Rattle.sql_whole.specs.Whole.{IsAnswered, IsThere, Reads};
@@ -17,7 +19,7 @@ const OTHERS: [Table; 15] = [
     Lines, Proofs, Releases, Slips, SlipCounts,
 ];
 
-/// The query by which the whole table is read, or none where the edition has no such table.
+/// The query by which the whole table is read, or none where the schema version has no such table.
 fn query_for(table: Table, edition: Edition) -> Option<&'static str>
     ensures { IfSome result (λ sql. IsAnswered edition sql.now) }
 {
@@ -61,7 +63,7 @@ fn ask<S: Alter>(
     Ok(())
 }
 
-/// Asks a table for all of its rows. One that the edition has not is passed over.
+/// Asks a table for all of its rows. A table that the schema version does not have is passed over.
 fn ask_table<S: Alter>(
     tx: &mut Transaction<'_, S>,
     edition: Edition,
@@ -78,8 +80,8 @@ fn ask_table<S: Alter>(
     }
 }
 
-/// Asks all tables but that of the bank's row for their rows, so that a table which is not there is told
-/// before any value of the others is read.
+/// Asks all tables but that of the bank's row for their rows, so that a missing table is reported before any
+/// value of the others is read.
 pub fn ask_tables<S: Alter>(tx: &mut Transaction<'_, S>, edition: Edition) -> Result<(), ReadFault>
     ensures same_reference { tx.new.conn.ghost_name ≡ tx.old.conn.ghost_name }
     ensures whole { IsTrue (state S.Store tx.old.conn.now).is_open → Reads edition (state S.Store tx.old.conn.now) (state S.Store tx.new.conn.now) (λ _ _. ⊤) result }

@@ -1,3 +1,5 @@
+//! The table of the bank: its one row, with the versions of the tables and of the policy.
+
 ghost use Rattle.std.specs.Prelude.{◌≡◌, ◌≢◌, IfErr, IfOk};
 ghost use Rattle.money.specs.declared.fault.Fault.TheVariants.{Memory};
 ghost use Rattle.sqlite.specs.Held.{state};
@@ -27,8 +29,8 @@ pub struct BankRow {
 
 pub(crate) const QUERY: &str = "SELECT id, version, policy FROM bank ORDER BY id";
 
-/// The one row of the table of the bank, which is alike in all editions, or none where the table has not
-/// one row of whole numbers.
+/// The one row of the table of the bank, which is alike in all schema versions, or none where the table does not
+/// have exactly one row of whole numbers.
 pub fn bank_row<S: Alter>(tx: &mut Transaction<'_, S>) -> Result<Option<BankRow>, ReadFault>
     ensures same_reference { tx.new.conn.ghost_name ≡ tx.old.conn.ghost_name }
     ensures whole { (e : Edition) → Reads e (state S.Store tx.old.conn.now) (state S.Store tx.new.conn.now) IsBankTable result }
@@ -40,7 +42,7 @@ pub fn bank_row<S: Alter>(tx: &mut Transaction<'_, S>) -> Result<Option<BankRow>
     only_row(&rows)
 }
 
-/// What these rows tell, where it is one row of whole numbers.
+/// The row of the bank that these rows represent, or none where they are not one row of whole numbers.
 fn only_row(rows: &[Row]) -> Result<Option<BankRow>, ReadFault>
     ensures told { IfOk result (IsToldBy rows.now) }
     ensures there { IfErr result IsOfDatabase }
@@ -55,7 +57,7 @@ fn only_row(rows: &[Row]) -> Result<Option<BankRow>, ReadFault>
     }
 }
 
-/// The row that a row of the answer tells.
+/// The row of the bank that a row of the answer represents.
 fn read_row(row: &Row) -> Result<BankRow, Fault>
     ensures same { IfOk result (λ b. told_by_key 2 row.now ≡ bank_row_cells b) }
     ensures unread { IfErr result (λ fault. fault ≢ Memory → (b : BankRow) → told_by_key 2 row.now ≢ bank_row_cells b) }

@@ -1,3 +1,5 @@
+//! The tables that a check of the books needs, in groups, and the order in which they are read.
+
 ghost use Rattle.std.specs.Prelude.{◌≡◌, IfErr, IfOk, IsTrue};
 ghost use Rattle.sqlite.specs.Held.{state};
 ghost use Rattle.sql_schema.specs.Readable.{IsReadableUser};

@@ -1,3 +1,5 @@
+//! The whole table of branches: its query, and its rows as records of branches.
+
 ghost use Rattle.std.specs.Prelude.{◌≡◌, pos, IfErr, IfOk};
 ghost use Rattle.sqlite.specs.Held.{state};
 ghost use Rattle.sqlite.specs.declared.types.Value.TheVariants.{Int};

@@ -1,3 +1,5 @@
+//! The whole table of proofs, one row for each day that a branch has closed.
+
 ghost use Rattle.std.specs.Prelude.{◌≡◌, IfErr, IfOk};
 ghost use Rattle.sqlite.specs.Held.{state};
 ghost use Rattle.sql_schema.specs.Readable.{IsReadableProof};

@@ -1,3 +1,5 @@
+//! The tables of a bank by name, and the faults for which one of them is not read whole.
+
 ghost use Rattle.std.specs.Prelude.{◌≡◌};
 ghost use Rattle.money.specs.declared.fault.Fault.TheVariants.{Memory};
 ghost use Rattle.sql_whole.specs.Faults.{IsOfDatabase, read_fault_named};

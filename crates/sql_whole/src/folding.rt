@@ -1,3 +1,5 @@
+//! A whole table taken row by row, so that its rows need not all be kept in memory.
+
 ghost use Rattle.std.specs.Prelude.{◌≡◌, [], ◌∷◌, ◌++◌, List, IfOk, OnOk};
 ghost use Rattle.sqlite.specs.Held.{state};
 ghost use Rattle.sqlite.specs.State.{HasCleanDisk, IsUnchanged};
@@ -23,7 +25,7 @@ pub trait Fold<T>: Sized {
         ensures { OnOk result ((rows : List T) → holds self.old rows → holds self.new (rows ++ row ∷ [])) };
 }
 
-/// Takes the row that a row of an answer tells.
+/// Takes the row that a row of an answer represents.
 fn take_row<T: WholeRow + Drop, F: Fold<T>>(
     alloc: Global,
     row: &Row,

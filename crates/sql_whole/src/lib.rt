@@ -1,7 +1,7 @@
-//! The tables of a bank in an edition, each read whole for `sql_adopt`. `all_accounts`, `all_entries` and the
-//! others answer every row of a table once, in order of key where the keys differ. A `ReadFault` tells why
-//! not, and of which table, by the `WholeRow` of its rows. A read is refused only where a column holds what
-//! its type has not, or for the database itself. Whether the rows are a bank is judged in `sql_adopt`.
+//! The tables of a bank in a schema version, each read whole for `sql_adopt`. `all_accounts`, `all_entries` and
+//! the others return every row of a table once, in order of key where the keys differ. A `ReadFault` says why
+//! not, and of which table, by the `WholeRow` of its rows. It is refused only where a column holds a value
+//! that its type does not have, or for the database itself. Whether the rows are a bank is judged in `sql_adopt`.
 #![tactic(auto)]
 
 mod accounts;

@@ -1,3 +1,5 @@
+//! The whole table of cash lines: its query, and its rows by branch and number.
+
 ghost use Rattle.std.specs.Prelude.{◌≡◌, IfErr, IfOk};
 ghost use Rattle.sqlite.specs.Held.{state};
 ghost use Rattle.sql_schema.specs.Readable.{IsReadableLine};

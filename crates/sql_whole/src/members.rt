@@ -1,3 +1,5 @@
+//! The whole table of the sets' members: its query, and its rows by set and place.
+
 ghost use Rattle.std.specs.Prelude.{◌≡◌, IfErr, IfOk};
 ghost use Rattle.sqlite.specs.Held.{state};
 ghost use Rattle.sql_schema.specs.Readable.{IsReadableMember};

@@ -1,3 +1,5 @@
+//! The tables of the policy without the users, in two groups: sets with their members, and who may do what.
+
 ghost use Rattle.std.specs.Prelude.{◌≡◌, IfErr, IfOk};
 ghost use Rattle.sqlite.specs.Held.{state};
 ghost use Rattle.sql_whole.specs.PolicyTables.{AreGrantRows, ArePolicyTables, AreSetRows};

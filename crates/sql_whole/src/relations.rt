@@ -1,3 +1,5 @@
+//! The whole table of certified relations: its query, and its rows by procedure and set.
+
 ghost use Rattle.std.specs.Prelude.{◌≡◌, IfErr, IfOk};
 ghost use Rattle.sqlite.specs.Held.{state};
 ghost use Rattle.sql_schema.specs.Readable.{IsReadableRelation};

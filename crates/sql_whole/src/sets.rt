@@ -1,3 +1,5 @@
+//! The whole table of sets, of which each row is the number of a set.
+
 ghost use Rattle.std.specs.Prelude.{◌≡◌, IfErr, IfOk};
 ghost use Rattle.sqlite.specs.Held.{state};
 ghost use Rattle.sql_schema.specs.Readable.{IsShort};

@@ -1,3 +1,5 @@
+//! How many slips each user has: none before the third schema version, and from then on by a table of their own.
+
 ghost use Rattle.std.specs.Prelude.{◌≡◌, List, map, IfErr, IfOk, IfSome, IsTrue};
 ghost use Rattle.sqlite.specs.Held.{state};
 ghost use Rattle.sql_schema.specs.Held.{without_slips};
@@ -20,7 +22,7 @@ use std::alloc::{AllocError, Global};
 
 const QUERY: &str = select_slip_counts!("ORDER BY user_no");
 
-/// The query for how many slips each user has, in an edition that has them.
+/// The query for how many slips each user has, or none where the schema version has no slips.
 pub(crate) fn query(edition: Edition) -> Option<&'static str>
     ensures { IfSome result (λ sql. IsAnswered edition sql.now) }
 {
@@ -31,8 +33,8 @@ pub(crate) fn query(edition: Edition) -> Option<&'static str>
     }
 }
 
-/// How many slips each user has, by user. In editions before the third each of these users has none, and no
-/// table is asked.
+/// How many slips each user has, by user. In schema versions before the third each of these users has none, and
+/// no table is asked.
 pub fn all_slip_counts<S: Alter>(
     alloc: Global,
     tx: &mut Transaction<'_, S>,

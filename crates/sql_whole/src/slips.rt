@@ -1,3 +1,5 @@
+//! The slips of all users, for which only the third schema version has a table.
+
 ghost use Rattle.std.specs.Prelude.{◌≡◌, IfErr, IfOk, IfSome, IsTrue};
 ghost use Rattle.sqlite.specs.Held.{state};
 ghost use Rattle.sql_schema.specs.Readable.{IsReadableSlip};
@@ -17,7 +19,7 @@ use std::alloc::Global;
 
 const QUERY: &str = select_slips!("ORDER BY user_no, slip");
 
-/// The query for the slips, in an edition that has them.
+/// The query for the slips, or none where the schema version has no slips.
 pub(crate) fn query(edition: Edition) -> Option<&'static str>
     ensures { IfSome result (λ sql. IsAnswered edition sql.now) }
 {
@@ -28,7 +30,7 @@ pub(crate) fn query(edition: Edition) -> Option<&'static str>
     }
 }
 
-/// All slips, by user, then number. Editions before the third have none, and are not asked.
+/// All slips, by user, then number. Schema versions before the third have none, and no table is asked.
 pub fn all_slips<S: Alter>(
     alloc: Global,
     tx: &mut Transaction<'_, S>,

@@ -1,3 +1,5 @@
+//! What all reads of whole tables share: the query is run, and each row that it shows is read, or the fault is named.
+
 ghost use Rattle.std.specs.Prelude.{◌≡◌, [], List, map, Contains, IfErr, IfOk, OnOk};
 ghost use Rattle.sqlite.specs.Given.{IsPlain};
 ghost use Rattle.sqlite.specs.Held.{state};

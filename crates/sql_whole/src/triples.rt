@@ -1,3 +1,5 @@
+//! The triples as each schema version keeps them: without moments in the first, and with them from the second on.
+
 ghost use Rattle.std.specs.Prelude.{◌≡◌, IfErr, IfOk};
 ghost use Rattle.sqlite.specs.Held.{state};
 ghost use Rattle.sql_schema.specs.Readable.{IsReadableTriple};
@@ -139,7 +141,7 @@ impl TableRow for FirstTriple {
 
 impl WholeRow for FirstTriple {}
 
-/// Those of the table `grants`, as the second edition has it.
+/// Those of the table `grants`, as the second schema version has it.
 fn second_triples<S: Alter>(
     alloc: Global,
     tx: &mut Transaction<'_, S>,
@@ -154,7 +156,7 @@ fn second_triples<S: Alter>(
     whole_table(alloc, tx, Edition::Second, GRANTS_QUERY, Table::Triples)
 }
 
-/// Those of the table `grants`, as the third edition has it.
+/// Those of the table `grants`, as the third schema version has it.
 fn third_triples<S: Alter>(
     alloc: Global,
     tx: &mut Transaction<'_, S>,

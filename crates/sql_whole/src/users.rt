@@ -1,3 +1,5 @@
+//! The whole table of users, and whether it was a user's number or name, or another column, that can't be read.
+
 ghost use Rattle.std.specs.Prelude.{◌≡◌, IfErr, IfOk};
 ghost use Rattle.sqlite.specs.Held.{state};
 ghost use Rattle.sql_schema.specs.Readable.{IsReadableUser};

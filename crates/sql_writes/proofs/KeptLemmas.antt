@@ -57,13 +57,13 @@ version_moves old new result steps clean inside w holds =
     let it = steps clean inside (sheets_of w) (tables_of old.now w holds) in
     (ok_weaker result _ _ (λ h. (h.0, world_of new.now (with_version true w) law.keepable (subst (HoldsTables new.now) (sym law.sheets) h.1))) it.0, it.1)
 
--- the same where the change was told beforehand
+-- the same where the change is known beforehand
 pub kept_held : {X E : Type 0} (new : State) (change : RowWrite) (after : Sheets → Sheets) (w : WorldLists) (r : Result X E) → IsKept w change after
     → OnOk r (IsTrue new.in_transaction × HoldsTables new.now (after (sheets_of w))) → OnOk r (IsTrue new.in_transaction × HoldsWorld new.now (written change w))
 kept_held new change after w (Ok x) it h = (h.0, world_of new.now (written change w) it.keepable (subst (HoldsTables new.now) (sym it.sheets) h.1))
 kept_held new change after w (Err e) it h = tt
 
--- the same where it is told with the step that it was made by
+-- the same where it is known from the step that it was made by
 pub kept_told : {X E : Type 0} (new : State) (change : RowWrite) (after : Sheets → Sheets) (w : WorldLists) (r : Result X E) (P : Type 0) → OnOk r P → (P → IsKept w change after)
     → OnOk r (IsTrue new.in_transaction × HoldsTables new.now (after (sheets_of w))) → OnOk r (IsTrue new.in_transaction × HoldsWorld new.now (written change w))
 kept_told {X} {E} new change after w (Ok x) P told kept h = kept_held {X = X} {E = E} new change after w (Ok x) (kept told) h

@@ -32,7 +32,7 @@ enumerate-last : {X : Type 0} (n : ℕ) (xs : List X) (x : X) → enumerate_from
 enumerate-last n [] x = ap (λ k. (k, x) ∷ []) (omega arith)
 enumerate-last {X} n (y ∷ xs) x = ap (λ ys. (n, y) ∷ ys) (enumerate-last (n + 1) xs x ∙ ap (λ k. enumerate_from (n + 1) xs ++ (k, x) ∷ []) (omega arith))
 
--- the member at an index is at the place behind it
+-- the member at an index is at the place after it
 pub place_more : (set : ℕ) (members : List Member) (i : ℕ) (m : Member) (rows : List MemberRow) → i < length members → m ≡ get_or members i m
     → add_row member_no (record { set = set; place = i + 1; member = m }) (add_rows member_no (places_of set (take i members)) rows) ≡ add_rows member_no (places_of set (take (i + 1) members)) rows
 place_more set members i m rows below at =

@@ -1,4 +1,4 @@
--- Plans as changes one after another, and the version behind them.
+-- Plans as changes one after another, and the version after them.
 use Rattle.std.proofs.Common.{◌≡◌, ◌++◌, ◌∷◌, [], List, IsTrue, true, false, Result, Ok, Err, OnOk, refl, sym, ap, subst, ◌∙◌, if◌then◌else◌, not, ◌||◌, nat_lt, ℕ}
 use Rattle.bank_terms.specs.Limits.{max_version}
 use Rattle.bank_books.specs.Effects.{all_written, applied, written}
@@ -31,7 +31,7 @@ versions_stay : (rows : List RowWrite) (w : WorldLists) → (all_written rows w)
 versions_stay [] w = refl
 versions_stay (row ∷ rows) w = versions_stay rows (written row w) ∙ version_stays row w
 
--- a version that is there behind the changes was there before them
+-- a version that is there after the changes was there before them
 pub room_before : (plan : List RowWrite) (w : WorldLists) → IsTrue (has_version_for plan (all_written plan w).version) → IsTrue (has_version_for plan w.version)
 room_before plan w room = subst (λ v. IsTrue (has_version_for plan v)) (versions_stay plan w) room
 

@@ -1,19 +1,17 @@
 //! Changes of the books, written to their tables: each writes its row and the numbers that it moves.
 
-ghost use Rattle.std.specs.Prelude.{◌≡◌, ◌+◌, ◌==◌, ◌<◌, ◌≤◌, ◌^◌, IfErr, IfOk, IsTrue, Some, OnOk};
+ghost use Rattle.std.specs.Prelude.{◌≡◌, ◌+◌, ◌==◌, ◌<◌, ◌≤◌, ◌^◌, IfErr, IfOk, Some, OnOk};
 ghost use Rattle.std.specs.List.{find};
 ghost use Rattle.money.specs.declared.fault.Fault.TheVariants.{Size};
 ghost use Rattle.sqlite.specs.Held.{state};
-ghost use Rattle.sqlite.specs.State.{HasCleanDisk};
 ghost use Rattle.keyed_rows.specs.Ordered.{add_row};
 ghost use Rattle.bank_books.specs.Effects.{on_day, written};
 ghost use Rattle.bank_books.specs.Keys.{release_key, slip_key};
 ghost use Rattle.bank_books.specs.declared.row_write.RowWrite.TheVariants as write;
 ghost use Rattle.book_kept.specs.Changes.{account_sheets, drawer_sheets, entry_sheets, vault_sheets};
 ghost use Rattle.book_kept.specs.Named.{AreOfEntry, AreOfLine, IsAccountRow, IsBranchRow, IsFree, IsTellerRow};
-ghost use Rattle.book_kept.specs.Sheets.{Sheets, account_no, set_row, slip_no, user_no};
-ghost use Rattle.sql_schema.specs.Held.{HoldsTables};
-ghost use Rattle.sql_schema.specs.Steps.{LeavesNone, Moves, Stays, Steps, Tells, WasOpen};
+ghost use Rattle.book_kept.specs.Sheets.{account_no, set_row, slip_no, user_no};
+ghost use Rattle.sql_schema.specs.Steps.{FindsHeldInside, LeavesNone, Moves, Stays, Steps, Tells, WasOpen};
 
 use crate::policy_writes::user_row;
 use crate::required::required;
@@ -40,7 +38,7 @@ pub(crate) fn account_row<S: Alter>(
     account: u32,
 ) -> Result<AccountRecord, Fault>
     ensures same_reference { tx.new.conn.ghost_name ≡ tx.old.conn.ghost_name }
-    ensures told { HasCleanDisk (state S.Store tx.new.conn.now) → IsTrue (state S.Store tx.old.conn.now).in_transaction → (s : Sheets) → HoldsTables (state S.Store tx.old.conn.now).now s → IfOk result (λ row. IsAccountRow s account row) }
+    ensures told { FindsHeldInside (state S.Store tx.old.conn.now) (state S.Store tx.new.conn.now) result (λ s row. IsAccountRow s account row) }
     ensures steps { Stays (state S.Store tx.old.conn.now) (state S.Store tx.new.conn.now) result }
     ensures open { WasOpen (state S.Store tx.old.conn.now) (state S.Store tx.new.conn.now) result }
     ensures survives { LeavesNone (state S.Store tx.old.conn.now) (state S.Store tx.new.conn.now) }
@@ -51,7 +49,7 @@ pub(crate) fn account_row<S: Alter>(
 /// The teller of this number. One that isn't there is a fault of the disk.
 fn teller_row<S: Alter>(tx: &mut Transaction<'_, S>, teller: u32) -> Result<KeptTeller, Fault>
     ensures same_reference { tx.new.conn.ghost_name ≡ tx.old.conn.ghost_name }
-    ensures told { HasCleanDisk (state S.Store tx.new.conn.now) → IsTrue (state S.Store tx.old.conn.now).in_transaction → (s : Sheets) → HoldsTables (state S.Store tx.old.conn.now).now s → IfOk result (λ row. IsTellerRow s teller row) }
+    ensures told { FindsHeldInside (state S.Store tx.old.conn.now) (state S.Store tx.new.conn.now) result (λ s row. IsTellerRow s teller row) }
     ensures steps { Stays (state S.Store tx.old.conn.now) (state S.Store tx.new.conn.now) result }
     ensures survives { LeavesNone (state S.Store tx.old.conn.now) (state S.Store tx.new.conn.now) }
 {
@@ -61,7 +59,7 @@ fn teller_row<S: Alter>(tx: &mut Transaction<'_, S>, teller: u32) -> Result<Kept
 /// The branch of this number. One that isn't there is a fault of the disk.
 fn branch_row<S: Alter>(tx: &mut Transaction<'_, S>, branch: u32) -> Result<BranchRecord, Fault>
     ensures same_reference { tx.new.conn.ghost_name ≡ tx.old.conn.ghost_name }
-    ensures told { HasCleanDisk (state S.Store tx.new.conn.now) → IsTrue (state S.Store tx.old.conn.now).in_transaction → (s : Sheets) → HoldsTables (state S.Store tx.old.conn.now).now s → IfOk result (λ row. IsBranchRow s branch row) }
+    ensures told { FindsHeldInside (state S.Store tx.old.conn.now) (state S.Store tx.new.conn.now) result (λ s row. IsBranchRow s branch row) }
     ensures steps { Stays (state S.Store tx.old.conn.now) (state S.Store tx.new.conn.now) result }
     ensures survives { LeavesNone (state S.Store tx.old.conn.now) (state S.Store tx.new.conn.now) }
 {
@@ -82,7 +80,7 @@ pub(crate) fn rows_of_entry<S: Alter>(
     entry: &Entry,
 ) -> Result<EntryNames, Fault>
     ensures same_reference { tx.new.conn.ghost_name ≡ tx.old.conn.ghost_name }
-    ensures told { HasCleanDisk (state S.Store tx.new.conn.now) → IsTrue (state S.Store tx.old.conn.now).in_transaction → (s : Sheets) → HoldsTables (state S.Store tx.old.conn.now).now s → IfOk result (λ rows. AreOfEntry s entry.now rows.account rows.teller rows.branch) }
+    ensures told { FindsHeldInside (state S.Store tx.old.conn.now) (state S.Store tx.new.conn.now) result (λ s rows. AreOfEntry s entry.now rows.account rows.teller rows.branch) }
     ensures steps { Stays (state S.Store tx.old.conn.now) (state S.Store tx.new.conn.now) result }
     ensures open { WasOpen (state S.Store tx.old.conn.now) (state S.Store tx.new.conn.now) result }
     ensures survives { LeavesNone (state S.Store tx.old.conn.now) (state S.Store tx.new.conn.now) }
@@ -133,7 +131,7 @@ struct LineNames {
 /// The teller and the branch of a line at a drawer.
 fn rows_of_line<S: Alter>(tx: &mut Transaction<'_, S>, line: &CashLine) -> Result<LineNames, Fault>
     ensures same_reference { tx.new.conn.ghost_name ≡ tx.old.conn.ghost_name }
-    ensures told { HasCleanDisk (state S.Store tx.new.conn.now) → IsTrue (state S.Store tx.old.conn.now).in_transaction → (s : Sheets) → HoldsTables (state S.Store tx.old.conn.now).now s → IfOk result (λ rows. AreOfLine s line.now rows.teller rows.branch) }
+    ensures told { FindsHeldInside (state S.Store tx.old.conn.now) (state S.Store tx.new.conn.now) result (λ s rows. AreOfLine s line.now rows.teller rows.branch) }
     ensures steps { Stays (state S.Store tx.old.conn.now) (state S.Store tx.new.conn.now) result }
     ensures survives { LeavesNone (state S.Store tx.old.conn.now) (state S.Store tx.new.conn.now) }
 {
@@ -304,10 +302,10 @@ pub(crate) fn write_release<S: Alter>(
     put_release(tx, release, &user)
 }
 
-/// How many slips this user has. Where there is no row for him it is a fault of the disk.
+/// How many slips this user has. Where there is no row for the user it is a fault of the disk.
 fn slip_count_row<S: Alter>(tx: &mut Transaction<'_, S>, user: u32) -> Result<SlipCount, Fault>
     ensures same_reference { tx.new.conn.ghost_name ≡ tx.old.conn.ghost_name }
-    ensures told { HasCleanDisk (state S.Store tx.new.conn.now) → IsTrue (state S.Store tx.old.conn.now).in_transaction → (s : Sheets) → HoldsTables (state S.Store tx.old.conn.now).now s → IfOk result (λ row. find (λ c. slip_no c == user) s.slip_counts ≡ Some row) }
+    ensures told { FindsHeldInside (state S.Store tx.old.conn.now) (state S.Store tx.new.conn.now) result (λ s row. find (λ c. slip_no c == user) s.slip_counts ≡ Some row) }
     ensures steps { Stays (state S.Store tx.old.conn.now) (state S.Store tx.new.conn.now) result }
     ensures survives { LeavesNone (state S.Store tx.old.conn.now) (state S.Store tx.new.conn.now) }
 {

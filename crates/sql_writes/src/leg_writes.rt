@@ -1,16 +1,13 @@
 //! The two entries of a transfer, or of its correction, written as one change, so that the teller and the branch of both are read and
 //! written once.
 
-ghost use Rattle.std.specs.Prelude.{◌≡◌, ◌∷◌, [], IfOk, IsTrue};
+ghost use Rattle.std.specs.Prelude.{◌≡◌, ◌∷◌, []};
 ghost use Rattle.sqlite.specs.Held.{state};
-ghost use Rattle.sqlite.specs.State.{HasCleanDisk};
 ghost use Rattle.bank_books.specs.Effects.{all_written};
 ghost use Rattle.bank_books.specs.declared.row_write.RowWrite.TheVariants as write;
 ghost use Rattle.book_kept.specs.Changes.{legs_sheets};
 ghost use Rattle.book_kept.specs.Named.{AreLegs, AreOfLegs};
-ghost use Rattle.book_kept.specs.Sheets.{Sheets};
-ghost use Rattle.sql_schema.specs.Held.{HoldsTables};
-ghost use Rattle.sql_schema.specs.Steps.{LeavesNone, Moves, Stays, Steps, WasOpen};
+ghost use Rattle.sql_schema.specs.Steps.{FindsHeldInside, LeavesNone, Moves, Stays, Steps, WasOpen};
 
 use crate::book_writes::{EntryNames, account_row, put_entry, rows_of_entry};
 use crate::required::required;
@@ -34,7 +31,7 @@ fn rows_of_legs<S: Alter>(
     second: &Entry,
 ) -> Result<LegNames, Fault>
     ensures same_reference { tx.new.conn.ghost_name ≡ tx.old.conn.ghost_name }
-    ensures told { HasCleanDisk (state S.Store tx.new.conn.now) → IsTrue (state S.Store tx.old.conn.now).in_transaction → (s : Sheets) → HoldsTables (state S.Store tx.old.conn.now).now s → IfOk result (λ rows. AreOfLegs s first.now second.now rows.first.account rows.target rows.first.teller rows.first.branch) }
+    ensures told { FindsHeldInside (state S.Store tx.old.conn.now) (state S.Store tx.new.conn.now) result (λ s rows. AreOfLegs s first.now second.now rows.first.account rows.target rows.first.teller rows.first.branch) }
     ensures steps { Stays (state S.Store tx.old.conn.now) (state S.Store tx.new.conn.now) result }
     ensures open { WasOpen (state S.Store tx.old.conn.now) (state S.Store tx.new.conn.now) result }
     ensures survives { LeavesNone (state S.Store tx.old.conn.now) (state S.Store tx.new.conn.now) }

@@ -65,8 +65,8 @@ fn write_all<S: Alter>(
     Ok(())
 }
 
-/// The entry that begins these changes, with the line of its cash at the drawer of its teller, and the changes behind both. None where they
-/// begin otherwise.
+/// The entry that begins these changes, with the line of its cash at the drawer of its teller, and the changes after
+/// both. None where they begin otherwise.
 fn posting_of(plan: &[RowWrite]) -> Option<(&Entry, &CashLine, &[RowWrite])>
     ensures begin { IfSome result (λ it. plan.now ≡ write.Entry it.0.now ∷ write.Line it.1.now ∷ it.2.now) }
     ensures drawer { IfSome result (λ it. it.1.now.place ≡ it.0.now.teller) }
@@ -81,8 +81,8 @@ fn posting_of(plan: &[RowWrite]) -> Option<(&Entry, &CashLine, &[RowWrite])>
     }
 }
 
-/// The two entries that begin these changes, of one teller and one branch and of two accounts, and the changes behind both. None where
-/// they begin otherwise.
+/// The two entries that begin these changes, of one teller and one branch and of two accounts, and the changes after
+/// both. None where they begin otherwise.
 fn legs_of(plan: &[RowWrite]) -> Option<(&Entry, &Entry, &[RowWrite])>
     ensures begin { IfSome result (λ it. plan.now ≡ write.Entry it.0.now ∷ write.Entry it.1.now ∷ it.2.now) }
     ensures legs { IfSome result (λ it. AreLegs it.0.now it.1.now) }
@@ -109,8 +109,8 @@ fn look<S: Alter>(tx: &mut Transaction<'_, S>) -> Result<(), Fault>
     }
 }
 
-/// Writes these changes. An entry and the line of its cash, or two entries of a transfer, where they begin them, are written as one. Either
-/// begins with a read, which shows that the connection is open; any others stand behind one.
+/// Writes these changes. An entry and the line of its cash, or two entries of a transfer, where they begin them, are
+/// written as one. Either begins with a read, which shows that the connection is open; any others follow one.
 fn write_changes<S: Alter>(
     alloc: Global,
     tx: &mut Transaction<'_, S>,

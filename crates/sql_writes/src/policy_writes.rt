@@ -103,7 +103,7 @@ fn kept_user(alloc: Global, user: &User) -> Result<KeptUser, Fault>
     })
 }
 
-/// A user with his count of slips, of which he has none.
+/// A user with their count of slips, of which they have none.
 fn put_user<S: Alter>(tx: &mut Transaction<'_, S>, kept: &KeptUser) -> Result<(), Fault>
     ensures same_reference { tx.new.conn.ghost_name ≡ tx.old.conn.ghost_name }
     ensures steps { Steps (state S.Store tx.old.conn.now) (state S.Store tx.new.conn.now) (λ s. record s { users = add_row user_no kept.now s.users; slip_counts = add_row slip_no (record { user = kept.now.row.user; slips = 0 }) s.slip_counts }) result }
@@ -118,7 +118,7 @@ fn put_user<S: Alter>(tx: &mut Transaction<'_, S>, kept: &KeptUser) -> Result<()
     sql_releases::add_slip_count(tx, &count)
 }
 
-/// A new user. One of his number who is there already is a fault of the disk.
+/// A new user. One of the same number who is there already is a fault of the disk.
 fn write_user<S: Alter>(
     alloc: Global,
     tx: &mut Transaction<'_, S>,

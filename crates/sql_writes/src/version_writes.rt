@@ -15,7 +15,7 @@ use money::Fault;
 use sql_books::{set_version, version_of};
 use sqlite::{Alter, Transaction};
 
-/// Whether a version comes behind this one.
+/// Whether a version comes after this one.
 fn has_room(version: u64) -> bool
     ensures { IsTrue result ↔ (version < max_version) }
 {

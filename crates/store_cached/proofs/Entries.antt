@@ -1,4 +1,4 @@
--- What a cache that keeps fresh entries tells, and what it keeps.
+-- What a cache that keeps fresh entries returns, and what it keeps.
 use Rattle.std.proofs.Common.{◌≡◌, ◌≢◌, ◌==◌, ◌-◌, ℕ, Bool, true, false, if◌then◌else◌, List, [], ◌∷◌, take, refl, sym, ap, subst, inl, inr, arith, Option, Some, None, option_map, ◌∙◌, Result, Ok, Err, IfOk, IsSome}
 use Rattle.std.specs.Result.{result_ok}
 use Rattle.std.specs.Map.{lookup, lookup_entry, remove_entry}
@@ -15,7 +15,7 @@ use Rattle.lru.proofs.CallerLemmas.{Contains-lookup, Contains-lookup_entry, Cont
 use Rattle.lru.proofs.Pairs.{lookup-lookup_entry}
 use Rattle.lru.specs.LruCache.{LruCache, promoted, put_entries}
 
--- a copy tells what the rows tell
+-- where the rows are those of the key, a copy of them is, too
 pub copy-HasRows : (w : WorldLists) (key : Key) (rows copy : Rows) → SameRows rows copy → HasRows w key rows → HasRows w key copy
 copy-HasRows w key (Triples rows) (Triples copy) same h = (h.0, same ∙ h.1)
 copy-HasRows w key (Triples rows) (Relations copy) same h = absurd same

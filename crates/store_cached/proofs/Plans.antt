@@ -101,7 +101,7 @@ still : (version : Option ℕ) (n m : ℕ) → n ≡ m → IfSome version (λ v.
 still None n m same is = tt
 still (Some v) n m same is = is ∙ same
 
--- the version that is still known behind a plan is that of the World behind it
+-- the version that is still known after a plan is that of the World after it
 known_version : (version : Option ℕ) (mark : Option Fault) (plan : List RowWrite) (w : WorldLists) → IfSome version (λ v. v ≡ w.version)
     → IfSome (if changes_policy plan then None else version) (λ v. v ≡ (after_mark mark (applied plan w) w).version)
 known_version version mark plan w is = by (changes_policy plan) refl

@@ -1,4 +1,4 @@
--- Entries of a cache that tell what the policy is now.
+-- Entries of a cache that agree with the policy as it is now.
 use Rattle.std.specs.Prelude.{◌≡◌, ℕ, ◌<◌, ◌≤◌, ◌==◌, ◌&&◌, if◌then◌else◌, Bool, List, [], ◌∷◌, Option, Some, None, slice_get, Contains, IsSomeAnd}
 use Rattle.std.specs.Option.{option_and_then}
 use Rattle.std.specs.Rc.{rc_slice_items}

@@ -1,4 +1,4 @@
--- What a store with a cache stands for.
+-- What a store with a cache represents.
 use Rattle.std.specs.Prelude.{◌≡◌, ℕ, ◌⊎◌, List, Option, IfSome}
 use Rattle.money.specs.Counted.{counted_once_more}
 use Rattle.bank_books.specs.WorldLists.{WorldLists}
@@ -12,8 +12,8 @@ use Rattle.store_cached.specs.declared.entry.Key.{Key}
 abbrev pub Suits : Option ℕ → List (Key × Kept) → WorldLists → Type 0
 Suits version entries w = AreFresh w entries × IfSome version (λ v. v ≡ w.version)
 
--- It stands for the Worlds that the store below stands for and that what it keeps suits. Of a disk that has not returned what was
--- written nothing is said.
+-- It represents the Worlds that the store below represents and that what it keeps suits. Of a disk that has not
+-- returned what was written nothing is said.
 abbrev pub with_kept : Status → (WorldLists → Type 0) → Status
 with_kept s suits = record s { holds = λ w. s.holds w × (s.is_honest → suits w) }
 

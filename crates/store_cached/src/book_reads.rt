@@ -1,3 +1,5 @@
+//! The reads of the books and of slips, which all go to the store below.
+
 use crate::cached::Cached;
 use bank_books::{AccountRecord, BranchRecord, Entry, Slip, TellerRecord};
 use money::Fault;

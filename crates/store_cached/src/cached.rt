@@ -1,3 +1,5 @@
+//! The store with a cache in front: what it keeps, and how it learns the present version of the policy.
+
 ghost use Rattle.std.specs.Prelude.{◌≡◌, ◌≤◌, [], length, IfOk, IfErr, None};
 ghost use Rattle.bank_books.specs.WorldLists.{WorldLists};
 ghost use Rattle.store_rows.specs.Status.{ReadsRow};
@@ -22,7 +24,7 @@ pub struct Cached<S> {
 }
 
 impl<S: Store> Cached<S> {
-    /// The store with a cache that keeps nothing yet. It stands for what the store stands for. Where
+    /// The store with a cache in front that keeps nothing yet. It represents what the store represents. Where
     /// memory is refused the store is handed back.
     pub fn new(alloc: Global, store: S) -> Result<Cached<S>, S>
         ensures below { IfOk result (λ c. below c ≡ store) }

@@ -1,3 +1,5 @@
+//! An entry of the cache: its key, and rows of the policy with the version at which they were read.
+
 use bank_policy::{CertifiedRow, HeldRow};
 use bank_terms::Procedure;
 use std::rc::RcSlice;
@@ -11,7 +13,7 @@ pub struct Key {
     pub procedure: Procedure,
 }
 
-/// Rows of the policy, each with the members of its set. They are lent, and never copied.
+/// Rows of the policy, each with the members of its set. They are shared, and never copied.
 #[derive(Debug, Drop)]
 pub enum Rows {
     /// The triples of a user for a procedure.

@@ -6,8 +6,8 @@ ghost use Rattle.store_cached.specs.Standing.{below, cached_status};
 use crate::cached::Cached;
 use store_rows::Store;
 
-/// A store with a cache is honest where the store below it is, and stands for no other World. Whatever World a crash may leave below,
-/// it says that a crash may leave it; and it says that a crash leaves whole Worlds alone only where that holds below.
+/// A store with a cache is honest where the store below it is, and represents no other World. Whatever World a crash
+/// may leave below, it says that a crash may leave it; it promises whole Worlds after a crash only if that holds below.
 pub fn cache_is_as_honest<S: Store>(_cached: &Cached<S>)
     ensures honest { (S.status (below _cached.now)).is_honest → (cached_status S.status _cached.now).is_honest }
     ensures only { (w : WorldLists) → (cached_status S.status _cached.now).holds w → (S.status (below _cached.now)).holds w }

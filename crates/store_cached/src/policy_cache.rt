@@ -1,3 +1,5 @@
+//! The cache itself: rows of the policy by user and procedure, recalled only at the version that they were read at.
+
 ghost use Rattle.std.specs.Prelude.{◌≡◌, ◌<◌, ◌≤◌, [], length, IfOk, IfSome, IsOk, IsSome, IfNone, OnOk, OnErr, OnSome};
 ghost use Rattle.std.specs.Option.{option_copied};
 ghost use Rattle.std.specs.Rc.{rc_slice_items};
@@ -64,8 +66,8 @@ impl PolicyCache {
         }
     }
 
-    /// Lends the rows that are kept for a key at this version, which are the last used from now on. None, and
-    /// nothing is changed, where no rows of this version are kept, or where they are lent as often as can be
+    /// Shares the rows that are kept for a key at this version, which are the last used from now on. None, and
+    /// nothing is changed, where no rows of this version are kept, or where they are shared as often as can be
     /// counted. It takes no memory.
     pub fn recall(&mut self, key: Key, version: u64) -> Option<Rows>
         ensures told { IfSome result (λ rows. (w : WorldLists) → AreFresh w self.old → version ≡ w.version → HasRows w key rows) }

@@ -1,3 +1,5 @@
+//! The reads of the policy: triples, relations and the version by what is kept, all others from the store below.
+
 ghost use Rattle.std.specs.Prelude.{◌≡◌, ◌<◌, OnErr, OnOk};
 ghost use Rattle.std.specs.Rc.{rc_slice_items};
 ghost use Rattle.bank_policy.specs.HeldRows.{relations_of, triples_of};

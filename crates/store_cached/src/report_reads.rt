@@ -1,3 +1,5 @@
+//! The reads for reports, which all go to the store below.
+
 use crate::cached::Cached;
 use bank_books::{AccountRecord, EntryRecord, TellerRecord};
 use money::Fault;

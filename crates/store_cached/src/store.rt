@@ -1,3 +1,5 @@
+//! How a plan is handed on to the store below, and the known version given up where it changes the policy.
+
 ghost use Rattle.std.specs.Prelude.{◌≡◌, if◌then◌else◌, None};
 ghost use Rattle.bank_books.specs.Version.{changes_policy};
 

@@ -1,3 +1,5 @@
+//! A store in memory: how it answers each call from the lists of its World, and counts faults.
+
 ghost use Rattle.std.specs.Prelude.{◌≡◌, ◌↔◌, ◌⊎◌, false, IfOk, IsTrue, OnErr, OnOk, Ok, Err};
 ghost use Rattle.std.specs.Rc.{rc_slice_items};
 ghost use Rattle.bank_books.specs.Effects.{applied};
@@ -56,7 +58,7 @@ impl ListStore {
         }
     }
 
-    /// The answer, which counts as a fault where memory was refused.
+    /// The answer; where memory was refused, a fault is counted and returned.
     fn counted<T>(&mut self, answer: Result<T, AllocError>) -> Result<T, Fault>
         ensures world { self.new.world ≡ self.old.world }
         ensures failures { self.new.failures ≡ self.old.failures }

@@ -1,3 +1,5 @@
+//! What can be asked of every store and what each call promises, as traits by purpose.
+
 ghost use Rattle.std.specs.Prelude.{◌≡◌, IsTrue, OnOk};
 ghost use Rattle.std.specs.Rc.{rc_slice_items};
 ghost use Rattle.bank_books.specs.Records.{account_record, branch_record, slip_count, teller_record};
@@ -19,9 +21,9 @@ use std::alloc::Global;
 use std::rc::RcSlice;
 use world_reads::{DrawerRecord, PolicyKey, PolicyRow, UserRecord};
 
-/// What stands for a World, as long as it answers.
+/// What represents a World, as long as it answers.
 pub trait Stands {
-    /// What it stands for.
+    /// What it represents.
     ghost status: { Self → Status };
 
     /// How many calls answered a fault. It stays at the greatest `u64`.
@@ -36,12 +38,12 @@ pub trait Stands {
 /// The reads by which the policy is judged and its commands are planned, and no others. Each answers
 /// what its definition says of the World, or a fault that changes nothing.
 pub trait PolicyReads: Stands {
-    /// The user of this number and how many releases he was given, or none where he isn't there.
+    /// The user of this number and how many releases they were given, or none where no such user is there.
     fn user(&mut self, alloc: Global, user: u32) -> Result<Option<UserRecord>, Fault>
         ensures { ReadsRow (Self.status self.old) (Self.status self.new) result (λ w row. row ≡ user_record w user) };
 
     /// The triples of this user for this procedure, each with the members of its set. A store that keeps them
-    /// lends them, and copies none.
+    /// shares them, and copies none.
     fn triples_of(
         &mut self,
         alloc: Global,
@@ -50,7 +52,7 @@ pub trait PolicyReads: Stands {
     ) -> Result<RcSlice<HeldRow>, Fault>
         ensures { ReadsRow (Self.status self.old) (Self.status self.new) result (λ w rows. rc_slice_items rows ≡ triples_of w.policy user procedure) };
 
-    /// The relations of this procedure, each with the members of its set, lent as the triples are.
+    /// The relations of this procedure, each with the members of its set, shared as the triples are.
     fn relations_of(
         &mut self,
         alloc: Global,
@@ -110,11 +112,11 @@ pub trait BookReads: Stands {
     fn undone(&mut self, alloc: Global, branch: u32, number: u32) -> Result<bool, Fault>
         ensures { ReadsRow (Self.status self.old) (Self.status self.new) result (λ w is. is ≡ undone w branch number) };
 
-    /// The cash of a teller's drawer and who holds it, or none where the teller isn't there.
+    /// The cash of a teller's drawer and who holds it, or none where the teller isn't there. No request reads it.
     fn drawer(&mut self, alloc: Global, teller: u32) -> Result<Option<DrawerRecord>, Fault>
         ensures { ReadsRow (Self.status self.old) (Self.status self.new) result (λ w row. row ≡ drawer w teller) };
 
-    /// The cash of a branch's vault in cents, or none where the branch isn't there.
+    /// The cash of a branch's vault in cents, or none where the branch isn't there. No request reads it.
     fn vault(&mut self, alloc: Global, branch: u32) -> Result<Option<i128>, Fault>
         ensures { ReadsRow (Self.status self.old) (Self.status self.new) result (λ w cash. cash ≡ vault w branch) };
 }
@@ -133,7 +135,7 @@ pub trait SlipReads: Stands {
 /// The reads that reports list: many rows at once, or one after another.
 pub trait ReportReads: Stands {
     /// The entries of an account that are its turns from a first one on, as long as they are there,
-    /// at most so many, each with the balance after it.
+    /// at most so many, each with the balance after it. No request reads it.
     fn entries_of(
         &mut self,
         alloc: Global,
@@ -152,7 +154,7 @@ pub trait ReportReads: Stands {
     ) -> Result<Option<EntryRecord>, Fault>
         ensures { ReadsRow (Self.status self.old) (Self.status self.new) result (λ w row. row ≡ entry_at w account turn) };
 
-    /// The accounts above a number that this user is shown at a moment, by number, at most so many.
+    /// The accounts above a number that this user is shown at a moment, by number, at most so many. No request reads it.
     fn shown(
         &mut self,
         alloc: Global,
@@ -182,11 +184,11 @@ pub trait ReportReads: Stands {
     ) -> Result<Option<TellerRecord>, Fault>
         ensures { ReadsRow (Self.status self.old) (Self.status self.new) result (λ w row. row ≡ next_teller w branch after) };
 
-    /// All lines of the policy, in the order in which they are listed.
+    /// All lines of the policy, in the order in which they are listed. No request reads it.
     fn policy_rows(&mut self, alloc: Global) -> Result<Vec<PolicyRow>, Fault>
         ensures { ReadsRow (Self.status self.old) (Self.status self.new) result (λ w rows. rows.items ≡ policy_rows w) };
 
-    /// The line of the policy behind a key, or the first one, or none where there is no other.
+    /// The line of the policy after a key, or the first one, or none where there is no other.
     fn next_policy(
         &mut self,
         alloc: Global,

@@ -1,4 +1,4 @@
--- Rows told by their cells.
+-- Rows found again from their cells.
 use Rattle.std.proofs.Common.{◌≡◌, ℕ, ℤ, pos, List, [], ◌∷◌, length, Bool, true, false, cond, ◌==◌, refl, sym, arith}
 use Rattle.std.specs.Prelude.{slice_index_or}
 use Rattle.sqlite.specs.declared.types.Value.{Value}

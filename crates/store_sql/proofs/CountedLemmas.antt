@@ -28,7 +28,7 @@ unmarked (Ok it) counted P is none says = says
 unmarked (Err fault) (Err told) P is none says = absurd cc
 unmarked (Err fault) (Ok it) P is none says = no_err it is.err
 
--- the World behind a change that went through, and the one before it behind another
+-- the World after a change that went through, and the one before it after a change that did not
 pub marked : {A : Type 0} (answer counted : Result A Fault) (P : WorldLists → Type 0) (after before : WorldLists) → IsCounted answer counted → OnOk answer (P after) → OnErr answer (P before) → P (after_mark (mark_of counted) after before)
 marked (Ok it) counted P after before is done undone = subst (λ r. P (after_mark (mark_of r) after before)) (sym is.ok) done
 marked (Err fault) (Err told) P after before is done undone = undone

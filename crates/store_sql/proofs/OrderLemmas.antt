@@ -41,7 +41,7 @@ module _ {X : Type 0} (key : X → ℕ) where
   pub one_order : (xs ys : List X) → IsOrdered key xs → IsOrdered key ys → IsPermutation xs ys → xs ≡ ys
   one_order xs ys h k same = sym (sorted_unique (λ a b. nat_cmp (key a) (key b)) (on_total key nat_cmp_total) xs ys (strict xs h.distinct h.in_order) same (sorted ys k.in_order))
 
--- a table holds one list, where its cells tell its rows
+-- a table holds one list, where its cells determine its rows
 module _ {X : Type 0} (shows : Row → Row) (cells : X → Row) (key : X → ℕ) (Fits : X → Type 0) (back : Row → X) (tells : (x : X) → Fits x → back (cells x) ≡ x) where
   back_all : (xs : List X) → ((x : X) → Contains xs x → Fits x) → map back (map cells xs) ≡ xs
   back_all [] fit = refl

@@ -1,4 +1,4 @@
--- What a store over SQL stands for, by the connection that it keeps.
+-- What a store over SQL represents, by the connection that it keeps.
 use Rattle.std.specs.Prelude.{◌≡◌, ℕ, Bool, false, IsTrue}
 use Rattle.sqlite.specs.State.{HasCleanDisk, State}
 use Rattle.sqlite.specs.Tree.{Trees}

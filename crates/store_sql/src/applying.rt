@@ -1,3 +1,5 @@
+//! A plan applied to the tables, in a transaction that is committed only when the whole of it is written.
+
 ghost use Rattle.std.specs.Prelude.{◌≡◌, false, IsTrue, OnErr, OnOk};
 ghost use Rattle.sqlite.specs.Held.{state};
 ghost use Rattle.sqlite.specs.State.{HasCleanDisk, Survives};

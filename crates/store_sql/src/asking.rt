@@ -1,3 +1,5 @@
+//! How a store puts one question to its tables, so that a read changes nothing.
+
 ghost use Rattle.std.specs.Prelude.{◌≡◌, false};
 ghost use Rattle.sqlite.specs.Held.{state};
 ghost use Rattle.sql_schema.specs.Reads.{ReadsBank};

@@ -1,3 +1,5 @@
+//! Reads of accounts, tellers, branches, entries and cash: each asks its question of the tables.
+
 use crate::sql_store::SqlStore;
 use bank_books::{AccountRecord, BranchRecord, Entry, TellerRecord};
 use money::Fault;

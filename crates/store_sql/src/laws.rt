@@ -16,7 +16,7 @@ pub fn memory_is_honest()
     ensures { (store : SqlStore MemStore over_memory) → (sql_status (state over_memory store.conn) store.is_stopped store.faults store.failures).is_honest }
 {}
 
-/// Trees hold the rows of one World at most, as an edition lays them out. So trees that a crash may leave are of one World.
+/// In a schema version, trees hold the rows of one World at most. So trees that a crash may leave are of one World.
 pub fn trees_hold_one_world()
     ensures { (e : Edition) (v w : WorldLists) (trees : Trees) → AreOfWorldIn e v trees → AreOfWorldIn e w trees → v ≡ w }
 {}

@@ -1,3 +1,5 @@
+//! Reads of users, sets, relations, triples, certifiers and releases: each asks its question of the tables.
+
 use crate::sql_store::SqlStore;
 use bank_books::Release;
 use bank_policy::{CertifiedRow, HeldRow};

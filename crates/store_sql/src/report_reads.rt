@@ -1,3 +1,5 @@
+//! Reads for reports, of many rows at once or one after another: each asks its question of the tables.
+
 use crate::sql_store::SqlStore;
 use bank_books::{AccountRecord, EntryRecord, TellerRecord};
 use money::Fault;

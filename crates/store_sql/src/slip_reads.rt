@@ -1,3 +1,5 @@
+//! Reads of a slip, and of how many slips a user has: each asks its question of the tables.
+
 use crate::sql_store::SqlStore;
 use bank_books::Slip;
 use money::Fault;

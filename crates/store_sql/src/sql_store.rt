@@ -1,3 +1,5 @@
+//! The store over a SQL connection: it asks and applies as long as it is not stopped, and counts each fault.
+
 ghost use Rattle.std.specs.Prelude.{◌≡◌, ◌≢◌, ◌≤◌, ◌+◌, false, Err, IfErr, IfOk, IsErr, IsTrue, Ok, OnOk, Some};
 ghost use Rattle.sqlite.specs.Held.{state};
 ghost use Rattle.bank_books.specs.Effects.{applied};
@@ -26,7 +28,7 @@ pub struct SqlStore<S: Alter> {
 }
 
 impl<S: Alter> SqlStore<S> {
-    /// The store over the tables of this connection. It stands for the World that they hold.
+    /// The store over the tables of this connection. It represents the World that they hold.
     pub fn over(conn: Connection<S>) -> SqlStore<S>
         requires { conn.in_transaction ≡ false }
         ensures connection { result.conn ≡ conn }
@@ -50,7 +52,7 @@ impl<S: Alter> SqlStore<S> {
         self.conn
     }
 
-    /// Counts a fault of the database and says which it is told as: what is neither memory nor size is the disk, and stops the store.
+    /// Counts a fault of the database and returns it: what is neither memory nor size is the disk, and stops the store.
     fn refuse(&mut self, fault: Fault) -> Fault
         ensures conn { self.new.conn ≡ self.old.conn }
         ensures named { result ≢ Stopped }
@@ -76,7 +78,7 @@ impl<S: Alter> SqlStore<S> {
         }
     }
 
-    /// What the tables answered. A fault is counted, and told as `refuse` says.
+    /// What the tables answered. A fault is counted, and reported as `refuse` says.
     fn counted<A>(&mut self, answer: Result<A, Fault>) -> Result<A, Fault>
         ensures conn { self.new.conn ≡ self.old.conn }
         ensures ok { IfOk answer (λ it. result ≡ Ok it) }

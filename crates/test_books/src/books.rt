@@ -91,7 +91,7 @@ fn sums_of_the_sample_are_those_worked_out_by_hand(rt: HostRuntime) {
 }
 
 #[test]
-fn each_changed_number_is_told_as_its_fault(rt: HostRuntime) {
+fn each_changed_number_is_reported_as_its_fault(rt: HostRuntime) {
     let alloc = rt.alloc();
     let world = sample_world(alloc).expect(&rt, "memory");
     for (teller, account, vault, verdict) in [

@@ -1,7 +1,7 @@
 //! Tests alone: the books, the users and the policy of the sample, the check of books with a wrong number or
-//! a slip out of its limits, and the reads for reports, which no request asks for so far. The values were worked out by hand. They
-//! show what the definitions of sums, of leave and of reads mean. Nothing here is proved or used by a
-//! program.
+//! a slip out of its limits, and the reads for reports, which no request asks for so far. The values were
+//! worked out by hand. They show what the definitions of sums, of authorization and of reads mean. Nothing
+//! here is proved or used by a program.
 #![tactic(auto)]
 
 #[cfg(test)]

@@ -1,3 +1,5 @@
+//! What the policy of the sample allows: a user's limit on the items of an operation, and whether that is certified.
+
 use bank_policy::{Policy, best_limit, is_certified, relations_of, triples_of};
 use bank_terms::{Cdi, Kind, Procedure};
 use sample_bank::sample_world;
@@ -32,7 +34,7 @@ fn of_transfer(first: u32, second: u32, teller: u32, branch: u32) -> [Cdi; 6] {
 }
 
 /// Up to which amount the user may carry out the procedure on these items at moment 700, and whether it is certified on them.
-fn leave_of(
+fn authorization_of(
     rt: &impl Abort,
     alloc: Global,
     policy: &Policy,
@@ -52,7 +54,7 @@ fn leave_of(
 fn posts_of_the_sample_have_the_limit_of_their_set(rt: HostRuntime) {
     let alloc = rt.alloc();
     let world = sample_world(alloc).expect(&rt, "memory");
-    for (user, account, teller, branch, leave) in [
+    for (user, account, teller, branch, due) in [
         // Tom: the first branch's accounts up to 500.00, all else up to 10.00.
         (8, 101, 12, 1, (Some(50_000), true)),
         (8, 201, 12, 1, (Some(50_000), true)),
@@ -66,13 +68,13 @@ fn posts_of_the_sample_have_the_limit_of_their_set(rt: HostRuntime) {
         (7, 150, 11, 1, (None, true)),
         (7, 101, 21, 2, (None, true)),
         (7, 1_000_000, 11, 1, (None, false)),
-        // Carl certifies posts, Sue has no leave to post.
+        // Carl certifies posts, Sue is not authorized to post.
         (2, 101, 11, 1, (None, true)),
         (9, 101, 11, 1, (None, true)),
     ] {
         let items = of_post(account, teller, branch);
-        let given = leave_of(&rt, alloc, world.policy(), user, Procedure::Post, &items);
-        assert!(rt; given == leave, "{user} {account} {teller}");
+        let given = authorization_of(&rt, alloc, world.policy(), user, Procedure::Post, &items);
+        assert!(rt; given == due, "{user} {account} {teller}");
     }
 }
 
@@ -80,7 +82,7 @@ fn posts_of_the_sample_have_the_limit_of_their_set(rt: HostRuntime) {
 fn sets_of_the_sample_are_never_joined(rt: HostRuntime) {
     let alloc = rt.alloc();
     let world = sample_world(alloc).expect(&rt, "memory");
-    for (user, first, second, leave) in [
+    for (user, first, second, due) in [
         // Each of Tess's two sets has one of the accounts, and no set has both.
         (7, 101, 102, (None, true)),
         (7, 101, 101, (Some(50_000), true)),
@@ -90,7 +92,7 @@ fn sets_of_the_sample_are_never_joined(rt: HostRuntime) {
         (8, 101, 1_000_000, (None, false)),
     ] {
         let items = of_transfer(first, second, 11, 1);
-        let given = leave_of(
+        let given = authorization_of(
             &rt,
             alloc,
             world.policy(),
@@ -98,15 +100,15 @@ fn sets_of_the_sample_are_never_joined(rt: HostRuntime) {
             Procedure::Transfer,
             &items,
         );
-        assert!(rt; given == leave, "{user} {first} {second}");
+        assert!(rt; given == due, "{user} {first} {second}");
     }
 }
 
 #[test]
-fn a_limit_of_nothing_is_leave_all_the_same(rt: HostRuntime) {
+fn a_limit_of_nothing_is_an_authorization_all_the_same(rt: HostRuntime) {
     let alloc = rt.alloc();
     let world = sample_world(alloc).expect(&rt, "memory");
-    for (user, procedure, account, leave) in [
+    for (user, procedure, account, due) in [
         (7, Procedure::Balance, 102, (Some(0), true)),
         (7, Procedure::Balance, 150, (None, true)),
         (8, Procedure::Balance, 102, (None, true)),
@@ -117,7 +119,7 @@ fn a_limit_of_nothing_is_leave_all_the_same(rt: HostRuntime) {
         (9, Procedure::NewAccount, 500, (Some(0), true)),
     ] {
         let items = [item(Kind::Account, account)];
-        let given = leave_of(&rt, alloc, world.policy(), user, procedure, &items);
-        assert!(rt; given == leave, "{user} {account}");
+        let given = authorization_of(&rt, alloc, world.policy(), user, procedure, &items);
+        assert!(rt; given == due, "{user} {account}");
     }
 }

@@ -1,9 +1,11 @@
+//! The policy of the sample, and the user of each badge.
+
 use bank_policy::user_row;
 use policy_check::check_policy;
 use sample_bank::{badge_user, sample_world};
 use std::alloc::AllocError;
 
-/// The counts of the policy's rows, and its soundness: no row dangles, and no one executes what he certifies.
+/// How many rows the policy has, and that it is sound: no row dangles, and nobody may execute what they certify.
 #[test]
 fn policy_is_sound(rt: HostRuntime) -> Result<(), AllocError> {
     let world = sample_world(rt.alloc())?;

@@ -73,8 +73,8 @@ fn slips_are_found_by_their_user_and_number(rt: HostRuntime) {
         (5, 7, None),
     ] {
         let found = slip(alloc, &world, user, number).expect(&rt, "memory");
-        let told = found.map(|row| row.operation().members[0]);
-        assert!(rt; told == account, "{number} of {user}");
+        let found_account = found.map(|row| row.operation().members[0]);
+        assert!(rt; found_account == account, "{number} of {user}");
     }
     for (user, count) in [(7, 1), (8, 1), (9, 0)] {
         assert!(rt; slip_count(&world, user) == count, "{user}");

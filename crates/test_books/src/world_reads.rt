@@ -1,3 +1,5 @@
+//! Reads of a small World: entries of an account, the accounts that a user may list, and rows of the policy.
+
 use bank_books::{Account, Entry, EntryForm, Lists, World};
 use bank_policy::{Certifier, ItemSet, Member, Name, Policy, Relation, Triple, User};
 use bank_terms::{Kind, Procedure};
@@ -119,13 +121,13 @@ fn small_world(rt: &impl Abort, alloc: Global) -> World {
 }
 
 #[test]
-fn entries_of_an_account_are_told(rt: HostRuntime) {
+fn entries_of_an_account_are_returned(rt: HostRuntime) {
     let world = small_world(&rt, rt.alloc());
     let balance_after = entry_at(&world, 101, 2).map(|row| row.balance_after);
     assert!(rt; balance_after == Some(2_000));
     let rows = entries_of(rt.alloc(), &world, 101, 2, 5).expect(&rt, "memory");
-    let told = rows.iter().map(|row| (row.row.turn, row.balance_after));
-    assert!(rt; told.eq([(2, 2_000), (3, 1_500)]));
+    let turns = rows.iter().map(|row| (row.row.turn, row.balance_after));
+    assert!(rt; turns.eq([(2, 2_000), (3, 1_500)]));
     let first = entries_of(rt.alloc(), &world, 101, 1, 1).expect(&rt, "memory");
     assert!(rt; first.len() == 1);
 }
@@ -148,7 +150,7 @@ fn accounts_are_shown_up_to_their_count(rt: HostRuntime) {
 }
 
 #[test]
-fn accounts_are_shown_while_the_triple_counts(rt: HostRuntime) {
+fn accounts_are_shown_while_the_triple_is_valid(rt: HostRuntime) {
     let world = small_world(&rt, rt.alloc());
     for (moment, count) in [(799, 0), (800, 2), (900, 2), (901, 0)] {
         let rows = shown(rt.alloc(), &world, 7, 0, 9, moment).expect(&rt, "memory");
@@ -159,7 +161,7 @@ fn accounts_are_shown_while_the_triple_counts(rt: HostRuntime) {
 }
 
 #[test]
-fn lines_of_the_policy_are_told(rt: HostRuntime) {
+fn lines_of_the_policy_are_returned(rt: HostRuntime) {
     let world = small_world(&rt, rt.alloc());
     let rows = policy_rows(rt.alloc(), &world).expect(&rt, "memory");
     assert!(rt; rows.len() == 7);

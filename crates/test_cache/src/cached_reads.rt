@@ -19,8 +19,8 @@ pub(crate) fn counted_sample(rt: &impl Abort, alloc: Global) -> Watched<Counting
     Watched::new(ListStore::new(world), Counting::NEW)
 }
 
-/// Asks, as Tess, for the balance of account 101, which has to be told.
-fn balance_is_told<S: Store>(rt: &impl Abort, alloc: Global, bank: &mut Bank<S>) {
+/// Asks, as Tess, for the balance of account 101, which has to be returned.
+fn balance_is_returned<S: Store>(rt: &impl Abort, alloc: Global, bank: &mut Bank<S>) {
     let tess = Who {
         user: Some(7),
         session: 1,
@@ -49,9 +49,9 @@ fn balance_is_told<S: Store>(rt: &impl Abort, alloc: Global, bank: &mut Bank<S>)
     }
 }
 
-/// How often triples and relations were read once that balance was told.
+/// How often triples and relations were read once that balance was returned.
 fn reads_after(rt: &impl Abort, alloc: Global, bank: &mut Bank<Watched<Counting>>) -> (u64, u64) {
-    balance_is_told(rt, alloc, bank);
+    balance_is_returned(rt, alloc, bank);
     bank.store.watch().reads()
 }
 
@@ -66,7 +66,7 @@ fn each_question_reads_triples_and_relations(rt: HostRuntime) {
     assert!(rt; reads_after(&rt, alloc, &mut bank) == (2, 2));
 }
 
-/// That sample behind a cache.
+/// That sample with a cache in front.
 type CachedSample = Cached<Watched<Counting>>;
 
 fn cached_sample(rt: &impl Abort, alloc: Global) -> Bank<CachedSample> {
@@ -76,13 +76,13 @@ fn cached_sample(rt: &impl Abort, alloc: Global) -> Bank<CachedSample> {
     }
 }
 
-/// How often triples and relations were read below the cache once that balance was told.
+/// How often triples and relations were read below the cache once that balance was returned.
 fn reads_below_after(rt: &impl Abort, alloc: Global, bank: &mut Bank<CachedSample>) -> (u64, u64) {
-    balance_is_told(rt, alloc, bank);
+    balance_is_returned(rt, alloc, bank);
     bank.store.below().watch().reads()
 }
 
-/// Behind a cache the second of two equal questions reads neither.
+/// With a cache in front the second of two equal questions reads neither.
 #[test]
 fn the_second_question_reads_no_triples_and_no_relations(rt: HostRuntime) {
     let alloc = rt.alloc();

@@ -1,4 +1,4 @@
-//! What a cache tells while the policy changes below it, and how many entries it keeps.
+//! What a cache returns while the policy changes below it, and how many entries it keeps.
 
 use bank_books::{Plan, RowWrite, World};
 use bank_policy::{
@@ -98,16 +98,16 @@ impl Cache {
     }
 
     /// Asks for no triple of user 7.
-    fn tells_no_triple(&mut self, rt: &impl Abort) {
+    fn returns_no_triple(&mut self, rt: &impl Abort) {
         assert!(rt; self.triples_of(rt, 7).is_empty());
     }
 
-    fn tells_no_relation(&mut self, rt: &impl Abort) {
+    fn returns_no_relation(&mut self, rt: &impl Abort) {
         assert!(rt; self.relations(rt).is_empty());
     }
 
     /// Asks for the triple of user 7 above.
-    fn tells_the_triple(&mut self, rt: &impl Abort) {
+    fn returns_the_triple(&mut self, rt: &impl Abort) {
         let rows = self.triples_of(rt, 7);
         assert!(rt;
             rows.len() == 1 && rows[0].triple().limit == 50_000 && rows[0].members().len() == 1
@@ -115,7 +115,7 @@ impl Cache {
     }
 
     /// Asks for the relation above.
-    fn tells_the_relation(&mut self, rt: &impl Abort) {
+    fn returns_the_relation(&mut self, rt: &impl Abort) {
         let rows = self.relations(rt);
         assert!(rt; rows.len() == 1 && rows[0].relation().by == 2 && rows[0].members().len() == 1);
     }
@@ -123,18 +123,18 @@ impl Cache {
 
 /// Has the first policy made, and then its triple and its relation taken away.
 fn follow_the_policy(rt: &impl Abort, cache: &mut Cache) {
-    cache.tells_no_triple(rt);
-    cache.tells_no_relation(rt);
+    cache.returns_no_triple(rt);
+    cache.returns_no_relation(rt);
     cache.apply(rt, first_policy(rt, cache.alloc));
     for _ in 0..2 {
-        cache.tells_the_triple(rt);
-        cache.tells_the_relation(rt);
+        cache.returns_the_triple(rt);
+        cache.returns_the_relation(rt);
     }
     cache.change(rt, NO_TRIPLE);
-    cache.tells_no_triple(rt);
-    cache.tells_the_relation(rt);
+    cache.returns_no_triple(rt);
+    cache.returns_the_relation(rt);
     cache.change(rt, NO_RELATION);
-    cache.tells_no_relation(rt);
+    cache.returns_no_relation(rt);
 }
 
 #[test]
@@ -144,7 +144,7 @@ fn rows_follow_the_policy(rt: HostRuntime) {
 
 /// A row that is kept bears the moments of its triple, by which each question is judged.
 #[test]
-fn a_kept_row_counts_from_its_first_moment_to_its_last(rt: HostRuntime) {
+fn a_kept_row_is_valid_from_its_first_moment_to_its_last(rt: HostRuntime) {
     let mut cache = Cache::new(&rt, rt.alloc());
     cache.apply(&rt, first_policy(&rt, rt.alloc()));
     let items = [Cdi {
@@ -179,9 +179,9 @@ fn sixty_four_entries_are_kept_at_most(rt: HostRuntime) {
     fill(&rt, &mut Cache::new(&rt, rt.alloc()));
 }
 
-/// What is kept is lent: who asks again has the rows that were read once, and no copy of them.
+/// What is kept is shared: who asks again gets the rows that were read once, and no copy of them.
 #[test]
-fn kept_rows_are_lent(rt: HostRuntime) {
+fn kept_rows_are_shared(rt: HostRuntime) {
     let mut cache = Cache::new(&rt, rt.alloc());
     cache.apply(&rt, first_policy(&rt, rt.alloc()));
     let triples = cache.triples_of(&rt, 7);

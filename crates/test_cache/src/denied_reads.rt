@@ -1,4 +1,4 @@
-//! How many rows are read of a bank for one who is denied.
+//! How many rows of a bank are read for a user who is denied.
 
 use crate::cached_reads::counted_sample;
 use crate::counting::Counting;
@@ -54,21 +54,21 @@ fn reads_of_denied(rt: &impl Abort, alloc: Global, who: Who, rule: Rule) -> u64 
     bank.store.watch().all()
 }
 
-/// Of one who has no session his own row is read.
+/// Of a user who has no session their own row alone is read.
 #[test]
-fn of_who_has_no_session_his_own_row_is_read(rt: HostRuntime) {
+fn of_who_has_no_session_one_row_is_read(rt: HostRuntime) {
     let reads = reads_of_denied(&rt, rt.alloc(), who(7, 2), Rule::Identity);
     assert!(rt; reads == 1);
 }
 
-/// For one whose triples do not hold an account it is not looked for.
+/// An account that a user's triples do not hold is not looked for.
 #[test]
 fn an_account_outside_the_triples_is_not_read(rt: HostRuntime) {
     let reads = reads_of_denied(&rt, rt.alloc(), who(8, 1), Rule::NoTriple);
     assert!(rt; reads == 3);
 }
 
-/// Of one who has no session nothing is read for a command, either.
+/// For a command, too, a user who has no session has their own row read alone.
 #[test]
 fn a_command_without_a_session_reads_one_row(rt: HostRuntime) {
     let alloc = rt.alloc();

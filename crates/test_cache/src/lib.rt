@@ -1,6 +1,6 @@
-//! Tests alone: what a cache reads of the store below it and what it tells. A store that counts its reads
+//! Tests alone: what a cache reads of the store below it and what it returns. A store that counts its reads
 //! shows that the second of two equal questions for a balance reads no triples and no relations of it; that
-//! for one who is denied no rows are read behind the rule, and for a repeat two; and that a change of the
+//! after the rule which denies a request no rows are read, and for a repeat two; and that a change of the
 //! policy ends what is kept. Nothing here is proved or used by a program.
 #![tactic(auto)]
 

@@ -57,8 +57,8 @@ fn tess(session: u32, slip: u32) -> Who {
     }
 }
 
-/// Behind the row of who asks the slip alone is read, whether it is repeated or denied for another operation. For a new
-/// one three rows are read more than without a slip: who asks, the slip, and how many he has.
+/// After the row of the user who asks the slip alone is read, whether it is repeated or denied for another operation. For
+/// a new slip three rows are read more than without one: the user again, the slip, and how many slips they have.
 #[test]
 fn of_a_slip_few_rows_are_read(rt: HostRuntime) {
     let alloc = rt.alloc();

@@ -1,4 +1,4 @@
-//! Files that hold no bank, or a bank in other tables, and which fault is told first.
+//! Files that hold no bank, or a bank in other tables, and which fault is reported first.
 
 use crate::refusals::{judged, refused, refused_for};
 use book_check::BooksFault;
@@ -70,7 +70,7 @@ fn a_bank_has_its_tables_of_the_policy(rt: HostRuntime) {
 }
 
 #[test]
-fn the_version_is_told_before_the_tables_the_books_and_the_policy(rt: HostRuntime) {
+fn the_version_is_reported_before_the_tables_the_books_and_the_policy(rt: HostRuntime) {
     refused(
         &rt,
         &[
@@ -95,7 +95,7 @@ fn the_version_is_told_before_the_tables_the_books_and_the_policy(rt: HostRuntim
 }
 
 #[test]
-fn a_table_that_is_not_there_is_told_before_any_value(rt: HostRuntime) {
+fn a_table_that_is_not_there_is_reported_before_any_value(rt: HostRuntime) {
     refused(
         &rt,
         &[

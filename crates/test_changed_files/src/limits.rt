@@ -1,6 +1,6 @@
 //! Rows of the books that are out of their limits, or name one that is not there.
 
-use crate::refusals::{TAKEN, refused_behind, refused_for};
+use crate::refusals::{TAKEN, refused_after_sound_change, refused_for};
 use book_check::BooksFault;
 use sql_adopt::AdoptFault;
 
@@ -72,7 +72,7 @@ fn rows_of_users_and_their_releases_have_limits(rt: HostRuntime) {
 
 #[test]
 fn rows_of_slips_have_limits(rt: HostRuntime) {
-    refused_behind(
+    refused_after_sound_change(
         &rt,
         TAKEN,
         RANGE,

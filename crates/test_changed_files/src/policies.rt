@@ -1,4 +1,4 @@
-//! Policies that dangle, in which an officer holds something, or in which one may execute what he certifies.
+//! Policies that dangle, in which an officer holds something, or in which a user may execute what they certify.
 
 use crate::refusals::{refused, refused_for};
 use bank_terms::Procedure;
@@ -21,7 +21,7 @@ fn posts(user: u32) -> AdoptFault {
 }
 
 #[test]
-fn nobody_executes_what_he_certifies(rt: HostRuntime) {
+fn nobody_executes_what_they_certify(rt: HostRuntime) {
     refused(
         &rt,
         &[
@@ -92,7 +92,7 @@ fn rows_of_relations_triples_and_certifiers_do_not_dangle(rt: HostRuntime) {
 }
 
 #[test]
-fn numbers_and_names_of_users_are_told_behind_all_rows_of_the_books(rt: HostRuntime) {
+fn numbers_and_names_of_users_are_reported_after_all_rows_of_the_books(rt: HostRuntime) {
     refused(
         &rt,
         &[

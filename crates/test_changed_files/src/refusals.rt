@@ -21,7 +21,8 @@ pub fn untouched(rt: &impl Runtime, held: &Held) -> Held {
     closed_by(rt, reopened(rt, held))
 }
 
-/// What adopting a bank answers after a change of its tables. It has to leave the files as opening and closing them alone does, byte for byte.
+/// What adopting a bank answers after a change of its tables. It has to leave the files as opening and closing
+/// them alone does, byte for byte.
 pub fn judged(rt: &impl Runtime, bank: &Held, change: &str) -> Result<(), AdoptFault> {
     let held = changed(rt, bank, change);
     let (outcome, after) = done_in(rt, &held, Deed::Find);
@@ -54,8 +55,13 @@ pub fn refused_for(rt: &impl Runtime, fault: AdoptFault, changes: &[&str]) {
     }
 }
 
-/// The same of the worked bank behind a change that leaves it sound.
-pub fn refused_behind(rt: &impl Runtime, first: &str, fault: AdoptFault, changes: &[&str]) {
+/// The same of the worked bank after a change that leaves it sound.
+pub fn refused_after_sound_change(
+    rt: &impl Runtime,
+    first: &str,
+    fault: AdoptFault,
+    changes: &[&str],
+) {
     let worked = worked_files(rt);
     assert!(rt; judged(rt, &worked, first) == Ok(()));
     let sound = changed(rt, &worked, first);

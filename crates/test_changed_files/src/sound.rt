@@ -4,14 +4,14 @@ use crate::refusals::{TAKEN, changed, judged, untouched};
 use money::Fault;
 use sql_adopt::AdoptFault;
 use test_counter::Runtime;
-use test_disks::{Act, Deed, Exchange, Held, Outcome, Tale, done_in, tried_in, worked_files};
+use test_disks::{Act, Deed, Exchange, Held, Outcome, Snapshot, done_in, tried_in, worked_files};
 
-/// What the bank of these files tells, and how it leaves them.
-fn tale(rt: &impl Runtime, held: &Held, deed: Deed<'_>) -> (Tale, Held) {
+/// The snapshot of the bank in these files, and how they are left.
+fn snapshot_by(rt: &impl Runtime, held: &Held, deed: Deed<'_>) -> (Snapshot, Held) {
     let (outcome, after) = done_in(rt, held, deed);
     match outcome {
-        Outcome::Told(tale) => (tale, after),
-        _ => panic!(rt; "a tale"),
+        Outcome::Read(snapshot) => (snapshot, after),
+        _ => panic!(rt; "a snapshot"),
     }
 }
 
@@ -27,8 +27,8 @@ fn commanded(rt: &impl Runtime, held: &Held) -> (Result<bool, Fault>, Held) {
 #[test]
 fn a_bank_answers_as_before(rt: HostRuntime) {
     let files = worked_files(&rt);
-    let (before, _) = tale(&rt, &files, Deed::Open(Act::Tell));
-    let (again, after) = tale(&rt, &files, Deed::Adopt(Act::Tell));
+    let (before, _) = snapshot_by(&rt, &files, Deed::Open(Act::Read));
+    let (again, after) = snapshot_by(&rt, &files, Deed::Adopt(Act::Read));
     assert!(rt; before.balance == Some(52_500));
     assert!(rt; again == before);
     assert!(rt; untouched(&rt, &files) == after);
@@ -38,7 +38,7 @@ fn a_bank_answers_as_before(rt: HostRuntime) {
 fn a_bank_of_other_tables_is_refused(rt: HostRuntime) {
     let files = worked_files(&rt);
     let other = changed(&rt, &files, "UPDATE bank SET version = 7");
-    match tried_in(&rt, &other, Deed::Adopt(Act::Tell)) {
+    match tried_in(&rt, &other, Deed::Adopt(Act::Read)) {
         Ok(_) => panic!(rt; "version 7 is adopted"),
         Err(fault) => assert!(rt; fault == AdoptFault::Version, "{fault}"),
     }
@@ -50,11 +50,11 @@ fn a_release_may_be_for_an_account_that_is_not_there(rt: HostRuntime) {
     let change = "UPDATE releases SET member1 = 999";
     assert!(rt; judged(&rt, &files, change) == Ok(()));
     let other = changed(&rt, &files, change);
-    let (told, _) = tale(&rt, &other, Deed::Adopt(Act::Tell));
-    assert!(rt; told.released == Some(999));
+    let (read, _) = snapshot_by(&rt, &other, Deed::Adopt(Act::Read));
+    assert!(rt; read.released == Some(999));
 }
 
-/// Tess sends again what her slip stands for.
+/// Tess sends the post again with which her slip 5 was taken.
 const SENT_AGAIN: [Exchange; 1] = [Exchange {
     slip: Some(5),
     asked: (
@@ -63,20 +63,20 @@ const SENT_AGAIN: [Exchange; 1] = [Exchange {
         "/do/post",
         r#"{"account":101,"branch":1,"delta":2500,"teller":11}"#,
     ),
-    told: ("200 OK", "{}"),
+    due: ("200 OK", "{}"),
 }];
 
 #[test]
 fn a_slip_that_stands_in_the_table_is_answered(rt: HostRuntime) {
     let files = changed(&rt, &worked_files(&rt), TAKEN);
-    let (before, _) = tale(&rt, &files, Deed::Adopt(Act::Tell));
+    let (before, _) = snapshot_by(&rt, &files, Deed::Adopt(Act::Read));
     let (outcome, after) = done_in(&rt, &files, Deed::Adopt(Act::Serve(&SENT_AGAIN)));
     match outcome {
         Outcome::Served(count) => assert!(rt; count == 1),
         _ => panic!(rt; "how many were served"),
     }
-    let (behind, _) = tale(&rt, &after, Deed::Adopt(Act::Tell));
-    assert!(rt; behind == before);
+    let (again, _) = snapshot_by(&rt, &after, Deed::Adopt(Act::Read));
+    assert!(rt; again == before);
 }
 
 #[test]
@@ -88,13 +88,13 @@ fn a_command_leads_to_the_last_version(rt: HostRuntime) {
 }
 
 #[test]
-fn no_command_leads_behind_the_last_version(rt: HostRuntime) {
+fn no_command_leads_past_the_last_version(rt: HostRuntime) {
     let change = "UPDATE bank SET policy = 999999999999";
     let files = changed(&rt, &worked_files(&rt), change);
-    let (before, _) = tale(&rt, &files, Deed::Open(Act::Tell));
+    let (before, _) = snapshot_by(&rt, &files, Deed::Open(Act::Read));
     let (answer, after) = commanded(&rt, &files);
     assert!(rt; answer == Err(Fault::Size));
     assert!(rt; untouched(&rt, &files) == after);
-    let (behind, _) = tale(&rt, &after, Deed::Open(Act::Tell));
-    assert!(rt; behind == before);
+    let (again, _) = snapshot_by(&rt, &after, Deed::Open(Act::Read));
+    assert!(rt; again == before);
 }

@@ -8,7 +8,7 @@ use std::test::Fail;
 /// The request by which Tess opens a session.
 pub(crate) const OPENING: &str = "POST /session HTTP/1.1\r\nHost: bank\r\nBank-Badge: tess\r\n\r\n";
 
-/// The same, and the connection is to end behind its reply.
+/// The same, and the connection is to end after its reply.
 pub(crate) const LAST_OPENING: &str =
     "POST /session HTTP/1.1\r\nHost: bank\r\nBank-Badge: tess\r\nConnection: close\r\n\r\n";
 

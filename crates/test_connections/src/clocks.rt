@@ -1,4 +1,4 @@
-//! A clock of a machine that is told what to read, and the moments that it gives to messages.
+//! A machine's clock that replays a script of readings, and the moments that it gives to messages.
 use counter_api::Clock;
 use counter_clocks::MachineClock;
 use std::cell::Cell;
@@ -6,16 +6,16 @@ use std::io::ErrorKind;
 use std::time::Duration;
 use std::{io, time};
 
-/// Reads what it is told, one reading after another, and fails where it is told none, or no more.
+/// Replays its readings, one after another. It fails at a reading that is none, and after the last.
 #[derive(Drop)]
-pub(crate) struct ToldClock<'a> {
+pub(crate) struct ScriptedClock<'a> {
     pub(crate) readings: &'a [Option<Duration>],
     pub(crate) read: Cell<usize>,
 }
 
-impl<'a> ToldClock<'a> {
-    pub(crate) fn new(readings: &'a [Option<Duration>]) -> ToldClock<'a> {
-        ToldClock {
+impl<'a> ScriptedClock<'a> {
+    pub(crate) fn new(readings: &'a [Option<Duration>]) -> ScriptedClock<'a> {
+        ScriptedClock {
             readings,
             read: Cell::new(0),
         }
@@ -31,7 +31,7 @@ impl<'a> ToldClock<'a> {
     }
 }
 
-impl time::Clock for ToldClock<'_> {
+impl time::Clock for ScriptedClock<'_> {
     fn monotonic(&self) -> io::Result<Duration> {
         self.reading()
     }
@@ -50,7 +50,7 @@ fn moments_are_whole_seconds_up_to_the_last(rt: HostRuntime) {
         Some(Duration::MAX),
         Some(Duration::from_nanos(999_999_999)),
     ];
-    let machine = ToldClock::new(&readings);
+    let machine = ScriptedClock::new(&readings);
     let mut clock = MachineClock::of(&machine);
     for moment in [5, 99_999_999_999, 99_999_999_999, 99_999_999_999, 0] {
         assert!(rt; clock.moment() == moment);
@@ -58,7 +58,7 @@ fn moments_are_whole_seconds_up_to_the_last(rt: HostRuntime) {
 }
 
 #[test]
-fn clock_that_cannot_be_read_gives_the_moment_before(rt: HostRuntime) {
+fn clock_that_cannot_be_read_gives_the_previous_moment(rt: HostRuntime) {
     let readings = [
         None,
         Some(Duration::from_secs(700)),
@@ -66,7 +66,7 @@ fn clock_that_cannot_be_read_gives_the_moment_before(rt: HostRuntime) {
         None,
         Some(Duration::from_secs(699)),
     ];
-    let machine = ToldClock::new(&readings);
+    let machine = ScriptedClock::new(&readings);
     let mut clock = MachineClock::of(&machine);
     for moment in [0, 700, 700, 700, 699] {
         assert!(rt; clock.moment() == moment);

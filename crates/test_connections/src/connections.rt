@@ -1,6 +1,6 @@
 //! Connections of the machine, served in one process: what each client gets, and how many messages are counted.
 use crate::clients::{LAST_OPENING, OPENING, all_opened, client, got, listening, opened};
-use crate::clocks::ToldClock;
+use crate::clocks::ScriptedClock;
 use counter_clocks::{Fixed, Moment};
 use counter_connections::{CountedListener, serve_connections};
 use sample_service::{SampleBadges, listed_sample};
@@ -22,8 +22,8 @@ fn sample(rt: &HostRuntime) -> Result<(Bank<ListStore>, Fixed), Fail> {
     ))
 }
 
-/// Whether connections were served to the end, and how many could not be had.
-fn served<M: time::Clock>(
+/// Serves all connections: whether to the end, and how many could not be accepted.
+fn serve_all<M: time::Clock>(
     rt: &HostRuntime,
     machine: &M,
     listener: TcpListener,
@@ -74,7 +74,7 @@ fn connection_without_message_counts_one(rt: HostRuntime) -> Result<(), Fail> {
     drop(client(&rt, address, "")?);
     drop(client(&rt, address, "\r\n\r\n")?);
     let stream = client(&rt, address, LAST_OPENING)?;
-    assert!(&rt; served(&rt, &rt, listener, &mut bank, &mut clock, 3) == (true, 0));
+    assert!(&rt; serve_all(&rt, &rt, listener, &mut bank, &mut clock, 3) == (true, 0));
     assert!(&rt; got(alloc, &stream, opened(alloc, 2, true)?.as_str())?);
     Ok(())
 }
@@ -95,7 +95,7 @@ fn messages_before_a_fault_count_one(rt: HostRuntime) -> Result<(), Fail> {
         address,
         format!(in alloc; "{OPENING}{OPENING}{OPENING}{OPENING}")?.as_str(),
     )?;
-    assert!(&rt; served(&rt, &rt, listener, &mut bank, &mut clock, 4) == (true, 0));
+    assert!(&rt; serve_all(&rt, &rt, listener, &mut bank, &mut clock, 4) == (true, 0));
     let replies = all_opened(alloc, 2, 4)?;
     assert!(&rt; got(alloc, &cut, replies.as_str())?);
     let replies = all_opened(alloc, 5, 7)?;
@@ -113,20 +113,20 @@ fn no_more_replies_than_are_wanted(rt: HostRuntime) -> Result<(), Fail> {
         address,
         format!(in alloc; "{OPENING}{OPENING}{OPENING}")?.as_str(),
     )?;
-    assert!(&rt; served(&rt, &rt, listener, &mut bank, &mut clock, 2) == (true, 0));
+    assert!(&rt; serve_all(&rt, &rt, listener, &mut bank, &mut clock, 2) == (true, 0));
     let replies = all_opened(alloc, 2, 3)?;
     assert!(&rt; got(alloc, &stream, replies.as_str())?);
     Ok(())
 }
 
 #[test]
-fn connection_that_cannot_be_had_ends_it(rt: HostRuntime) -> Result<(), Fail> {
+fn connection_that_cannot_be_accepted_ends_it(rt: HostRuntime) -> Result<(), Fail> {
     let alloc = rt.alloc();
     let (mut bank, mut clock) = sample(&rt)?;
     let (listener, address) = listening(&rt)?;
     listener.set_nonblocking(true)?;
     let stream = client(&rt, address, LAST_OPENING)?;
-    assert!(&rt; served(&rt, &rt, listener, &mut bank, &mut clock, 2) == (false, 1));
+    assert!(&rt; serve_all(&rt, &rt, listener, &mut bank, &mut clock, 2) == (false, 1));
     assert!(&rt; got(alloc, &stream, opened(alloc, 2, true)?.as_str())?);
     Ok(())
 }
@@ -136,10 +136,10 @@ fn got_by_clock(rt: &HostRuntime, readings: &[Option<Duration>]) -> Result<(usiz
     let (mut bank, mut clock) = sample(rt)?;
     let (listener, address) = listening(rt)?;
     let stream = client(rt, address, LAST_OPENING)?;
-    let machine = ToldClock::new(readings);
-    served(rt, &machine, listener, &mut bank, &mut clock, 1);
+    let machine = ScriptedClock::new(readings);
+    serve_all(rt, &machine, listener, &mut bank, &mut clock, 1);
     let mut room = [0u8; 1_000];
-    // (One that is let go while it is unread is told so, and gets no byte)
+    // (a client whose connection is dropped unread gets an error, and no byte)
     let len = (&stream).read(&mut room).unwrap_or(0);
     Ok((len, machine.read.get()))
 }

@@ -1,4 +1,4 @@
-//! A port that is had and told of, one that is not, and the one address at which a port is had.
+//! A port that is bound and announced, one that cannot be announced, and the one address at which a port is bound.
 use crate::clients::{LAST_OPENING, got, listening, opened};
 use counter_clocks::{Fixed, Moment};
 use counter_connections::{PortFault, serve_port_behind_cache};
@@ -35,7 +35,7 @@ fn ended<W: Write>(
 }
 
 #[test]
-fn port_is_told_once_it_is_had(rt: HostRuntime) -> Result<(), Fail> {
+fn port_is_announced_once_it_is_bound(rt: HostRuntime) -> Result<(), Fail> {
     let alloc = rt.alloc();
     let (listener, address) = listening(&rt)?;
     let port = address.port();
@@ -49,7 +49,7 @@ fn port_is_told_once_it_is_had(rt: HostRuntime) -> Result<(), Fail> {
 }
 
 #[test]
-fn port_that_cannot_be_told_of_is_not_served(rt: HostRuntime) -> Result<(), Fail> {
+fn port_that_cannot_be_announced_is_not_served(rt: HostRuntime) -> Result<(), Fail> {
     let (listener, address) = listening(&rt)?;
     drop(listener);
     let mut room = [0u8; 5];
@@ -58,14 +58,15 @@ fn port_that_cannot_be_told_of_is_not_served(rt: HostRuntime) -> Result<(), Fail
     Ok(())
 }
 
-/// A writer that connects to a port once the line that names it is flushed: at 127.0.0.1, and at another address of this machine.
+/// A writer that connects to a port once the line that names it is flushed: at 127.0.0.1, and at another address of this
+/// machine.
 #[derive(Drop)]
 struct Connecting<'a> {
     rt: &'a HostRuntime,
     port: u16,
     /// The client at 127.0.0.1, which has asked for a session.
     served: Option<TcpStream>,
-    /// Why none could be had at the other address.
+    /// Why no client could connect at the other address.
     refused: Option<ErrorKind>,
 }
 

@@ -1,7 +1,7 @@
 //! What tests of several crates share, and no test: the sample in lists, what a bank answers to messages by
 //! the sample's badges at a moment that stands still, requests for reports and the bytes of replies, a reader
-//! that comes in pieces, writers that are broken behind so many bytes, and a store in lists that tells of each call before it is carried
-//! out. Nothing here is proved or used by a program.
+//! that comes in pieces, writers that break after so many bytes, and a store in lists that reports each call
+//! before it is carried out. Nothing here is proved or used by a program.
 #![tactic(auto)]
 
 mod answers;

@@ -1,4 +1,4 @@
-//! Writers that are broken behind so many bytes.
+//! Writers that break after so many bytes.
 
 use crate::runtime::Runtime;
 use money::Tallied;
@@ -14,7 +14,7 @@ pub enum Broken {
     TakesNone,
 }
 
-/// Takes so many bytes, and is broken behind them.
+/// Takes so many bytes, and is broken after them.
 #[derive(Drop)]
 pub struct Sink {
     /// What it took.

@@ -1,4 +1,4 @@
-//! A store in lists that tells of each of its calls.
+//! A store in lists that reports each of its calls.
 
 use bank_books::{
     AccountRecord, BranchRecord, Entry, EntryRecord, Plan, Release, Slip, TellerRecord,
@@ -24,7 +24,7 @@ pub enum Read {
     Other,
 }
 
-/// Is told of each call of a store before it is carried out, and may have it fail. It stands for any World.
+/// Sees each call of a store before it is carried out, and may have it fail. It represents any World.
 pub trait Watch: Stands {
     ghost use Rattle.std.specs.Prelude.{⊤};
     ghost use Rattle.store_rows.specs.Status.{ReadsRow};
@@ -38,7 +38,7 @@ pub trait Watch: Stands {
         ensures { ReadsRow (Self.status self.old) (Self.status self.new) result (λ _ _. ⊤) };
 }
 
-/// A World in lists, and what is told of its calls.
+/// A World in lists, and the watch that sees its calls.
 #[derive(Drop)]
 pub struct Watched<W> {
     store: ListStore,
@@ -51,7 +51,7 @@ impl<W: Watch> Watched<W> {
         Watched { store, watch }
     }
 
-    /// What was told of its calls.
+    /// The watch that saw its calls.
     pub fn watch(&self) -> &W {
         &self.watch
     }

@@ -22,7 +22,7 @@ fn ends_so(
     assert!(rt; writer.into_inner().bytes.as_slice() == replies);
 }
 
-/// Asks for the replies to the messages behind so many, over a bank that did these.
+/// Asks for the replies to the messages after the first so many, over a bank that carried those out.
 fn goes_on(rt: &impl Runtime, bank: &mut Bank<ListStore>, day: &Stream, messages: usize) {
     let rest = &day.input[day.begin_of(messages)..];
     let more = day.ends.len() - messages;
@@ -30,7 +30,7 @@ fn goes_on(rt: &impl Runtime, bank: &mut Bank<ListStore>, day: &Stream, messages
         rt,
         bank,
         (rest, b""),
-        (served(more), day.replies_behind(messages)),
+        (served(more), day.replies_after(messages)),
     );
 }
 
@@ -91,9 +91,9 @@ fn a_read_that_fails_leaves_what_was_read_before(rt: HostRuntime) {
     }
 }
 
-/// The writer takes so many bytes. The message whose reply broke off was done, and none behind it.
+/// The writer takes so many bytes. The message whose reply broke off was done, and none after it.
 #[test]
-fn a_write_that_fails_ends_the_day_behind_its_message(rt: HostRuntime) {
+fn a_write_that_fails_ends_the_day_after_its_message(rt: HostRuntime) {
     let day = day(&rt);
     for broken in [Broken::Fails, Broken::TakesNone] {
         for room in 0..day.replies.len() {

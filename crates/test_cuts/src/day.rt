@@ -48,7 +48,7 @@ const PROOF: &str = concat!(
     "DIFFERENCES                 0.00\n",
 );
 
-/// The statement of account 101 behind the post.
+/// The statement of account 101 after the post.
 const STATEMENT: &str = concat!(
     "STATEMENT ACCOUNT       101 FROM         1 LINES     1\n",
     "        1         1         1        11         700    25.00         525.00\n",
@@ -476,7 +476,7 @@ impl Stream {
         self.ends.iter().filter(|end| **end <= len).count()
     }
 
-    /// Where the message behind so many ends begins.
+    /// Where the message after the first so many begins.
     pub fn begin_of(&self, messages: usize) -> usize {
         begin(&self.ends, messages)
     }
@@ -486,13 +486,13 @@ impl Stream {
         &self.replies[..begin(&self.reply_ends, messages)]
     }
 
-    /// The replies to those behind them.
-    pub fn replies_behind(&self, messages: usize) -> &[u8] {
+    /// The replies to the messages after them.
+    pub fn replies_after(&self, messages: usize) -> &[u8] {
         &self.replies[begin(&self.reply_ends, messages)..]
     }
 }
 
-/// Where the piece behind so many pieces begins.
+/// Where the piece after the first so many begins.
 fn begin(ends: &[usize], pieces: usize) -> usize {
     if pieces == 0 { 0 } else { ends[pieces - 1] }
 }

@@ -11,7 +11,7 @@ struct Ending {
     /// Its fault shows at the last byte, if it has one.
     message: &'static [u8],
     reply: &'static [u8],
-    /// What the next session of Tess's is behind it.
+    /// The body of the reply when Tess opens her next session after it.
     next: &'static [u8],
 }
 
@@ -64,8 +64,8 @@ const ENDINGS: [Ending; 7] = [
     },
 ];
 
-/// What comes behind such a message is not looked at.
-const BEHIND: &[u8] = b"POST /session HTTP/1.1\r\nHost: bank\r\nBank-Badge: sue\r\n\r\n";
+/// What follows such a message is not looked at.
+const FOLLOWING: &[u8] = b"POST /session HTTP/1.1\r\nHost: bank\r\nBank-Badge: sue\r\n\r\n";
 
 /// Tess opens a session.
 const NEXT: &[u8] = b"POST /session HTTP/1.1\r\nHost: bank\r\nBank-Badge: tess\r\n\r\n";
@@ -91,7 +91,7 @@ fn what_ends_a_connection_does_so_in_any_pieces(rt: HostRuntime) {
         input
             .extend_from_slice(ending.message)
             .expect(&rt, "memory");
-        input.extend_from_slice(BEHIND).expect(&rt, "memory");
+        input.extend_from_slice(FOLLOWING).expect(&rt, "memory");
         for cut in 0..input.len() {
             let mut bank = listed_bank(&rt);
             let mut writer = whole_sink(&rt);
@@ -145,7 +145,7 @@ fn a_write_that_fails_at_the_end_of_a_connection(rt: HostRuntime) {
             for room in 0..ending.reply.len() {
                 let mut bank = listed_bank(&rt);
                 let mut writer = sink(&rt, room, broken);
-                let mut reader = pieces((ending.message, BEHIND), usize::MAX, 0);
+                let mut reader = pieces((ending.message, FOLLOWING), usize::MAX, 0);
                 let given = run(&rt, &mut bank, &mut reader, &mut writer);
                 assert!(rt; given == Err(ServeFault::Write), "{room}");
                 assert!(rt;
@@ -172,7 +172,7 @@ const TOO_LONG: &[u8] =
     b"HTTP/1.1 431 Request Header Fields Too Large\r\nContent-Type: application/json\r\nContent-Length: 14\r\nConnection: close\r\n\r\n{\"fault\":\"M2\"}";
 
 #[test]
-fn a_head_that_is_too_long_is_told_at_its_last_byte(rt: HostRuntime) {
+fn a_head_that_is_too_long_is_reported_at_its_last_byte(rt: HostRuntime) {
     let input = begun_head(&rt, 8_193);
     for cut in 1..input.len() {
         for (input, end, reply) in [

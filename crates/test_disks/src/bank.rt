@@ -16,13 +16,13 @@ fn stopped<S: Store>(rt: &impl Runtime, bank: &mut Bank<S>, stream: &[Exchange])
     }
 }
 
-/// How many of these requests were answered by their reply. The one behind them is answered by the fault of the disk,
+/// How many of these requests were answered by their reply. The one after them is answered by the fault of the disk,
 /// and from then on the bank is stopped.
 pub fn answered<S: Store>(rt: &impl Runtime, bank: &mut Bank<S>, stream: &[Exchange]) -> usize {
     let mut count = 0usize;
     for exchange in stream {
         let answer = reply(rt, bank, exchange);
-        if !is_reply(rt, answer.as_slice(), exchange.told) {
+        if !is_reply(rt, answer.as_slice(), exchange.due) {
             assert!(rt; is_reply(rt, answer.as_slice(), FAILED));
             stopped(rt, bank, stream);
             return count;

@@ -5,8 +5,8 @@
 
 use crate::bank::{answered, last_command, work};
 use crate::report_replies::{Asked, Ending, reported};
+use crate::snapshots::{Snapshot, snapshot_of};
 use crate::streams::Exchange;
-use crate::tellings::{Tale, told};
 use money::Fault;
 use sample_bank::sample_world;
 use sql_adopt::{AdoptFault, adopt, adopt_bank};
@@ -28,7 +28,7 @@ pub enum Deed<'a> {
     Change(&'a str),
     /// A bank is looked for.
     Find,
-    /// The bank, which is of an older edition, is carried over.
+    /// The bank, which has an older schema version, is carried over.
     Upgrade,
     /// A store takes the bank unseen.
     Open(Act<'a>),
@@ -47,8 +47,8 @@ pub enum Act<'a> {
     Ask(Asked<'a>),
     /// One more command is given, the last that the version has room for.
     Command,
-    /// The bank tells of itself.
-    Tell,
+    /// The bank is read for a snapshot.
+    Read,
 }
 
 /// What comes of it.
@@ -68,8 +68,8 @@ pub enum Outcome {
     Reported(Ending),
     /// What the command answers: whether no rule denies it.
     Commanded(Result<bool, Fault>),
-    /// What the bank tells.
-    Told(Tale),
+    /// The snapshot of the bank.
+    Read(Snapshot),
 }
 
 fn made<S: Alter>(rt: &impl Runtime, conn: &mut Connection<S>) -> Outcome {
@@ -102,7 +102,7 @@ fn done_over<S: Alter>(
         Act::Serve(stream) => Outcome::Served(answered(rt, &mut bank, stream)),
         Act::Ask(asked) => Outcome::Reported(reported(rt, &mut bank, asked)),
         Act::Command => Outcome::Commanded(last_command(rt, &mut bank)),
-        Act::Tell => Outcome::Told(told(rt, &mut bank.store)),
+        Act::Read => Outcome::Read(snapshot_of(rt, &mut bank.store)),
     };
     (outcome, bank.store.into_connection())
 }

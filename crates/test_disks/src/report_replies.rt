@@ -22,14 +22,14 @@ pub enum Ending {
     Whole,
     /// It is the fault of the disk, which failed before the head.
     Refused,
-    /// It broke behind the head.
+    /// It broke after the head.
     Broken,
 }
 
 /// How many lines of a reply stand before those of the rows: those of the head, and the first of the text.
 const LINES_BEFORE_ROWS: usize = 5;
 
-/// Asks that a reply broke behind one of its lines.
+/// Asks that a reply broke after one of its lines.
 fn is_broken(rt: &impl Abort, bytes: &[u8], due: &[u8]) {
     let lines = bytes.iter().filter(|byte| **byte == b'\n').count();
     assert!(rt; lines >= LINES_BEFORE_ROWS && bytes.ends_with(b"\n"));

@@ -3,18 +3,18 @@
 use store_rows::{Bank, Store};
 use test_counter::{Answer, Runtime, answer, reply_bytes, whole_sink};
 
-/// A reply: its status, and its body.
-pub type Told = (&'static str, &'static str);
+/// A reply that is due: its status, and its body.
+pub type Due = (&'static str, &'static str);
 
 /// What is asked for, in session 1, and the reply to it.
 #[derive(Clone, Copy, Debug)]
 pub struct Exchange {
     /// The slip that it bears.
     pub slip: Option<u32>,
-    /// The badge of who asks, the release that he names, the path, and the body.
+    /// The badge of who asks, the release that they name, the path, and the body.
     pub asked: (&'static str, Option<u32>, &'static str, &'static str),
-    /// The reply.
-    pub told: Told,
+    /// The reply that is due.
+    pub due: Due,
 }
 
 /// Tess posts 25.00 to account 101.
@@ -26,7 +26,7 @@ const POSTED: Exchange = Exchange {
         "/do/post",
         r#"{"account":101,"branch":1,"delta":2500,"teller":11}"#,
     ),
-    told: ("200 OK", r#"{"balance":52500,"branch":1,"entry":1}"#),
+    due: ("200 OK", r#"{"balance":52500,"branch":1,"entry":1}"#),
 };
 
 /// That post, and the balance after it.
@@ -35,11 +35,11 @@ pub const POST: [Exchange; 2] = [
     Exchange {
         slip: None,
         asked: ("tess", None, "/do/balance", r#"{"account":101}"#),
-        told: ("200 OK", r#"{"balance":52500}"#),
+        due: ("200 OK", r#"{"balance":52500}"#),
     },
 ];
 
-/// That post, and the leave that Sue gives Tess to post -5.00 to account 101.
+/// That post, and the release by which Sue lets Tess post -5.00 to account 101.
 pub const WORKED: [Exchange; 2] = [
     POSTED,
     Exchange {
@@ -50,7 +50,7 @@ pub const WORKED: [Exchange; 2] = [
             "/do/release",
             r#"{"beneficiary":7,"operation":{"account":101,"branch":1,"delta":-500,"procedure":"post","teller":11}}"#,
         ),
-        told: ("200 OK", r#"{"beneficiary":7,"release":1}"#),
+        due: ("200 OK", r#"{"beneficiary":7,"release":1}"#),
     },
 ];
 
@@ -63,7 +63,7 @@ pub const TRANSFER: [Exchange; 1] = [Exchange {
         "/do/transfer",
         r#"{"amount":20000,"branch":1,"source":101,"target":102,"teller":12}"#,
     ),
-    told: (
+    due: (
         "200 OK",
         r#"{"branch":1,"first":1,"second":2,"source":30000,"target":20000}"#,
     ),
@@ -72,12 +72,12 @@ pub const TRANSFER: [Exchange; 1] = [Exchange {
 /// A post above the limit of Tom.
 const ABOVE: &str = r#"{"account":101,"branch":1,"delta":60000,"teller":12}"#;
 
-/// That post, the release that Sue gives him for it, the post again, and once more.
+/// That post, the release that Sue gives Tom for it, the post again, and once more.
 pub const RELEASED: [Exchange; 4] = [
     Exchange {
         slip: None,
         asked: ("tom", None, "/do/post", ABOVE),
-        told: ("403 Forbidden", r#"{"name":"limit","rule":4}"#),
+        due: ("403 Forbidden", r#"{"name":"limit","rule":4}"#),
     },
     Exchange {
         slip: None,
@@ -87,22 +87,22 @@ pub const RELEASED: [Exchange; 4] = [
             "/do/release",
             r#"{"beneficiary":8,"operation":{"account":101,"branch":1,"delta":60000,"procedure":"post","teller":12}}"#,
         ),
-        told: ("200 OK", r#"{"beneficiary":8,"release":1}"#),
+        due: ("200 OK", r#"{"beneficiary":8,"release":1}"#),
     },
     Exchange {
         slip: None,
         asked: ("tom", Some(1), "/do/post", ABOVE),
-        told: ("200 OK", r#"{"balance":110000,"branch":1,"entry":1}"#),
+        due: ("200 OK", r#"{"balance":110000,"branch":1,"entry":1}"#),
     },
     Exchange {
         slip: None,
         asked: ("tom", Some(1), "/do/post", ABOVE),
-        told: ("403 Forbidden", r#"{"name":"release","rule":5}"#),
+        due: ("403 Forbidden", r#"{"name":"release","rule":5}"#),
     },
 ];
 
-/// A post, a transfer, a release and the post that uses it up, and a drawer that is put off, each with a slip of who asks. Slips
-/// of several users have one number.
+/// A post, a transfer, a release and the post that uses it up, and a drawer that is put off, each with a slip of who asks.
+/// Slips of several users have one number.
 pub const SLIPPED: [Exchange; 5] = [
     Exchange {
         slip: Some(1),
@@ -116,7 +116,7 @@ pub const SLIPPED: [Exchange; 5] = [
             "/do/transfer",
             r#"{"amount":20000,"branch":1,"source":101,"target":102,"teller":12}"#,
         ),
-        told: (
+        due: (
             "200 OK",
             r#"{"branch":1,"first":2,"second":3,"source":32500,"target":20000}"#,
         ),
@@ -129,12 +129,12 @@ pub const SLIPPED: [Exchange; 5] = [
             "/do/release",
             r#"{"beneficiary":8,"operation":{"account":101,"branch":1,"delta":60000,"procedure":"post","teller":12}}"#,
         ),
-        told: ("200 OK", r#"{"beneficiary":8,"release":1}"#),
+        due: ("200 OK", r#"{"beneficiary":8,"release":1}"#),
     },
     Exchange {
         slip: Some(2),
         asked: ("tom", Some(1), "/do/post", ABOVE),
-        told: ("200 OK", r#"{"balance":92500,"branch":1,"entry":4}"#),
+        due: ("200 OK", r#"{"balance":92500,"branch":1,"entry":4}"#),
     },
     Exchange {
         slip: Some(2),
@@ -144,7 +144,7 @@ pub const SLIPPED: [Exchange; 5] = [
             "/do/drawer-off",
             r#"{"branch":1,"counted":42500,"teller":11}"#,
         ),
-        told: ("200 OK", r#"{"difference":0,"teller":11,"vault":97500}"#),
+        due: ("200 OK", r#"{"difference":0,"teller":11,"vault":97500}"#),
     },
 ];
 
@@ -158,12 +158,12 @@ pub const CLOSING: [Exchange; 4] = [
             "/do/drawer-off",
             r#"{"branch":1,"counted":4900,"teller":12}"#,
         ),
-        told: ("200 OK", r#"{"difference":-100,"teller":12,"vault":59900}"#),
+        due: ("200 OK", r#"{"difference":-100,"teller":12,"vault":59900}"#),
     },
     Exchange {
         slip: None,
         asked: ("sue", None, "/do/close-day", r#"{"branch":1}"#),
-        told: ("409 Conflict", r#"{"name":"day","rule":15}"#),
+        due: ("409 Conflict", r#"{"name":"day","rule":15}"#),
     },
     Exchange {
         slip: None,
@@ -173,37 +173,37 @@ pub const CLOSING: [Exchange; 4] = [
             "/do/drawer-off",
             r#"{"branch":1,"counted":40000,"teller":11}"#,
         ),
-        told: ("200 OK", r#"{"difference":0,"teller":11,"vault":99900}"#),
+        due: ("200 OK", r#"{"difference":0,"teller":11,"vault":99900}"#),
     },
     Exchange {
         slip: None,
         asked: ("sue", None, "/do/close-day", r#"{"branch":1}"#),
-        told: (
+        due: (
             "200 OK",
             r#"{"balance":60000,"cash":99900,"closed":1,"entries":0}"#,
         ),
     },
 ];
 
-/// The denial of one who has no open session of that number.
-const UNKNOWN: Told = ("403 Forbidden", r#"{"name":"identity","rule":1}"#);
+/// The denial of a user who has no open session of that number.
+const UNKNOWN: Due = ("403 Forbidden", r#"{"name":"identity","rule":1}"#);
 
 /// Olga suspends Tess, who may then ask for nothing, and restores her.
 pub const COMMANDS: [Exchange; 3] = [
     Exchange {
         slip: None,
         asked: ("olga", None, "/policy/suspend", r#"{"user":7}"#),
-        told: ("200 OK", r#"{"done":"suspend"}"#),
+        due: ("200 OK", r#"{"done":"suspend"}"#),
     },
     Exchange {
         slip: None,
         asked: ("tess", None, "/do/balance", r#"{"account":101}"#),
-        told: UNKNOWN,
+        due: UNKNOWN,
     },
     Exchange {
         slip: None,
         asked: ("olga", None, "/policy/restore", r#"{"user":7}"#),
-        told: ("200 OK", r#"{"done":"restore"}"#),
+        due: ("200 OK", r#"{"done":"restore"}"#),
     },
 ];
 
@@ -212,12 +212,12 @@ pub const OPENING: [Exchange; 2] = [
     Exchange {
         slip: None,
         asked: ("tess", None, "/session", ""),
-        told: ("200 OK", r#"{"session":2}"#),
+        due: ("200 OK", r#"{"session":2}"#),
     },
     Exchange {
         slip: None,
         asked: ("tess", None, "/do/balance", r#"{"account":101}"#),
-        told: UNKNOWN,
+        due: UNKNOWN,
     },
 ];
 
@@ -226,20 +226,20 @@ pub const ENDING: [Exchange; 2] = [
     Exchange {
         slip: None,
         asked: ("tess", None, "/end", ""),
-        told: ("200 OK", r#"{"ended":1}"#),
+        due: ("200 OK", r#"{"ended":1}"#),
     },
     Exchange {
         slip: None,
         asked: ("tess", None, "/do/balance", r#"{"account":101}"#),
-        told: UNKNOWN,
+        due: UNKNOWN,
     },
 ];
 
 /// The reply to a request at which the disk failed.
-pub const FAILED: Told = ("503 Service Unavailable", r#"{"fault":"F3"}"#);
+pub const FAILED: Due = ("503 Service Unavailable", r#"{"fault":"F3"}"#);
 
 /// The reply to each later request.
-pub const STOPPED: Told = ("503 Service Unavailable", r#"{"fault":"F4"}"#);
+pub const STOPPED: Due = ("503 Service Unavailable", r#"{"fault":"F4"}"#);
 
 /// The field of a number with its line end, or nothing where there is none.
 fn field(rt: &impl Runtime, name: &str, number: Option<u32>) -> String {
@@ -262,8 +262,8 @@ fn request_of(rt: &impl Runtime, exchange: &Exchange) -> String {
 }
 
 /// Whether these bytes are that reply.
-pub fn is_reply(rt: &impl Runtime, bytes: &[u8], told: Told) -> bool {
-    let (status, body) = told;
+pub fn is_reply(rt: &impl Runtime, bytes: &[u8], due: Due) -> bool {
+    let (status, body) = due;
     bytes == reply_bytes(rt, status, "application/json", body).as_slice()
 }
 

@@ -12,6 +12,6 @@ mod retrying;
 #[cfg(test)]
 mod serving;
 #[cfg(test)]
-mod tales;
+mod snapshots;
 #[cfg(test)]
 mod upgrading;

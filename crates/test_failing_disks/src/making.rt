@@ -1,12 +1,12 @@
 //! A bank that is made on a disk that fails at some call, and one that is looked for there.
 
-use crate::tales::{tale_of, told_anew};
+use crate::snapshots::{reopened_snapshot, snapshot_once};
 use money::Fault;
 use sql_adopt::AdoptFault;
 use std::process::Abort;
 use test_counter::Runtime;
 use test_disks::{
-    Deed, Failers, Failing, Frail, Held, Outcome, Tale, closed_by, done_with, failing_files,
+    Deed, Failers, Failing, Frail, Held, Outcome, Snapshot, closed_by, done_with, failing_files,
     left_by, let_go, nothing, open_frail, reopened, seen,
 };
 
@@ -28,7 +28,7 @@ fn is_done(rt: &impl Abort, outcome: Outcome) -> bool {
     }
 }
 
-/// What files hold behind the making of the sample bank. It is in the log, and was not copied into the database file.
+/// What files hold after the sample bank was made there. It is in the log, and was not copied into the database file.
 fn made_over(rt: &impl Runtime, held: &Held) -> Held {
     let (was_made, files) = tried(rt, reopened(rt, held), Deed::Make);
     assert!(rt; was_made);
@@ -61,26 +61,26 @@ fn find_in(rt: &impl Runtime, files: Failers) -> (Option<bool>, Failers) {
 }
 
 /// Asks that files hold the whole bank, or none and then one can be made there, and answers which of these.
-fn is_there(rt: &impl Runtime, held: &Held, whole: &Tale) -> bool {
-    match told_anew(rt, held) {
-        Ok(tale) => {
-            assert!(rt; tale == *whole);
+fn is_there(rt: &impl Runtime, held: &Held, whole: &Snapshot) -> bool {
+    match reopened_snapshot(rt, held) {
+        Ok(snapshot) => {
+            assert!(rt; snapshot == *whole);
             true
         }
         Err(fault) => {
             assert!(rt; fault == AdoptFault::NotABank);
-            assert!(rt; told_anew(rt, &made_over(rt, held)).expect(rt, "a bank") == *whole);
+            assert!(rt; reopened_snapshot(rt, &made_over(rt, held)).expect(rt, "a bank") == *whole);
             false
         }
     }
 }
 
 /// Makes the bank on a disk that fails at its first call, then on one that fails at its second, and so on until one has
-/// not failed. A bank that was told to be made is there. Answers how often no bank was there, and how often one was of
-/// which it was told that the disk had failed.
-fn make_at_each_call(rt: &impl Runtime, which: Failing, whole: &Tale) -> (u32, u32) {
+/// not failed. Where this returned that the bank was made, it is there. Answers how often no bank was there, and how often
+/// one was there though the disk's fault was returned.
+fn make_at_each_call(rt: &impl Runtime, which: Failing, whole: &Snapshot) -> (u32, u32) {
     let mut absent = 0u32;
-    let mut untold = 0u32;
+    let mut unreported = 0u32;
     for calls in 0..10_000u64 {
         let files = failing_files(rt, &nothing(rt), which, calls);
         let (was_made, files) = make_in(rt, files);
@@ -89,11 +89,11 @@ fn make_at_each_call(rt: &impl Runtime, which: Failing, whole: &Tale) -> (u32, u
             let there = is_there(rt, held, whole);
             assert!(rt; there || !was_made);
             absent = absent.saturating_add(u32::from(!there));
-            untold = untold.saturating_add(u32::from(there && !was_made));
+            unreported = unreported.saturating_add(u32::from(there && !was_made));
         }
         if !left.failed {
             assert!(rt; was_made);
-            return (absent, untold);
+            return (absent, unreported);
         }
     }
     panic!(rt; "a disk that has not failed");
@@ -101,24 +101,24 @@ fn make_at_each_call(rt: &impl Runtime, which: Failing, whole: &Tale) -> (u32, u
 
 #[test]
 fn a_bank_is_made_whole_or_not(rt: HostRuntime) {
-    let whole = told_anew(&rt, &sample_held(&rt)).expect(&rt, "a bank");
-    let (absent, untold) = make_at_each_call(&rt, Failing::Log, &whole);
-    assert!(rt; absent > 0 && untold > 0);
+    let whole = reopened_snapshot(&rt, &sample_held(&rt)).expect(&rt, "a bank");
+    let (absent, unreported) = make_at_each_call(&rt, Failing::Log, &whole);
+    assert!(rt; absent > 0 && unreported > 0);
     let (absent, _) = make_at_each_call(&rt, Failing::Database, &whole);
     assert!(rt; absent > 0);
 }
 
 /// Looks for the bank on a disk that fails at its first call, then on one that fails at its second, and so on until one
-/// has not failed. Nothing is changed. Answers how often the disk failed behind the opening of the files.
-fn find_at_each_call(rt: &impl Runtime, held: &Held, which: Failing, whole: &Tale) -> u32 {
+/// has not failed. Nothing is changed. Answers how often the disk failed once the files were open.
+fn find_at_each_call(rt: &impl Runtime, held: &Held, which: Failing, whole: &Snapshot) -> u32 {
     let mut seen = Vec::new(rt.alloc());
     let mut refused = 0u32;
     for calls in 0..10_000u64 {
         let files = failing_files(rt, held, which, calls);
         let (was_found, files) = find_in(rt, files);
         let left = left_by(rt, files);
-        assert!(rt; tale_of(rt, &mut seen, left.written) == whole);
-        assert!(rt; tale_of(rt, &mut seen, left.synced) == whole);
+        assert!(rt; snapshot_once(rt, &mut seen, left.written) == whole);
+        assert!(rt; snapshot_once(rt, &mut seen, left.synced) == whole);
         refused = refused.saturating_add(u32::from(was_found == Some(false)));
         if !left.failed {
             assert!(rt; was_found == Some(true));
@@ -131,7 +131,7 @@ fn find_at_each_call(rt: &impl Runtime, held: &Held, which: Failing, whole: &Tal
 #[test]
 fn a_bank_is_found_or_left_as_it_is(rt: HostRuntime) {
     let held = sample_held(&rt);
-    let whole = told_anew(&rt, &held).expect(&rt, "a bank");
+    let whole = reopened_snapshot(&rt, &held).expect(&rt, "a bank");
     assert!(rt; find_at_each_call(&rt, &held, Failing::Log, &whole) > 0);
     let closed = closed_by(&rt, reopened(&rt, &held));
     assert!(rt; find_at_each_call(&rt, &closed, Failing::Database, &whole) > 0);

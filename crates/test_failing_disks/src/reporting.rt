@@ -1,19 +1,23 @@
-//! Reports over a bank whose disk fails at some call. Each is answered whole, or by the fault, or breaks behind its head;
+//! Reports over a bank whose disk fails at some call. Each is answered whole, or by the fault, or breaks after its head;
 //! and the bank is the one before.
 
 use crate::making::sample_held;
-use crate::tales::tale_of;
+use crate::snapshots::snapshot_once;
 use test_counter::{ASKS_LISTING, ASKS_PROOF, ASKS_STATEMENT, Runtime, listed_bank};
 use test_disks::{
-    Act, Asked, Deed, Ending, Failers, Failing, Frail, Held, Outcome, Tale, done_with,
-    failing_files, left_by, let_go, open_forgetful, reopened, run, seen, told, work, worked_files,
+    Act, Asked, Deed, Ending, Failers, Failing, Frail, Held, Outcome, Snapshot, done_with,
+    failing_files, left_by, let_go, open_forgetful, reopened, run, seen, snapshot_of, work,
+    worked_files,
 };
 
-/// What the worked bank in lists answers to a message, and what it tells of itself.
-fn listed(rt: &impl Runtime, message: &[u8]) -> (Vec<u8>, Tale) {
+/// What the worked bank in lists answers to a message, and its snapshot.
+fn listed(rt: &impl Runtime, message: &[u8]) -> (Vec<u8>, Snapshot) {
     let mut bank = listed_bank(rt);
     work(rt, &mut bank);
-    (run(rt, &mut bank, message).bytes, told(rt, &mut bank.store))
+    (
+        run(rt, &mut bank, message).bytes,
+        snapshot_of(rt, &mut bank.store),
+    )
 }
 
 /// What files hold whose worked bank is in the log, and was not copied into the database file.
@@ -57,7 +61,7 @@ fn asked(rt: &impl Runtime, conn: Frail, asked: Asked<'_>) -> (Ending, Failers) 
     }
 }
 
-/// Asks for a report with a disk that fails at its first call behind those by which the files are opened, then with one
+/// Asks for a report with a disk that fails at its first call after those by which the files are opened, then with one
 /// that fails at its second, and so on until one has not failed.
 fn fail_each_call(rt: &impl Runtime, message: &'static [u8], which: Failing) -> Ends {
     let held = held_in(rt, which);
@@ -77,8 +81,8 @@ fn fail_each_call(rt: &impl Runtime, message: &'static [u8], which: Failing) -> 
         };
         let (ending, files) = asked(rt, conn, due);
         let left = left_by(rt, files);
-        assert!(rt; *tale_of(rt, &mut seen, left.written) == before);
-        assert!(rt; *tale_of(rt, &mut seen, left.synced) == before);
+        assert!(rt; *snapshot_once(rt, &mut seen, left.written) == before);
+        assert!(rt; *snapshot_once(rt, &mut seen, left.synced) == before);
         ends.count(ending);
         if !left.failed {
             assert!(rt; ending == Ending::Whole);
@@ -98,17 +102,17 @@ fn fail_both(rt: &impl Runtime, message: &'static [u8]) -> u32 {
 }
 
 #[test]
-fn a_statement_is_told_or_breaks(rt: HostRuntime) {
+fn a_statement_is_written_or_breaks(rt: HostRuntime) {
     assert!(rt; fail_both(&rt, ASKS_STATEMENT) > 0);
 }
 
-/// The rows behind its head are on one page, which was read last and is still in memory.
+/// The rows after its head are on one page, which was read last and is still in memory.
 #[test]
-fn a_proof_is_told_or_refused(rt: HostRuntime) {
+fn a_proof_is_written_or_refused(rt: HostRuntime) {
     let _ = fail_both(&rt, ASKS_PROOF);
 }
 
 #[test]
-fn a_listing_is_told_or_breaks(rt: HostRuntime) {
+fn a_listing_is_written_or_breaks(rt: HostRuntime) {
     assert!(rt; fail_both(&rt, ASKS_LISTING) > 0);
 }

@@ -3,18 +3,18 @@
 
 use crate::making::sample_held;
 use crate::serving::{count_of, served};
-use crate::tales::told_anew;
+use crate::snapshots::reopened_snapshot;
 use test_counter::{Runtime, listed_bank};
 use test_disks::{
-    Act, Deed, Exchange, Failing, Held, SLIPPED, Tale, answered, done_in, failing_files, left_by,
-    open_frail, told,
+    Act, Deed, Exchange, Failing, Held, SLIPPED, Snapshot, answered, done_in, failing_files,
+    left_by, open_frail, snapshot_of,
 };
 
-/// What the sample bank in lists tells behind these requests.
-fn whole_tale(rt: &impl Runtime, stream: &[Exchange]) -> Tale {
+/// The snapshot of the sample bank in lists after these requests.
+fn whole_snapshot(rt: &impl Runtime, stream: &[Exchange]) -> Snapshot {
     let mut bank = listed_bank(rt);
     assert!(rt; answered(rt, &mut bank, stream) == stream.len());
-    told(rt, &mut bank.store)
+    snapshot_of(rt, &mut bank.store)
 }
 
 /// Sends these requests to the bank of these files, opened anew. Each has to get its reply. Answers what the files hold then.
@@ -34,7 +34,7 @@ fn is_whole(
     seen: &mut Seen,
     held: Held,
     rest: &[Exchange],
-    whole: &Tale,
+    whole: &Snapshot,
 ) -> bool {
     for (it, count) in seen.iter() {
         if *it == held && *count == rest.len() {
@@ -43,7 +43,7 @@ fn is_whole(
     }
     let after = sent_again(rt, &held, rest);
     assert!(rt;
-        told_anew(rt, &after).expect(rt, "a bank") == *whole,
+        reopened_snapshot(rt, &after).expect(rt, "a bank") == *whole,
         "{} again",
         rest.len()
     );
@@ -51,12 +51,12 @@ fn is_whole(
     true
 }
 
-/// Serves the requests with a disk that fails at its first call behind those by which the files are opened, then with one that
+/// Serves the requests with a disk that fails at its first call after those by which the files are opened, then with one that
 /// fails at its second, and so on until one has not failed; and sends those again that were not answered. Answers how many
 /// banks were looked at.
 fn retry_at_each_call(rt: &impl Runtime, which: Failing, stream: &[Exchange]) -> u32 {
     let held = sample_held(rt);
-    let whole = whole_tale(rt, stream);
+    let whole = whole_snapshot(rt, stream);
     let mut seen = Vec::new(rt.alloc());
     let mut banks = 0u32;
     for calls in 0..10_000u64 {
@@ -78,7 +78,7 @@ fn retry_at_each_call(rt: &impl Runtime, which: Failing, stream: &[Exchange]) ->
     panic!(rt; "a disk that has not failed");
 }
 
-/// Behind each of the requests but the last, the disk has failed both before the next was committed and behind that.
+/// After each of the requests but the last, the disk has failed both before the next was committed and after that.
 #[test]
 fn what_is_sent_again_acts_once_as_the_log_fails(rt: HostRuntime) {
     let banks = retry_at_each_call(&rt, Failing::Log, &SLIPPED);
@@ -96,8 +96,8 @@ fn what_is_sent_again_acts_once_as_the_file_fails(rt: HostRuntime) {
 fn what_is_sent_twice_acts_once(rt: HostRuntime) {
     let once = sent_again(&rt, &sample_held(&rt), &SLIPPED);
     let twice = sent_again(&rt, &once, &SLIPPED);
-    let whole = whole_tale(&rt, &SLIPPED);
+    let whole = whole_snapshot(&rt, &SLIPPED);
     for held in [&once, &twice] {
-        assert!(rt; told_anew(&rt, held).expect(&rt, "a bank") == whole);
+        assert!(rt; reopened_snapshot(&rt, held).expect(&rt, "a bank") == whole);
     }
 }

@@ -1,60 +1,64 @@
-//! Requests over a bank whose disk fails at some call. Each is answered by its reply until the disk fails, which is told
-//! once; from then on the bank is stopped. Opened again, the bank is the one before the request at which the disk
-//! failed, or the one behind it.
+//! Requests over a bank whose disk fails at some call. Each is answered by its reply until the disk fails, which is
+//! reported once; from then on the bank is stopped. Opened again, the bank is the one before the request at which the
+//! disk failed, or the one after it.
 
 use crate::making::sample_held;
-use crate::tales::tale_of;
+use crate::snapshots::snapshot_once;
 use std::process::Abort;
 use store_rows::{Bank, Store};
 use test_counter::{Runtime, listed_bank};
 use test_disks::{
     Act, CLOSING, COMMANDS, Deed, ENDING, Exchange, Failers, Failing, Frail, Held, OPENING,
-    Outcome, POST, RELEASED, TRANSFER, Tale, done_with, failing_files, is_reply, left_by, let_go,
-    open_frail, reply, told,
+    Outcome, POST, RELEASED, Snapshot, TRANSFER, done_with, failing_files, is_reply, left_by,
+    let_go, open_frail, reply, snapshot_of,
 };
 
-/// How often the bank was found that was there before the request at which the disk failed, and how often the one
-/// behind it; and what was looked at for that, by the files.
+/// How often the bank from before the request at which the disk failed was found, and how often the one after it; and the
+/// snapshots that were taken for that, by the files.
 #[derive(Drop)]
 struct Found {
     before: u32,
-    behind: u32,
-    seen: Vec<(Held, Tale)>,
+    after: u32,
+    seen: Vec<(Held, Snapshot)>,
 }
 
-/// What a bank tells before these requests, and behind each of them. It answers them as is due.
-fn states_of<S: Store>(rt: &impl Runtime, bank: &mut Bank<S>, stream: &[Exchange]) -> Vec<Tale> {
+/// The snapshots of a bank before these requests and after each of them. It answers them as is due.
+fn states_of<S: Store>(
+    rt: &impl Runtime,
+    bank: &mut Bank<S>,
+    stream: &[Exchange],
+) -> Vec<Snapshot> {
     let mut states = Vec::new(rt.alloc());
-    push(rt, &mut states, told(rt, &mut bank.store));
+    push(rt, &mut states, snapshot_of(rt, &mut bank.store));
     for exchange in stream {
         let answer = reply(rt, bank, exchange);
-        assert!(rt; is_reply(rt, answer.as_slice(), exchange.told));
-        push(rt, &mut states, told(rt, &mut bank.store));
+        assert!(rt; is_reply(rt, answer.as_slice(), exchange.due));
+        push(rt, &mut states, snapshot_of(rt, &mut bank.store));
     }
     states
 }
 
-/// What the sample bank tells so, in lists.
-fn listed_states(rt: &impl Runtime, stream: &[Exchange]) -> Vec<Tale> {
+/// Those snapshots of the sample bank in lists.
+fn listed_states(rt: &impl Runtime, stream: &[Exchange]) -> Vec<Snapshot> {
     states_of(rt, &mut listed_bank(rt), stream)
 }
 
-fn push(rt: &impl Abort, states: &mut Vec<Tale>, state: Tale) {
+fn push(rt: &impl Abort, states: &mut Vec<Snapshot>, state: Snapshot) {
     assert!(rt; states.push(state).is_ok());
 }
 
 /// Asks that the files hold the bank of that state or of the next, and counts which it is where they differ.
-fn check(rt: &impl Runtime, held: Held, states: &[Tale], count: usize, found: &mut Found) {
-    let tale = tale_of(rt, &mut found.seen, held);
+fn check(rt: &impl Runtime, held: Held, states: &[Snapshot], count: usize, found: &mut Found) {
+    let snapshot = snapshot_once(rt, &mut found.seen, held);
     let before = states.get(count).expect(rt, "a state");
-    let behind = states.get(count.saturating_add(1)).unwrap_or(before);
-    if tale == before {
-        if before != behind {
+    let after = states.get(count.saturating_add(1)).unwrap_or(before);
+    if snapshot == before {
+        if before != after {
             found.before = found.before.saturating_add(1);
         }
     } else {
-        assert!(rt; tale == behind);
-        found.behind = found.behind.saturating_add(1);
+        assert!(rt; snapshot == after);
+        found.after = found.after.saturating_add(1);
     }
 }
 
@@ -72,7 +76,7 @@ pub fn count_of(rt: &impl Abort, outcome: Outcome) -> usize {
     }
 }
 
-/// Serves requests over the sample bank with a disk that fails at its first call behind those by which the files are
+/// Serves requests over the sample bank with a disk that fails at its first call after those by which the files are
 /// opened, then over one that fails at its second, and so on until one has not failed. Answers at how many it failed.
 fn fail_each_call(
     rt: &impl Runtime,
@@ -101,15 +105,15 @@ fn fail_each_call(
     panic!(rt; "a disk that has not failed");
 }
 
-/// Asks that the disk failed, and that behind that the bank was found as it was before a request, and as behind one.
+/// Asks that the disk failed, and that the bank was found afterwards both as it was before a request and as it is after one.
 fn fail_both(rt: &impl Runtime, stream: &[Exchange]) {
     let mut found = Found {
         before: 0,
-        behind: 0,
+        after: 0,
         seen: Vec::new(rt.alloc()),
     };
     assert!(rt; fail_each_call(rt, stream, Failing::Log, &mut found) > 0);
-    assert!(rt; found.before > 0 && found.behind > 0);
+    assert!(rt; found.before > 0 && found.after > 0);
     assert!(rt; fail_each_call(rt, stream, Failing::Database, &mut found) > 0);
 }
 

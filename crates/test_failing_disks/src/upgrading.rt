@@ -1,20 +1,20 @@
-//! A bank of an older edition that is carried over on a disk which fails at some call. It is there whole in the tables of
-//! that edition, from which it can be carried over, or in those of the newest.
+//! A bank of an older schema version that is carried over on a disk which fails at some call. It is there whole in the
+//! tables of that version, from which it can be carried over, or in those of the newest.
 
-use crate::tales::told_anew;
+use crate::snapshots::reopened_snapshot;
 use money::Fault;
 use sql_adopt::AdoptFault;
 use test_counter::{Runtime, listed_bank};
 use test_disks::{
-    Deed, Failers, Failing, Frail, Held, Outcome, Tale, done_in, done_with, failing_files,
-    first_files, left_by, let_go, open_frail, second_files, told, work, worked_files,
+    Deed, Failers, Failing, Frail, Held, Outcome, Snapshot, done_in, done_with, failing_files,
+    first_files, left_by, let_go, open_frail, second_files, snapshot_of, work, worked_files,
 };
 
-/// What the worked bank tells of itself in lists.
-fn worked_tale(rt: &impl Runtime) -> Tale {
+/// The snapshot of the worked bank in lists.
+fn worked_snapshot(rt: &impl Runtime) -> Snapshot {
     let mut bank = listed_bank(rt);
     work(rt, &mut bank);
-    told(rt, &mut bank.store)
+    snapshot_of(rt, &mut bank.store)
 }
 
 /// Whether the bank was carried over. It is the disk's fault where it was not.
@@ -34,29 +34,29 @@ fn carried(rt: &impl Runtime, conn: Frail) -> (bool, Failers) {
     (is_carried(rt, outcome), let_go(conn))
 }
 
-/// Whether files hold this bank in the newest edition. Where they do not, they hold it in an older one, from which it is
-/// carried over.
-fn is_newest(rt: &impl Runtime, held: &Held, whole: &Tale) -> bool {
-    match told_anew(rt, held) {
-        Ok(tale) => {
-            assert!(rt; tale == *whole);
+/// Whether files hold this bank in the newest schema version. Where they do not, they hold it in an older one, from which
+/// it is carried over.
+fn is_newest(rt: &impl Runtime, held: &Held, whole: &Snapshot) -> bool {
+    match reopened_snapshot(rt, held) {
+        Ok(snapshot) => {
+            assert!(rt; snapshot == *whole);
             true
         }
         Err(fault) => {
             assert!(rt; fault == AdoptFault::Version);
             let (outcome, after) = done_in(rt, held, Deed::Upgrade);
             assert!(rt; is_carried(rt, outcome));
-            assert!(rt; told_anew(rt, &after).expect(rt, "a bank") == *whole);
+            assert!(rt; reopened_snapshot(rt, &after).expect(rt, "a bank") == *whole);
             false
         }
     }
 }
 
-/// Files that were looked at, and whether they hold the newest edition.
+/// Files that were looked at, and whether they hold the newest schema version.
 type Seen = Vec<(Held, bool)>;
 
 /// The same of files of which those that hold the same are looked at once.
-fn is_newest_once(rt: &impl Runtime, seen: &mut Seen, held: Held, whole: &Tale) -> bool {
+fn is_newest_once(rt: &impl Runtime, seen: &mut Seen, held: Held, whole: &Snapshot) -> bool {
     for (it, answer) in seen.iter() {
         if *it == held {
             return *answer;
@@ -67,22 +67,23 @@ fn is_newest_once(rt: &impl Runtime, seen: &mut Seen, held: Held, whole: &Tale) 
     answer
 }
 
-/// How often the older edition was found behind a crash, and how often the newest of which it was told that the disk had
-/// failed.
+/// How often the older schema version was found after a crash, and how often the newest though the disk's fault was
+/// returned.
 #[derive(Clone, Copy, Debug)]
 struct Found {
     older: u32,
-    untold: u32,
+    unreported: u32,
 }
 
-/// Carries the worked bank of these files over on a disk that fails at its first call behind those by which the files are opened, then on one that
-/// fails at its second, and so on until one has not failed. A bank that was told to be carried over is.
+/// Carries the worked bank of these files over on a disk that fails at its first call after those by which the files are
+/// opened, then on one that fails at its second, and so on until one has not failed. Where this returned that the bank was
+/// carried over, it is.
 fn carry_at_each_call(rt: &impl Runtime, held: &Held, which: Failing) -> Found {
-    let whole = worked_tale(rt);
+    let whole = worked_snapshot(rt);
     let mut seen = Vec::new(rt.alloc());
     let mut found = Found {
         older: 0,
-        untold: 0,
+        unreported: 0,
     };
     for calls in 0..10_000u64 {
         let Ok(conn) = open_frail(rt, failing_files(rt, held, which, calls)) else {
@@ -94,8 +95,8 @@ fn carry_at_each_call(rt: &impl Runtime, held: &Held, which: Failing) -> Found {
             let newest = is_newest_once(rt, &mut seen, it, &whole);
             assert!(rt; newest || !was_carried);
             found.older = found.older.saturating_add(u32::from(!newest));
-            found.untold = found
-                .untold
+            found.unreported = found
+                .unreported
                 .saturating_add(u32::from(newest && !was_carried));
         }
         if !left.failed {
@@ -109,22 +110,22 @@ fn carry_at_each_call(rt: &impl Runtime, held: &Held, which: Failing) -> Found {
 /// Asks that the worked bank of these files is carried over whole or not, whichever of the two files fails.
 fn carry_over_both(rt: &impl Runtime, held: &Held) {
     let found = carry_at_each_call(rt, held, Failing::Log);
-    assert!(rt; found.older > 0 && found.untold > 0);
+    assert!(rt; found.older > 0 && found.unreported > 0);
     let found = carry_at_each_call(rt, held, Failing::Database);
     assert!(rt; found.older > 0);
 }
 
 #[test]
-fn a_bank_of_the_first_edition_is_carried_over_whole_or_not(rt: HostRuntime) {
+fn a_bank_of_the_first_version_is_carried_over_whole_or_not(rt: HostRuntime) {
     carry_over_both(&rt, &first_files(&rt));
 }
 
 #[test]
-fn a_bank_of_the_second_edition_is_carried_over_whole_or_not(rt: HostRuntime) {
+fn a_bank_of_the_second_version_is_carried_over_whole_or_not(rt: HostRuntime) {
     carry_over_both(&rt, &second_files(&rt));
 }
 
-/// Has a triple of Tess's count from moment 800 to 900.
+/// Makes a triple of Tess's valid from moment 800 to 900.
 const DURING: &str =
     "UPDATE grants SET first_at = 800, last_at = 900 WHERE user_no = 7 AND procedure = 11";
 
@@ -135,16 +136,16 @@ fn carried_files(rt: &impl Runtime, held: &Held) -> Held {
     after
 }
 
-/// What the bank of these files tells.
-fn tale(rt: &impl Runtime, held: &Held) -> Tale {
-    told_anew(rt, held).expect(rt, "a bank")
+/// The snapshot of the bank in these files, which can be adopted.
+fn found_snapshot(rt: &impl Runtime, held: &Held) -> Snapshot {
+    reopened_snapshot(rt, held).expect(rt, "a bank")
 }
 
 #[test]
-fn moments_of_the_second_edition_are_carried_over(rt: HostRuntime) {
+fn moments_of_the_second_version_are_carried_over(rt: HostRuntime) {
     let (_, second) = done_in(&rt, &second_files(&rt), Deed::Change(DURING));
     let (_, newest) = done_in(&rt, &worked_files(&rt), Deed::Change(DURING));
-    let told = tale(&rt, &carried_files(&rt, &second));
-    assert!(rt; told == tale(&rt, &newest));
-    assert!(rt; told != worked_tale(&rt));
+    let upgraded = found_snapshot(&rt, &carried_files(&rt, &second));
+    assert!(rt; upgraded == found_snapshot(&rt, &newest));
+    assert!(rt; upgraded != worked_snapshot(&rt));
 }

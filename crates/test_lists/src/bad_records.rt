@@ -78,7 +78,7 @@ fn a_wrong_heading_is_record_1(rt: HostRuntime) {
 }
 
 #[test]
-fn a_bad_record_behind_a_good_one_is_named(rt: HostRuntime) {
+fn a_bad_record_after_a_good_one_is_named(rt: HostRuntime) {
     for (place, text) in [
         "branch,balance,cash\n1,60000,100000\n2,20000x,50000\n3,x,0\n",
         "teller,branch,balance\n11,1,60000\n012,1,0\n",
@@ -172,10 +172,10 @@ fn what_is_printed_names_the_file_and_the_record(rt: HostRuntime) {
     .enumerate()
     {
         let fault = bad_row(place, 3).expect(&rt, "a fault");
-        let told = format!(in rt.alloc(); "{fault}").expect(&rt, "memory");
-        assert!(rt; told.as_str() == *due);
+        let printed = format!(in rt.alloc(); "{fault}").expect(&rt, "memory");
+        assert!(rt; printed.as_str() == *due);
     }
     let fault = ListFault::Memory;
-    let told = format!(in rt.alloc(); "{fault}").expect(&rt, "memory");
-    assert!(rt; told.as_str() == "memory");
+    let printed = format!(in rt.alloc(); "{fault}").expect(&rt, "memory");
+    assert!(rt; printed.as_str() == "memory");
 }

@@ -58,7 +58,7 @@ fn a_badge_has_64_bytes_at_most(rt: HostRuntime) -> Result<(), Fail> {
 #[test]
 fn what_is_printed_names_the_record(rt: HostRuntime) -> Result<(), Fail> {
     let (bad, memory) = (RecordFault::Bad(3), RecordFault::Memory);
-    let told = format!(in rt.alloc(); "{bad}; {memory}")?;
-    assert!(rt; told.as_str() == "record 3; memory");
+    let printed = format!(in rt.alloc(); "{bad}; {memory}")?;
+    assert!(rt; printed.as_str() == "record 3; memory");
     Ok(())
 }

@@ -1,5 +1,6 @@
-//! Opening lists and lists of badges. It holds tests alone: the lists of the folder sample/ and the World that they state,
-//! which record is named where one is bad, moments of triples, how comma-separated values may be written, and what is printed of a fault.
+//! Tests alone: opening lists and lists of badges. They show the World that the lists of the folder sample/
+//! state, which record is named where one is bad, the moments of triples, how comma-separated values may be
+//! written, and what is printed of a fault. Nothing here is proved or used by a program.
 #![tactic(auto)]
 
 #[cfg(test)]

@@ -52,7 +52,7 @@ fn moments_are_those_of_the_record(rt: HostRuntime) -> Result<(), Fail> {
 }
 
 #[test]
-fn without_moments_a_triple_counts_at_each(rt: HostRuntime) -> Result<(), Fail> {
+fn without_moments_a_triple_is_valid_at_each(rt: HostRuntime) -> Result<(), Fail> {
     let text = "user,procedure,set,limit\n7,post,2,50000\n";
     let triples = triples_of(rt.alloc(), text)?;
     assert!(rt; triples.as_slice() == [posts(0, 99_999_999_999)].as_slice());

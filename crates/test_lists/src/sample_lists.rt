@@ -1,4 +1,4 @@
-//! The lists of the folder sample/, byte for byte: `tools/sample-lists` compares them.
+//! The lists of the folder sample/, byte for byte: `tools/pages/sample-lists` compares them.
 
 pub(crate) const BRANCHES: &[u8] = b"\
 branch,balance,cash\n\

@@ -1,3 +1,5 @@
+//! Bodies of commands: which command each states, and bytes that state none.
+
 use bank_policy::{Certifier, ItemSet, Member, Name, RelationKey, Triple, TripleKey};
 use bank_terms::{Kind, MAX_MOMENT, Procedure};
 use bodies::read_command;
@@ -40,9 +42,9 @@ const ACCOUNT: Member = Member {
 /// The body states this command.
 fn states(rt: &(impl Abort + AllocGlobal), command: Command, body: &str, asked: PolicyOp) {
     let read = read_command(rt.alloc(), command, body.as_bytes()).expect(rt, "memory");
-    let told = format!(in rt.alloc(); "{read:?}").expect(rt, "memory");
+    let given = format!(in rt.alloc(); "{read:?}").expect(rt, "memory");
     let stated = format!(in rt.alloc(); "{:?}", Some(asked)).expect(rt, "memory");
-    assert!(rt; told == stated);
+    assert!(rt; given == stated);
 }
 
 #[test]

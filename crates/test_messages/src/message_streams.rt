@@ -41,7 +41,7 @@ impl Engine for Echo {
     }
 }
 
-/// Answers by the head of a reply alone, which tells of the longest body, or of none to HEAD.
+/// Answers by the head of a reply alone, which states the length of the longest body, or none to HEAD.
 #[derive(Drop)]
 struct Heads;
 
@@ -153,7 +153,7 @@ fn ends(rt: &(impl Abort + AllocGlobal), input: &[u8]) {
     assert!(rt; run.result == expected, "cut at {}", input.len());
 }
 
-/// Bytes behind which a message could begin or go on are cut, in one piece or in several.
+/// Bytes after which a message could begin or go on are cut, in one piece or in several.
 fn is_cut(rt: &(impl Abort + AllocGlobal), input: &[u8]) {
     for size in [1, 9216] {
         let run = serve(rt, input, size, 9, (0, 0));
@@ -215,7 +215,7 @@ fn flushes(rt: HostRuntime) {
 /// Two messages of 28 bytes each.
 const TWO_EQUAL: &[u8] = b"GET /a HTTP/1.1\r\nHost: x\r\n\r\nGET /b HTTP/1.1\r\nHost: x\r\n\r\n";
 
-/// None where a whole message is held, and none behind the last that is asked for.
+/// None where a whole message is held, and none after the last that is asked for.
 #[test]
 fn reads_that_may_wait(rt: HostRuntime) {
     for (size, most, reads) in [
@@ -231,7 +231,7 @@ fn reads_that_may_wait(rt: HostRuntime) {
 }
 
 #[test]
-fn no_read_behind_a_reply_that_ends_the_connection(rt: HostRuntime) {
+fn no_read_after_a_reply_that_ends_the_connection(rt: HostRuntime) {
     for last in [
         b"GET /a HTTP/1.0\r\n\r\n".as_slice(),
         b"GET /a HTTP/1.1\r\n\r\n".as_slice(),
@@ -242,7 +242,7 @@ fn no_read_behind_a_reply_that_ends_the_connection(rt: HostRuntime) {
 
 /// A reply is ten writes, and the flush follows.
 #[test]
-fn no_read_behind_a_flush_that_fails(rt: HostRuntime) {
+fn no_read_after_a_flush_that_fails(rt: HostRuntime) {
     let run = serve(&rt, TWO_EQUAL, 28, 9, (0, 11));
     assert!(rt; run.result == Err(ServeFault::Write));
     assert!(rt; run.reads == 1 && run.asked == 1);

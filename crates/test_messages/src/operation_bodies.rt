@@ -1,3 +1,5 @@
+//! Bodies of operations: which operation each states, and bytes that state none.
+
 use bank_terms::Procedure;
 use bodies::read_op;
 use counter_ops::{

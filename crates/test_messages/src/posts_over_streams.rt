@@ -188,7 +188,7 @@ fn break_each_call(rt: &impl Abort, alloc: Global, broken: Broken) {
 #[test]
 fn streams_that_fail_end_the_replies(rt: HostRuntime) {
     let alloc = rt.alloc();
-    // A call for each piece, and one for the end behind them.
+    // A call for each piece, and one for the end after them.
     let (piece, next) = TWO.split_at(POST_LEN + 9);
     for (call, posts) in [(1usize, 0u32), (2, 1), (3, 2)] {
         let run = served(

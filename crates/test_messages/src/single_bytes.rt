@@ -1,5 +1,5 @@
-//! Messages that come byte by byte: they are answered as in one piece, a fault is told behind the byte that shows it,
-//! and the processor works as long as they are.
+//! Messages that come byte by byte: they are answered as in one piece, a fault is reported after the byte that shows
+//! it, and the processor's time is in proportion to their length.
 use crate::message_streams::serve;
 use http_messages::Served;
 use std::process::Abort;
@@ -43,9 +43,9 @@ fn answered_as_in_one_piece(rt: HostRuntime) {
     }
 }
 
-/// No byte is read behind the line end that shows it.
+/// No byte is read after the line end that shows it.
 #[test]
-fn a_fault_is_told_where_its_line_ends(rt: HostRuntime) {
+fn a_fault_is_reported_where_its_line_ends(rt: HostRuntime) {
     for (input, reads) in [
         (b"hello\r\nGET /a HTTP/1.1\r\n".as_slice(), 7),
         (b"GET /a HTTP/1.1\nHost: x\nno field\n\n".as_slice(), 33),
@@ -59,7 +59,7 @@ fn a_fault_is_told_where_its_line_ends(rt: HostRuntime) {
 }
 
 #[test]
-fn a_head_that_is_too_long_is_told_at_the_longest(rt: HostRuntime) {
+fn a_head_that_is_too_long_is_reported_at_the_longest(rt: HostRuntime) {
     let run = serve(&rt, &head(&rt, 9_000, false), 1, 9, (0, 0));
     assert!(rt; run.result == Ok(Served { messages: 1 }) && run.asked == 0);
     assert!(rt; run.reads == 8192);
@@ -71,9 +71,9 @@ fn time_of(rt: &(impl Abort + AllocGlobal + CpuClock), message: &[u8]) -> Durati
     for _ in 0..5 {
         let before = rt.process_cpu_time().expect(rt, "the clock");
         let run = serve(rt, message, 1, 1, (0, 0));
-        let behind = rt.process_cpu_time().expect(rt, "the clock");
+        let after = rt.process_cpu_time().expect(rt, "the clock");
         assert!(rt; run.asked == 1);
-        least = least.min(behind.saturating_sub(before));
+        least = least.min(after.saturating_sub(before));
     }
     least
 }
@@ -88,8 +88,8 @@ fn a_long_head_takes_time_by_its_length(rt: HostRuntime) {
 
 /// The body is an eighth of the whole. It would be most of the time where each of its bytes had the head judged again.
 #[test]
-fn a_body_behind_a_long_head_takes_time_by_its_length(rt: HostRuntime) {
+fn a_body_after_a_long_head_takes_time_by_its_length(rt: HostRuntime) {
     let alone = time_of(&rt, &head(&rt, 8_000, false));
-    let behind = time_of(&rt, &message(&rt, 8_000));
-    assert!(rt; behind / 3 < alone);
+    let with_body = time_of(&rt, &message(&rt, 8_000));
+    assert!(rt; with_body / 3 < alone);
 }

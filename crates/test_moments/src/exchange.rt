@@ -3,7 +3,7 @@
 use store_rows::{Bank, Store};
 use test_counter::{Runtime, reply_at, reply_bytes};
 
-/// A request of a user in his first session, and its reply.
+/// A request of a user in their first session, and its reply.
 #[derive(Clone, Copy)]
 pub(crate) struct Exchange {
     moment: u64,
@@ -39,7 +39,7 @@ pub(crate) fn done(
 }
 
 impl Exchange {
-    /// The same, denied for who asks or what he may.
+    /// The same, denied for who asks or for what they may.
     pub(crate) fn denied(self) -> Exchange {
         Exchange {
             status: "403 Forbidden",

@@ -8,13 +8,13 @@ fn granted(body: &'static str) -> Exchange {
     done(700, "carl", "/policy/grant", body, r#"{"done":"grant"}"#)
 }
 
-/// Sue asks for the balance of account 101, and is told.
-fn balance_told(moment: u64) -> Exchange {
+/// Sue asks for the balance of account 101, which is returned.
+fn balance_returned(moment: u64) -> Exchange {
     let body = r#"{"account":101}"#;
     done(moment, "sue", "/do/balance", body, r#"{"balance":50000}"#)
 }
 
-/// Sue asks for it and has no triple that counts.
+/// Sue asks for it and has no valid triple.
 fn balance_denied(moment: u64) -> Exchange {
     let body = r#"{"account":101}"#;
     let rule = r#"{"name":"no triple","rule":3}"#;
@@ -22,42 +22,42 @@ fn balance_denied(moment: u64) -> Exchange {
 }
 
 #[test]
-fn a_triple_counts_from_its_first_moment_to_its_last(rt: HostRuntime) {
+fn a_triple_is_valid_from_its_first_moment_to_its_last(rt: HostRuntime) {
     over_each(
         &rt,
         &[
             balance_denied(700),
             granted(r#"{"first":800,"last":900,"limit":0,"procedure":"balance","set":2,"user":9}"#),
             balance_denied(799),
-            balance_told(800),
-            balance_told(900),
+            balance_returned(800),
+            balance_returned(900),
             balance_denied(901),
-            balance_told(850),
+            balance_returned(850),
         ],
     );
 }
 
 #[test]
-fn a_triple_may_count_at_one_moment_alone(rt: HostRuntime) {
+fn a_triple_may_be_valid_at_one_moment_alone(rt: HostRuntime) {
     over_each(
         &rt,
         &[
             granted(r#"{"first":800,"last":800,"limit":0,"procedure":"balance","set":2,"user":9}"#),
             balance_denied(799),
-            balance_told(800),
+            balance_returned(800),
             balance_denied(801),
         ],
     );
 }
 
 #[test]
-fn a_triple_without_moments_counts_at_each(rt: HostRuntime) {
+fn a_triple_without_moments_is_valid_at_each(rt: HostRuntime) {
     over_each(
         &rt,
         &[
             granted(r#"{"limit":0,"procedure":"balance","set":2,"user":9}"#),
-            balance_told(0),
-            balance_told(99_999_999_999),
+            balance_returned(0),
+            balance_returned(99_999_999_999),
         ],
     );
 }
@@ -68,9 +68,9 @@ fn post(moment: u64, reply: &'static str) -> Exchange {
     done(moment, "tom", "/do/post", body, reply)
 }
 
-/// Tom posts up to 500.00 by a triple that counts at each moment. Meanwhile he may by another on all items.
+/// Tom posts up to 500.00 by a triple that is valid at each moment, and for a time up to 600.00 by one on all items.
 #[test]
-fn the_greatest_limit_is_that_of_a_triple_that_counts(rt: HostRuntime) {
+fn the_greatest_limit_is_that_of_a_valid_triple(rt: HostRuntime) {
     let limit = r#"{"name":"limit","rule":4}"#;
     over_each(
         &rt,
@@ -110,7 +110,7 @@ const THREE: &str = "ACCOUNTS AFTER         0 LINES     3\n\
     \x20     201         2         300.00\n";
 
 #[test]
-fn accounts_are_shown_by_the_triples_that_count(rt: HostRuntime) {
+fn accounts_are_shown_by_the_valid_triples(rt: HostRuntime) {
     over_each(
         &rt,
         &[

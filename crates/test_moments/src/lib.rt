@@ -1,6 +1,7 @@
-//! Tests alone: triples that count from a first moment to a last, at the ends of that time and beside them,
-//! asked of the sample in lists and in tables, each alone and behind a cache. The replies were worked out by
-//! hand, from the rules and not from what the program answered. Nothing here is proved or used by a program.
+//! Tests alone: triples that are valid from a first moment to a last, at the ends of that time and beside
+//! them, asked of the sample in lists and in tables, each alone and with a cache in front. The replies were
+//! worked out by hand, from the rules and not from what the program answered. Nothing here is proved or used
+//! by a program.
 #![tactic(auto)]
 
 #[cfg(test)]

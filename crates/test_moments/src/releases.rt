@@ -36,12 +36,12 @@ fn post(moment: u64, reply: &'static str) -> Exchange {
     done(moment, "tom", "/do/post", body, reply).released()
 }
 
-/// What Sue is told who has given him his first release.
+/// The reply to Sue, who has given Tom his first release.
 const FIRST: &str = r#"{"beneficiary":8,"release":1}"#;
 
-/// At the moment of the post the triple of who gave the release has to count.
+/// At the moment of the post the triple of who gave the release has to be valid.
 #[test]
-fn a_release_counts_no_more_once_the_triple_of_its_giver_has_ended(rt: HostRuntime) {
+fn a_release_is_not_valid_once_the_triple_of_its_giver_has_ended(rt: HostRuntime) {
     let [revoked, granted] = triple_of_sue_ends();
     let released = given(700, FIRST);
     let denied = post(701, r#"{"name":"release","rule":5}"#).denied();
@@ -49,7 +49,7 @@ fn a_release_counts_no_more_once_the_triple_of_its_giver_has_ended(rt: HostRunti
 }
 
 #[test]
-fn a_release_counts_at_the_last_moment_of_its_giver(rt: HostRuntime) {
+fn a_release_is_valid_at_the_last_moment_of_its_giver(rt: HostRuntime) {
     let [revoked, granted] = triple_of_sue_ends();
     let released = given(700, FIRST);
     let posted = post(700, r#"{"balance":110000,"branch":1,"entry":1}"#);

@@ -20,8 +20,8 @@ fn in_tables(rt: &impl Runtime) -> SqlStore<MemStore> {
     }
 }
 
-/// The store behind a cache.
-fn behind_cache<S: Store + Drop>(rt: &impl Runtime, store: S) -> Cached<S> {
+/// The store with a cache in front.
+fn with_cache<S: Store + Drop>(rt: &impl Runtime, store: S) -> Cached<S> {
     Cached::new(rt.alloc(), store).ok().expect(rt, "memory")
 }
 
@@ -36,7 +36,7 @@ fn over<S: Store + Drop>(rt: &impl Runtime, store: S, exchanges: &[Exchange]) {
 /// Has the exchanges made with the sample in each store, one after another.
 pub(crate) fn over_each(rt: &impl Runtime, exchanges: &[Exchange]) {
     over(rt, listed_bank(rt).store, exchanges);
-    over(rt, behind_cache(rt, listed_bank(rt).store), exchanges);
+    over(rt, with_cache(rt, listed_bank(rt).store), exchanges);
     over(rt, in_tables(rt), exchanges);
-    over(rt, behind_cache(rt, in_tables(rt)), exchanges);
+    over(rt, with_cache(rt, in_tables(rt)), exchanges);
 }

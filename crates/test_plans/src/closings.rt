@@ -1,4 +1,4 @@
-//! The closing of a day over rows made up: its proof, the day that follows, and the order of its rules.
+//! The closing of a day over synthetic rows: its proof, the day that follows, and the order of its rules.
 
 use crate::plans::{apply, plan_of};
 use crate::rows::{LEDGER, MOST, cents};

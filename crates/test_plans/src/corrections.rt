@@ -1,4 +1,4 @@
-//! Corrections whose rows are made up: what their plan writes, what stays in range, which numbers are left, and the order
+//! Corrections over synthetic rows: what their plan writes, what stays in range, which numbers are left, and the order
 //! of their rules.
 
 use crate::plans::{apply, line, lines_end_with, plan_of};

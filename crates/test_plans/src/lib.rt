@@ -1,5 +1,5 @@
 //! Tests alone: plans of posts, transfers, corrections, drawers, moves of cash and closings of days,
-//! without a store. They show the rules of the books over rows made up, up to the limits that the sample
+//! without a store. They show the rules of the books over synthetic rows, up to the limits that the sample
 //! bank never meets, the order of these rules, and which lines and proofs a plan writes. The values were
 //! worked out by hand. Nothing here is proved or used by a program.
 #![tactic(auto)]

@@ -1,4 +1,4 @@
-//! Cash that is moved over rows made up: what its plan writes, which numbers are left, and the order of the rules.
+//! Moves of cash over synthetic rows: what their plan writes, which numbers are left, and the order of the rules.
 
 use crate::plans::{apply, line, lines_end_with, plan_of};
 use crate::rows::{BY_TESS, CASH_BOOK, FULL_CASH_BOOK, MOST, teller_of, teller_with};

@@ -1,4 +1,4 @@
-//! What the plan of an operation makes of a bank, whose lines and proofs no store tells.
+//! What the plan of an operation makes of a bank, with its lines and proofs, which no store returns.
 
 use crate::rows::cents;
 use bank_books::{CashLine, LineForm, Plan, Signature, World};

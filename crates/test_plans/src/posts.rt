@@ -1,4 +1,4 @@
-//! Posts whose rows are made up: what their plan writes, what stays in range, and the order of their rules.
+//! Posts over synthetic rows: what their plan writes, what stays in range, and the order of their rules.
 
 use crate::plans::{apply, line, lines_end_with, plan_of};
 use crate::rows::{
@@ -46,9 +46,9 @@ fn a_post_writes_its_cash(rt: HostRuntime) {
     lines_end_with(&rt, &world, 5, &[cash]);
 }
 
-/// The rows of a post whose numbers stand so, in cents: the balance of account 101, the balance of teller 11 and the cash
-/// of his drawer, which Tess holds, the balance of branch 1 and the sum of its history, the sum of its drawers and that
-/// of its cash that came with entries. There are so many turns of the account, entries and lines.
+/// The rows of a post with these numbers, in cents: the balance of account 101, the balance of teller 11 and the cash of
+/// drawer 11, which Tess holds, the balance of branch 1 and the sum of its history, the sum of its drawers and that of its
+/// cash that came with entries. There are so many turns of the account, entries and lines.
 pub(crate) fn rows_at(rt: &impl Abort, numbers: [i64; 7], counts: [u64; 3]) -> PostRows {
     let [
         account,

@@ -1,4 +1,4 @@
-//! Rows made up, as a store would answer them. By them the rules are judged on numbers that no bank of a test comes to.
+//! Synthetic rows, as a store would return them. By them the rules are judged on numbers that no bank of a test comes to.
 
 ghost use Rattle.std.specs.Prelude.{◌≡◌};
 

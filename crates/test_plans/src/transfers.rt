@@ -1,4 +1,4 @@
-//! Transfers whose rows are made up: what numbers are left, and the order of their rules.
+//! Transfers over synthetic rows: which numbers are left, and the order of their rules.
 
 use crate::rows::{BY_TESS, LEDGER, MOST, TWO_ENTRIES, account_with, teller_of, teller_with};
 use bank_terms::Rule;

@@ -1,4 +1,4 @@
-//! Drawers that are put on and off over rows made up: what their plans write, what stays in range, and the order of their
+//! Drawers that are put on and off over synthetic rows: what their plans write, what stays in range, and the order of their
 //! rules.
 
 use crate::plans::{apply, line, lines_end_with, plan_of};

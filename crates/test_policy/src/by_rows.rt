@@ -1,3 +1,5 @@
+//! Which rule denies a request first, judged by rows that the sample never has.
+
 use bank_books::{BranchRecord, Slip};
 use counter_ops::NewAccount;
 use decide::{
@@ -9,7 +11,7 @@ use std::alloc::Global;
 use std::process::Abort;
 use store_rows::{BookReads, ListStore, PolicyReads};
 
-/// A request of this user, in this session of his, at the moment 700.
+/// A request of this user, in this session of theirs, at the moment 700.
 fn request(user: u32, session: u32, asked: Asked) -> Request {
     Request {
         who: Who {
@@ -23,7 +25,7 @@ fn request(user: u32, session: u32, asked: Asked) -> Request {
     }
 }
 
-/// The first rule against an operation that this user asks for in his session 1, and that is judged by these rows.
+/// The first rule against an operation that this user asks for in their session 1, and that is judged by these rows.
 fn first_against(policy: PolicyRows, books: BookRows, user: u32, op: Op) -> Option<Rule> {
     let rows = Loaded::Operation(OperationRows {
         policy,
@@ -118,7 +120,7 @@ fn first_with_slip(
     first_rule(&rows, &asked)
 }
 
-/// Account 101 is there, so its opening is denied. The rule on slips comes before that, and that on counts behind it.
+/// Account 101 is there, so its opening is denied. The rule on slips comes before that, and the one on their number after it.
 #[test]
 fn slips_are_judged_by_their_rows(rt: HostRuntime) {
     let alloc = rt.alloc();

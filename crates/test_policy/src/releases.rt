@@ -104,8 +104,8 @@ fn given(rt: &impl Abort, alloc: Global) -> NamedRelease {
     }
 }
 
-/// Asks for this first rule against that post of Tom's over the sample, where he names his first release, and this
-/// stands of it.
+/// Asks for this first rule against that post of Tom's over the sample, where he names his first release, of
+/// which these rows are read.
 fn first_is(rt: &impl Abort, alloc: Global, released: Option<NamedRelease>, rule: Option<Rule>) {
     let mut policy = policy_of(rt, alloc, TOM, Procedure::Post);
     policy.released = released;
@@ -117,13 +117,13 @@ fn first_is(rt: &impl Abort, alloc: Global, released: Option<NamedRelease>, rule
 }
 
 /// That a release of these rows doesn't let the post be.
-fn does_not_count(rt: &impl Abort, alloc: Global, named: NamedRelease) {
+fn is_not_valid(rt: &impl Abort, alloc: Global, named: NamedRelease) {
     first_is(rt, alloc, Some(named), Some(Rule::Release));
 }
 
-/// The day of yesterday doesn't count, nor that of a branch that isn't there.
+/// A release of yesterday is not valid, nor one of a branch that isn't there.
 #[test]
-fn a_release_counts_on_its_day(rt: HostRuntime) {
+fn a_release_is_valid_on_its_day(rt: HostRuntime) {
     let alloc = rt.alloc();
     for (today, first) in [
         (Some(1), None),
@@ -136,9 +136,9 @@ fn a_release_counts_on_its_day(rt: HostRuntime) {
     }
 }
 
-/// Who isn't there or is suspended gives none that counts; who has left does.
+/// A release by a user who isn't there or is suspended is not valid; one by a user who has left is.
 #[test]
-fn a_release_counts_by_who_gave_it(rt: HostRuntime) {
+fn validity_of_a_release_depends_on_who_gave_it(rt: HostRuntime) {
     let alloc = rt.alloc();
     let suspended = Standing {
         suspended: true,
@@ -160,17 +160,17 @@ fn a_release_counts_by_who_gave_it(rt: HostRuntime) {
 }
 
 #[test]
-fn a_release_counts_by_another_who_has_a_triple(rt: HostRuntime) {
+fn a_valid_release_is_by_another_who_has_a_triple(rt: HostRuntime) {
     let alloc = rt.alloc();
-    let mut by_himself = given(&rt, alloc);
-    by_himself.row.giver = TOM;
-    does_not_count(&rt, alloc, by_himself);
+    let mut by_its_beneficiary = given(&rt, alloc);
+    by_its_beneficiary.row.giver = TOM;
+    is_not_valid(&rt, alloc, by_its_beneficiary);
     let mut by_one_without_a_triple = given(&rt, alloc);
     by_one_without_a_triple.held = RcSlice::from_vec(Vec::new(alloc)).expect(&rt, "memory");
-    does_not_count(&rt, alloc, by_one_without_a_triple);
+    is_not_valid(&rt, alloc, by_one_without_a_triple);
 }
 
-/// The first rule against Sue's giving a user a release for that post, where he has so many.
+/// The first rule against Sue's giving a user a release for that post, where they have so many.
 fn first_against_giving(
     rt: &impl Abort,
     alloc: Global,

@@ -76,7 +76,7 @@ fn sessions_are_opened_for_users_alone(rt: HostRuntime) {
     door.stays_shut(&rt, Some(55), Rule::Identity);
 }
 
-/// The last number there is can be given, and none behind it.
+/// The last number there is can be given, and none after it.
 #[test]
 fn sessions_end_with_their_last_number(rt: HostRuntime) {
     let mut door = Door::of_sample(&rt, rt.alloc());

@@ -1,4 +1,4 @@
-//! Who asks in the tests, and what his row says.
+//! Who asks in the tests, and what their row says.
 
 use bank_policy::Standing;
 use decide::Who;

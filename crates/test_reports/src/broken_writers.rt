@@ -1,13 +1,13 @@
-//! Reports to writers that are broken behind each byte: what was written, and that nothing has changed.
+//! Reports to writers that break after each byte: what was written, and that nothing has changed.
 
-use crate::counter::{asked_of, tale, with_post};
+use crate::counter::{all_reports, asked_of, with_post};
 use crate::questions::{OF_ACCOUNTS, OF_LISTING, OF_PROOF, OF_STATEMENT, Question};
 use counter_api::ServeFault;
 use store_rows::{Bank, ListStore};
 use test_counter::{Broken, Runtime, answer, reply, sink};
 
-/// Asks for a report and for a post behind it, with a writer that has this room. It has to take a beginning of the reply
-/// to the report, which is told as a write that failed, and that is all.
+/// Asks for a report and for a post after it, with a writer that has this room. It has to take a beginning of the reply to
+/// the report and nothing else, and one failed write is reported.
 fn stops_at(
     rt: &impl Runtime,
     bank: &mut Bank<ListStore>,
@@ -23,18 +23,18 @@ fn stops_at(
     assert!(rt; run.failures == 1, "at {room}");
 }
 
-/// Breaks the writer behind each byte of the reply to this question. The report is told whole then.
+/// Breaks the writer after each byte of the reply to this question. Asked for again, the report is then written whole.
 fn stops_at_each_byte(rt: &impl Runtime, question: &Question, broken: Broken) {
     let due = question.reply(rt);
     let mut bank = Bank {
         store: asked_of(rt, question),
     };
-    let before = tale(rt, &mut bank);
+    let before = all_reports(rt, &mut bank);
     for room in 0..due.len() {
         stops_at(rt, &mut bank, question, due.as_slice(), room, broken);
         assert!(rt; reply(rt, &mut bank, question.message) == due, "at {room}");
     }
-    assert!(rt; tale(rt, &mut bank) == before);
+    assert!(rt; all_reports(rt, &mut bank) == before);
 }
 
 #[test]
@@ -58,18 +58,18 @@ fn a_proof_stops_at_each_byte(rt: HostRuntime) {
     }
 }
 
-/// Behind each byte it is asked for again, up to the next one, and at the end whole.
+/// After each byte it is asked for again, up to the next one, and at the end whole.
 #[test]
 fn a_listing_stops_at_each_byte(rt: HostRuntime) {
     let due = OF_LISTING.reply(&rt);
     let mut bank = Bank {
         store: asked_of(&rt, &OF_LISTING),
     };
-    let before = tale(&rt, &mut bank);
+    let before = all_reports(&rt, &mut bank);
     for room in 0..due.len() {
         let broken = Broken::Fails;
         stops_at(&rt, &mut bank, &OF_LISTING, due.as_slice(), room, broken);
     }
     assert!(rt; reply(&rt, &mut bank, OF_LISTING.message) == due);
-    assert!(rt; tale(&rt, &mut bank) == before);
+    assert!(rt; all_reports(&rt, &mut bank) == before);
 }

@@ -1,4 +1,4 @@
-//! Reports over the sample that are counted, and then written or given up.
+//! Reports over the sample whose length is computed, and that are then written or given up.
 
 use crate::counter::asked_of;
 use crate::questions::{BRANCH, OF_ACCOUNTS, OF_PROOF, OF_STATEMENT, QUESTIONS, Question};
@@ -9,7 +9,7 @@ use reports::{
 use store_rows::{Bank, BookReads, ListStore};
 use test_counter::{Broken, Runtime, sink};
 
-/// What is counted of a listing of the sample.
+/// What is computed of a listing of the sample.
 fn counted_of(rt: &impl Runtime, first: Listing, most: u32) -> Result<Contents, Fault> {
     counted(rt.alloc(), &mut asked_of(rt, &OF_ACCOUNTS), first, most)
 }
@@ -82,8 +82,8 @@ fn written(
     (end, writer.into_inner().bytes)
 }
 
-/// A report is given up, then written to a writer that is broken behind each byte, then written whole.
-fn broken_behind_each_byte(rt: &impl Runtime, question: &Question, broken: Broken) {
+/// A report is given up, then written to a writer that breaks after each byte, then written whole.
+fn broken_after_each_byte(rt: &impl Runtime, question: &Question, broken: Broken) {
     let mut bank = Bank {
         store: asked_of(rt, question),
     };
@@ -104,7 +104,7 @@ fn broken_behind_each_byte(rt: &impl Runtime, question: &Question, broken: Broke
 fn reports_are_written_up_to_where_the_writer_breaks(rt: HostRuntime) {
     for question in [OF_STATEMENT, OF_ACCOUNTS, OF_PROOF] {
         for broken in [Broken::Fails, Broken::TakesNone] {
-            broken_behind_each_byte(&rt, &question, broken);
+            broken_after_each_byte(&rt, &question, broken);
         }
     }
 }

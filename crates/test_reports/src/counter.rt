@@ -1,17 +1,17 @@
-//! The sample as it is when a report is asked for, and what its reports tell.
+//! The sample as it is when a report is asked for, and all its reports.
 
 use crate::questions::{QUESTIONS, Question};
 use store_rows::{Bank, ListStore, Store};
 use test_counter::{Runtime, listed_bank, reply};
 
-/// All that the reports tell of a bank.
-pub fn tale<S: Store>(rt: &impl Runtime, bank: &mut Bank<S>) -> Vec<u8> {
-    let mut tale = Vec::new(rt.alloc());
+/// The replies to all questions for reports of a bank.
+pub fn all_reports<S: Store>(rt: &impl Runtime, bank: &mut Bank<S>) -> Vec<u8> {
+    let mut replies = Vec::new(rt.alloc());
     for question in &QUESTIONS {
         let reply = reply(rt, bank, question.message);
-        assert!(rt; tale.extend_from_slice(reply.as_slice()).is_ok());
+        assert!(rt; replies.extend_from_slice(reply.as_slice()).is_ok());
     }
-    tale
+    replies
 }
 
 /// The sample in lists, as it is when a report is asked for.
@@ -23,7 +23,7 @@ pub fn asked_of(rt: &impl Runtime, question: &Question) -> ListStore {
     bank.store
 }
 
-/// The message of a report, and behind it a post.
+/// The message of a report, and after it a post.
 pub fn with_post(rt: &impl Runtime, question: &Question) -> Vec<u8> {
     let mut input = question.message.to_vec(rt.alloc()).expect(rt, "memory");
     assert!(rt; input.extend_from_slice(crate::questions::POST).is_ok());

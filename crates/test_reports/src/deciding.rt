@@ -9,8 +9,8 @@ use reports::Report;
 use store_rows::{Bank, ReportReads, Stands};
 use test_counter::{Runtime, whole_sink};
 
-/// Who asks in his first session.
-fn who(user: u32) -> Who {
+/// This user, in their first session.
+fn in_first_session(user: u32) -> Who {
     Who {
         user: Some(user),
         session: 1,
@@ -44,19 +44,19 @@ fn rule_against_listing(rt: &impl Runtime, who: Who) -> Option<Rule> {
 }
 
 #[test]
-fn the_policy_is_listed_to_an_officer_in_his_session(rt: HostRuntime) {
+fn the_policy_is_listed_to_an_officer_in_their_session(rt: HostRuntime) {
     let later = Who {
         session: 2,
-        ..who(1)
+        ..in_first_session(1)
     };
     let nobody = Who {
         user: None,
-        ..who(1)
+        ..in_first_session(1)
     };
     for (asks, rule) in [
-        (who(1), None),
-        (who(7), Some(Rule::Officer)),
-        (who(55), Some(Rule::Identity)),
+        (in_first_session(1), None),
+        (in_first_session(7), Some(Rule::Officer)),
+        (in_first_session(55), Some(Rule::Identity)),
         (later, Some(Rule::Identity)),
         (nobody, Some(Rule::Identity)),
     ] {
@@ -64,12 +64,12 @@ fn the_policy_is_listed_to_an_officer_in_his_session(rt: HostRuntime) {
     }
 }
 
-/// Has a read fail while the listing is decided on. Answers whether that fault was told, and not the listing.
+/// Has a read fail while the listing is decided on. Answers whether that fault was returned, and not the listing.
 fn fails_listing(rt: &impl Runtime, read: u64, cause: Cause) -> bool {
     let mut bank = Bank {
         store: Failing::over(asked_of(rt, &OF_LISTING), read, cause),
     };
-    match list_policy(&mut bank, rt.alloc(), who(1)) {
+    match list_policy(&mut bank, rt.alloc(), in_first_session(1)) {
         Ok(Listed::Report(report)) => {
             report.release();
             false
@@ -84,7 +84,7 @@ fn fails_listing(rt: &impl Runtime, read: u64, cause: Cause) -> bool {
 
 /// The row of the officer is read, then each row of the policy, and that there is no other.
 #[test]
-fn faults_are_told_while_the_policy_is_listed(rt: HostRuntime) {
+fn faults_are_reported_while_the_policy_is_listed(rt: HostRuntime) {
     for cause in [Cause::Memory, Cause::Disk] {
         for read in 1..=98u64 {
             assert!(rt; fails_listing(&rt, read, cause), "at {read}");
@@ -98,7 +98,7 @@ fn reports(rt: &impl Runtime, question: &Question, user: u32, op: Op) {
     let mut bank = Bank {
         store: asked_of(rt, question),
     };
-    match decide(&mut bank, rt.alloc(), who(user), 700, &op) {
+    match decide(&mut bank, rt.alloc(), in_first_session(user), 700, &op) {
         Ok(Decision::Allowed(permit)) => match carry_out(permit) {
             Ok(Reply::Report(report)) => is_due(rt, report, question),
             Ok(Reply::Done(done)) => {

@@ -1,4 +1,4 @@
-//! Reports that are counted and written over a store that fails at each read: which fault is told.
+//! Reports whose length is computed, and that are written, over a store that fails at each read: which fault is returned.
 
 use crate::counter::asked_of;
 use crate::failing::{Cause, Failing};
@@ -7,7 +7,7 @@ use reports::{Report, ReportFault, counted};
 use store_rows::{Bank, Stands};
 use test_counter::{Runtime, whole_sink};
 
-/// How often a store is read while a report is counted.
+/// How often a store is read while the length of a report is computed.
 fn reads_counting(rt: &impl Runtime, question: &Question) -> u64 {
     let mut store = Failing::calm(asked_of(rt, question));
     let (first, most) = (question.contents.first, question.contents.most);
@@ -15,7 +15,7 @@ fn reads_counting(rt: &impl Runtime, question: &Question) -> u64 {
     store.watch().reads()
 }
 
-/// Has a read fail while a report is counted.
+/// Has a read fail while the length of a report is computed.
 fn fails_counting(rt: &impl Runtime, question: &Question, read: u64, cause: Cause) {
     let mut store = Failing::over(asked_of(rt, question), read, cause);
     let (first, most) = (question.contents.first, question.contents.most);
@@ -45,7 +45,7 @@ fn fails_writing(rt: &impl Runtime, question: &Question, read: u64, cause: Cause
 }
 
 #[test]
-fn faults_are_told_while_a_report_is_counted(rt: HostRuntime) {
+fn faults_are_reported_while_a_report_is_counted(rt: HostRuntime) {
     for question in &QUESTIONS {
         for read in 1..=reads_counting(&rt, question) {
             for cause in [Cause::Memory, Cause::Disk] {
@@ -56,7 +56,7 @@ fn faults_are_told_while_a_report_is_counted(rt: HostRuntime) {
 }
 
 #[test]
-fn faults_are_told_while_a_report_is_written(rt: HostRuntime) {
+fn faults_are_reported_while_a_report_is_written(rt: HostRuntime) {
     for question in &QUESTIONS {
         for read in 1..=question.rows {
             for cause in [Cause::Memory, Cause::Disk] {

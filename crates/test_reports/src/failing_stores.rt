@@ -1,6 +1,6 @@
 //! Reports over stores that fail at each read: what was written, and what is answered next.
 
-use crate::counter::{asked_of, tale, with_post};
+use crate::counter::{all_reports, asked_of, with_post};
 use crate::failing::{Cause, Failing};
 use crate::questions::{
     OF_ACCOUNTS, OF_LISTING, OF_PROOF, OF_STATEMENT, Question, fault_reply, first_lines,
@@ -22,8 +22,8 @@ struct Calm {
     reads: u64,
     /// How many of these reads come before the head.
     before_head: u64,
-    /// What the bank tells of itself.
-    tale: Vec<u8>,
+    /// All reports of the bank.
+    reports: Vec<u8>,
 }
 
 /// Asks a question over a store that does not fail.
@@ -39,7 +39,7 @@ fn calm(rt: &impl Runtime, question: &Question) -> Calm {
         reply: given,
         reads,
         before_head: reads.saturating_sub(question.rows),
-        tale: tale(rt, &mut bank),
+        reports: all_reports(rt, &mut bank),
     }
 }
 
@@ -58,11 +58,11 @@ fn is_refused(rt: &impl Runtime, run: &Answer, cause: Cause) {
     assert!(rt; run.failures == 0);
 }
 
-/// Asks that the reply broke behind the lines of so many rows.
+/// Asks that the reply broke after the lines of so many rows.
 fn is_broken(rt: &impl Runtime, run: &Answer, due: &[u8], rows: u64) {
     let sent = first_lines(due, LINES_BEFORE_ROWS.saturating_add(rows));
     assert!(rt; run.end == Err(ServeFault::Report));
-    assert!(rt; run.bytes.as_slice() == sent, "behind {rows}");
+    assert!(rt; run.bytes.as_slice() == sent, "after {rows} rows");
     assert!(rt; run.failures == 0);
 }
 
@@ -76,10 +76,10 @@ fn goes_on(rt: &impl Runtime, mut bank: Bank<Watched<Failing>>, calm: &Calm, cau
     let mut below = Bank {
         store: bank.store.into_below(),
     };
-    assert!(rt; tale(rt, &mut below) == calm.tale);
+    assert!(rt; all_reports(rt, &mut below) == calm.reports);
 }
 
-/// Asks for a report over a store that fails at this read. Where that comes behind the head, a post follows in the stream.
+/// Asks for a report over a store that fails at this read. Where that comes after the head, a post follows in the stream.
 fn fails_at(rt: &impl Runtime, calm: &Calm, read: u64, cause: Cause) {
     let mut bank = Bank {
         store: Failing::over(asked_of(rt, &calm.question), read, cause),

@@ -1,5 +1,6 @@
-//! Tests alone: reports over the sample in lists. They show the texts, as they were worked out by hand; and what is written,
-//! and answered next, where the writer is broken behind each byte or the store fails at each read.
+//! Tests alone: reports over the sample in lists. They show the texts, as they were worked out by hand; and
+//! what is written, and answered next, where the writer is broken after each byte or the store fails at each
+//! read. Nothing here is proved or used by a program.
 #![tactic(auto)]
 
 #[cfg(test)]

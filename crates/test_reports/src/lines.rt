@@ -1,4 +1,4 @@
-//! The lines of reports, each made of the row that it tells.
+//! The lines of reports, each made of its row.
 
 use crate::counter::asked_of;
 use crate::questions::{OF_ACCOUNTS, OF_LISTING, OF_PROOF, OF_STATEMENT};
@@ -112,7 +112,7 @@ fn line_of_name(rt: &impl Runtime, len: usize) -> Option<Line> {
     }))
 }
 
-/// A name of 20 bytes fills its place, a longer one stands whole, and for one of 161 bytes a line has no room.
+/// A name of 20 bytes fills its place, a longer one stands whole, and a line has no room for one of 161 bytes.
 #[test]
 fn names_that_fill_a_line(rt: HostRuntime) {
     let line = line_of_name(&rt, 20).expect(&rt, "a line");

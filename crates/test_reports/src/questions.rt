@@ -13,9 +13,9 @@ pub struct Question {
     pub message: &'static [u8],
     /// Its text.
     pub text: &'static str,
-    /// What is counted of it.
+    /// What is computed of it before it is written.
     pub contents: Contents,
-    /// How many rows are read behind its head.
+    /// How many rows are read after its head.
     pub rows: u64,
 }
 
@@ -38,7 +38,7 @@ pub const BRANCH: BranchNumbers = BranchNumbers {
     differences: 0,
 };
 
-/// Tess asks for the statement of account 101, behind that post.
+/// Tess asks for the statement of account 101, after that post.
 pub const OF_STATEMENT: Question = Question {
     before: POST,
     message: ASKS_STATEMENT,
@@ -74,7 +74,7 @@ pub const OF_ACCOUNTS: Question = Question {
     rows: 2,
 };
 
-/// Sue asks for the proof of branch 1. Behind the last teller it is read that there is no other.
+/// Sue asks for the proof of branch 1. After the last teller it is read that there is no other.
 pub const OF_PROOF: Question = Question {
     before: b"",
     message: ASKS_PROOF,

@@ -1,3 +1,5 @@
+//! Amounts of money, in cents, and the greatest of them.
+
 use money::{Cents, Delta};
 use std::process::Abort;
 

@@ -16,7 +16,7 @@ fn undo_first_post(rt: &impl Abort, desk: &mut Desk) {
     desk.done(rt, TOM, correct(rt, 1, 101, 0, 12, 2_500), body);
 }
 
-/// The entry by which he does.
+/// The entry by which Tom undoes it.
 fn undone_post(rt: &impl Abort) -> Entry {
     Entry {
         number: 2,

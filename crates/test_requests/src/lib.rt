@@ -1,7 +1,7 @@
 //! Tests alone: requests that are decided and carried out over the sample bank, or a bank at an end of the
-//! range of money, in lists: the entries, the tellers' balances and the cash behind them, which no reply
-//! tells, and what is denied for the range. The values were worked out by hand, from the rules and not from
-//! what the program answered. Nothing here is proved or used by a program.
+//! range of money, in lists: the entries, the tellers' balances and the cash that comes with them, which no
+//! reply states, and what is denied for the range. The values were worked out by hand, from the rules and not
+//! from what the program answered. Nothing here is proved or used by a program.
 #![tactic(auto)]
 
 #[cfg(test)]

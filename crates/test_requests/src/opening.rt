@@ -1,4 +1,4 @@
-//! Banks made up, with the policy of the sample, and its branches, tellers and accounts.
+//! Synthetic banks, with the policy of the sample, and its branches, tellers and accounts.
 
 use crate::amounts::{MOST, cents};
 use bank_books::{Account, Branch, CashLine, LineForm, RowWrite, Teller, World};
@@ -8,7 +8,7 @@ use sample_bank::sample_policy;
 use std::alloc::Global;
 use std::process::Abort;
 
-/// What a bank made up opens with, in cents.
+/// What a synthetic bank opens with, in cents.
 #[derive(Clone, Copy)]
 pub(crate) struct Opening {
     /// The balances of accounts 101, 102 and 201. An account may not fall below zero or, where that is less, below
@@ -212,7 +212,7 @@ fn holds(rt: &impl Abort, alloc: Global, world: World) {
 }
 
 #[test]
-fn books_made_up_hold(rt: HostRuntime) {
+fn synthetic_books_hold(rt: HostRuntime) {
     let alloc = rt.alloc();
     for opening in [SAMPLE, TARGET_AT_MOST, VAULT_AT_MOST] {
         holds(&rt, alloc, opened(&rt, alloc, opening));
@@ -224,7 +224,7 @@ fn books_made_up_hold(rt: HostRuntime) {
 }
 
 #[test]
-fn books_made_up_at_the_ends_of_the_range_hold(rt: HostRuntime) {
+fn synthetic_books_at_the_ends_of_the_range_hold(rt: HostRuntime) {
     let alloc = rt.alloc();
     holds(&rt, alloc, opening_at(&rt, alloc, MOST));
     holds(&rt, alloc, with_a_full_drawer(&rt, alloc));

@@ -1,4 +1,4 @@
-//! The sample bank with and without account 102: what a denial tells of it, and what it does not.
+//! The sample bank with and without account 102: what a denial shows of it, and what it does not.
 
 use crate::asking::{Desk, TESS, TOM};
 use crate::forms::{balance, post};
@@ -16,7 +16,7 @@ fn ask_of_others(rt: &impl Abort, desk: &mut Desk) {
 }
 
 #[test]
-fn no_denial_tells_whether_an_account_is_there(rt: HostRuntime) {
+fn no_denial_shows_whether_an_account_is_there(rt: HostRuntime) {
     let alloc = rt.alloc();
     let mut with = Desk::of_sample(&rt, alloc);
     ask_of_others(&rt, &mut with);
@@ -25,7 +25,7 @@ fn no_denial_tells_whether_an_account_is_there(rt: HostRuntime) {
 }
 
 #[test]
-fn who_may_touch_an_account_is_told_whether_it_is_there(rt: HostRuntime) {
+fn who_may_touch_an_account_learns_whether_it_is_there(rt: HostRuntime) {
     let alloc = rt.alloc();
     let mut with = Desk::of_sample(&rt, alloc);
     with.done(&rt, TESS, balance(102), r#"{"balance":0}"#);

@@ -13,7 +13,7 @@ fn post_within() -> Exchange {
     done("tom", "/do/post", body, reply).with_slip(5)
 }
 
-/// Behind that it has its slip, and the rule on slips comes before that on limits.
+/// The slip stays free for the next post. Once it is taken, the rule on slips comes before that on limits.
 #[test]
 fn a_denied_request_keeps_no_slip(rt: HostRuntime) {
     over_each(
@@ -54,7 +54,7 @@ fn what_the_books_deny_keeps_no_slip(rt: HostRuntime) {
 
 /// The rule on identity comes before that on slips, and that before all others.
 #[test]
-fn the_rule_on_slips_stands_behind_that_on_identity(rt: HostRuntime) {
+fn the_rule_on_slips_comes_after_that_on_identity(rt: HostRuntime) {
     over_each(
         &rt,
         &[

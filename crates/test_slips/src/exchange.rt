@@ -40,7 +40,7 @@ pub(crate) fn done(
     }
 }
 
-/// What Tess is told of her first post of 25.00 to account 101.
+/// The reply to Tess's first post of 25.00 to account 101.
 pub(crate) const FIRST: &str = r#"{"balance":52500,"branch":1,"entry":1}"#;
 
 /// Tess posts 25.00 to account 101, and gets this reply.
@@ -81,7 +81,7 @@ impl Exchange {
         }
     }
 
-    /// The same, denied for who asks or what he may.
+    /// The same, denied for who asks or for what they may.
     pub(crate) fn denied(self) -> Exchange {
         Exchange {
             status: "403 Forbidden",

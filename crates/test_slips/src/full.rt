@@ -3,7 +3,7 @@
 use crate::exchange::{Exchange, FIRST, another_post, done, post};
 use crate::stores::{is_out_of_range, over_each_with};
 
-/// What denies a new slip of one who has 100,000.
+/// What denies a new slip of a user who has 100,000.
 const FULL: &str = r#"{"name":"full","rule":16}"#;
 
 /// Tess posts to an account that she may not post to.

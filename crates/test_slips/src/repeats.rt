@@ -57,7 +57,7 @@ fn a_repeat_gets_the_first_reply_whatever_the_policy_is(rt: HostRuntime) {
     );
 }
 
-/// The denial of one who has no open session of that number.
+/// The denial of a user who has no open session of that number.
 const UNKNOWN: &str = r#"{"name":"identity","rule":1}"#;
 
 /// Tess opens a session, and gets this reply.
@@ -116,7 +116,7 @@ fn released(reply: &'static str) -> Exchange {
     done("sue", "/do/release", body, reply)
 }
 
-/// What Tom is told of that post.
+/// The reply to that post of Tom's.
 const ABOVE: &str = r#"{"balance":110000,"branch":1,"entry":1}"#;
 
 /// The release is used up by the first post. The repeat need not name it.
@@ -158,7 +158,7 @@ fn balance(reply: &'static str) -> Exchange {
     done("tess", "/do/balance", r#"{"account":101}"#, reply)
 }
 
-/// Nor is it kept: the post behind has a slip of its own.
+/// Nor is it kept: the post after it takes a slip of the same number.
 #[test]
 fn the_slip_of_a_question_or_of_a_session_is_not_looked_at(rt: HostRuntime) {
     over_each(

@@ -18,7 +18,7 @@ const POST: OperationRow = OperationRow {
     members: [101, 11, 1, 2_500, 0, 0, 0, 0],
 };
 
-/// So many slips of Tess, numbered from 1, each taken with that post. The reply that is kept with a slip tells its number.
+/// So many slips of Tess, numbered from 1, each taken with that post. The stored reply of each states its number.
 fn slips_of_tess(rt: &impl Runtime, count: u32) -> Vec<Slip> {
     let mut slips = Vec::new(rt.alloc());
     for number in 1..=count {
@@ -33,7 +33,7 @@ fn slips_of_tess(rt: &impl Runtime, count: u32) -> Vec<Slip> {
 }
 
 /// The sample bank, where Tess has so many slips.
-fn sample_with(rt: &impl Runtime, slips: u32) -> World {
+fn sample_with_slips(rt: &impl Runtime, slips: u32) -> World {
     let alloc = rt.alloc();
     let sample = sample_world(alloc).expect(rt, "memory");
     let mut lists = Lists::new(alloc);
@@ -48,14 +48,14 @@ fn sample_with(rt: &impl Runtime, slips: u32) -> World {
 
 /// That bank in lists.
 fn in_lists(rt: &impl Runtime, slips: u32) -> ListStore {
-    ListStore::new(sample_with(rt, slips))
+    ListStore::new(sample_with_slips(rt, slips))
 }
 
 /// That bank in tables in memory, or why none was made.
 fn made_with(rt: &impl Runtime, slips: u32) -> Result<SqlStore<MemStore>, OpenFault> {
     let conn = Connection::open_in_memory(rt.alloc()).expect(rt, "memory");
     assert!(rt; conn.is_autocommit());
-    match create(rt.alloc(), conn, &sample_with(rt, slips)) {
+    match create(rt.alloc(), conn, &sample_with_slips(rt, slips)) {
         Ok(store) => Ok(store),
         Err((fault, _conn)) => Err(fault),
     }
@@ -77,8 +77,8 @@ pub(crate) fn is_out_of_range(rt: &impl Runtime, slips: u32) {
     }
 }
 
-/// The store behind a cache.
-fn behind_cache<S: Store + Drop>(rt: &impl Runtime, store: S) -> Cached<S> {
+/// The store with a cache in front.
+fn with_cache<S: Store + Drop>(rt: &impl Runtime, store: S) -> Cached<S> {
     Cached::new(rt.alloc(), store).ok().expect(rt, "memory")
 }
 
@@ -93,9 +93,9 @@ fn over<S: Store + Drop>(rt: &impl Runtime, store: S, exchanges: &[Exchange]) {
 /// Has the exchanges made with the sample in each store, one after another, where Tess has so many slips.
 pub(crate) fn over_each_with(rt: &impl Runtime, slips: u32, exchanges: &[Exchange]) {
     over(rt, in_lists(rt, slips), exchanges);
-    over(rt, behind_cache(rt, in_lists(rt, slips)), exchanges);
+    over(rt, with_cache(rt, in_lists(rt, slips)), exchanges);
     over(rt, in_tables(rt, slips), exchanges);
-    over(rt, behind_cache(rt, in_tables(rt, slips)), exchanges);
+    over(rt, with_cache(rt, in_tables(rt, slips)), exchanges);
 }
 
 /// The same, where nobody has a slip.

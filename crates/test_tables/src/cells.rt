@@ -16,7 +16,7 @@ fn row(rt: &impl Abort, alloc: Global) -> Row {
 }
 
 #[test]
-fn columns_are_read_as_what_they_stand_for(rt: HostRuntime) {
+fn columns_are_read_as_what_they_represent(rt: HostRuntime) {
     let row = row(&rt, rt.alloc());
     same(&rt, number_at(&row, 0), Ok(5));
     same(&rt, count_at(&row, 0), Ok(5));

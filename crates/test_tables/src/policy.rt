@@ -1,3 +1,5 @@
+//! Rows of the policy in SQL tables: what is taken away with a relation.
+
 use crate::compare::same;
 use crate::tables::{Tables, empty_tables};
 use bank_policy::{Member, Relation, RelationKey, Triple};
@@ -9,7 +11,8 @@ use sql_policy::{
 };
 use std::process::Abort;
 
-/// Set 2 with two intervals, posts and balances certified on it, and leave for user 7 to post up to 500 from moment 800 on.
+/// Set 2 with two intervals, posts and balances certified on it, and user 7 authorized to post up to 500 from
+/// moment 800 on.
 fn write_policy(rt: &impl Abort, tx: &mut Tables<'_>) {
     same(rt, add_set(tx, 2), Ok(()));
     for (place, kind) in [(2, Kind::Drawer), (1, Kind::Account)] {

@@ -62,11 +62,11 @@ fn alike<A: Debug + Drop>(
     let Ok(lists) = lists else {
         panic!(rt; "lists answer");
     };
-    let told = format!(in alloc; "{:?}", tables.expect(rt, "no fault")).expect(rt, "memory");
+    let given = format!(in alloc; "{:?}", tables.expect(rt, "no fault")).expect(rt, "memory");
     let wanted = format!(in alloc; "{lists:?}").expect(rt, "memory");
     assert!(rt;
-        told.as_str() == wanted.as_str(),
-        "{told} in the place of {wanted}"
+        given.as_str() == wanted.as_str(),
+        "{given} in the place of {wanted}"
     );
 }
 
@@ -251,7 +251,7 @@ fn slips_in<S: Store>(rt: &impl Abort, alloc: Global, tables: &mut S, user: u32)
 
 /// Slips of two users, with one number of both of them, a reply with no bytes and one with any.
 #[test]
-fn tables_tell_slips_as_lists_do(rt: HostRuntime) {
+fn tables_return_slips_as_lists_do(rt: HostRuntime) {
     let alloc = rt.alloc();
     let mut tables = sample_tables(&rt, alloc);
     let mut lists = sample_lists(&rt, alloc);
@@ -269,7 +269,7 @@ fn tables_tell_slips_as_lists_do(rt: HostRuntime) {
     }
 }
 
-/// Gives Sue leave to list the accounts of set 5 from moment 800 to 900.
+/// Authorizes Sue to list the accounts of set 5 from moment 800 to 900.
 fn grant_sue<S: Store>(rt: &impl Abort, alloc: Global, store: &mut S) {
     let grant = RowWrite::Policy(PolicyWrite::Triple(Triple {
         user: 9,

@@ -1,3 +1,5 @@
+//! The SQL tables of a bank, without rows, in a file in memory.
+
 use sqlite::{Connection, MemStore, Transaction};
 use std::alloc::Global;
 use std::process::Abort;

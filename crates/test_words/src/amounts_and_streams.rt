@@ -1,3 +1,5 @@
+//! The texts of faults and of amounts, and streams of which each failed call is counted.
+
 use money::{Cents, Fault, Tallied, cents_text, write_cents, write_parts, write_whole};
 use std::alloc::{AllocError, Global};
 use std::io;
@@ -83,8 +85,8 @@ fn faults_have_messages(rt: HostRuntime) {
         (Fault::Disk, "the disk failed"),
         (Fault::Stopped, "the store is stopped"),
     ] {
-        let told = format!(in rt.alloc(); "{fault}").expect(&rt, "memory");
-        assert!(rt; told.as_str() == message);
+        let printed = format!(in rt.alloc(); "{fault}").expect(&rt, "memory");
+        assert!(rt; printed.as_str() == message);
     }
 }
 

@@ -1,3 +1,5 @@
+//! The check of a small policy, sound as it is, with one row too many.
+
 use bank_policy::{Certifier, ItemSet, Member, Name, Policy, Relation, Triple, User};
 use bank_terms::{Kind, MAX_MOMENT, Procedure};
 use policy_check::{PolicyFault, check_policy};
@@ -225,7 +227,7 @@ fn a_fault_names_who_is_at_fault(rt: HostRuntime) {
         (OF_TESS, "separation, user 7, procedure post"),
         (OF_OLGA, "officer holds, user 1"),
     ] {
-        let told = format!(in rt.alloc(); "{fault}").expect(&rt, "memory");
-        assert!(rt; told.as_str() == text);
+        let printed = format!(in rt.alloc(); "{fault}").expect(&rt, "memory");
+        assert!(rt; printed.as_str() == text);
     }
 }

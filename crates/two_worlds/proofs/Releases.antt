@@ -53,7 +53,7 @@ pub plan_release : (cs : List RowWrite) (w : WorldLists) (user number : ℕ) →
 plan_release [] w user number order = refl
 plan_release (c ∷ cs) w user number order = plan_release cs (written c w) user number (in_order_written c w order) ∙ ap (releases_after cs user number) (release_is c w user number order.books)
 
--- ---- a leave, as the changes that it makes
+-- ---- an authorization, as the changes that it makes
 
 abbrev pub uses : Leave → ℕ → List RowWrite
 uses leave.Triple user = []

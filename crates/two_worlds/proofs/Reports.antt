@@ -1,5 +1,5 @@
--- What reports list is told by views: the entries of a statement by that of its account, the accounts that a user is shown by those of all accounts in his sets, and
--- the proof of a branch by those of its branch, history and vault.
+-- Views determine what reports list: that of an account its statement, those of all accounts in a user's sets the
+-- accounts that the user is shown, and those of a branch, its history and its vault the proof of that branch.
 use Rattle.std.proofs.Common.{◌≡◌, ℕ, pos, ◌+ℤ◌, ◌≤◌, List, [], ◌∷◌, ◌++◌, map, take, length, get_or, All, Bool, true, false, refl, ap, ap₂, arith, sym, ◌∙◌, ◌==◌, ◌&&◌, ◌+◌, Option, Some, None, Contains}
 use Rattle.std.specs.Prelude.{if◌then◌else◌, nat_le, nat_lt, option_map}
 use Rattle.std.specs.List.{concat, filter, find, range_with_len}

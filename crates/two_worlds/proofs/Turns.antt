@@ -1,4 +1,4 @@
--- The entries of an account tell the same by branch and number as by turn.
+-- Two Worlds have the same entries of an account by branch and number exactly where they have the same by turn.
 use Rattle.std.proofs.Common.{◌≡◌, ℕ, ◌+◌, ◌-◌, ◌≤◌, List, [], ◌∷◌, length, Bool, true, false, cond, refl, ap, ap₂, arith, sym, subst, ◌∙◌, ◌==◌, Option, Some, None, Contains, ◌⊎◌, inl, inr}
 use Rattle.std.specs.List.{cons_option, count_by, filter, filter_map, find, range_with_len}
 use Rattle.std.proofs.lemmas.Bool.{and_from, and_parts, eq-eqb, eqb-true, false≢true}
@@ -21,7 +21,7 @@ use Rattle.two_worlds.specs.View.{nothing, view_of}
 use Rattle.two_worlds.specs.Views.{ViewsGoByTurn, by_turn}
 use Rattle.two_worlds.proofs.Grown.{find_passing}
 
--- ---- what a look-up by each of some numbers tells
+-- ---- what a look-up by each of some numbers finds
 
 one_row : {X : Type 0} (x y : X) → ◌≡◌ {A = Option X} (Some x) (Some y) → x ≡ y
 one_row x y same = cc

@@ -237,7 +237,7 @@ person_passes m none =
     let drawer = passed_by (m.denies rule.Drawer) _ _ branch.1 in
     (passed_by (m.denies rule.SecondPerson) _ _ drawer.1).0
 
--- no one gives himself one
+-- no one gives a release to themselves
 not_to_himself : (o : Op) (by : Signature) (w : WorldLists) (number : ℕ) → (by_books (meaning_of o by w)).first ≡ None → IsNotGiven w o by.user number
 not_to_himself (op.Release g) by w number none = λ himself. absurd (eqb-false g.beneficiary by.user (person_passes (meaning_of (op.Release g) by w) none) (sym himself))
 not_to_himself _ by w number none = tt
@@ -263,7 +263,7 @@ same_blind false false false true d rest rest' r not is = is
 same_blind false false false false true rest rest' r not is = is
 same_blind false false false false false rest rest' r not is = absurd (not is)
 
--- what is found behind the rule on identity is not that
+-- what is found after the rule on identity is another rule
 not_identity : (s b c d : Bool) (rest : Option Rule) (r : Rule) → ¬ (rest ≡ Some r) → by_blind false s b c d rest ≡ Some r → r ≢ rule.Identity
 not_identity true b c d rest r not is same = cc
 not_identity false true c d rest r not is same = cc
@@ -281,7 +281,7 @@ module _ (w v : WorldLists) (x : Execution) (r : Rule) (agree : AgreeOnPolicy w 
   not_behind : ¬ (rest w ≡ Some r)
   not_behind some = false≢true (sym (not_among (tested w) is_blind (rule.Release ∷ rules_behind_policy) r refl some) ∙ blind)
 
-  -- where who asks is not known, and where he is
+  -- where the user who asks is not known, and where they are
   abbrev BlindlyFirst : Type 0
   BlindlyFirst = (first v (executes x) ≡ Some r) × (repeated w (executes x) ≡ None → repeated v (executes x) ≡ None)
 
@@ -418,7 +418,7 @@ others_are_left_alone w x bank proper = record {
   slip_counts = other_count w x bank.in_order.books.slips;
 }
 
--- ---- two Worlds that agree for an operation of a user agree after it for each of his for which they agreed before
+-- ---- two Worlds that agree for an operation of a user agree after it for each of theirs for which they agreed before
 
 module _ (w v : WorldLists) (x : Execution) (bank : PassesChecks w) (bank' : PassesChecks v) (proper : IsOp x.op) (agree : Agree w v x) where
   -- who gave a release of this user had given it before

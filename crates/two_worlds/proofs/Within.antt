@@ -204,7 +204,7 @@ plan_leaves items item real not (c ∷ cs) w steady within =
 abbrev pub AreAlike : List Cdi → WorldLists → WorldLists → Type 0
 AreAlike items w v = (item : Cdi) → Contains items item → view_of w item ≡ view_of v item
 
--- who holds the drawer of a line behind it, where the lines of the drawer are alike
+-- who holds the drawer of a line once it is added, where the lines of the drawer are alike
 same_holder : (w v : WorldLists) (l : CashLine) → IsSteady w → IsSteady v → view_of w (drawer_item l.place) ≡ view_of v (drawer_item l.place)
     → holder_of (add_row line_key l v.lines) l.place ≡ holder_of (add_row line_key l w.lines) l.place
 same_holder w v l steady steady' same =

@@ -37,7 +37,7 @@ use Rattle.two_worlds.proofs.Seen.{holder_passing}
 abbrev pub entered : Entry → RosterLine → RosterLine
 entered e r = record r { balance = r.balance +ℤ (if e.teller == r.teller then e.delta else pos 0) }
 
--- and with one more line of the cash book, behind which this user holds the drawer that it is at
+-- and with one more line of the cash book, after which this user holds the drawer that it is at
 abbrev pub lined : ℕ → Option ℕ → CashLine → RosterLine → RosterLine
 lined branch holder l r = record r {
   cash = r.cash +ℤ (if l.branch == branch && l.place == r.teller then l.amount else pos 0);
@@ -48,7 +48,7 @@ lined branch holder l r = record r {
 abbrev pub opened_at : ℕ → Account → Option Account → Option Account
 opened_at key a before = or_else before (cond (a.account == key) (Some a) None)
 
--- the view afterwards, where this user holds the drawer of the line behind it, if it is a line
+-- the view afterwards, where this user holds the drawer of the line that is added, if it is a line
 abbrev pub view_after : Option ℕ → RowWrite → Kind → ℕ → View → View
 view_after holder (write.Account a) kind.Account key s = record s { account = opened_at key a s.account }
 view_after holder (write.Account a) kind.Branch key s = record s { homed = s.homed + cond (a.home == key) 1 0 }
@@ -68,7 +68,7 @@ view_after holder (write.Proof p) kind.Branch key s = record s { proofs = grown 
 view_after holder (write.Day d) kind.Branch key s = record s { branch = option_map (λ row. if row.branch == d.branch then on_day d.day row else row) s.branch }
 view_after holder _ _ key s = s
 
--- this user holds the drawer of the line behind it, where there is a teller of that drawer
+-- this user holds the drawer of the line once it is added, where there is a teller of that drawer
 abbrev pub IsHolderAfter : Option ℕ → RowWrite → WorldLists → Type 0
 IsHolderAfter holder (write.Line l) w = (t : Teller) → Contains w.tellers t → l.place ≡ t.teller → holder_of (add_row line_key l w.lines) t.teller ≡ holder
 IsHolderAfter holder _ w = Unit {0}

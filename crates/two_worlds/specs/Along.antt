@@ -28,14 +28,15 @@ is_of_triples rule.NoTriple = true
 is_of_triples rule.Limit = true
 is_of_triples _ = false
 
--- no relation or no triple of his holds all that it touches, or none reaches the amount and no release is named
+-- no relation or no triple of the user's holds all that it touches, or none reaches the amount and no release is named
 pub record IsOutside (w : WorldLists) (x : Execution) : Type 0 where
   pub rule : Rule
   pub of_triples : is_of_triples rule ≡ true
   pub denies : denies rule w (executes x) ≡ true
 
--- On all that the reply to what is asked for depends on. It is nothing of items where an operation is outside of what his triples hold, only the slip that it names, and the
--- row of the user where a session is asked for. Of commands and of the listing nothing is said.
+-- On all that the reply to what is asked for depends on. It is nothing of items where an operation is outside of what
+-- the user's triples hold, only the slip that it names, and the row of the user where a session is asked for. Of
+-- commands and of the listing nothing is said.
 abbrev pub AgreeOn : WorldLists → WorldLists → Who → ℕ → Asked → Type 0
 AgreeOn w v who moment (asked.Operation op) =
     let x : Execution = record { who = who; moment = moment; op = op } in
@@ -50,6 +51,6 @@ pub record IsAgreed (w v : WorldLists) (user : ℕ) (q : Request) : Type 0 where
   pub proper : IsProper q
   pub agree : AgreeOn w v q.who q.moment q.asked
 
--- So long as they agree at the beginning for each of his requests, they give the same replies, whatever each of these changes.
+-- If they agree at first for each of the user's requests, they give the same replies, whatever each of these changes.
 abbrev pub TwoWorldsAlong : Type 0
 TwoWorldsAlong = (w v : WorldLists) (user : ℕ) (requests : List Request) → PassesChecks w → PassesChecks v → All (IsAgreed w v user) requests → replies w requests ≡ replies v requests

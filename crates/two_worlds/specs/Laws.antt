@@ -1,5 +1,5 @@
--- That nobody learns of items that he does not touch, and changes none: two Worlds that agree, as far as an operation of a user goes, answer it alike, and so they do
--- his requests one after another.
+-- That nobody learns of items that they do not touch, and changes none: two Worlds that agree, as far as an operation
+-- of a user goes, answer it alike, and so they do the user's requests one after another.
 use Rattle.std.specs.Prelude.{ℕ, ◌+◌, ◌≡◌, ◌≢◌, Contains, ⊤, Bool, true, false, All, Some, Err}
 use Rattle.bank_terms.specs.declared.item.Cdi.{Cdi}
 use Rattle.bank_terms.specs.declared.rule.Rule.{Rule}
@@ -46,8 +46,8 @@ is_blind rule.NoTriple = true
 is_blind rule.Limit = true
 is_blind _ = false
 
--- Whoever is denied by one of them is denied by it in each World that agrees on the policy and, behind the rule on identity, on the slip that he names, be every item another:
--- so he does not learn whether any item is there.
+-- What one of them denies it denies in each World that agrees on the policy and, for those that follow the rule on
+-- identity, on the slip that is named, even if no item is the same: so the user does not learn whether any is there.
 abbrev pub BlindlyDenied : Type 0
 BlindlyDenied = (w v : WorldLists) (x : Execution) (r : Rule) → AgreeOnPolicy w v x → (r ≢ rule.Identity → AgreeOnSlip w v x) → is_blind r ≡ true → reply w (executes x) ≡ Err r
     → reply v (executes x) ≡ Err r

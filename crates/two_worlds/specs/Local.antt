@@ -45,7 +45,7 @@ pub record IsElsewhere (w : WorldLists) (x : Execution) (a : Account) : Type 0 w
   pub home : ¬ Contains (touched x.op) (branch_item a.home)
   pub not_listed : is_account_of (accounts_triples w (asker x.who) x.moment) a.account ≡ false
 
--- He does not ask, did not give the release that is named, and is not the one for whom a release is.
+-- The user does not ask, did not give the release that is named, and is not the one for whom a release is.
 pub record HasNoPart (w : WorldLists) (x : Execution) (user : ℕ) : Type 0 where
   pub not_asker : user ≢ asker x.who
   pub not_giver : (r : Release) → release w (asker x.who) x.who.release ≡ Some r → user ≢ r.giver

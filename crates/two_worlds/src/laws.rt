@@ -6,18 +6,18 @@ ghost use Rattle.two_worlds.specs.Laws.{TwoWorlds, Undisturbed};
 ghost use Rattle.two_worlds.specs.Local.{AgreementIsLocal, DeniedIsOutside};
 ghost use Rattle.two_worlds.specs.Views.{MissingIsNothing, ViewsGoByTurn};
 
-/// Two banks that agree on the row of a user, on his triples and the relations of a procedure with their sets, on the release
-/// that he names and on who gave it, on the slip that he names and how many he has, and on the views of the items that an
-/// operation touches, reply to it alike, repeats and reports with their texts, and agree on all of this again afterwards. In
-/// each of them the views of all other items stay, and so do the policy, every release but the one that is used or given, and
-/// every slip but a new one of his. A denial by a rule in front of that on releases is the same whatever the items are. What is
-/// no operation leaves every item.
+/// Two banks that agree on the row of a user, on the user's triples and the relations of a procedure with their sets,
+/// on the release that is named and who gave it, on the slip that is named and how many the user has, and on the views
+/// of the items that an operation touches, reply to it alike, repeats and reports with their texts, and agree on all of
+/// this again afterwards. In each of them the views of all other items stay, and so do the policy, every release but
+/// the one that is used or given, and every slip but a new one of the user's. A denial by a rule before that on
+/// releases is the same whatever the items are. What is no operation leaves every item.
 pub fn two_worlds()
     ensures { TwoWorlds }
 {}
 
-/// Two banks that agree so for each of the operations and sessions of one user, or by whose policy his triples deny it whatever
-/// the items are, reply to all of them alike, one after another.
+/// Two banks that agree so for each of the operations and sessions of one user, or by whose policy the user's triples
+/// deny it whatever the items are, reply to all of them alike, one after another.
 pub fn two_worlds_along()
     ensures { TwoWorldsAlong }
 {}
@@ -45,7 +45,7 @@ pub fn missing_is_nothing()
     ensures { MissingIsNothing }
 {}
 
-/// The view of an account is told by its entries in the order of their turns, too.
+/// The views of an account in two banks are the same exactly where its row and its entries by turn are.
 pub fn views_go_by_turn()
     ensures { ViewsGoByTurn }
 {}

@@ -1,4 +1,4 @@
--- The rows above a key that pass a test: the first of them, and behind it those above its own key.
+-- The rows above a key that pass a test: the first of them, and after it those above its own key.
 use Rattle.std.proofs.Common.{◌≡◌, ℕ, ◌+◌, ◌<◌, ◌≤◌, suc, List, [], ◌∷◌, Bool, true, false, cond, ◌&&◌, ltb, Option, Some, None, map, take, option_map, All, refl, ap, sym, ◌∙◌, arith, add-one}
 use Rattle.std.specs.List.{filter, find}
 use Rattle.std.proofs.lemmas.Bool.{and_parts, le-ltb, lt-ltb, ltb-true}

@@ -1,4 +1,4 @@
--- The lines of a policy that is sound stand in order of their keys, so behind the key of one the next is found.
+-- The lines of a policy that is sound stand in order of their keys, so after the key of one the next is found.
 use Rattle.std.proofs.Common.{◌≡◌, ℕ, ◌+◌, ◌*◌, ◌^◌, ◌<◌, ◌≤◌, zero, suc, List, [], ◌∷◌, ◌++◌, Bool, true, false, cond, ◌&&◌, ◌||◌, ltb, eqb, Some, map, length, get_or, All, refl, ap, sym, ◌∙◌, arith, add-one}
 use Rattle.std.specs.List.{enumerate_from, find, flat_map, slice_get}
 use Rattle.std.proofs.lemmas.Bool.{lt-ltb}
@@ -19,7 +19,7 @@ use Rattle.world_reads.proofs.Rising.{Rises, rises, rises-joined}
 abbrev comes_before : PolicyRow → PolicyRow → Bool
 comes_before a b = is_before (key_of a) (key_of b)
 
--- each line comes before all those behind it
+-- each line comes before all those after it
 abbrev Ordered : List PolicyRow → Type 0
 Ordered [] = Unit {0}
 Ordered (x ∷ xs) = All (λ y. comes_before x y ≡ true) xs × Ordered xs

@@ -34,7 +34,7 @@ rises key (x ∷ xs) in_order distinct = (
   rises key xs (λ i j d le below. in_order (suc i) (suc j) d (omega arith) (omega arith)) distinct.1,
 )
 
--- two lists one behind the other, where all keys of the second lie above those of the first
+-- two lists one after the other, where all keys of the second lie above those of the first
 pub rises-joined : {X : Type 0} (key : X → ℕ) (xs ys : List X) → Rises key xs → Rises key ys → All (λ x. All (λ y. key x < key y) ys) xs → Rises key (xs ++ ys)
 rises-joined key [] ys first second apart = second
 rises-joined key (x ∷ xs) ys first second apart = (

@@ -94,7 +94,7 @@ is_account_of held account = list_any (λ row. list_any (is_within (record { kin
 abbrev pub is_account_after : List HeldTriple → ℕ → Account → Bool
 is_account_after held after a = nat_lt after a.account && is_account_of held a.account
 
--- the user's triples for the list of accounts that count at the moment
+-- the user's triples for the list of accounts that are valid at the moment
 abbrev pub accounts_triples : WorldLists → ℕ → ℕ → List HeldTriple
 accounts_triples w user moment = current moment (triples_of w.policy user procedure.Accounts)
 

@@ -61,7 +61,7 @@ columns_of (key.Triple user procedure set) = triple_number user procedure set
 abbrev pub is_before : PolicyKey → PolicyKey → Bool
 is_before a b = nat_lt (kind_of a) (kind_of b) || (kind_of a == kind_of b && nat_lt (columns_of a) (columns_of b))
 
--- a key is listed behind another, or behind none
+-- a key is listed after another, or there is no other
 abbrev pub is_behind : Option PolicyKey → PolicyKey → Bool
 is_behind None k = true
 is_behind (Some other) k = is_before other k
@@ -72,6 +72,6 @@ is_row_behind after r = is_behind after (key_of r)
 abbrev pub is_member_behind : Option PolicyKey → SetMember → Bool
 is_member_behind after m = is_behind after (key.Member m.set m.place)
 
--- the line of the policy behind a key, or the first
+-- the line of the policy after a key, or the first
 abbrev pub next_policy : WorldLists → Option PolicyKey → Option PolicyRow
 next_policy w after = find (is_row_behind after) (policy_rows w)

@@ -13,7 +13,7 @@ use Rattle.world_reads.specs.declared.records.UserRecord.{UserRecord}
 abbrev pub user_record_of : WorldLists → User → UserRecord
 user_record_of w row = record { standing = standing_of row; releases = release_count row.user w.releases }
 
--- the user of this number, with how many releases he was given
+-- the user of this number, with how many releases they were given
 abbrev pub user_record : WorldLists → ℕ → Option UserRecord
 user_record w user = option_map (user_record_of w) (user_row w.policy user)
 

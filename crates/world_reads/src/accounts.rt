@@ -1,3 +1,5 @@
+//! The accounts that a user is shown: those above a number as a list, or only the next one.
+
 ghost use Rattle.std.specs.Prelude.{◌≡◌, IfOk};
 ghost use Rattle.std.specs.List.{find, list_any};
 ghost use Rattle.std.specs.Option.{option_copied};
@@ -10,8 +12,8 @@ use bank_policy::{HeldRow, Member, keep_current, triples_of};
 use bank_terms::{Kind, Procedure};
 use std::alloc::{AllocError, Global};
 
-/// The accounts above a number that lie in the set of some one of the user's triples for the list
-/// of accounts that counts at the moment, by number, each once, at most `count`, with their balances. Only memory keeps them
+/// The accounts above a number that lie in the set of a triple, valid at the moment, of this user for the
+/// list of accounts: by number, each once, at most `count`, with their balances. Only memory keeps them
 /// from an answer.
 pub fn shown(
     alloc: Global,
@@ -54,7 +56,7 @@ pub fn next_shown(
     }
 }
 
-/// The user's triples for the list of accounts that count at the moment.
+/// The user's triples for the list of accounts that are valid at the moment.
 fn accounts_triples(
     alloc: Global,
     world: &World,

@@ -1,4 +1,4 @@
-//! What a store answers of a World, by definition: a user with his counts, a release, the tellers of a
+//! What a store answers of a World, by definition: a user with their counts, a release, the tellers of a
 //! branch, a drawer, a vault, entries by number or by turn, the accounts that a user is shown, the lines of
 //! the policy. Each function answers exactly that. Only memory keeps those from it that make a list or look
 //! for the next account or line. `laws` says how these reads agree. Stores are in `store_rows`.

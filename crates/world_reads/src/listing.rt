@@ -1,3 +1,5 @@
+//! The lines of the policy as one list, kind by kind.
+
 ghost use Rattle.std.specs.Prelude.{◌≡◌, ◌++◌, map, IfOk, OnOk};
 ghost use Rattle.std.specs.List.{flat_map};
 ghost use Rattle.world_reads.specs.PolicyListing.{policy_rows, set_members};
@@ -24,7 +26,7 @@ pub fn policy_rows(alloc: Global, world: &World) -> Result<Vec<PolicyRow>, Alloc
     Ok(rows)
 }
 
-/// The same user, with a name of his own memory.
+/// The same user, with the name in memory of its own.
 pub(crate) fn copied_user(alloc: Global, row: &User) -> Result<User, AllocError>
     ensures { IfOk result (λ user. user ≡ row.now) }
 {

@@ -1,3 +1,5 @@
+//! The line of the policy after a key, found without a list of all lines.
+
 ghost use Rattle.std.specs.Prelude.{◌≡◌, map, IfOk};
 ghost use Rattle.std.specs.List.{find, flat_map};
 ghost use Rattle.std.specs.Option.{option_copied};
@@ -11,8 +13,8 @@ use bank_books::World;
 use bank_policy::{ItemSet, Policy, User};
 use std::alloc::{AllocError, Global};
 
-/// The line of the policy that is listed behind the one of this key, or the first where there is
-/// none; none where no line is listed there. Only memory keeps it from an answer.
+/// The line of the policy that is listed after the one of this key, or the first where no key is
+/// given; none where no line is listed there. Only memory keeps it from an answer.
 pub fn next_policy(
     alloc: Global,
     world: &World,
@@ -27,7 +29,7 @@ pub fn next_policy(
     }
 }
 
-/// The first line behind the users that is listed behind this key.
+/// The first line past those of users that is listed after this key.
 fn line_behind(policy: &Policy, after: Option<PolicyKey>) -> Option<PolicyRow>
     ensures { result ≡ find (is_row_behind after) (lines_behind_users policy.now) }
 {
@@ -90,7 +92,7 @@ fn member_line_behind(policy: &Policy, after: Option<PolicyKey>) -> Option<Polic
     }
 }
 
-/// The first member of these sets that is listed behind this key.
+/// The first member of these sets that is listed after this key.
 fn member_behind(sets: &[ItemSet], after: Option<PolicyKey>) -> Option<SetMember>
     ensures { result ≡ find (is_member_behind after) (flat_map set_members sets.now) }
 {

@@ -1,3 +1,5 @@
+//! The tellers of a branch, what a drawer is judged by, and the cash of a vault.
+
 ghost use Rattle.std.specs.Prelude.{◌≡◌, IfOk};
 ghost use Rattle.world_reads.specs.BookReads.{drawer, next_teller, roster, vault};
 

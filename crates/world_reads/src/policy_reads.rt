@@ -1,3 +1,5 @@
+//! One user's record and releases, and reads of the policy: its triples, sets and certifiers.
+
 ghost use Rattle.std.specs.Prelude.{◌≡◌};
 ghost use Rattle.std.specs.List.{find};
 ghost use Rattle.std.specs.Option.{option_copied};
@@ -24,7 +26,7 @@ fn release_row(rows: &[bank_books::Release], user: u32, number: u32) -> Option<&
         .find(|row| row.user == user && row.number == number)
 }
 
-/// What the row of this user says of whether he may ask, and how many releases he was given, or
+/// What the row of this user says of whether they may ask, and how many releases they were given, or
 /// none where there is no such user. It takes no memory.
 pub fn user_record(world: &World, user: u32) -> Option<UserRecord>
     ensures { result ≡ user_record world.now user }

@@ -1,3 +1,5 @@
+//! A line of the policy of any kind, the key that says which line it is, and the order of keys.
+
 ghost use Rattle.std.specs.Prelude.{◌≡◌};
 ghost use Rattle.world_reads.specs.PolicyListing.{columns_of, is_before, is_behind, key_of, kind_of};
 
@@ -37,14 +39,14 @@ pub enum PolicyRow {
 pub enum PolicyKey {
     /// A user.
     User {
-        /// His number, 1 to 9,999.
+        /// The user's number, 1 to 9,999.
         user: u32,
     },
     /// A certifier.
     Certifier {
         /// Who may certify.
         user: u32,
-        /// What he may certify.
+        /// What they may certify.
         procedure: Procedure,
     },
     /// A member of a set.
@@ -65,7 +67,7 @@ pub enum PolicyKey {
     Triple {
         /// Who may.
         user: u32,
-        /// What he may.
+        /// What they may carry out.
         procedure: Procedure,
         /// On which set.
         set: u32,
@@ -109,7 +111,7 @@ impl PolicyKey {
             || self.kind() == other.kind() && self.columns() < other.columns()
     }
 
-    /// Whether the line of this key is listed behind that of the other, or behind none.
+    /// Whether the line of this key is listed after that of the other, or there is no other.
     pub(crate) fn is_behind(self, other: Option<PolicyKey>) -> bool
         ensures { result ≡ is_behind other self }
     {

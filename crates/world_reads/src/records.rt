@@ -1,3 +1,5 @@
+//! What a drawer and a user are judged by, each as one record.
+
 use bank_policy::Standing;
 
 /// What the drawer of a teller is judged by.
@@ -9,11 +11,11 @@ pub struct DrawerRecord {
     pub holder: Option<u32>,
 }
 
-/// A user's standing, with the number that the books give him.
+/// A user's standing, with the number that the books give for the user.
 #[derive(Clone, Copy, Debug, PartialEq, Eq)]
 pub struct UserRecord {
-    /// What his row says of whether he may ask.
+    /// What the user's row says of whether they may ask.
     pub standing: Standing,
-    /// How many releases he was given.
+    /// How many releases they were given.
     pub releases: u64,
 }

@@ -1,3 +1,5 @@
+//! A user's slips: the one of a number, and how many there are.
+
 ghost use Rattle.std.specs.Prelude.{◌≡◌, IfOk};
 ghost use Rattle.std.specs.List.{find};
 ghost use Rattle.std.specs.Option.{option_copied};

@@ -36,7 +36,7 @@ policy_text_same w most = ap (λ lines. heading (listing.Policy None) (length li
 
 -- ---- accounts
 
--- the line of an account tells its number, its home and its balance
+-- the line of an account shows its number, its home and its balance
 line_same : (a : AccountRecord) → account_line (carried_account_record a) ≡ account_line a
 unfolding account_line
 line_same a = refl

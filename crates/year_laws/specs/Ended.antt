@@ -18,6 +18,6 @@ NothingIsCorrectable = (w : WorldLists) → Books w → IsClosed w → (who : Wh
     (denies rule.Entry w (executes (record { who = who; moment = moment; op = op.Correct correct })) ≡ true)
     × (denies rule.Entry (forward w) (executes (record { who = who; moment = moment; op = op.Correct correct })) ≡ true)
 
--- and no release counts, for whatever it was given
+-- and no release is valid, for whatever it was given
 abbrev pub NoReleaseCounts : Type 0
 NoReleaseCounts = (w : WorldLists) → IsClosed w → (x : Execution) → (is_released (grounds w x) ≡ false) × (is_released (grounds (forward w) x) ≡ false)

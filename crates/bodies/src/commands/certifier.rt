@@ -1,3 +1,5 @@
+//! The body of the naming or the dismissal of a certifier: a user and a procedure.
+
 ghost use Rattle.std.specs.Prelude.{◌≡◌, IfSome};
 ghost use Rattle.serde_json.specs.View.{view};
 ghost use Rattle.policy_commands.specs.Ranges.{IsCertifierRow};

@@ -1,3 +1,5 @@
+//! The body of the enrolment of a user: a number, a name, and whether they are an officer.
+
 ghost use Rattle.std.specs.Prelude.{◌≡◌, ◌≤◌, All, IfOk, IfSome, IsTrue};
 ghost use Rattle.serde_json.specs.View.{view};
 ghost use Rattle.policy_check.specs.Soundness.{IsName};

@@ -1,3 +1,5 @@
+//! The body of the definition of a set: its key, and 1 to 32 members.
+
 ghost use Rattle.std.specs.Prelude.{◌≡◌, ◌≤◌, IfOk, IfSome, IsTrue, length};
 ghost use Rattle.serde_json.specs.View.{items_view, view};
 ghost use Rattle.policy_check.specs.Soundness.{IsSetSound};

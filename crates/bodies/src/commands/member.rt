@@ -1,3 +1,5 @@
+//! The members of a set in a body: each is an interval of keys of one kind, as three numbers.
+
 ghost use Rattle.std.specs.Prelude.{◌≡◌, All, IfOk, IfSome, length, option_map};
 ghost use Rattle.serde_json.specs.View.{items_view, view};
 ghost use Rattle.policy_check.specs.Soundness.{IsMemberSound, IsNumber};

@@ -1,3 +1,5 @@
+//! The user and the procedure that the body of a command names.
+
 ghost use Rattle.std.specs.Prelude.{◌≡◌, IfSome};
 ghost use Rattle.serde_json.specs.View.{view};
 ghost use Rattle.policy_commands.specs.Ranges.{IsUserNumber};

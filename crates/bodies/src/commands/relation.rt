@@ -1,3 +1,5 @@
+//! The body of the certification of a relation or of its withdrawal: a procedure and a set.
+
 ghost use Rattle.std.specs.Prelude.{◌≡◌, IfSome};
 ghost use Rattle.serde_json.specs.View.{view};
 ghost use Rattle.policy_commands.specs.Ranges.{IsRelationKey};

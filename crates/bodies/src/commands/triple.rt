@@ -1,3 +1,5 @@
+//! The body of the grant of a triple: its key and its limit, with its first and last moments or without them.
+
 ghost use Rattle.std.specs.Prelude.{◌≡◌, ◌≤◌, IfSome};
 ghost use Rattle.bank_terms.specs.Limits.{max_moment};
 ghost use Rattle.serde_json.specs.View.{view};
@@ -10,7 +12,7 @@ use bank_policy::Triple;
 use bank_terms::{MAX_LIMIT, MAX_MOMENT};
 use serde_json::Value;
 
-/// The triple that the value states, to be given. One that states no moments stands for all of them.
+/// The triple that the value states, to be given. One that states no moments is valid at all of them.
 pub fn triple_stated(body: &Value) -> Option<Triple>
     ensures value { result ≡ triple_of (view body.now) }
     ensures range { IfSome result IsTriple }

@@ -1,3 +1,5 @@
+//! The body of the revocation of a triple: a user, a procedure and a set.
+
 ghost use Rattle.std.specs.Prelude.{◌≡◌, IfSome};
 ghost use Rattle.serde_json.specs.View.{view};
 ghost use Rattle.policy_commands.specs.Ranges.{IsTripleKey};

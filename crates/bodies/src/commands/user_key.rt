@@ -1,3 +1,5 @@
+//! The body of the suspension of a user or of its end: the user's number.
+
 ghost use Rattle.std.specs.Prelude.{◌≡◌, IfSome};
 ghost use Rattle.serde_json.specs.View.{view};
 ghost use Rattle.policy_commands.specs.Ranges.{IsUserKey};

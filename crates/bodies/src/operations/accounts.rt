@@ -1,3 +1,5 @@
+//! The body of a request for accounts: the key above which they begin, and how many are asked for.
+
 ghost use Rattle.std.specs.Prelude.{◌≡◌, IfSome};
 ghost use Rattle.serde_json.specs.View.{view};
 ghost use Rattle.bodies.specs.Accounts.{accounts_of};

@@ -1,3 +1,5 @@
+//! The body of a request for a balance: an account.
+
 ghost use Rattle.std.specs.Prelude.{◌≡◌, IfSome};
 ghost use Rattle.serde_json.specs.View.{view};
 ghost use Rattle.bodies.specs.Balance.{balance_of};

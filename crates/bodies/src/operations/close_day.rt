@@ -1,3 +1,5 @@
+//! The body of the closing of a day: a branch.
+
 ghost use Rattle.std.specs.Prelude.{◌≡◌, IfSome};
 ghost use Rattle.serde_json.specs.View.{view};
 ghost use Rattle.bodies.specs.CloseDay.{close_day_of};

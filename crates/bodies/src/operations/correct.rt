@@ -1,3 +1,5 @@
+//! The body of a correction: an entry, its accounts and its amount, and the teller at whom it is undone.
+
 ghost use Rattle.std.specs.Prelude.{◌≡◌, ◌<◌, IfSome};
 ghost use Rattle.serde_json.specs.View.{view};
 ghost use Rattle.bodies.specs.Correct.{correct_of};

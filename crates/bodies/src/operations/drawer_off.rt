@@ -1,3 +1,5 @@
+//! The body of the return of a drawer: its teller, its branch, and the cash that was counted in it.
+
 ghost use Rattle.std.specs.Prelude.{◌≡◌, IfSome};
 ghost use Rattle.serde_json.specs.View.{view};
 ghost use Rattle.bodies.specs.DrawerOff.{drawer_off_of};

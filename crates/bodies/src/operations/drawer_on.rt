@@ -1,3 +1,5 @@
+//! The body of the handing out of a drawer: its teller, its branch, and the cash from the vault.
+
 ghost use Rattle.std.specs.Prelude.{◌≡◌, ◌<◌, IfSome};
 ghost use Rattle.serde_json.specs.View.{view};
 ghost use Rattle.bodies.specs.DrawerOn.{drawer_on_of};

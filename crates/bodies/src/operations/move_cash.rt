@@ -1,3 +1,5 @@
+//! The body of a move of cash: two different places of a branch, and the amount.
+
 ghost use Rattle.std.specs.Prelude.{◌≡◌, ◌<◌, IfSome};
 ghost use Rattle.serde_json.specs.View.{view};
 ghost use Rattle.bodies.specs.MoveCash.{move_cash_of};

@@ -1,3 +1,5 @@
+//! The body of the opening of an account: its key, its branch, and its floor.
+
 ghost use Rattle.std.specs.Prelude.{◌≡◌, IfSome};
 ghost use Rattle.serde_json.specs.View.{view};
 ghost use Rattle.bodies.specs.NewAccount.{new_account_of};

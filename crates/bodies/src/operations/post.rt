@@ -1,3 +1,5 @@
+//! The body of a post: an account, a branch, a teller, and the amount.
+
 ghost use Rattle.std.specs.Prelude.{◌≡◌, ◌<◌, IfSome};
 ghost use Rattle.serde_json.specs.View.{view};
 ghost use Rattle.bodies.specs.Post.{post_of};

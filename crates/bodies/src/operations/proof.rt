@@ -1,3 +1,5 @@
+//! The body of a request for the proof of the books: a branch.
+
 ghost use Rattle.std.specs.Prelude.{◌≡◌, IfSome};
 ghost use Rattle.serde_json.specs.View.{view};
 ghost use Rattle.bodies.specs.Proof.{proof_of};

@@ -1,3 +1,5 @@
+//! The body of an operation, read from its bytes in the form of its procedure.
+
 ghost use Rattle.std.specs.Prelude.{◌≡◌, ◌<◌, length, None, IfOk, IfErr, IfSome, IsOkUnless};
 ghost use Rattle.serde_json.specs.Errors.{IsMemory};
 ghost use Rattle.serde_json.specs.View.{view};

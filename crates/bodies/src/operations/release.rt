@@ -1,3 +1,5 @@
+//! The body of a release: the user who is authorized, and an operation of one of five procedures.
+
 ghost use Rattle.std.specs.Prelude.{◌≡◌, IfSome};
 ghost use Rattle.serde_json.specs.View.{view};
 ghost use Rattle.bodies.specs.Release.{releasable_of, release_of};
@@ -31,7 +33,7 @@ pub fn releasable_stated(body: &Value) -> Option<Releasable>
     }
 }
 
-/// The user and the operation that the value states, for which he is given leave.
+/// The user that the value states, and the operation for which they are given authorization.
 pub fn release_stated(body: &Value) -> Option<Release>
     ensures value { result ≡ release_of (view body.now) }
     ensures range { IfSome result IsRelease }

@@ -1,3 +1,5 @@
+//! The body of a request for a statement: an account, the first turn, and how many entries are asked for.
+
 ghost use Rattle.std.specs.Prelude.{◌≡◌, IfSome};
 ghost use Rattle.serde_json.specs.View.{view};
 ghost use Rattle.bodies.specs.Statement.{statement_of};

@@ -1,3 +1,5 @@
+//! The body of a transfer: two different accounts, a teller, a branch, and the amount.
+
 ghost use Rattle.std.specs.Prelude.{◌≡◌, ◌<◌, IfSome};
 ghost use Rattle.serde_json.specs.View.{view};
 ghost use Rattle.bodies.specs.Transfer.{transfer_of};

@@ -1,3 +1,5 @@
+//! Accounts, read from the rows of their table with the balance and the turns that are kept beside each.
+
 use crate::cells::{cents_at, count_at, number_at};
 use crate::table_row::TableRow;
 use crate::values::sum_at;
@@ -6,7 +8,7 @@ use money::Fault;
 use sqlite::Row;
 use std::alloc::Global;
 
-/// The text of a query for accounts, with this behind its columns, which stand in the order in which a row is read.
+/// The text of a query for accounts that ends as given. Its columns stand in the order in which a row is read.
 #[macro_export]
 macro_rules! select_accounts {
     ($rest:literal) => {

@@ -1,3 +1,5 @@
+//! Branches, read from the rows of their table with the sums and the counts that are kept beside each.
+
 ghost use Rattle.std.specs.Prelude.{◌≡◌, pos, IfErr, IfOk};
 ghost use Rattle.sqlite.specs.declared.types.Value.TheVariants.{Int};
 ghost use Rattle.sqlite_value.specs.Order.{column};
@@ -13,7 +15,7 @@ use money::Fault;
 use sqlite::Row;
 use std::alloc::Global;
 
-/// The text of a query for branches, with this behind its columns, which stand in the order in which a row is read.
+/// The text of a query for branches that ends as given. Its columns stand in the order in which a row is read.
 #[macro_export]
 macro_rules! select_branches {
     ($rest:literal) => {

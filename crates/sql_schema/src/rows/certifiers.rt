@@ -1,3 +1,5 @@
+//! Certifiers, each a user and a procedure, read from the rows of their table.
+
 use crate::cells::{number_at, procedure_at};
 use crate::table_row::TableRow;
 use bank_policy::Certifier;
@@ -5,7 +7,7 @@ use money::Fault;
 use sqlite::Row;
 use std::alloc::Global;
 
-/// The text of a query for certifiers, with this behind its columns, which stand in the order in which a row is read.
+/// The text of a query for certifiers that ends as given. Its columns stand in the order in which a row is read.
 #[macro_export]
 macro_rules! select_certifiers {
     ($rest:literal) => {

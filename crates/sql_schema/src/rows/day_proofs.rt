@@ -1,3 +1,5 @@
+//! Proofs of days that were closed, read from the rows of the table `proofs`.
+
 use crate::cells::{cents_at, number_at};
 use crate::table_row::TableRow;
 use bank_books::Proof;
@@ -5,7 +7,7 @@ use money::Fault;
 use sqlite::Row;
 use std::alloc::Global;
 
-/// The text of a query for proofs of days, with this behind its columns, which stand in the order in which a row is read.
+/// The text of a query for proofs of days that ends as given. Its columns stand in the order in which a row is read.
 #[macro_export]
 macro_rules! select_proofs {
     ($rest:literal) => {

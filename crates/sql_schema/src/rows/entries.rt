@@ -1,3 +1,5 @@
+//! Entries, each with the balance of its account after it, read from the rows of their table.
+
 use crate::cells::{count_at, number_at};
 use crate::table_row::TableRow;
 use crate::values::{delta_at, entry_form_at, sum_at};
@@ -6,7 +8,7 @@ use money::Fault;
 use sqlite::Row;
 use std::alloc::Global;
 
-/// The text of a query for entries, with this behind its columns, which stand in the order in which a row is read.
+/// The text of a query for entries that ends as given. Its columns stand in the order in which a row is read.
 #[macro_export]
 macro_rules! select_entries {
     ($rest:literal) => {

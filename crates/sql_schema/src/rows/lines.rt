@@ -1,3 +1,5 @@
+//! Lines of the cash books of branches, read from the rows of their table.
+
 use crate::cells::{cents_at, count_at, number_at};
 use crate::table_row::TableRow;
 use crate::values::line_form_at;
@@ -6,7 +8,7 @@ use money::Fault;
 use sqlite::Row;
 use std::alloc::Global;
 
-/// The text of a query for cash lines, with this behind its columns, which stand in the order in which a row is read.
+/// The text of a query for cash lines that ends as given. Its columns stand in the order in which a row is read.
 #[macro_export]
 macro_rules! select_lines {
     ($rest:literal) => {

@@ -1,3 +1,5 @@
+//! Members of sets, each with its set and its place in it, read from the rows of their table.
+
 use crate::cells::{kind_at, number_at};
 use crate::table_row::TableRow;
 use bank_policy::Member;
@@ -6,7 +8,7 @@ use money::Fault;
 use sqlite::Row;
 use std::alloc::Global;
 
-/// The text of a query for members, with this behind its columns, which stand in the order in which a row is read.
+/// The text of a query for members that ends as given. Its columns stand in the order in which a row is read.
 #[macro_export]
 macro_rules! select_members {
     ($rest:literal) => {

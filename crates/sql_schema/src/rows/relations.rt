@@ -1,3 +1,5 @@
+//! Relations, each with the user who certified it, read from the rows of their table.
+
 use crate::cells::{number_at, procedure_at};
 use crate::table_row::TableRow;
 use bank_policy::Relation;
@@ -5,7 +7,7 @@ use money::Fault;
 use sqlite::Row;
 use std::alloc::Global;
 
-/// The text of a query for relations, with this behind its columns, which stand in the order in which a row is read.
+/// The text of a query for relations that ends as given. Its columns stand in the order in which a row is read.
 #[macro_export]
 macro_rules! select_relations {
     ($rest:literal) => {

@@ -1,3 +1,5 @@
+//! Releases, each with its operation and whether it was used, read from the rows of their table.
+
 use crate::cells::{number_at, procedure_at, truth_at};
 use crate::table_row::TableRow;
 use crate::values::members_of;
@@ -7,7 +9,7 @@ use money::Fault;
 use sqlite::Row;
 use std::alloc::Global;
 
-/// The text of a query for releases, with this behind its columns, which stand in the order in which a row is read.
+/// The text of a query for releases that ends as given. Its columns stand in the order in which a row is read.
 #[macro_export]
 macro_rules! select_releases {
     ($rest:literal) => {

@@ -1,10 +1,12 @@
+//! Sets, of which their table holds the numbers alone.
+
 use crate::cells::number_at;
 use crate::table_row::TableRow;
 use money::Fault;
 use sqlite::Row;
 use std::alloc::Global;
 
-/// The text of a query for sets, with this behind its columns, which stand in the order in which a row is read.
+/// The text of a query for sets that ends as given. Its columns stand in the order in which a row is read.
 #[macro_export]
 macro_rules! select_sets {
     ($rest:literal) => {

@@ -1,3 +1,5 @@
+//! How many slips each user has, read from the rows of a table of its own.
+
 use crate::cells::{count_at, number_at};
 use crate::table_row::TableRow;
 use book_kept::SlipCount;
@@ -5,7 +7,7 @@ use money::Fault;
 use sqlite::Row;
 use std::alloc::Global;
 
-/// The text of a query for counts of slips, with this behind its columns, which stand in the order in which a row is read.
+/// The text of a query for counts of slips that ends as given. Its columns stand in the order in which a row is read.
 #[macro_export]
 macro_rules! select_slip_counts {
     ($rest:literal) => {

@@ -1,3 +1,5 @@
+//! Slips, each with its operation and the stored reply, read from the rows of their table.
+
 use crate::cells::{number_at, procedure_at};
 use crate::table_row::TableRow;
 use crate::values::{bytes_at, slip_members_of};
@@ -7,7 +9,7 @@ use money::Fault;
 use sqlite::Row;
 use std::alloc::Global;
 
-/// The text of a query for slips, with this behind its columns, which stand in the order in which a row is read.
+/// The text of a query for slips that ends as given. Its columns stand in the order in which a row is read.
 #[macro_export]
 macro_rules! select_slips {
     ($rest:literal) => {

@@ -1,3 +1,5 @@
+//! Tellers, read from the rows of their table with the balance, the cash and the holder kept beside each.
+
 use crate::cells::{cents_at, number_at};
 use crate::table_row::TableRow;
 use crate::values::sum_at;
@@ -7,7 +9,7 @@ use money::Fault;
 use sqlite::Row;
 use std::alloc::Global;
 
-/// The text of a query for tellers, with this behind its columns, which stand in the order in which a row is read.
+/// The text of a query for tellers that ends as given. Its columns stand in the order in which a row is read.
 #[macro_export]
 macro_rules! select_tellers {
     ($rest:literal) => {

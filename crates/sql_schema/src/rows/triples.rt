@@ -1,3 +1,5 @@
+//! Triples, each with its limit and its first and last moments, read from the rows of the table `grants`.
+
 use crate::cells::{count_at, number_at, procedure_at};
 use crate::table_row::TableRow;
 use bank_policy::Triple;
@@ -5,7 +7,7 @@ use money::Fault;
 use sqlite::Row;
 use std::alloc::Global;
 
-/// The text of a query for triples, with this behind its columns, which stand in the order in which a row is read.
+/// The text of a query for triples that ends as given. Its columns stand in the order in which a row is read.
 #[macro_export]
 macro_rules! select_triples {
     ($rest:literal) => {

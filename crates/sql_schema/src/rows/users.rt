@@ -1,3 +1,5 @@
+//! Users, read from the rows of their table with the number of releases that is kept beside each.
+
 use crate::cells::{count_at, number_at, truth_at};
 use crate::table_row::TableRow;
 use crate::values::name_at;
@@ -7,7 +9,7 @@ use money::Fault;
 use sqlite::Row;
 use std::alloc::Global;
 
-/// The text of a query for users, with this behind its columns, which stand in the order in which a row is read.
+/// The text of a query for users that ends as given. Its columns stand in the order in which a row is read.
 #[macro_export]
 macro_rules! select_users {
     ($rest:literal) => {

@@ -1,4 +1,4 @@
--- The least branch that is told of a row is the least whose cash does not agree.
+-- The least branch with a row that fails is the least whose cash does not agree.
 use Rattle.std.proofs.Common.{◌≡◌, ℕ, List, Option, subst, sym, ap, ◌∙◌}
 use Rattle.bank_books.specs.Conditions.{CashAgrees}
 use Rattle.book_check.specs.Least.{IsFirstFailing, lesser_of}

@@ -1,4 +1,4 @@
--- Each fault is told where no earlier one was found; where there is none, the kept numbers are those that the World gives.
+-- Each fault is returned where no earlier one was found; without one, the kept numbers are those that the World gives.
 use Rattle.std.proofs.Common.{rules}
 use Rattle.bank_books.specs.Range.{IsInRange}
 use Rattle.bank_books.specs.Conditions.{TotalsAgree}

@@ -1,4 +1,4 @@
--- The least branch that is told of a row is the least whose history does not agree.
+-- The least branch with a row that fails is the least whose history does not agree.
 use Rattle.std.proofs.Common.{◌≡◌, ℕ, List, Option, subst, sym}
 use Rattle.bank_books.specs.declared.rows.Entry.{Entry}
 use Rattle.bank_books.specs.Conditions.{HistoryAgrees}

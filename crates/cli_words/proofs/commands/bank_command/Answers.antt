@@ -13,7 +13,11 @@ returns c =
     ∙ ap₂ with_subcommand two (ap (λ (a : App). a.top) c.in_ok-check_command.ensures.app) in
     let four = c.in_ok-subcommand-4.ensures.shape c.in_ok-upgrade_command.ensures.local
     ∙ ap₂ with_subcommand three (ap (λ (a : App). a.top) c.in_ok-upgrade_command.ensures.app) in
-    let five = c.in_ok-subcommand-5.ensures.shape c.in_ok-run_command.ensures.local
-    ∙ ap₂ with_subcommand four (ap (λ (a : App). a.top) c.in_ok-run_command.ensures.app) in
-    IfOk-weaker c.subcommand-6.result _ _ (λ r h. h.shape c.in_ok-serve_command.ensures.local
-    ∙ ap₂ with_subcommand five (ap (λ (a : App). a.top) c.in_ok-serve_command.ensures.app)) c.subcommand-6.ensures
+    let five = c.in_ok-subcommand-5.ensures.shape c.in_ok-forward_command.ensures.local
+    ∙ ap₂ with_subcommand four (ap (λ (a : App). a.top) c.in_ok-forward_command.ensures.app) in
+    let six = c.in_ok-subcommand-6.ensures.shape c.in_ok-run_command.ensures.local
+    ∙ ap₂ with_subcommand five (ap (λ (a : App). a.top) c.in_ok-run_command.ensures.app) in
+    let seven = c.in_ok-subcommand-7.ensures.shape c.in_ok-serve_command.ensures.local
+    ∙ ap₂ with_subcommand six (ap (λ (a : App). a.top) c.in_ok-serve_command.ensures.app) in
+    IfOk-weaker c.subcommand-8.result _ _ (λ r h. h.shape c.in_ok-counter_command.ensures.local
+    ∙ ap₂ with_subcommand seven (ap (λ (a : App). a.top) c.in_ok-counter_command.ensures.app)) c.subcommand-8.ensures

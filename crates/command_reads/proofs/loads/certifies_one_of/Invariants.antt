@@ -4,7 +4,7 @@ use Rattle.world_reads.specs.PolicyReads.{is_certifier}
 use Rattle.store_rows.specs.Status.{Keeps, Tells}
 use Rattle.command_reads.proofs.loads.certifies_one_of.Given as goal
 
--- nothing has changed, no fault was counted, and none of the procedures that were asked about is his
+-- nothing has changed, no fault was counted, and the user certifies none of the procedures that were asked about
 abbrev pub invariant-loop-procedure : goal.invariant-loop-procedure
 invariant-loop-procedure g l = record {
   kept : Keeps (g.P.Stands.status l.fn.store) (g.P.Stands.status l.store) None;

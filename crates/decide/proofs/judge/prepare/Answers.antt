@@ -68,7 +68,7 @@ returns-in-Ok-Report-clause-judged g c =
 pub returns-in_err-rule-clause-denied : goal.returns-in_err-rule-clause-denied
 returns-in_err-rule-clause-denied g c = λ honest w holds some. read_counted _ _ _ c.in_err-rule.ensures.counted
 
--- the rules of the books, of what the policy gave leave for
+-- the rules of the books, of what the policy authorized
 pub returns-in_err-plan-in-Ok-clause-denied : goal.returns-in_err-plan-in-Ok-clause-denied
 returns-in_err-plan-in-Ok-clause-denied g c = λ honest w holds some.
     let before = c.prepare_by_books.ensures.judged.kept.answers.honest honest in

@@ -1,4 +1,4 @@
--- What is sought, and what was looked up for it, tells the leave.
+-- The authorization follows from what is sought and from what was looked up for it.
 use Rattle.std.proofs.Common.{rules, ◌≡◌, Ok, sym, subst, ◌∙◌}
 use Rattle.bank_meaning.specs.PolicyRules.{grounds, leave_sought}
 use Rattle.decide.proofs.LeaveByRelease.{by_release, refused_by_release, refused_before}

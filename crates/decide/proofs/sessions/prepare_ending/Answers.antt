@@ -5,7 +5,7 @@ use Rattle.op_prepare.proofs.CountedDenials.{none_denies, read_counted}
 use Rattle.decide.proofs.CountedDenials.{ending_is}
 use Rattle.decide.proofs.sessions.prepare_ending.Goals as goal
 
--- what search finds for itself, asked for here so that a mistake is refused soon
+-- what search finds for itself, asked for here so that a mutant is refused soon
 pub returns-in_ok-text-in-Ok-clause-judged : goal.returns-in_ok-text-in-Ok-clause-judged
 returns-in_ok-text-in-Ok-clause-judged g c = search rules
 

@@ -51,7 +51,7 @@ returns-in_ok-plan-in-Ok-Change-clause-judged g c =
       refused = search rules;
     }
 
--- a denial is told, or the store counted the fault
+-- a denial is returned, or the store counted the fault
 pub returns-in_err-rule-clause-denied : goal.returns-in_err-rule-clause-denied
 returns-in_err-rule-clause-denied g c = λ honest w holds none some.
     let before = c.prepare.ensures.judged.kept.answers.honest honest in

@@ -6,7 +6,7 @@ use Rattle.http_heads.specs.Seen.{LacksLastLine}
 use Rattle.http_heads.proofs.SeenLemmas.{more_fields, more_ends, ends_behind, no_section, has_room}
 use Rattle.http_heads.proofs.lines.go_on.Goals as goal
 
--- all of the lines are those that were seen, and what is behind them
+-- all of the lines are those that were seen, and what follows them
 from_parts : (P : List ℕ → Type 0) (n : ℕ) (lines : List ℕ) → P (take n lines ++ drop n lines) → P lines
 from_parts P n lines p = subst P (take-append-drop n lines) p
 

@@ -1,4 +1,4 @@
--- What was found stands behind each read. Where the input could not be read, that is what ended the call, and what was counted.
+-- What was found still holds after each read. A failed read of the input is what ended the call, and what was counted.
 use Rattle.std.proofs.Common.{rules, List, ℕ, sym, subst, ◌∙◌}
 use Rattle.std.proofs.KnownBytes.{Keeps-trans}
 use Rattle.http_messages.specs.Next.{IsAwaited}

@@ -9,7 +9,7 @@ returns-clause-counted g c = record {
   told = λ clean w held.
       let before = c.counted.ensures.counted.kept.answers.honest clean in
       proof_counted w c.args.form.now c.in-Some.branch c.in_ok-contents.contents (sym (c.in_ok-branch.ensures.told before w held) ∙ c.in-Some.is)
-      (c.in_ok-contents.ensures.first ∙ c.proof_of.ensures) c.in_ok-contents.ensures.most (c.in_ok-contents.ensures.counted.told clean w (c.in_ok-branch.ensures.kept.kept w held));
+      (c.in_ok-contents.ensures.first ∙ c.proof_listing.ensures) c.in_ok-contents.ensures.most (c.in_ok-contents.ensures.counted.told clean w (c.in_ok-branch.ensures.kept.kept w held));
   kept = search rules;
   refused = search rules;
 }

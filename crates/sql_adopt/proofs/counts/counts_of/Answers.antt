@@ -7,7 +7,7 @@ use Rattle.sql_adopt.specs.Told.{count_told, counts_told, releases_at}
 use Rattle.sql_adopt.proofs.CountLemmas.{count_more}
 use Rattle.sql_adopt.proofs.counts.counts_of.Goals as goal
 
--- what was pushed is counted of the row at this place, whatever stands for a row behind the last
+-- what was pushed is counted of the row at this place, whatever row is taken past the last
 pushed : (counts : List SlipCount) (users : List KeptUser) (i at : ℕ) (none : SlipCount) (done now : List ReleaseCount) (releases : ℕ) → i < length counts → done ≡ counts_told (take i counts) users → at ≡ length done
     → releases ≡ releases_at users at → now ≡ done ++ record { user = (get_or counts i none).user; releases = releases; slips = (get_or counts i none).slips } ∷ [] → now ≡ counts_told (take (i + 1) counts) users
 pushed counts users i at none done now releases below so_far place is more =

@@ -25,6 +25,9 @@ returns-in-Some-clause-found c e db schema kept sound read =
 pub returns-in-Some-clause-kept : goal.returns-in-Some-clause-kept
 returns-in-Some-clause-kept c = IfOk-weaker c.judge.result _ _ (λ bank is. (is.numbers, is.keepable)) c.judge.ensures.bank
 
+pub returns-in-Some-clause-checked : goal.returns-in-Some-clause-checked
+returns-in-Some-clause-checked c = IfOk-weaker c.judge.result _ _ (λ bank is. (is.books, is.policy)) c.judge.ensures.bank
+
 pub returns-in-Some-clause-refused : goal.returns-in-Some-clause-refused
 returns-in-Some-clause-refused c e db read =
     let rows = c.args.rows in

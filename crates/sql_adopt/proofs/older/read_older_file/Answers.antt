@@ -1,4 +1,4 @@
--- What search finds for itself, asked for here so that a mistake is refused soon.
+-- What search finds for itself, asked for here so that a mutant is refused soon.
 use Rattle.std.proofs.Common.{◌≡◌, ◌≢◌, ℕ, Result, Ok, Err, IfErr, IfOk, IsErrAnd, IsTrue, OnOk, rules, subst, sym}
 use Rattle.std.specs.Prelude.{IsSome}
 use Rattle.sqlite.specs.Effect.{IsDatabase}

@@ -1,4 +1,4 @@
--- What search finds for itself, asked for here so that a mistake is refused soon.
+-- What search finds for itself, asked for here so that a mutant is refused soon.
 use Rattle.std.proofs.Common.{◌≡◌, ◌≢◌, ℕ, IsErrAnd, IsTrue, rules, subst, sym}
 use Rattle.sqlite.specs.Held.{state}
 use Rattle.sqlite.specs.State.{HasCleanDisk, IsLive}

@@ -11,8 +11,8 @@ pub returns-in-Some-clause-found : goal.returns-in-Some-clause-found
 returns-in-Some-clause-found g c clean inside s holds =
     let key = c.in-Some.key in
     IfOk-weaker c.next_from.result _ _
-    (λ line is. is ∙ (λ i. or_first (find (is_past (Some (c.columns_at.ensures.value i))) (lines_in s (c.kind_at.ensures i))) (lines_behind s (c.kind_at.ensures i)))
-    ∙ next_is s (state g.S.Store c.args.tx.now.conn.now).now holds key c.columns_at.ensures.small ∙ ap (λ after. find (is_row_behind after) (lines_of s)) (sym c.in-Some.is))
+    (λ line is. is ∙ (λ i. or_first (find (is_past (Some (c.key_columns.ensures.value i))) (lines_in s (c.key_kind.ensures i))) (lines_behind s (c.key_kind.ensures i)))
+    ∙ next_is s (state g.S.Store c.args.tx.now.conn.now).now holds key c.key_columns.ensures.small ∙ ap (λ after. find (is_row_behind after) (lines_of s)) (sym c.in-Some.is))
     (c.next_from.ensures.found clean inside s holds)
 
 pub returns-in-None-clause-found : goal.returns-in-None-clause-found

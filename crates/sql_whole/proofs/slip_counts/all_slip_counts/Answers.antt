@@ -8,7 +8,7 @@ use Rattle.sql_whole.specs.Tables.{AreSlipCounts}
 use Rattle.sql_whole.specs.Whole.{Reads}
 use Rattle.sql_whole.proofs.slip_counts.all_slip_counts.Goals as goal
 
--- what is read in the edition that this is
+-- what is read in the schema version that this is
 read_in : {X E : Type 0} (e : Edition) (old new : State) (r : Result X E) (says : Edition → Trees → X → Type 0) → e ≡ Third → Reads Third old new (says Third) r → Reads e old new (says e) r
 read_in e old new r says is reads = subst (λ x. Reads x old new (says x) r) (sym is) reads
 

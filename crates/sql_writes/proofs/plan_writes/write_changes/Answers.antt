@@ -7,7 +7,7 @@ use Rattle.sql_schema.specs.Steps.{LeavesNone, MovedBy, Moves}
 use Rattle.sql_schema.proofs.StepLemmas.{early, kept_then}
 use Rattle.sql_writes.proofs.plan_writes.write_changes.Goals as goal
 
--- two changes that are written as one, and the rest behind them
+-- two changes that are written as one, and the rest after them
 behind : {X E : Type 0} (first mid last : State) (plan rest : List RowWrite) (x y : RowWrite) (result : Result X E) → plan ≡ x ∷ y ∷ rest
     → MovedBy first mid (all_written (x ∷ y ∷ [])) → LeavesNone mid last → Moves mid last (all_written rest) result → Moves first last (all_written plan) result
 behind first mid last plan rest x y result is two over after clean inside w holds =

@@ -1,4 +1,4 @@
--- What search finds for itself, asked for here so that a mistake is refused soon.
+-- What search finds for itself, asked for here so that a mutant is refused soon.
 use Rattle.std.proofs.Common.{rules}
 use Rattle.store_cached.proofs.cached.Cached.new.Goals as goal
 

@@ -1,0 +1,70 @@
+-- Connections served at once over the bank that was found in a file.
+use Rattle.std.proofs.Common.{◌≡◌, ℕ, List, [], Option, None, Result, inl, inr, sym, subst}
+use Rattle.sqlite_disk.specs.declared.Disk.{Ghosts}
+use Rattle.sqlite_disk.specs.declared.Files.{Files}
+use Rattle.sqlite.specs.declared.FileStore.{FileStore}
+use Rattle.sqlite.specs.Held.{Held}
+use Rattle.store_rows.specs.Status.{Status, Tells}
+use Rattle.store_cached.specs.Standing.{cached_status}
+use Rattle.counter_api.specs.Day.{IsDay}
+use Rattle.counter_api.proofs.DayLemmas.{day_of_none}
+use Rattle.counter_loop.specs.Turns.{At}
+use Rattle.counter_places.specs.declared.place.Place.{Place}
+use Rattle.exit_lines.specs.Streams.{Stream}
+use Rattle.cli_file.specs.Files.{BankStore, IsClosed, IsFound, file_status}
+use Rattle.cli_file.specs.declared.fault.ActionFault.{ActionFault}
+use Rattle.cli_file.proofs.DayLemmas.{bank_day, day_uncovered, tells_below}
+use Rattle.cli_counter.specs.Attending.{AreReplied, AreRepliedAt, IsAttendedAt, IsAttendedBehindCache, messages_at, messages_had}
+use Rattle.cli_counter.specs.InFile.{IsAttendedAndClosed, IsAttendedOverFile, end_of_counter}
+
+module _ {S C : Type 0} (status : S → Status) (users : List ℕ → Option ℕ) (may_give : C → ℕ → C → Type 0) (place : Place) (output_old output_new : Stream) where
+  day_at : (old new : At S C) (result : Result Unit ActionFault) (is : IsAttendedAt status users may_give place output_old output_new old new result)
+      → IsDay users (status old.store) (status new.store) (messages_at status users may_give place output_old output_new old new result is)
+  day_at old new result (inl is) = is.1.attended.day
+  day_at old new result (inr is) = subst (λ (at : At S C). IsDay users (status old.store) (status at.store) []) (sym is.1) (day_of_none users (status old.store))
+
+  replied_at : (old new : At S C) (result : Result Unit ActionFault) (is : IsAttendedAt status users may_give place output_old output_new old new result)
+      → Tells (status old.store) (status new.store) (AreRepliedAt status users may_give place output_old output_new old new result is)
+  replied_at old new result (inl is) = is.1.attended.replied
+  replied_at old new result (inr is) = λ clean w held. tt
+
+module _ {S C : Type 0} (status : S → Status) (users : List ℕ → Option ℕ) (may_give : C → ℕ → C → Type 0) (place : Place) (output_old output_new : Stream) where
+  day_had : (old new : At S C) (result : Result Unit ActionFault) (is : IsAttendedBehindCache status users may_give place output_old output_new old new result)
+      → IsDay users (status old.store) (status new.store) (messages_had status users may_give place output_old output_new old new result is)
+  day_had old new result (inl is) =
+      day_uncovered status users is.began is.ended old.store new.store _ is.over is.uncovered is.empty is.unread
+      (day_at (cached_status status) users may_give place output_old output_new
+      (record { store = is.began; clock = old.clock }) (record { store = is.ended; clock = new.clock }) result is.attended)
+  day_had old new result (inr is) = subst (λ (at : At S C). IsDay users (status old.store) (status at.store) []) (sym is.1) (day_of_none users (status old.store))
+
+  replied_had : (old new : At S C) (result : Result Unit ActionFault) (is : IsAttendedBehindCache status users may_give place output_old output_new old new result)
+      → Tells (status old.store) (status new.store) (AreReplied status users may_give place output_old output_new old new result is)
+  replied_had old new result (inl is) =
+      tells_below status is.began is.ended old.store new.store is.over is.uncovered is.empty is.unread _
+      (replied_at (cached_status status) users may_give place output_old output_new
+      (record { store = is.began; clock = old.clock }) (record { store = is.ended; clock = new.clock }) result is.attended)
+  replied_had old new result (inr is) = λ clean w held. tt
+
+module _ {D C : Type 0} (g : Ghosts D) (users : List ℕ → Option ℕ) (may_give : C → ℕ → C → Type 0) (opened : Held (FileStore D g)) (place : Place) (output_old output_new : Stream) (from to : C) where
+  pub over_file : (begun ended : BankStore D g) (result : Result Unit ActionFault) → IsFound opened begun
+      → IsAttendedBehindCache file_status users may_give place output_old output_new (record { store = begun; clock = from }) (record { store = ended; clock = to }) result
+      → IsAttendedOverFile g users may_give opened place output_old output_new from to ended result
+  over_file begun ended result found attended = record {
+    begun = begun;
+    found = found;
+    attended = attended;
+    day = bank_day users opened begun ended _ found
+        (day_had file_status users may_give place output_old output_new (record { store = begun; clock = from }) (record { store = ended; clock = to }) result attended) _
+        (replied_had file_status users may_give place output_old output_new (record { store = begun; clock = from }) (record { store = ended; clock = to }) result attended);
+  }
+
+  pub and_closed : (files : Files D) (ended : BankStore D g) (exit result : Result Unit ActionFault) → IsAttendedOverFile g users may_give opened place output_old output_new from to ended exit
+      → IsClosed g ended files → result ≡ end_of_counter exit None → IsAttendedAndClosed g users may_give opened place output_old output_new from to files result
+  and_closed files ended exit result over closed reported = record {
+    ended = ended;
+    exit = exit;
+    over = over;
+    closed = closed;
+    bank = λ image w of opens works reads. closed.bank works _ (over.day image w of opens (closed.copied reads).was_clean).holds reads;
+    reported = reported;
+  }

@@ -1,0 +1,4 @@
+pub mod Actions
+pub mod Attending
+pub mod Faults
+pub mod InFile

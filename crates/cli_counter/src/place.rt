@@ -1,0 +1,108 @@
+//! How a place of each kind is acquired, printed and served.
+
+ghost use Rattle.std.specs.Prelude.{◌≡◌};
+ghost use Rattle.exit_lines.specs.Streams.{stream_at};
+ghost use Rattle.cli_counter.specs.Attending.{IsAttendedAt};
+
+use crate::faults::fault_of;
+use crate::inherited::{Inherited, inherited_socket};
+use crate::socket;
+use cli_file::ActionFault;
+use counter_api::{Clock, Gate};
+use counter_loop::{Door, serve_many};
+use counter_places::{Place, say_listening};
+use mio::event::Source;
+use mio::net::TcpListener;
+use money::Tallied;
+use std::fs;
+use std::io::Write;
+use std::net::{Ipv4Addr, SocketAddr};
+use std::os::fd::RawFd;
+use store_rows::{Bank, Store};
+
+/// Serves the connections that come to a place, all at once, once a line on `output` has said that it is acquired. It
+/// ends well once the other side of `until` is closed, where that is given. A Unix socket made for it is removed then.
+pub(crate) fn attend_at<S: Store, G: Gate, C: Clock, W: Write>(
+    rt: &HostRuntime,
+    place: Place<'_>,
+    until: Option<RawFd>,
+    bank: &mut Bank<S>,
+    gate: &G,
+    clock: &mut C,
+    output: &mut Tallied<W>,
+) -> Result<(), ActionFault<'static>>
+    ensures { IsAttendedAt S.status (G.users gate.now) C.may_give place.entry
+        (stream_at W.contents output.old) (stream_at W.contents output.new)
+        (record { store = bank.old.store; clock = clock.old })
+        (record { store = bank.new.store; clock = clock.new }) result }
+{
+    match place {
+        Place::Port(port) => {
+            match TcpListener::bind(rt, SocketAddr::from((Ipv4Addr::LOCALHOST, port))) {
+                Ok(door) => attend_door(rt, place, door, until, bank, gate, clock, output),
+                Err(error) => Err(fault_of(&error)),
+            }
+        }
+        Place::Socket(path) => attend_socket(rt, path, until, bank, gate, clock, output),
+        Place::Inherited => match inherited_socket(rt) {
+            Some(Inherited::Tcp(door)) => {
+                attend_door(rt, place, door, until, bank, gate, clock, output)
+            }
+            Some(Inherited::Unix(door)) => {
+                attend_door(rt, place, door, until, bank, gate, clock, output)
+            }
+            None => Err(ActionFault::Broken),
+        },
+    }
+}
+
+/// The same of a Unix socket at a path.
+fn attend_socket<S: Store, G: Gate, C: Clock, W: Write>(
+    rt: &HostRuntime,
+    path: &str,
+    until: Option<RawFd>,
+    bank: &mut Bank<S>,
+    gate: &G,
+    clock: &mut C,
+    output: &mut Tallied<W>,
+) -> Result<(), ActionFault<'static>>
+    ensures { IsAttendedAt S.status (G.users gate.now) C.may_give (Place.Socket path.entry)
+        (stream_at W.contents output.old) (stream_at W.contents output.new)
+        (record { store = bank.old.store; clock = clock.old })
+        (record { store = bank.new.store; clock = clock.new }) result }
+{
+    let place = Place::Socket(path);
+    match socket::bind(rt, path) {
+        Ok(door) => {
+            let done = attend_door(rt, place, door, until, bank, gate, clock, output);
+            let _ = fs::remove_file(rt, path);
+            done
+        }
+        Err(error) => Err(fault_of(&error)),
+    }
+}
+
+/// The same at a door that is acquired.
+fn attend_door<D: Door + Source + Drop, S: Store, G: Gate, C: Clock, W: Write>(
+    rt: &HostRuntime,
+    place: Place<'_>,
+    mut door: D,
+    until: Option<RawFd>,
+    bank: &mut Bank<S>,
+    gate: &G,
+    clock: &mut C,
+    output: &mut Tallied<W>,
+) -> Result<(), ActionFault<'static>>
+    ensures { IsAttendedAt S.status (G.users gate.now) C.may_give place.entry
+        (stream_at W.contents output.old) (stream_at W.contents output.new)
+        (record { store = bank.old.store; clock = clock.old })
+        (record { store = bank.new.store; clock = clock.new }) result }
+{
+    let Ok(()) = say_listening(output, place) else {
+        return Err(ActionFault::Broken);
+    };
+    match serve_many(rt, rt.alloc(), &mut door, until, bank, gate, clock) {
+        Ok(()) => Ok(()),
+        Err(error) => Err(fault_of(&error)),
+    }
+}

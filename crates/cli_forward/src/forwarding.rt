@@ -1,0 +1,41 @@
+//! The action that makes the bank of the next year in a new file.
+
+ghost use Rattle.cli_forward.specs.Forwarding.{IsForwarded};
+
+use crate::reading::end_year;
+use cli_file::{ActionFault, FileLeft, Opener, PathLeft, Progress, open_existing};
+use cli_init::make_in;
+use sqlite_disk::Disk;
+use std::io::Write;
+
+/// Makes in a new file the bank that begins the next year of the one in a file that is there, which holds what it held. That file is
+/// let go before the new one is opened. What is left of the new file is handed back, or its opener where it was not opened.
+pub fn forward_file<A: Disk + Drop, D: Disk + Drop, E: Opener<A>, O: Opener<D>, P: Write + Drop>(
+    rt: &HostRuntime,
+    file: &str,
+    new: &str,
+    sums: bool,
+    earlier: E,
+    opener: O,
+    progress: &mut Progress<P>,
+) -> (PathLeft<O, FileLeft<D>>, Result<(), ActionFault<'static>>)
+    ensures { IsForwarded A.Disk E.image D.Disk O.image sums opener result.0 result.1 }
+{
+    progress.begin("opening the file ..\n");
+    let conn = match open_existing(rt, file, earlier) {
+        Ok(conn) => conn,
+        Err((_, fault)) => return (PathLeft::Unopened(opener), Err(fault)),
+    };
+    progress.begin("reading the bank and checking its books ..\n");
+    let world = match end_year(rt.alloc(), conn) {
+        Ok(world) => world,
+        Err(fault) => return (PathLeft::Unopened(opener), Err(fault)),
+    };
+    progress.begin("opening the new file ..\n");
+    let conn = match opener.make(rt, new, sums) {
+        Ok(conn) => conn,
+        Err(fault) => return (PathLeft::Refused, Err(fault)),
+    };
+    let (left, done) = make_in(rt.alloc(), conn, &world, progress);
+    (PathLeft::Opened(left), done)
+}

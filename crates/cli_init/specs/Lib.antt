@@ -1,0 +1,4 @@
+pub mod Faults
+pub mod Inited
+pub mod Lists
+pub mod Making

@@ -1,0 +1,2 @@
+mod ActionLemmas
+mod CarriedLemmas

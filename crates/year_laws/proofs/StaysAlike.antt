@@ -1,0 +1,188 @@
+-- Two banks of one turn are such as stay alike when the year turns, and stay so by each operation that no rule denies.
+use Rattle.std.proofs.Common.{◌≡◌, ◌≢◌, ◌+◌, ◌<◌, ◌≤◌, ◌∙◌, ℕ, false, Option, Some, None, refl, ap, arith, sym, subst, inl, inr}
+use Rattle.std.specs.Prelude.{is_some, option_map}
+use Rattle.keyed_rows.proofs.Rows.{Contains-map_source, find-found, find_of_key, found_row, none_there}
+use Rattle.bank_policy.specs.PolicyKeys.{user_key}
+use Rattle.bank_terms.specs.Procedure.{number_of}
+use Rattle.bank_terms.specs.declared.operation_row.OperationRow.{OperationRow}
+use Rattle.bank_books.specs.Balances.{account_row, branch_row}
+use Rattle.bank_books.specs.Books.{Books}
+use Rattle.bank_books.specs.Keys.{account_key, teller_key}
+use Rattle.bank_books.specs.Records.{account_record_of, release_count}
+use Rattle.bank_books.specs.WorldLists.{WorldLists}
+use Rattle.bank_books.specs.declared.rows.Account.{Account}
+use Rattle.bank_books.specs.declared.rows.Release.{Release}
+use Rattle.bank_books.specs.declared.rows.Teller.{Teller}
+use Rattle.bank_books.specs.declared.signature.Signature.{Signature}
+use Rattle.book_laws.proofs.BooksSplit.{books_parts}
+use Rattle.counter_ops.specs.Releasable.{branch_of, op_of}
+use Rattle.counter_ops.specs.Rows.{row_of}
+use Rattle.counter_ops.specs.declared.close_day.CloseDay.{CloseDay}
+use Rattle.counter_ops.specs.declared.new_account.NewAccount.{NewAccount}
+use Rattle.counter_ops.specs.declared.op.Op.{Op}
+use Rattle.counter_ops.specs.declared.op.Op.TheVariants as op
+use Rattle.counter_ops.specs.declared.releasable.Releasable.{Releasable}
+use Rattle.counter_ops.specs.declared.releasable.Releasable.TheVariants as form
+use Rattle.counter_ops.specs.declared.release.Release.{Release as ReleaseForm}
+use Rattle.rule_tests.proofs.RuleTests.{passed_by}
+use Rattle.drawers.specs.CloseDay.{close_day_effect, closing_rows, first_against_close_day}
+use Rattle.drawers.proofs.AllowedClose as close
+use Rattle.world_reads.specs.BookReads.{is_release, release}
+use Rattle.bank_meaning.specs.Meaning.{by_books}
+use Rattle.bank_meaning.specs.NewAccount.{first_against_new_account, new_account_effect, opened, opening_rows}
+use Rattle.bank_meaning.specs.Operations.{meaning_of}
+use Rattle.bank_meaning.specs.Order.{AreBooksInOrder}
+use Rattle.bank_meaning.specs.Release.{first_against_release, given_release, release_effect, release_rows}
+use Rattle.bank_meaning.proofs.GivenRelease as given
+use Rattle.year_forward.specs.Forward.{carried_teller, forward}
+use Rattle.year_laws.specs.GoesOn.{AreBoth, Turn, op_at_old, releasable_at_old, turn_of}
+use Rattle.year_laws.specs.JudgedAlike.{NamesAnEntry}
+use Rattle.year_laws.specs.StaysAlike.{AddsLast, BooksStayAlike, IsReleaseAlike, StayAlike, TurnsAlike}
+use Rattle.year_laws.proofs.AccountsAlike.{account_stays, no_turns}
+use Rattle.year_laws.proofs.AtTheTurn.{year_turns}
+use Rattle.year_laws.proofs.CorrectionsAlike.{correct_stays}
+use Rattle.year_laws.proofs.DaysAlike.{day_stays}
+use Rattle.year_laws.proofs.DrawersAlike.{drawer_off_stays, drawer_on_stays}
+use Rattle.year_laws.proofs.FoundAlike.{same_branch}
+use Rattle.year_laws.proofs.MovesAlike.{move_stays}
+use Rattle.year_laws.proofs.PostsAlike.{post_stays}
+use Rattle.year_laws.proofs.ReleasesAlike.{release_stays}
+use Rattle.year_laws.proofs.RowsAlike.{carried}
+use Rattle.year_laws.proofs.TransfersAlike.{transfer_stays}
+
+-- ---- when the year turns
+
+no_key : (key : ℕ) → 1 ≤ key → key ≢ 0
+no_key key low zero = absurd (omega (arith, low, zero))
+
+-- books in order
+books_add : (w : WorldLists) → Books w → AreBooksInOrder w → AddsLast w
+books_add w books order =
+    let rows = ((books_parts w).0 books).0.rows in
+    record {
+      tellers = λ t there. no_key t.teller (rows.tellers.each t there).key.0;
+      accounts = λ e there.
+          let account = (rows.entries.each e there).account in
+          (account.0, find_of_key account_key e.account w.accounts account.0 rows.accounts.keys account.1.0 account.1.1);
+      entries = λ e there. (rows.entries.numbers e.branch).high e there refl;
+      lines = λ l there. (rows.lines.numbers l.branch).high l there refl;
+      places = λ l there some. elim (rows.lines.each l there).place [
+        | inl zero ↦ absurd (some zero)
+        | inr at ↦ (at.0, (find_of_key teller_key l.place w.tellers at.0 rows.tellers.keys at.1.0 at.1.1, at.1.2))
+      ];
+      order = order.lines;
+      releases = λ r there. (rows.releases r there).numbered.high r there refl;
+    }
+
+-- a bank with no entries and no lines, with the same tellers
+begun_adds : (w : WorldLists) → AddsLast w → AddsLast (forward w)
+begun_adds w adds = record {
+  tellers = λ t there.
+      let source = Contains-map_source (carried_teller w) w.tellers t there in
+      λ zero. adds.tellers source.0 source.1.0 (ap (λ (r : Teller). r.teller) source.1.1 ∙ zero);
+  accounts = λ e there. absurd (none_there there);
+  entries = λ e there. absurd (none_there there);
+  lines = λ l there. absurd (none_there there);
+  places = λ l there. absurd (none_there there);
+  order = λ i j d low within. absurd (below_none j within);
+  releases = adds.releases;
+}
+  where
+    below_none : (j : ℕ) → j < 0 → ⊥
+    below_none j within = omega arith
+
+-- a release of the year that ends is the same in the next
+past_release : (w : WorldLists) → Books w → (u n : ℕ) → AreBoth (IsReleaseAlike (turn_of w)) (release w u n) (release (forward w) u n)
+past_release w books u n = go (release w u n) refl
+  where
+    by_form : (r : Release) (o : Releasable) → row_of (op_of o) ≡ r.operation → IsReleaseAlike (turn_of w) r r
+    by_form r (form.Post f) is = inl (record { giver = refl; branch = refl; day = refl; used = refl; operation = (form.Post f, (sym is, sym is)) })
+    by_form r (form.Transfer f) is = inl (record { giver = refl; branch = refl; day = refl; used = refl; operation = (form.Transfer f, (sym is, sym is)) })
+    by_form r (form.Correct f) is = inr (refl, ap (λ (row : OperationRow). number_of row.form) (sym is))
+    by_form r (form.DrawerOn f) is = inl (record { giver = refl; branch = refl; day = refl; used = refl; operation = (form.DrawerOn f, (sym is, sym is)) })
+    by_form r (form.MoveCash f) is = inl (record { giver = refl; branch = refl; day = refl; used = refl; operation = (form.MoveCash f, (sym is, sym is)) })
+
+    go : (o : Option Release) → release w u n ≡ o → AreBoth (IsReleaseAlike (turn_of w)) o o
+    go None is = tt
+    go (Some r) is =
+        let holds = (((books_parts w).0 books).0.rows.releases r (find-found (is_release u n) w.releases r is).0).operation in
+        by_form r holds.0 holds.1.1
+
+pub turns_alike : TurnsAlike
+turns_alike w books order closed =
+    let adds = books_add w books order in
+    record { alike = year_turns w books closed; old_adds = adds; new_adds = begun_adds w adds; turns = λ key none. no_turns w adds key none; given = λ user. refl; releases = past_release w books }
+
+-- ---- an account, a release and a day
+
+-- it is not there where the rule lets it pass
+not_there : (w : WorldLists) (form : NewAccount) → first_against_new_account (opening_rows w form) ≡ None → account_row form.account w.accounts ≡ None
+not_there w form none = go (account_row form.account w.accounts) (passed_by _ _ _ (passed_by _ _ _ none).1).0
+  where
+    go : (o : Option Account) → is_some (option_map (account_record_of w) o) ≡ false → o ≡ None
+    go None free = refl
+    go (Some a) free = absurd cc
+
+-- a release is of the same branch at both banks
+same_place : (t : Turn) (o : Releasable) → branch_of (releasable_at_old t o) ≡ branch_of o
+same_place t (form.Correct f) = refl
+same_place t other = refl
+
+module _ (t : Turn) (old new : WorldLists) (stay : StayAlike t old new) where
+  new_account_stays : (form : NewAccount) → first_against_new_account (opening_rows old form) ≡ None → first_against_new_account (opening_rows new form) ≡ None
+      → StayAlike t (new_account_effect old form) (new_account_effect new form)
+  new_account_stays form old_none new_none = account_stays t old new stay (opened form) (not_there old form old_none) (not_there new form new_none)
+
+  gives_alike : (r : ReleaseForm) (by : Signature) → let moved : ReleaseForm = record r { operation = releasable_at_old t r.operation } in
+      first_against_release (release_rows old moved) moved by ≡ None → first_against_release (release_rows new r) r by ≡ None → StayAlike t (release_effect old moved by) (release_effect new r by)
+  gives_alike r by old_none new_none =
+      let moved : ReleaseForm = record r { operation = releasable_at_old t r.operation } in
+      let o = given.are_there old moved by old_none in
+      let n = given.are_there new r by new_none in
+      carried (StayAlike t) _ _ _ _ (given.effect_is old moved by o) (given.effect_is new r by n)
+      (release_stays t old new stay (given_release (release_count o.user.user old.releases) o.branch.day moved by) (given_release (release_count n.user.user new.releases) n.branch.day r by) refl
+      (ap (λ k. k + 1) (counts_are o n))
+      (record {
+        giver = refl;
+        branch = same_place t r.operation;
+        day = (same_branch t old new stay.alike (branch_of r.operation) o.branch n.branch (subst (λ k. branch_row k old.branches ≡ Some o.branch) (same_place t r.operation) o.branch_there) n.branch_there).day;
+        used = refl;
+        operation = (r.operation, (refl, refl));
+      })
+      (ap (λ k. release_count k old.releases + 1) (found_row user_key r.beneficiary old.policy.users o.user o.user_there).1)
+      (ap (λ k. release_count k new.releases + 1) (found_row user_key r.beneficiary new.policy.users n.user n.user_there).1))
+    where
+      counts_are : (o : given.AreThere old (record r { operation = releasable_at_old t r.operation })) (n : given.AreThere new r) → release_count o.user.user old.releases ≡ release_count n.user.user new.releases
+      counts_are o n =
+          ap (λ k. release_count k old.releases) (found_row user_key r.beneficiary old.policy.users o.user o.user_there).1 ∙ stay.given r.beneficiary
+          ∙ sym (ap (λ k. release_count k new.releases) (found_row user_key r.beneficiary new.policy.users n.user n.user_there).1)
+
+  closes_alike : (form : CloseDay) → first_against_close_day (closing_rows old form) ≡ None → first_against_close_day (closing_rows new form) ≡ None
+      → StayAlike t (close_day_effect old form) (close_day_effect new form)
+  closes_alike form old_none new_none =
+      let o = close.is_there old form (close.is_allowed (closing_rows old form) old_none) in
+      let n = close.is_there new form (close.is_allowed (closing_rows new form) new_none) in
+      let branch = same_branch t old new stay.alike form.branch o.branch n.branch o.branch_is n.branch_is in
+      carried (StayAlike t) _ _ _ _ (close.effect_is old form o) (close.effect_is new form n)
+      (day_stays t old new stay (close.proof_of old form o) (close.proof_of new form n) refl branch.day)
+
+  -- ---- every form
+
+  stays : (x : Op) → NamesAnEntry x → (by : Signature) → (by_books (meaning_of (op_at_old t x) by old)).first ≡ None → (by_books (meaning_of x by new)).first ≡ None
+      → StayAlike t (meaning_of (op_at_old t x) by old).effect (meaning_of x by new).effect
+  stays (op.Post post) names by old_none new_none = post_stays t old new stay post by old_none new_none
+  stays (op.Transfer form) names by old_none new_none = transfer_stays t old new stay form by old_none new_none
+  stays (op.Correct c) names by old_none new_none = correct_stays t old new stay c names by old_none new_none
+  stays (op.DrawerOn form) names by old_none new_none = drawer_on_stays t old new stay by form old_none new_none
+  stays (op.DrawerOff form) names by old_none new_none = drawer_off_stays t old new stay by form old_none new_none
+  stays (op.MoveCash move) names by old_none new_none = move_stays t old new stay move by old_none new_none
+  stays (op.NewAccount form) names by old_none new_none = new_account_stays form old_none new_none
+  stays (op.Release r) names by old_none new_none = gives_alike r by old_none new_none
+  stays (op.Balance form) names by old_none new_none = stay
+  stays (op.Statement form) names by old_none new_none = stay
+  stays (op.Accounts form) names by old_none new_none = stay
+  stays (op.Proof form) names by old_none new_none = stay
+  stays (op.CloseDay form) names by old_none new_none = closes_alike form old_none new_none
+
+pub books_stay_alike : BooksStayAlike
+books_stay_alike t old new stay x names by old_none new_none = stays t old new stay x names by old_none new_none

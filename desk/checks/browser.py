@@ -1,0 +1,238 @@
+"""The page in a browser, as a person at the counter has it: keys go in, texts are read."""
+import base64
+import contextlib
+import os
+import shutil
+import signal
+import time
+from pathlib import Path
+
+from selenium import webdriver
+from selenium.common.exceptions import StaleElementReferenceException, WebDriverException
+from selenium.webdriver.chrome.options import Options
+from selenium.webdriver.chrome.service import Service
+from selenium.webdriver.common.by import By
+from selenium.webdriver.common.keys import Keys
+from selenium.webdriver.firefox.options import Options as FirefoxOptions
+from selenium.webdriver.firefox.service import Service as FirefoxService
+
+from branches import Wrong
+
+CHROMIUM, CHROMEDRIVER = "/usr/bin/chromium", "/usr/bin/chromedriver"
+# For so many seconds a check waits for what has to come: a busy machine takes its time.
+SECONDS = 60
+FIELDS = "[data-name='{0}'] input, [data-name='{0}'] select"
+
+
+class Browser:
+    """Chromium, without a window, over a profile of its own, which outlasts it."""
+    process_id = "goog:processID"
+
+    def __init__(self, relay, folder):
+        self.relay, self.folder = relay, Path(folder)
+        self.url = f"http://127.0.0.1:{relay.server_port}/"
+        self.folder.mkdir(exist_ok=True)
+        self.driver = self.started()
+        self.size(1280, 800)
+
+    def started(self):
+        options = Options()
+        options.binary_location = CHROMIUM
+        # (the sandbox needs rights that a container may lack; all that is loaded here is the page under test)
+        for option in ("--headless=new", "--no-sandbox", "--disable-gpu", "--disable-dev-shm-usage", "--lang=en",
+                       f"--user-data-dir={self.folder / 'profile'}"):
+            options.add_argument(option)
+        options.add_experimental_option("prefs", {"download.default_directory": str(self.folder)})
+        options.set_capability("goog:loggingPrefs", {"browser": "ALL"})
+        return webdriver.Chrome(service=Service(CHROMEDRIVER), options=options)
+
+    # ---- the window
+
+    def size(self, width, height):
+        metrics = {"width": width, "height": height, "deviceScaleFactor": 1, "mobile": False}
+        self.driver.execute_cdp_cmd("Emulation.setDeviceMetricsOverride", metrics)
+
+    def picture(self, path):
+        self.driver.save_screenshot(str(path))
+
+    def paper(self, path):
+        """The page as it is printed."""
+        made = self.driver.execute_cdp_cmd("Page.printToPDF", {"preferCSSPageSize": True, "printBackground": False})
+        Path(path).write_bytes(base64.b64decode(made["data"]))
+
+    def complaints(self):
+        """What the console has, but for replies that are no 200 and what the content policy blocked."""
+        meant = ("Failed to load resource", "Trusted", "Content Security Policy")
+        return [one["message"] for one in self.driver.get_log("browser") if not any(it in one["message"] for it in meant)]
+
+    def as_user(self, badge, fragment=""):
+        """That user's card is in, and the page is opened."""
+        self.relay.card = badge
+        self.load(fragment)
+
+    def load(self, fragment=""):
+        self.driver.get("about:blank")
+        self.driver.get(self.url + fragment)
+        self.until(lambda: self.all("#menu a") or self.text("#outcome"), "the page")
+        self.until(lambda: self.all("#work h1") or self.text("#outcome"), "a screen")
+
+    # ---- what is there
+
+    def js(self, code, *given):
+        return self.driver.execute_script(code, *given)
+
+    def steady(self, work):
+        """What is found of elements, again where the page exchanged them meanwhile."""
+        for _ in range(50):
+            with contextlib.suppress(StaleElementReferenceException):
+                return work()
+        raise Wrong("the page never stands still")
+
+    def all(self, css):
+        return self.steady(lambda: [one for one in self.driver.find_elements(By.CSS_SELECTOR, css) if one.is_displayed()])
+
+    def text(self, css="body"):
+        return self.steady(lambda: next((one.text for one in self.driver.find_elements(By.CSS_SELECTOR, css)), ""))
+
+    def until(self, work, what, seconds=SECONDS):
+        end = time.time() + seconds
+        while time.time() < end:
+            with contextlib.suppress(StaleElementReferenceException):
+                if found := work():
+                    return found
+            time.sleep(0.03)
+        seen = {css: self.text(css)[:400] for css in ("h1", "#outcome", "#waiting", "#work")}
+        raise Wrong(f"it never came to {what}: {seen}")
+
+    def until_text(self, css, *pieces, seconds=SECONDS):
+        """The text there, once it has all these pieces."""
+        return self.until(lambda: all(it in self.text(css) for it in pieces) and self.text(css), f"{pieces} in {css}", seconds)
+
+    def await_nothing_waiting(self):
+        """The panel of what waits is emptied after the outcome is shown."""
+        self.until(lambda: not self.text("#waiting"), "nothing that waits")
+
+    def outcome(self, *pieces, seconds=SECONDS):
+        return self.until_text("#outcome", *pieces, seconds=seconds) if pieces else self.until(lambda: self.text("#outcome"), "an outcome")
+
+    def faults(self):
+        """What the fields say that are wrong."""
+        return self.steady(lambda: [one.text for one in self.all("#work .error, dialog .error") if one.text])
+
+    def has_focus(self, name):
+        return self.js("return document.activeElement === arguments[0]", self.field(name))
+
+    # ---- the keys
+
+    def keys(self, *keys):
+        self.driver.switch_to.active_element.send_keys(*keys)
+
+    def go(self, letter, heading):
+        """Another screen, by Escape and a letter."""
+        self.keys_after_escape(letter)
+        self.until(lambda: self.text("h1") == heading and self.js("return document.activeElement.closest('#work') !== null"), heading)
+
+    def field(self, name):
+        return self.driver.find_element(By.CSS_SELECTOR, FIELDS.format(name))
+
+    def fill(self, **values):
+        for name, value in values.items():
+            for tucked in self.driver.find_elements(By.CSS_SELECTOR, "#work details:not([open])"):
+                if tucked.find_elements(By.CSS_SELECTOR, f"[data-name='{name}']"):
+                    tucked.find_element(By.CSS_SELECTOR, "summary").click()
+            self.fill_one(name, str(value))
+
+    def fill_one(self, name, value):
+        field = self.field(name)
+        if field.get_attribute("type") == "radio":
+            self.driver.find_element(By.CSS_SELECTOR, f"[data-name='{name}'] input[value='{value}']").send_keys(Keys.SPACE)
+        elif field.tag_name == "select":
+            self.choose(field, value)
+        else:
+            field.send_keys(Keys.CONTROL, "a")
+            field.send_keys(Keys.DELETE, value)
+
+    def choose(self, element, value):
+        self.js("arguments[0].value = arguments[1]; arguments[0].dispatchEvent(new Event('change', {bubbles: true}))", element, value)
+
+    def await_form(self):
+        """Waits until the form has settled what was sent by it; one whose request waits for its reply keeps it for longer."""
+        end = time.time() + SECONDS / 10
+        while self.js("return document.querySelector('#work form [aria-disabled]') !== null") and time.time() < end:
+            time.sleep(0.03)
+
+    def send(self, **values):
+        """Fills the fields, and presses Enter in the last."""
+        self.await_form()
+        self.js("document.getElementById('outcome').replaceChildren()")
+        self.fill(**values)
+        self.field(list(values)[-1]).send_keys(Keys.ENTER)
+
+    def enter(self, **values):
+        """The same, and what the panel says then."""
+        self.send(**values)
+        text = self.outcome()
+        self.await_form()
+        return text
+
+    def press(self, text, css="#work button, #waiting button, #outcome button, dialog button"):
+        self.steady(lambda: next(one for one in self.all(css) if one.text == text)).click()
+
+    def keys_after_escape(self, *keys):
+        self.keys(Keys.ESCAPE)
+        self.keys(*keys)
+
+    def hurry(self):
+        """Sends what waits now, if it still waits."""
+        with contextlib.suppress(StopIteration):
+            self.press("Send now")
+
+    # ---- the end
+
+    def kill(self):
+        """Ends this browser at once, as a crash of the machine would: every process below it, by its id."""
+        for pid in processes_below(self.driver.capabilities[self.process_id]):
+            with contextlib.suppress(ProcessLookupError):
+                os.kill(pid, signal.SIGKILL)
+        self.close()
+        for name in ("SingletonLock", "SingletonCookie", "SingletonSocket"):
+            with contextlib.suppress(OSError):
+                os.unlink(self.folder / "profile" / name)
+
+    def close(self):
+        with contextlib.suppress(WebDriverException, OSError):
+            self.driver.quit()
+
+
+class Firefox(Browser):
+    """Firefox, by a geckodriver on the path. It prints nothing here, and its console is not read."""
+    process_id = "moz:processID"
+
+    def started(self):
+        options = FirefoxOptions()
+        for option in ("-headless", "-profile", str(self.folder / "profile")):
+            options.add_argument(option)
+        (self.folder / "profile").mkdir(exist_ok=True)
+        for name, value in {"browser.download.folderList": 2, "browser.download.dir": str(self.folder)}.items():
+            options.set_preference(name, value)
+        return webdriver.Firefox(service=FirefoxService(shutil.which("geckodriver"), log_path=os.devnull), options=options)
+
+    def size(self, width, height):
+        self.driver.set_window_size(width, height)
+        inner = self.js("return [innerWidth, innerHeight]")
+        self.driver.set_window_size(2 * width - inner[0], 2 * height - inner[1])
+
+    def paper(self, path):
+        pass
+
+    def complaints(self):
+        return []
+
+
+def processes_below(pid):
+    found = [pid]
+    for other in filter(str.isdigit, os.listdir("/proc")):
+        with contextlib.suppress(OSError):
+            if int(Path(f"/proc/{other}/stat").read_text().rsplit(")", 1)[1].split()[1]) == pid:
+                found += processes_below(int(other))
+    return found

@@ -1,0 +1,298 @@
+"""The work of the day, from the sign-in of the morning to the closing of the day."""
+import time
+
+from selenium.webdriver.common.keys import Keys
+
+from branches import Client, require
+from day import TESS, TOM, amount_of, has
+
+WRONG_AMOUNTS = [
+    ("25.000", "two digits"), ("25.5", "both digits"), ("25,00", "point before the cents"), ("1,25.00", "wrong places"),
+    ("-25.00", "sign"), ("25.00.0", "more than one"), ("abc", "Only digits"), ("", "Type an amount"), ("0.00", "At least 0.01"),
+    ("10,000.00", "At most 9,999.99"), (".50", "0.50")]
+DEPOSITS = [
+    ("in", 101, "25.00"), ("in", 102, "1,250.00"), ("out", 101, "100.00"), ("in", 201, "0.07"), ("out", 102, "250.50"),
+    ("in", 101, "8.29"), ("in", 101, "4.35"), ("out", 201, "300.07"), ("in", 102, "19.99"), ("in", 101, "99")]
+
+
+def cents_of(text):
+    return int(text.replace(",", "").replace(".", "")) * (1 if "." in text else 100)
+
+
+def morning(day):
+    """Tess signs in, counts the notes and coins of her drawer by keys alone, and puts it on."""
+    desk, counter = day.desk, day.counter
+    desk.as_user("tess")
+    require(desk.text("h1"), "Sign in and out", "the first screen")
+    has(desk.text("header"), "tess", "none")
+    desk.fill(branch="1", teller="11")
+    day.look("sign-in")
+    desk.keys(Keys.ENTER)
+    desk.until_text("h1", "Drawer on")
+    require(counter.sql("SELECT session, is_on FROM users WHERE user_no = ?", TESS), [(1, 1)], "session")
+    before = day.asked()
+    desk.keys("x", Keys.ENTER, Keys.ENTER)
+    desk.js("arguments[0].closest('form').requestSubmit()", desk.field("cash"))
+    has(desk.faults()[0], "500.00", "Only digits")
+    require(day.asked(), before, "requests of a wrong count")
+    desk.field("cash").send_keys(Keys.CONTROL, "a")
+    desk.field("cash").send_keys(Keys.DELETE)
+    # 200 + 50 + 80 + 50 + 10 + 6 + 9 + 4 + .70 + .20 + .08 + .02 = 410.00, which the Enter after the last sends.
+    for pieces in ["", "1", "", "1", "4", "5", "2", "3", "9", "8", "", "7", "4", "4", "2"]:
+        desk.keys(*pieces, Keys.ENTER)
+    desk.outcome("Done once", "410.00", "The vault has 590.00", "slip 1001")
+    require(counter.sql("SELECT cash, holder FROM tellers WHERE teller = 11"), [(41000, TESS)], "drawer 11")
+
+
+def wrong_amounts(day):
+    """What is no amount is refused beside its field, in plain words, and nothing is sent."""
+    desk = day.desk
+    desk.go("p", "Deposit, withdrawal")
+    before = day.asked()
+    desk.fill(account="101")
+    for text, why in WRONG_AMOUNTS:
+        desk.fill(amount=text)
+        desk.field("amount").send_keys(Keys.ENTER)
+        has(desk.until(desk.faults, f"a fault for {text}")[0], why)
+        require(desk.has_focus("amount"), True, "the wrong field has the focus")
+    desk.fill(account="10x", amount="25.000")
+    desk.field("amount").send_keys(Keys.ENTER)
+    require((len(desk.faults()), desk.has_focus("account")), (2, True), "both are wrong, and the first has the focus")
+    day.look("wrong-amount")
+    require(day.asked(), before, "requests of wrong amounts")
+
+
+def deposits(day):
+    """Ten deposits and withdrawals move what the bank's file says, to the cent."""
+    desk, balances, cash = day.desk, {101: 50000, 102: 0, 201: 30000}, 41000
+    for way, account, amount in DEPOSITS:
+        cents = cents_of(amount) * (1 if way == "in" else -1)
+        balances[account] += cents
+        cash += cents
+        has(desk.enter(way=way, account=account, amount=amount), "Done once", f"Balance of account {account}", amount_of(balances[account]))
+        require(desk.has_focus("account"), True, "the first field has the focus again")
+    require(day.counter.sql("SELECT account, balance FROM accounts ORDER BY account"), sorted(balances.items()), "balances")
+    require(day.cash(11), cash, "cash")
+    day.look("post")
+
+
+def three_enters(day):
+    """Enter three times in haste is one post."""
+    desk, before = day.desk, day.entries()
+    desk.send(account="101", amount="1.00")
+    desk.field("amount").send_keys(Keys.ENTER, Keys.ENTER)
+    desk.outcome("Done once")
+    time.sleep(0.4)
+    require(day.entries(), before + 1, "entries")
+
+
+def refusals(day):
+    """What the bank refuses is shown as not done, with the reason and what to do."""
+    desk, before = day.desk, day.entries()
+    told = desk.enter(way="out", account=102, amount="5,000.00")
+    has(told, "Not done", "The account hasn't that much", "Rule 11, floor")
+    require("Done once" in told, False, "shown as done")
+    day.look("denied")
+    has(desk.enter(way="in", account=999, amount="5.00"), "Not done", "You have no authorization", "Rule 3, no triple")
+    desk.go("t", "Transfer")
+    has(desk.enter(source=101, target=102, amount="5.00"), "Not done", "a certifier has to grant it", "Rule 3, no triple")
+    desk.send(source=101, target=101, amount="5.00")
+    has(desk.until(desk.faults, "a fault")[0], "same account")
+    require(day.entries(), before, "entries")
+
+
+def printed_receipt(day, action):
+    """What is on the paper that an action prints."""
+    desk = day.desk
+    desk.js("window.print = () => { window.printed = document.getElementById('receipt').textContent; }; window.printed = null")
+    action()
+    text = desk.until(lambda: desk.js("return window.printed"), "a receipt")
+    if day.pictures:
+        desk.paper(day.pictures / "receipt.pdf")
+    desk.js("dispatchEvent(new Event('afterprint'))")
+    require(desk.js("return document.getElementById('receipt').textContent"), "", "the receipt after it was printed")
+    return text
+
+
+def receipts(day):
+    """A deposit's receipt is printed by a key; one of the journal again, with the balance after that very entry."""
+    desk = day.desk
+    desk.go("p", "Deposit, withdrawal")
+    desk.enter(way="in", account=101, amount="12.00")
+    balance, entry = day.balance(101), day.entries()
+    text = printed_receipt(day, lambda: desk.keys_after_escape("k"))
+    has(text, "Deposit", "Branch1", "tess, drawer 11", "Account101", "Amount12.00", f"Balance of 101{amount_of(balance)}", f"Entry{entry}")
+    desk.go("p", "Deposit, withdrawal")
+    desk.enter(way="out", account=101, amount="12.00")
+    desk.go("j", "Journal of the shift")
+    again = printed_receipt(day, lambda: desk.all("#work td button")[1].click())
+    has(again, "Deposit", f"Balance of 101{amount_of(balance)}", f"Entry{entry}")
+
+
+def colleague(day):
+    """Tom at the same machine: a transfer, whose receipt has no balance as he may see none; a limit; cash that is not there."""
+    desk = day.desk
+    desk.as_user("tom")
+    day.sign_in(branch="1", teller="12")
+    has(day.count_cash(5000), "Cash in drawer 12", "50.00")
+    desk.go("t", "Transfer")
+    has(desk.enter(source=101, target=102, amount="200.00"), "Done once", "Account 102 has", "Entries")
+    text = printed_receipt(day, lambda: desk.press("Print a receipt Esc K"))
+    has(text, "Transfer", "From account101", "To account102", "Amount200.00", "tom, drawer 12")
+    require("Balance" in text, False, "a balance that Tom may not see")
+    day.look("transfer")
+    desk.go("p", "Deposit, withdrawal")
+    has(desk.enter(way="out", account=101, amount="50.01"), "There isn't that much cash", "Rule 12, cash")
+    has(desk.enter(way="in", account=101, amount="600.00"), "above your limit", "release", "Rule 4, limit")
+
+
+def correction(day):
+    """Tom corrects Tess's entry; she could not, and it is corrected once."""
+    desk = day.desk
+    desk.go("e", "Correct an entry")
+    has(desk.enter(entry=1, account=101, way="in", amount="25.00"), "Done once", "Correct entry 1")
+    require(day.counter.sql("SELECT delta, user_no FROM entries WHERE branch = 1 AND undoes = 1"), [(-2500, TOM)], "the correction")
+    has(desk.enter(entry=1, account=101, way="in", amount="25.00"), "Not done", "can't be corrected", "Rule 10, entry")
+
+
+def supervisor(day):
+    """Sue gives a release, with which Tom passes his limit once, and opens an account."""
+    desk = day.desk
+    desk.as_user("sue")
+    day.sign_in(branch="1")
+    desk.go("r", "Release for a colleague")
+    told = desk.enter(beneficiary=8, teller=12, way="in", account=101, amount="600.00")
+    has(told, "Number of the release", "Release for user 8: Deposit of 600.00")
+    desk.go("n", "New account")
+    has(desk.enter(account=103, overdraft="0.00"), "Account opened", "103")
+    has(desk.enter(account=103), "number is taken", "Rule 14")
+    desk.as_user("tom", "#post")
+    has(desk.enter(way="in", account=101, amount="600.00", release="1"), "Done once", "600.00")
+    require(day.counter.sql("SELECT used FROM releases"), [(1,)], "the release is used")
+
+
+def questions(day):
+    """A balance, a statement, the correction of one of its lines, the accounts; cash goes to the vault."""
+    desk = day.desk
+    desk.as_user("tess")
+    desk.go("b", "Balance")
+    balance = day.balance(101)
+    has(desk.enter(account=101), amount_of(balance))
+    desk.go("s", "Statement")
+    desk.send(which="Infinity", account="101")
+    rows = desk.until(lambda: desk.all("table.statement tbody tr"), "a statement")
+    require(len(rows), day.one("SELECT turns FROM accounts WHERE account = 101"), "lines")
+    has(rows[-1].text, amount_of(balance))
+    day.look("statement")
+    desk.all("table.statement tbody tr td a")[-1].click()
+    desk.until_text("h1", "Correct an entry")
+    require(desk.field("amount").get_attribute("value"), "600.00", "the line's amount")
+    desk.field("amount").send_keys(Keys.ENTER)
+    desk.outcome("Done once", "Correct entry")
+    desk.go("a", "Accounts")
+    desk.keys(Keys.ENTER)
+    require(len(desk.until(lambda: desk.all("table tbody tr"), "accounts")), 3, "accounts that Tess may see")
+    desk.go("m", "Move cash")
+    has(desk.enter(**{"from": "11", "to": "0", "amount": "50.00"}), "Moved", "50.00", "the vault has")
+    desk.go("j", "Journal of the shift")
+    desk.size(768, 1024)
+    day.look("journal-on-a-tablet")
+    desk.size(1280, 800)
+
+
+def evening(day):
+    """The page says what the drawer should hold, only where it is asked to; a difference is shown, with the line of the shift."""
+    desk = day.desk
+    desk.go("d", "Drawer on, off")
+    cash = day.cash(11)
+    require(desk.all("[data-name=expected]"), [], "the expected cash is not shown at once")
+    desk.all("summary")[0].click()
+    has(desk.text("[data-name=expected]"), amount_of(cash))
+    day.look("drawer")
+    has(day.count_cash(cash - 150), "Cash is missing", "-1.50", "Drawer 11 is empty and free")
+    require(day.counter.sql("SELECT cash, holder FROM tellers WHERE teller = 11"), [(0, 0)], "drawer 11 is off")
+    require(len(desk.all("#outcome .chart")), 1, "the line of the shift")
+    day.look("drawer-off")
+
+
+def journal(day):
+    """The journal has what was asked and what came of it, and is saved as a file."""
+    desk = day.desk
+    desk.go("j", "Journal of the shift")
+    has(desk.text("table"), "Drawer 11 off", "refused: floor", "Statement of account 101", "set aside by sue")
+    day.look("journal")
+    desk.press("Save as CSV")
+    saved = desk.until(lambda: list(day.folder.glob("journal-tess-*.csv")), "the file")[0]
+    lines = saved.read_text().splitlines()
+    require(lines[0], "time,request,state,reply,slip,times sent,body,status,reply as sent", "headings")
+    require(len([one for one in lines if "Deposit of 11.11" in one]), 1, "lines of one post")
+    require(len([one for one in lines if ",aside," in one]), 1, "lines of what was set aside")
+
+
+def close_day(day):
+    desk = day.desk
+    desk.js("document.getElementById('outcome').replaceChildren()")
+    desk.press("Close the day")
+    desk.until(lambda: desk.all("dialog button.danger"), "the question")
+
+
+def day_closed(day):
+    """The day is not closed while a drawer is on, nor by Escape; then it is, and the proof agrees."""
+    desk = day.desk
+    desk.as_user("sue")
+    desk.go("c", "Close the day")
+    desk.keys(Keys.ENTER)
+    has(desk.until(lambda: desk.text(".checks"), "the proof"), "Drawer 12 is still on: user 8", "Agrees: the cash")
+    close_day(day)
+    require(desk.js("return document.activeElement.textContent"), "No, go back", "what has the focus")
+    day.look("sure")
+    desk.keys(Keys.ESCAPE)
+    require((desk.all("dialog"), day.one("SELECT count(*) FROM proofs")), ([], 0), "closed by Escape")
+    close_day(day)
+    desk.all("dialog button.danger")[0].click()
+    has(desk.outcome(), "Not done", "A drawer of the branch is still on", "Rule 15, day")
+    desk.as_user("tom")
+    desk.go("d", "Drawer on, off")
+    has(day.count_cash(day.cash(12)), "The count agrees", "0.00")
+    desk.as_user("sue")
+    desk.go("c", "Close the day")
+    close_day(day)
+    desk.all("dialog button.danger")[0].click()
+    told = desk.outcome("Done once")
+    balance, cash, entries = day.counter.sql("SELECT balance, cash, entries FROM proofs")[0]
+    has(told, "Day 1 is closed", amount_of(balance), f"The vault has {amount_of(cash)}", f"{entries} entries")
+    has(desk.until(lambda: desk.text(".checks"), "the proof"), "No drawer is on")
+    day.look("day-closed")
+
+
+def night(day):
+    """The console has no complaints, and the bank's books hold."""
+    require(day.desk.complaints(), [], "the console")
+    day.counter.end_bank()
+    day.counter.rows()
+
+
+def long_statement(day):
+    """1,500 entries more, by Tom without the page; their last page in few requests, and all of them in pages, on paper, too."""
+    desk, counter = day.desk, day.counter
+    counter.sessions["tom"] = day.one("SELECT session FROM users WHERE user_no = ?", TOM)
+    client, made = Client(counter, "tom"), 0
+    while made < 1500:
+        status, _ = client.ask("/do/post", {"account": 201, "branch": 1, "delta": 1, "teller": 12})
+        require(status in (200, 429), True, f"status {status}")
+        made += status == 200
+        if status == 429: # the front lets each certificate ask twenty times per second
+            time.sleep(0.5)
+    desk.as_user("tess")
+    desk.go("s", "Statement")
+    turns, before = day.one("SELECT turns FROM accounts WHERE account = 201"), day.asked()
+    desk.send(which="20", account="201")
+    rows = desk.until(lambda: desk.all("table.statement tbody tr"), "the last 20")
+    require((len(rows), rows[-1].text.split()[0]), (20, str(turns)), "the last 20")
+    few = day.asked() - before
+    require(few <= 8, True, f"{few} requests for the last 20")
+    desk.send(which="Infinity", account="201")
+    desk.until(lambda: len(desk.driver.find_elements("css selector", "table.statement tbody tr")) == turns, "all lines")
+    if day.pictures:
+        desk.paper(day.pictures / "statement.pdf")
+    return f": {few} requests for the last 20 of {turns}"

@@ -1,0 +1,80 @@
+// Fields of forms. Each is {spec, row, input, error, read, set}: its row of elements, what was typed as {value} or {fault}.
+import {h} from './dom.js';
+import {parseAmount, parseNumber, showAmount} from './amounts.js';
+
+let serial = 0;
+
+/**
+ * A field {name, label, kind, ..}. Kinds: 'number' and 'amount' with least and most, 'text' with pattern and fault, 'choice'
+ * with options [value, label, class], 'pick' with options in a list, 'tick'. `tucked` is a line that opens to the field.
+ */
+export function field(spec) {
+  serial += 1;
+  const id = `field-${serial}`;
+  if (spec.kind === 'choice') return choiceField(spec, id);
+  const error = h('p', {id: `${id}-error`, class: 'error'});
+  const hint = spec.hint ? h('p', {id: `${id}-hint`, class: 'hint'}, spec.hint) : null;
+  const input = inputOf(spec, id, hint ? `${error.id} ${hint.id}` : error.id);
+  const inner = h('div', {class: 'field', 'data-name': spec.name}, h('label', {for: id}, spec.label), input, hint, error);
+  const row = spec.tucked ? h('details', {}, h('summary', {}, spec.tucked), inner) : inner;
+  const set = value => {
+    input.value = value ?? '';
+    if (spec.tucked) row.open = false;
+  };
+  return {spec, row, input, error, read: () => readOf(spec, input), set};
+}
+
+function choiceField(spec, id) {
+  const error = h('p', {class: 'error'});
+  const row = h('fieldset', {'data-name': spec.name}, h('legend', {}, spec.label),
+    h('div', {class: 'choices'}, spec.options.map(([value, label, mark]) => h('label', {class: `choice ${mark ?? ''}`},
+      h('input', {type: 'radio', name: id, value, checked: value === spec.value}), h('span', {}, label)))),
+    error);
+  const read = () => ({value: row.querySelector('input:checked')?.value});
+  const set = value => { for (const radio of row.querySelectorAll('input')) radio.checked = radio.value === value; };
+  return {spec, row, input: row.querySelector('input'), error, read, set};
+}
+
+function inputOf(spec, id, describedBy) {
+  if (spec.kind === 'pick') {
+    return h('select', {id, 'aria-describedby': describedBy},
+      spec.options.map(([value, label]) => h('option', {value, selected: value === spec.value}, label)));
+  }
+  if (spec.kind === 'tick') return h('input', {id, type: 'checkbox', checked: spec.value === true});
+  return h('input', {
+    id, type: 'text', class: spec.kind, value: spec.value ?? '', 'aria-describedby': describedBy,
+    autocomplete: 'off', spellcheck: 'false', maxlength: spec.kind === 'text' ? 200 : 24,
+    inputmode: {amount: 'decimal', number: 'numeric'}[spec.kind],
+  });
+}
+
+function readOf(spec, input) {
+  if (spec.kind === 'tick') return {value: input.checked};
+  const text = input.value;
+  if (spec.kind === 'pick') return {value: text};
+  if (text.trim() === '' && spec.optional) return {value: null};
+  if (spec.kind === 'amount') {
+    const {cents, fault} = parseAmount(text, spec);
+    return {value: cents, fault};
+  }
+  if (spec.kind === 'number') {
+    const {number, fault} = parseNumber(text, spec);
+    return {value: number, fault};
+  }
+  return spec.pattern.test(text) ? {value: text} : {fault: spec.fault};
+}
+
+// The fields that many forms have.
+export const account = (more = {}) => field({name: 'account', label: 'Account', kind: 'number', ...more});
+export const amount = (more = {}) => field({
+  name: 'amount', label: 'Amount', kind: 'amount', hint: 'Such as 25.00', least: 1, most: 999999, ...more,
+});
+export const branchField = desk => field({name: 'branch', label: 'Branch', kind: 'number', value: desk.place.branch ?? ''});
+export const release = () => field({
+  name: 'release', label: 'Number of the release', kind: 'number', most: 100000, optional: true,
+  tucked: 'A colleague gave a release for this',
+});
+
+/** A number or an amount in a sentence that is not whole yet. */
+export const numberText = number => (number === null ? '…' : String(number));
+export const amountText = cents => (cents === null ? '…' : showAmount(cents));

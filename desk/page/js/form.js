@@ -1,0 +1,79 @@
+// Forms for the keyboard: Enter sends, a wrong field says so beside itself and gets the focus.
+import {h} from './dom.js';
+
+function showFault(field, fault) {
+  field.error.textContent = fault ?? '';
+  if (fault && field.spec.tucked) field.row.open = true;
+  if (fault) field.input.setAttribute('aria-invalid', 'true');
+  else field.input.removeAttribute('aria-invalid');
+}
+
+/** What was typed, by field, or null where a field is wrong: the first such gets the focus. */
+function soundValues(fields) {
+  const values = {};
+  let wrong = null;
+  for (const field of fields) {
+    const {value, fault} = field.row.hidden ? {value: null} : field.read();
+    showFault(field, fault);
+    if (fault) wrong ??= field;
+    values[field.spec.name] = value;
+  }
+  wrong?.input.focus();
+  wrong?.input.select?.();
+  return wrong ? null : values;
+}
+
+/** What was typed so far, by field, with null where it is not sound. */
+function typedValues(fields) {
+  return Object.fromEntries(fields.map(field => {
+    const {value, fault} = field.read();
+    return [field.spec.name, fault ? null : value];
+  }));
+}
+
+/**
+ * A form. `send(values)` is called with sound values, and returns {faults: {field: text}}, 'done', 'refused' or another state.
+ * `reads(values)` says in plain words, at each key, what would be sent. What `clear` names is emptied once it is done.
+ */
+export function form({fields, button, isDanger = false, isBeside = false, send, reads, clear = []}) {
+  const submit = h('button', {type: 'submit', class: isDanger ? 'main danger' : 'main'}, button);
+  const sentence = h('p', {class: 'reads', 'data-name': 'reads'});
+  const byName = Object.fromEntries(fields.map(field => [field.spec.name, field]));
+  const readBack = () => { if (reads) sentence.textContent = reads(typedValues(fields)); };
+  let isBusy = false;
+
+  function settle(state) {
+    for (const [name, fault] of Object.entries(state?.faults ?? {})) {
+      showFault(byName[name], fault);
+      byName[name].input.focus();
+    }
+    if (state === 'done') {
+      for (const name of clear) byName[name].set('');
+      readBack();
+    }
+    const isLeft = document.activeElement !== document.body && !element.contains(document.activeElement);
+    if ((state !== 'done' && state !== 'refused') || isLeft) return;
+    const next = fields.find(field => !field.row.hidden && field.row.isConnected && clear.includes(field.spec.name)) ?? fields[0];
+    next.input.focus();
+  }
+
+  async function submitted(event) {
+    event.preventDefault();
+    if (isBusy) return;
+    const values = soundValues(fields);
+    if (!values) return;
+    isBusy = true;
+    submit.setAttribute('aria-disabled', 'true');
+    try {
+      settle(await send(values));
+    } finally {
+      isBusy = false;
+      submit.removeAttribute('aria-disabled');
+    }
+  }
+
+  const attributes = {novalidate: true, class: isBeside ? 'beside' : null, submit: submitted, input: readBack, change: readBack};
+  const element = h('form', attributes, fields.map(field => field.row), reads ? sentence : null, submit);
+  readBack();
+  return {element, fields: byName, focus: () => fields.find(field => !field.row.hidden)?.input.focus()};
+}

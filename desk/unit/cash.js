@@ -1,0 +1,28 @@
+import {cashOver, expectedCash} from '../js/drawer-cash.js';
+import {axisMarks} from '../js/chart.js';
+import {same, row} from './check.js';
+
+const ROWS = [
+  row(1, 'drawer-on', {branch: 1, cash: 40000, teller: 11}, {cash: 40000, teller: 11, vault: 60000}),
+  row(2, 'post', {account: 101, branch: 1, delta: 2500, teller: 11}, {}),
+  row(3, 'transfer', {amount: 5, branch: 1, source: 101, target: 102, teller: 11}, {}),
+  row(4, 'correct', {account: 101, branch: 1, delta: 500, entry: 9, other: 0, teller: 11}, {}),
+  row(5, 'move-cash', {amount: 2000, branch: 1, source: 11, target: 0}, {moved: 2000, source: 40000, target: 1}),
+  row(6, 'drawer-off', {branch: 1, counted: 39900, teller: 11}, {difference: -100, teller: 11, vault: 1}),
+];
+const cashOf = ({points}) => points.map(point => point.cash);
+
+export function cash() {
+  const whole = cashOver(ROWS, 11);
+  same([cashOf(whole), whole.difference, whole.isKnown, whole.isOn], [[40000, 42500, 42000, 40000, 39900], -100, true, false], 'cash');
+  const part = cashOver(ROWS.slice(1, 2), 11);
+  same([cashOf(part), part.isKnown], [[2500], false], 'cash since');
+  same(cashOf(cashOver([ROWS[1], ROWS[5]], 11)), [40000, 39900], 'cash known by the count');
+  same(cashOver(ROWS, 12).points, [], 'another drawer');
+  same([expectedCash(ROWS.slice(0, 4), 11), expectedCash(ROWS.slice(1, 4), 11), expectedCash(ROWS, 11)], [42000, null, null], 'expected');
+  same(expectedCash([{...ROWS[0]}, {...ROWS[1], state: 'refused'}], 11), 40000, 'what was refused moved nothing');
+  for (const [low, high] of [[0, 1], [0, 42500], [-5000, 99999], [0, 99999999]]) {
+    const marks = axisMarks(low, high);
+    same([marks[0] <= low, marks.at(-1) >= high, marks.length <= 8], [true, true, true], `marks ${low} ${high}`);
+  }
+}

@@ -1,0 +1,23 @@
+// Tests of the modules that draw nothing, and of the panel, in the browser that the page runs in.
+import {failed, count} from './check.js';
+import {amounts} from './amounts.js';
+import {reports, lastTurns} from './reports.js';
+import {judged, slips, queues, queuesAcrossSessions, stores} from './requests.js';
+import {refusals, operations, journals, receipts, outcomes, commands} from './texts.js';
+import {cash} from './cash.js';
+
+const TESTS = [amounts, reports, lastTurns, judged, slips, queues, queuesAcrossSessions, stores, refusals, operations, journals, receipts,
+  outcomes, commands, cash];
+
+/** A test that waits for ever has failed. */
+const late = () => new Promise((_, reject) => setTimeout(() => reject(new Error('no end')), 3000));
+
+for (const test of TESTS) {
+  try {
+    await Promise.race([test(), late()]);
+  } catch (error) {
+    failed.push(`${test.name}: ${error}`);
+  }
+}
+document.getElementById('result').textContent = failed.length === 0 ? `${count()} hold` : failed.join('\n');
+document.title = failed.length === 0 ? 'passed' : 'failed';

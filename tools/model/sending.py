@@ -1,0 +1,172 @@
+"""Random requests as tools draw them, sent to the built programs, whose replies are compared with those of the reference model."""
+import os
+import re
+import subprocess
+from collections import Counter
+from concurrent.futures import ProcessPoolExecutor
+
+from model.answers import is_allowed
+from model.bank import BADGES, COMMANDS, OPERATIONS, RULES
+from model.requests import DRAWN, Request, again, any_slip, slips_of, spoiled
+from sample_file import Wrong, require_sound, run_words
+
+SECONDS = 60
+
+# How often each kind is drawn.
+WEIGHTS = {
+    "session": 3,
+    "end": 1,
+    "post": 20,
+    "transfer": 12,
+    "correct": 8,
+    "drawer-on": 6,
+    "drawer-off": 6,
+    "move-cash": 8,
+    "new-account": 4,
+    "balance": 16,
+    "statement": 5,
+    "accounts": 4,
+    "proof": 4,
+    "listing": 3,
+    "close-day": 4,
+    "release": 6,
+    "use of a release": 6,
+    "slip again": 10,
+    "define-set": 3,
+    "certify": 3,
+    "withdraw": 1,
+    "grant": 6,
+    "revoke": 3,
+    "appoint": 1,
+    "dismiss": 1,
+    "enrol": 2,
+    "suspend": 1,
+    "restore": 2,
+}
+# So often a request is sent as it was drawn first, whether it is allowed or not. So often of these it comes from anyone, in a
+# session that may be another, and so often its body is spoiled.
+ANY = 0.35
+BY_ANYONE = 0.4
+SPOILED = 0.1
+# Otherwise requests of a kind are drawn until one is allowed, so many of so many kinds.
+KINDS_TRIED = 4
+DRAWS = 20
+# What stands in a reply that denies, and in one that is a report.
+DENIED = re.compile(rb'\r\n\r\n\{"name":"([a-z ]+)","rule":\d+\}')
+REPORT = b"\r\nContent-Type: text/plain\r\n"
+
+
+def of_kind(bank, kind, rng, moment):
+    """A request of this kind at a moment, as it is drawn first."""
+    user, body, release = rng.choice(list(BADGES)), {}, 0
+    if kind == "slip again":
+        user = rng.choice([it for it in BADGES if slips_of(bank, it)] or [user])
+        return again(bank, user, rng, moment) or of_kind(bank, "balance", rng, moment)
+    given = [(key, leave.operation) for key, leave in bank.releases.items() if key[0] in BADGES and key not in bank.used]
+    if kind == "use of a release" and given:
+        (user, release), operation = rng.choice(given)
+        body = dict(operation)
+        kind = body.pop("procedure")
+    elif kind == "session":
+        user = rng.choice([it for it in BADGES if it not in bank.open] or list(BADGES))
+    elif kind in COMMANDS:
+        body = DRAWN[kind](bank, user, rng)
+    elif kind not in ("end", "listing"):
+        kind = kind if kind in OPERATIONS else "release"
+        user = rng.choice([it for it in bank.users_of(kind) if it in BADGES] or list(BADGES))
+        body = DRAWN[kind](bank, user, rng)
+    return Request(bank, kind, user, body, release, moment, any_slip(bank, user, rng))
+
+
+def drawn(bank, rng, moment):
+    """A request at a moment, most often one that is allowed."""
+    kinds = rng.choices(list(WEIGHTS), list(WEIGHTS.values()), k=KINDS_TRIED)
+    if rng.random() < ANY:
+        request = of_kind(bank, kinds[0], rng, moment)
+        if rng.random() < BY_ANYONE:
+            request.user = rng.choice(list(BADGES))
+            request.session = max(bank.sessions[request.user] + rng.choice([0, 0, 0, 0, -1, 1]), 1)
+        if request.body and rng.random() < SPOILED:
+            request.body = spoiled(request.body, rng)
+        return request
+    requests = (of_kind(bank, kind, rng, moment) for kind in kinds for _ in range(DRAWS))
+    allowed = (it for it in requests if is_allowed(bank, it))
+    return next(allowed, of_kind(bank, "session", rng, moment))
+
+
+def count(told, status, reply, is_again):
+    """Counts a reply, which may be one that was given before."""
+    denied = DENIED.search(reply)
+    told[denied[1].decode() if denied else status] += 1
+    told["report"] += REPORT in reply
+    told["again"] += is_again
+
+
+class Part:
+    """What is sent at one moment of a stream, and the replies of the model."""
+
+    def __init__(self, moment):
+        self.moment = moment
+        self.sent = []
+        self.replies = []
+
+    def add(self, request, reply):
+        self.sent.append(request.message())
+        self.replies.append(reply)
+
+
+def compare(store, words, part):
+    """Sends what a stream has at a moment to a store, which has to write its replies."""
+    sent, replies = part.sent, part.replies
+    run = subprocess.run(words, input=b"".join(sent), capture_output=True, timeout=SECONDS, check=False)
+    if (run.returncode, run.stderr) != (0, b""):
+        raise Wrong(f"{store} ended with status {run.returncode} and wrote {run.stderr!r}")
+    if run.stdout != b"".join(replies):
+        raise Wrong(f"{store}: {first_difference(run.stdout, sent, replies)}")
+
+
+def compare_file(name, program, file, parts):
+    """Sends the parts of a stream to a bank in a file, each by a run of its moment. `check` has to find its books sound then."""
+    for part in parts:
+        compare(name, [program, *run_words(file, part.moment)], part)
+    require_sound(program, file)
+
+
+def first_difference(wrote, sent, replies):
+    """The first message that was answered otherwise."""
+    for message, reply in zip(sent, replies):
+        if not wrote.startswith(reply):
+            return f"to {message!r} it wrote {wrote[: len(reply) + 40]!r} and not {reply!r}"
+        wrote = wrote[len(reply) :]
+    return f"it wrote {wrote[:200]!r} after the last reply"
+
+
+def judged(compared, programs, seed):
+    """How often each reply was given in a stream, and what was wrong."""
+    try:
+        return compared(programs, seed), None
+    except (Wrong, OSError, LookupError, TypeError, ValueError, subprocess.TimeoutExpired) as why:
+        return Counter(), repr(why)
+
+
+def judged_all(compared, programs, seeds):
+    """How often each reply was given in all streams, and how many streams failed. Each that did is printed."""
+    told, failed = Counter(), 0
+    with ProcessPoolExecutor(len(os.sched_getaffinity(0))) as pool:
+        for seed, (replies, why) in zip(seeds, pool.map(judged, [compared] * len(seeds), [programs] * len(seeds), seeds)):
+            told += replies
+            if why:
+                failed += 1
+                print(f"FAILED stream {seed}: {why}", flush=True)
+    return told, failed
+
+
+def are_allowed(told, requests):
+    """Prints how often each reply was given, and whether half of the requests were allowed."""
+    allowed = told[200]
+    kinds = f"{told['report']} reports and {told['again']} answers given again"
+    print(f"{allowed} of {requests} requests were allowed, {kinds} among them")
+    print("denied: " + ", ".join(f"{told[it]} {it}" for it in RULES if told[it]) + f"; {told[422]} were not stated")
+    if 2 * allowed < requests:
+        print("FAILED: that is fewer than half")
+    return 2 * allowed >= requests

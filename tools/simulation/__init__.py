@@ -1,0 +1,1 @@
+"""A year of a bank, simulated: tools/year runs it."""

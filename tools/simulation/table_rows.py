@@ -1,0 +1,155 @@
+"""The rows that a bank of the reference model has in each table of docs/TABLES.md, and those that a file has, by
+Python's sqlite3."""
+import os
+import shutil
+import sqlite3
+import time
+
+from faults.earlier_files import VERSION
+from model.bank import KINDS
+from sample_file import ENDINGS
+from simulation.ledger import FORMS, NUMBER_OF, form_of, members_of, slip_row
+
+TABLES = (
+    "bank users sets members relations grants certifiers branches tellers accounts entries lines proofs releases slips slip_counts"
+).split()
+
+
+def rows_by_branch(kept, more):
+    """Rows that are kept by their branches, in order, with some more."""
+    rows = [row for branch in sorted(kept) for row in kept[branch]]
+    return sorted([*rows, *more]) if more else rows
+
+
+def entry_rows(bank):
+    """The rows of entries. Those that the bank adds to its ledger are put into one of their own."""
+    more, balances = [], {}
+    for it in bank.entries:
+        before = balances.get(it.account, bank.accounts[it.account][1] + bank.ledger.of_account[it.account])
+        balances[it.account] = before + it.delta
+        more.append((*it[:9], form_of(it), it.partner, it.undoes, balances[it.account]))
+    return rows_by_branch(bank.ledger.entry_rows, more)
+
+
+def line_rows(bank):
+    """The rows of cash lines."""
+    more = [(it.branch, it.number, it.place, it.amount, FORMS[it.form], it.moment, it.day, it.user) for it in bank.lines]
+    return rows_by_branch(bank.ledger.line_rows, more)
+
+
+def slip_rows(bank):
+    """The rows of slips."""
+    more = [slip_row(*key, slip) for key, slip in bank.slips.items()]
+    return sorted([*bank.ledger.slip_rows.values(), *more])
+
+
+def branch_row(bank, branch):
+    """The row of a branch."""
+    opening, cash = bank.branches[branch]
+    kept = (bank.branch_balance(branch), bank.cash(branch, 0), bank.entry_count(branch), bank.line_count(branch))
+    homes = sum(home == branch for home, _, _ in bank.accounts.values())
+    totals = (bank.history(branch), bank.drawers_total(branch), bank.lines_total(branch, "entry"), bank.lines_total(branch, "difference"))
+    return (branch, opening, cash, bank.days[branch], *kept, homes, *totals)
+
+
+def release_row(bank, key, release):
+    """The row of a release."""
+    body = {name: it for name, it in release.operation.items() if name != "procedure"}
+    kind = release.operation["procedure"]
+    return (*key, release.giver, body["branch"], release.day, NUMBER_OF[kind], *members_of(kind, body), int(key in bank.used))
+
+
+def user_row(bank, user):
+    """The row of a user."""
+    of_releases = sum(who == user for who, _ in bank.releases)
+    flags = (int(user in bank.officers), int(user in bank.suspended))
+    return (user, bank.users[user], *flags, bank.sessions[user], int(user in bank.open), of_releases)
+
+
+def rows_of_bank(bank):
+    """The rows of each table, in the order of their keys."""
+    placed = ((number, *it) for number, found in bank.sets.items() for it in enumerate(found, 1))
+    members = [(number, place, KINDS.index(kind) + 1, low, high) for number, place, (kind, low, high) in placed]
+    return {
+        "bank": [(1, VERSION, bank.version)],
+        "users": [user_row(bank, it) for it in sorted(bank.users)],
+        "sets": [(it,) for it in sorted(bank.sets)],
+        "members": sorted(members),
+        "relations": sorted((NUMBER_OF[what], number, by) for (what, number), by in bank.relations.items()),
+        "grants": sorted((user, NUMBER_OF[what], number, *it) for (user, what, number), it in bank.triples.items()),
+        "certifiers": sorted((user, NUMBER_OF[what]) for user, what in bank.certifiers),
+        "branches": [branch_row(bank, it) for it in sorted(bank.branches)],
+        "tellers": [teller_row(bank, it) for it in sorted(bank.tellers)],
+        "accounts": [account_row(bank, it) for it in sorted(bank.accounts)],
+        "entries": entry_rows(bank),
+        "lines": line_rows(bank),
+        "proofs": sorted(tuple(it) for it in bank.proofs),
+        "releases": sorted(release_row(bank, key, it) for key, it in bank.releases.items()),
+        "slips": slip_rows(bank),
+        "slip_counts": [(it, bank.slip_count(it)) for it in sorted(bank.users)],
+    }
+
+
+def teller_row(bank, teller):
+    """The row of a teller."""
+    branch, opening = bank.tellers[teller]
+    return (teller, branch, opening, bank.teller_balance(teller), bank.cash(branch, teller), bank.holder(teller) or 0)
+
+
+def account_row(bank, account):
+    """The row of an account."""
+    home, opening, floor = bank.accounts[account]
+    return (account, home, opening, floor, bank.balance(account), bank.turn_count(account))
+
+
+# For so many nanoseconds the time of a file's last change may stay the same over further changes.
+TICK = 20_000_000
+
+
+def changes_of(file):
+    """When a file and its log were last changed, and how long they are; none of one that is not there."""
+    found = [os.stat(file + it) for it in ENDINGS if os.path.exists(file + it)]
+    return [(it.st_mtime_ns, it.st_size) for it in found]
+
+
+def copy_together(file, copy):
+    """Copies a file and its log as they are at one time: a program that ends may just take the log into the file."""
+    while True:
+        before = changes_of(file)
+        left = max(it for it, _ in before) + TICK - time.time_ns()
+        if left > 0:
+            time.sleep(left / 1e9)
+        for ending in ("", "-wal", "-shm"):
+            if os.path.exists(copy + ending):
+                os.remove(copy + ending)
+        for ending in ENDINGS:
+            if os.path.exists(file + ending):
+                shutil.copyfile(file + ending, copy + ending)
+        if changes_of(file) == before:
+            return
+
+
+def rows_of_file(file, room):
+    """The rows of each table in a file and its log, of which a copy is read."""
+    copy = os.path.join(room, "read")
+    copy_together(file, copy)
+    connection = sqlite3.connect(copy)
+    try:
+        names = {it for it, in connection.execute("SELECT name FROM sqlite_schema WHERE type = 'table' AND name NOT LIKE 'sqlite_%'")}
+        rows = {it: connection.execute(f"SELECT * FROM {it}").fetchall() for it in names}
+    finally:
+        connection.close()
+    return {it: sorted(found) for it, found in rows.items()}
+
+
+def first_difference(found, wanted):
+    """The first table and row that differ, as text, or None."""
+    for name in sorted({*found, *wanted}, key=lambda it: (TABLES.index(it) if it in TABLES else len(TABLES), it)):
+        if found.get(name) != wanted.get(name):
+            have, due = found.get(name), wanted.get(name)
+            if have is None or due is None:
+                return f"the table {name} is {'not ' if have is None else ''}there"
+            more = [it for it in have if it not in set(due)][:3]
+            less = [it for it in due if it not in set(have)][:3]
+            return f"{name} has {more} and not {less}; {len(have)} rows, due are {len(due)}"
+    return None
