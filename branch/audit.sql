@@ -21,7 +21,7 @@ CREATE TABLE asked AS SELECT CAST(user AS INTEGER) AS user_no, line ->> 'badge' 
     line ->> 'slip' AS slip, CAST((line ->> 'ended') - (line ->> 'seconds') AS INTEGER) AS begun, line ->> 'ended' AS ended,
     line ->> 'time' AS time, line ->> 'path' AS path, line ->> 'status' AS status
     FROM lines JOIN badges ON badges.badge = line ->> 'badge'
-    WHERE line ->> 'path' IN ('/do/post', '/do/transfer', '/do/correct');
+    WHERE line ->> 'path' IN ('/do/post', '/do/transfer', '/do/correct') AND line ->> 'verified' = 'SUCCESS';
 CREATE INDEX asked_by_user ON asked (user_no, begun);
 
 -- The entries that a slip made, by the reply that is kept of it: one of a post, two of a transfer.

@@ -5,6 +5,7 @@ import json
 import os
 import random
 import re
+import resource
 import shutil
 import signal
 import socket
@@ -108,7 +109,11 @@ class Files:
 
     def __init__(self, program):
         os.environ["PATH"] = PATH
+        # As the front's unit: it has 2,048 connections, and a login often 1,024 files.
+        with contextlib.suppress(ValueError): # where no more are allowed
+            resource.setrlimit(resource.RLIMIT_NOFILE, (8192, resource.getrlimit(resource.RLIMIT_NOFILE)[1]))
         self.top = Path(tempfile.mkdtemp(prefix="branch-"))
+        self.lock = threading.Lock() # of what the front reads of the certificates, while a command writes it anew
         shutil.copy(program, self.top / "bank_cli")
         shutil.copy(HERE / "certificates", self.top)
         for folder in ("front", "units"):
@@ -127,7 +132,8 @@ class Files:
             self.certificates("teller", badge)
 
     def certificates(self, command, *arguments):
-        subprocess.run([self.top / "certificates", command, self.top / "ca", *arguments], check=True, capture_output=True)
+        with self.lock:
+            subprocess.run([self.top / "certificates", command, self.top / "ca", *arguments], check=True, capture_output=True)
 
     def serial(self, name):
         """The serial number of a teller's certificate."""
@@ -178,7 +184,10 @@ class Branch:
     def __init__(self, files, name, changes=(), bank=True, tcp=False, room=None):
         self.files, self.is_tcp = files, tcp
         self.folder = files.top / name
-        self.port, self.bank_port = free_port(), free_port()
+        # Opened here and handed to the front, as systemd does it: nobody else gets its port meanwhile.
+        door = socket.create_server(("127.0.0.1", 0), backlog=1024)
+        door.setblocking(False)
+        self.port, self.bank_port = door.getsockname()[1], free_port()
         self.url = f"https://localhost:{self.port}"
         self.sessions = {}
         self.kept, self.bank, self.socket, self.starts, self.ends = False, None, None, 0, []
@@ -190,7 +199,10 @@ class Branch:
         self.nginx = ["nginx", "-p", self.folder, "-c", self.folder / "etc/nginx.conf", "-e", self.folder / "log/error.log"]
         tested = subprocess.run([*self.nginx, "-t"], capture_output=True, text=True)
         require((tested.returncode, "[warn]" in tested.stderr), (0, False), f"nginx -t said {tested.stderr!r}")
-        self.front = subprocess.Popen([*self.nginx, "-g", "daemon off;"], stdin=subprocess.DEVNULL, stderr=subprocess.DEVNULL)
+        with door:
+            self.front = subprocess.Popen([*self.nginx, "-g", "daemon off;"], stdin=subprocess.DEVNULL,
+                                          stderr=subprocess.DEVNULL, pass_fds=[door.fileno()],
+                                          env={**os.environ, "NGINX": f"{door.fileno()};"})
         self.await_front()
         write_lists(self.folder / "lists")
         if bank:
@@ -202,8 +214,9 @@ class Branch:
     def write_settings(self, changes):
         """The front's settings, with the folders and ports of this branch."""
         etc = self.folder / "etc"
-        for file in [*(self.files.top / "ca/front").iterdir(), *(self.files.top / "front").iterdir()]:
-            shutil.copy(file, etc)
+        with self.files.lock:
+            for file in [*(self.files.top / "ca/front").iterdir(), *(self.files.top / "front").iterdir()]:
+                shutil.copy(file, etc)
         shutil.copytree(self.files.top / "page", etc / "page")
         (etc / "origins.map").write_text(f'"{self.url}" own;\n')
         swaps = [*changes, ("/etc/bank-front", str(etc)), ("/var/log/bank-front", str(self.folder / "log")),
@@ -222,12 +235,13 @@ class Branch:
         other.write_text(text)
 
     def await_front(self):
-        end = time.time() + PATIENCE
-        while time.time() < end:
-            with contextlib.suppress(ConnectionError), socket.create_connection(("127.0.0.1", self.port)):
-                return
-            time.sleep(0.05)
-        raise Wrong("the front does not listen")
+        """Waits until the front speaks TLS: its socket is open before it has started."""
+        context = ssl.create_default_context(cafile=self.files.top / "ca/front/authority.pem")
+        try:
+            with socket.create_connection(("127.0.0.1", self.port), PATIENCE) as bare:
+                context.wrap_socket(bare, server_hostname="localhost").close()
+        except OSError as error:
+            raise Wrong(f"the front does not answer: {error}") from error
 
     def run_bank(self, *arguments, says=""):
         ran = subprocess.run([self.files.top / "bank_cli", *arguments], capture_output=True, text=True, stdin=subprocess.DEVNULL)
@@ -299,9 +313,9 @@ class Branch:
         before = self.starts
         environment = {"PATH": PATH, "MAINPID": str(self.bank.pid), "RUNTIME_DIRECTORY": str(self.folder / "run")}
         subprocess.run([self.files.top / "units/end-bank"], env=environment, check=True)
-        end = time.time() + PATIENCE
+        end = time.monotonic() + PATIENCE
         while self.starts == before:
-            require(time.time() < end, True, "the bank has started again")
+            require(time.monotonic() < end, True, "the bank has started again")
             time.sleep(0.02)
 
     # ---- asking by curl
@@ -360,6 +374,15 @@ class Branch:
                 client.settimeout(0.7 if is_whole(got) else PATIENCE)
         return got
 
+    def received(self, client, is_whole):
+        """What comes on a connection until that is whole, in however many pieces."""
+        got = b""
+        while not is_whole(got):
+            piece = client.recv(4096)
+            require(piece != b"", True, f"the connection stands, after {got!r}")
+            got += piece
+        return got
+
     # ---- looking
 
     def rows(self):
@@ -371,8 +394,8 @@ class Branch:
                     for table, columns in COLUMNS.items()}
 
     def audit(self):
-        """The lines of the audit trail."""
-        return [json.loads(line) for line in (self.folder / "log/audit.log").read_text().splitlines()]
+        """The lines of the audit trail, without one that is being written."""
+        return [json.loads(line) for line in (self.folder / "log/audit.log").read_bytes().split(b"\n")[:-1]]
 
     def workers(self):
         """The processes of the front that serve clients, without those that only end what they have begun."""
@@ -385,10 +408,10 @@ class Branch:
 
     def reload(self):
         """Has the front read its settings anew, and waits until no worker of the earlier ones serves."""
-        before, end = self.workers(), time.time() + PATIENCE
+        before, end = self.workers(), time.monotonic() + PATIENCE
         self.front.send_signal(signal.SIGHUP)
         while not self.workers() or self.workers() & before:
-            require(time.time() < end, True, "the front has other workers")
+            require(time.monotonic() < end, True, "the front has other workers")
             time.sleep(0.05)
         time.sleep(0.2)
 

@@ -10,7 +10,7 @@ LISTS = os.path.join(TOP, "sample")
 BADGES = os.path.join(LISTS, "badges.csv")
 # A bank is a file and the log that may stand beside it.
 ENDINGS = ("", "-wal")
-SECONDS = 60
+SECONDS = 240
 
 
 class Wrong(Exception):

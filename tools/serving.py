@@ -12,11 +12,15 @@ SECONDS = 240
 HOST = "127.0.0.1"
 # Ports that are tried, below those that the system gives to clients.
 PORTS = itertools.cycle(range(20_000, 30_000))
+# Processes whose numbers follow one another begin so many of them apart; of twenty no two begin within 300.
+PORTS_APART = 6_181
+# Another port is taken so often, where somebody takes one between its choice and its use.
+TRIES = 5
 
 
 def skip_ports():
     """Goes on to ports that other processes do not begin with."""
-    for _ in range(os.getpid() * 37 % 10_000):
+    for _ in range(os.getpid() * PORTS_APART % 10_000):
         next(PORTS)
 
 
@@ -71,14 +75,32 @@ def asked(port, given):
         return read_to_end(client)
 
 
+def listening(start):
+    """A port, a run that `start` has begun at it, and its first line; at another port where somebody has taken that one."""
+    for left in reversed(range(TRIES)):
+        port = free_port()
+        run = start(port)
+        line = run.stdout.readline()
+        if line or is_free(port) or not left:
+            return port, run, line
+        run.communicate()
+
+
 class Serving:
     """A run that serves the bank in a file until so many messages are counted. It is killed where it is left early."""
 
+    given = subprocess.DEVNULL
+
     def __init__(self, program, file, requests, **more):
-        self.port = free_port()
-        self.words = [program, *serve_words(file, self.port, requests)]
-        self.run = subprocess.Popen(self.words, stdin=subprocess.DEVNULL, stdout=subprocess.PIPE, stderr=subprocess.PIPE, **more)
-        self.line = self.run.stdout.readline()
+        def start(port):
+            words = [program, *self.words_at(file, port, requests)]
+            return subprocess.Popen(words, stdin=self.given, stdout=subprocess.PIPE, stderr=subprocess.PIPE, **more)
+
+        self.port, self.run, self.line = listening(start)
+
+    def words_at(self, file, port, requests):
+        """The arguments of the run."""
+        return serve_words(file, port, requests)
 
     def __enter__(self):
         if not self.is_told():
@@ -123,11 +145,13 @@ class Counter(Serving):
     """A run that serves many connections at once over the bank in a file, until its input ends. How many messages are wanted is
     not looked at."""
 
+    given = subprocess.PIPE
+
     def __init__(self, program, file, requests=None, **more):
-        self.port = free_port()
-        self.words = [program, *counter_words(file, "--port", str(self.port))]
-        self.run = subprocess.Popen(self.words, stdin=subprocess.PIPE, stdout=subprocess.PIPE, stderr=subprocess.PIPE, **more)
-        self.line = self.run.stdout.readline()
+        super().__init__(program, file, requests, **more)
+
+    def words_at(self, file, port, requests):
+        return counter_words(file, "--port", str(port))
 
     def end_input(self):
         """Ends the input, and does not wait for what comes of that. (What waits for the end closes the input otherwise.)"""

@@ -8,7 +8,9 @@ import time
 from pathlib import Path
 
 from selenium import webdriver
-from selenium.common.exceptions import StaleElementReferenceException, WebDriverException
+from selenium.common.exceptions import (
+    ElementClickInterceptedException, ElementNotInteractableException, NoSuchElementException, StaleElementReferenceException,
+    WebDriverException)
 from selenium.webdriver.chrome.options import Options
 from selenium.webdriver.chrome.service import Service
 from selenium.webdriver.common.by import By
@@ -21,6 +23,12 @@ from branches import Wrong
 CHROMIUM, CHROMEDRIVER = "/usr/bin/chromium", "/usr/bin/chromedriver"
 # For so many seconds a check waits for what has to come: a busy machine takes its time.
 SECONDS = 60
+# What is found or acted on is exchanged, not there yet, or not where it was: it is looked for again.
+MOMENTARY = (ElementClickInterceptedException, ElementNotInteractableException, NoSuchElementException,
+             StaleElementReferenceException, IndexError)
+AT_MENU = "return document.getElementById('menu').contains(document.activeElement)"
+AT_WORK = "return document.getElementById('work').contains(document.activeElement)"
+IS_SETTLED = "return document.querySelector('#work form [aria-disabled]') === null"
 FIELDS = "[data-name='{0}'] input, [data-name='{0}'] select"
 
 
@@ -32,8 +40,15 @@ class Browser:
         self.relay, self.folder = relay, Path(folder)
         self.url = f"http://127.0.0.1:{relay.server_port}/"
         self.folder.mkdir(exist_ok=True)
-        self.driver = self.started()
+        self.driver = self.begun()
         self.size(1280, 800)
+
+    def begun(self):
+        """The browser, in three tries: on a busy machine it may begin too late for its driver, or the driver's port be taken."""
+        for _ in range(2):
+            with contextlib.suppress(WebDriverException):
+                return self.started()
+        return self.started()
 
     def started(self):
         options = Options()
@@ -73,8 +88,7 @@ class Browser:
     def load(self, fragment=""):
         self.driver.get("about:blank")
         self.driver.get(self.url + fragment)
-        self.until(lambda: self.all("#menu a") or self.text("#outcome"), "the page")
-        self.until(lambda: self.all("#work h1") or self.text("#outcome"), "a screen")
+        self.until(lambda: self.all("#work h1"), "a screen")
 
     # ---- what is there
 
@@ -82,22 +96,34 @@ class Browser:
         return self.driver.execute_script(code, *given)
 
     def steady(self, work):
-        """What is found of elements, again where the page exchanged them meanwhile."""
-        for _ in range(50):
-            with contextlib.suppress(StaleElementReferenceException):
+        """What is found of elements or done to them, again where the page exchanged them meanwhile, or has them later."""
+        end = time.monotonic() + SECONDS
+        while True:
+            try:
                 return work()
-        raise Wrong("the page never stands still")
+            except MOMENTARY as error:
+                if time.monotonic() > end:
+                    raise Wrong(f"it was never there: {error}") from error
+            time.sleep(0.03)
 
     def all(self, css):
         return self.steady(lambda: [one for one in self.driver.find_elements(By.CSS_SELECTOR, css) if one.is_displayed()])
 
     def text(self, css="body"):
-        return self.steady(lambda: next((one.text for one in self.driver.find_elements(By.CSS_SELECTOR, css)), ""))
+        return next(iter(self.texts(css)), "")
+
+    def texts(self, css):
+        """The text of each."""
+        return self.steady(lambda: [one.text for one in self.driver.find_elements(By.CSS_SELECTOR, css)])
+
+    def value(self, name):
+        """What stands in a field."""
+        return self.steady(lambda: self.field(name).get_attribute("value"))
 
     def until(self, work, what, seconds=SECONDS):
-        end = time.time() + seconds
-        while time.time() < end:
-            with contextlib.suppress(StaleElementReferenceException):
+        end = time.monotonic() + seconds
+        while time.monotonic() < end:
+            with contextlib.suppress(*MOMENTARY):
                 if found := work():
                     return found
             time.sleep(0.03)
@@ -106,7 +132,11 @@ class Browser:
 
     def until_text(self, css, *pieces, seconds=SECONDS):
         """The text there, once it has all these pieces."""
-        return self.until(lambda: all(it in self.text(css) for it in pieces) and self.text(css), f"{pieces} in {css}", seconds)
+        def found():
+            text = self.text(css)
+            return text if all(it in text for it in pieces) else ""
+
+        return self.until(found, f"{pieces} in {css}", seconds)
 
     def await_nothing_waiting(self):
         """The panel of what waits is emptied after the outcome is shown."""
@@ -115,34 +145,45 @@ class Browser:
     def outcome(self, *pieces, seconds=SECONDS):
         return self.until_text("#outcome", *pieces, seconds=seconds) if pieces else self.until(lambda: self.text("#outcome"), "an outcome")
 
+    def fault(self, why):
+        """What the first field that is wrong says, once it says that."""
+        return self.until(lambda: next((it for it in self.faults()[:1] if why in it), ""), f"the fault {why!r}")
+
     def faults(self):
         """What the fields say that are wrong."""
         return self.steady(lambda: [one.text for one in self.all("#work .error, dialog .error") if one.text])
 
     def has_focus(self, name):
-        return self.js("return document.activeElement === arguments[0]", self.field(name))
+        return self.steady(lambda: self.js("return document.activeElement === arguments[0]", self.field(name)))
+
+    def await_focus(self, name):
+        self.until(lambda: self.has_focus(name), f"the focus in {name}")
 
     # ---- the keys
 
     def keys(self, *keys):
-        self.driver.switch_to.active_element.send_keys(*keys)
+        self.steady(lambda: self.driver.switch_to.active_element.send_keys(*keys))
+
+    def type(self, name, *keys):
+        """Keys to a field."""
+        self.steady(lambda: self.field(name).send_keys(*keys))
 
     def go(self, letter, heading):
         """Another screen, by Escape and a letter."""
         self.keys_after_escape(letter)
-        self.until(lambda: self.text("h1") == heading and self.js("return document.activeElement.closest('#work') !== null"), heading)
+        self.until(lambda: self.text("h1") == heading and self.js(AT_WORK), heading)
 
     def field(self, name):
         return self.driver.find_element(By.CSS_SELECTOR, FIELDS.format(name))
 
     def fill(self, **values):
         for name, value in values.items():
-            for tucked in self.driver.find_elements(By.CSS_SELECTOR, "#work details:not([open])"):
-                if tucked.find_elements(By.CSS_SELECTOR, f"[data-name='{name}']"):
-                    tucked.find_element(By.CSS_SELECTOR, "summary").click()
-            self.fill_one(name, str(value))
+            self.steady(lambda: self.fill_one(name, str(value)))
 
     def fill_one(self, name, value):
+        for tucked in self.driver.find_elements(By.CSS_SELECTOR, "#work details:not([open])"):
+            if tucked.find_elements(By.CSS_SELECTOR, f"[data-name='{name}']"):
+                tucked.find_element(By.CSS_SELECTOR, "summary").click()
         field = self.field(name)
         if field.get_attribute("type") == "radio":
             self.driver.find_element(By.CSS_SELECTOR, f"[data-name='{name}'] input[value='{value}']").send_keys(Keys.SPACE)
@@ -156,17 +197,15 @@ class Browser:
         self.js("arguments[0].value = arguments[1]; arguments[0].dispatchEvent(new Event('change', {bubbles: true}))", element, value)
 
     def await_form(self):
-        """Waits until the form has settled what was sent by it; one whose request waits for its reply keeps it for longer."""
-        end = time.time() + SECONDS / 10
-        while self.js("return document.querySelector('#work form [aria-disabled]') !== null") and time.time() < end:
-            time.sleep(0.03)
+        """Waits until the form has settled what was sent by it: till then it takes nothing else."""
+        self.until(lambda: self.js(IS_SETTLED), "a form that has settled")
 
     def send(self, **values):
         """Fills the fields, and presses Enter in the last."""
         self.await_form()
         self.js("document.getElementById('outcome').replaceChildren()")
         self.fill(**values)
-        self.field(list(values)[-1]).send_keys(Keys.ENTER)
+        self.type(list(values)[-1], Keys.ENTER)
 
     def enter(self, **values):
         """The same, and what the panel says then."""
@@ -175,26 +214,44 @@ class Browser:
         self.await_form()
         return text
 
+    def click(self, css, at=0):
+        self.steady(lambda: self.all(css)[at].click())
+
     def press(self, text, css="#work button, #waiting button, #outcome button, dialog button"):
-        self.steady(lambda: next(one for one in self.all(css) if one.text == text)).click()
+        """Clicks the button of that text. The strip of what waits is made anew with each try, and the button with it."""
+        self.until(lambda: self.pressed(text, css), f"the button {text!r}")
+
+    def pressed(self, text, css):
+        """Whether there was such a button, which is clicked."""
+        found = next((one for one in self.all(css) if one.text == text), None)
+        if found:
+            found.click()
+        return found is not None
+
+    def at_menu(self):
+        self.keys(Keys.ESCAPE)
+        return self.js(AT_MENU)
 
     def keys_after_escape(self, *keys):
-        self.keys(Keys.ESCAPE)
+        self.until(self.at_menu, "the menu")
         self.keys(*keys)
 
     def hurry(self):
         """Sends what waits now, if it still waits."""
-        with contextlib.suppress(StopIteration):
-            self.press("Send now")
+        self.steady(lambda: self.pressed("Send now", "#waiting button"))
 
     # ---- the end
 
     def kill(self):
         """Ends this browser at once, as a crash of the machine would: every process below it, by its id."""
-        for pid in processes_below(self.driver.capabilities[self.process_id]):
+        killed = processes_below(self.driver.capabilities[self.process_id])
+        for pid in killed:
             with contextlib.suppress(ProcessLookupError):
                 os.kill(pid, signal.SIGKILL)
         self.close()
+        end = time.monotonic() + SECONDS
+        while any(map(is_running, killed)) and time.monotonic() < end: # till then they hold the locks of the profile
+            time.sleep(0.03)
         for name in ("SingletonLock", "SingletonCookie", "SingletonSocket"):
             with contextlib.suppress(OSError):
                 os.unlink(self.folder / "profile" / name)
@@ -229,10 +286,20 @@ class Firefox(Browser):
         return []
 
 
+def state_and_parent(pid):
+    return Path(f"/proc/{pid}/stat").read_text().rsplit(")", 1)[1].split()[:2]
+
+
+def is_running(pid):
+    with contextlib.suppress(OSError):
+        return state_and_parent(pid)[0] not in "ZX"
+    return False
+
+
 def processes_below(pid):
     found = [pid]
     for other in filter(str.isdigit, os.listdir("/proc")):
         with contextlib.suppress(OSError):
-            if int(Path(f"/proc/{other}/stat").read_text().rsplit(")", 1)[1].split()[1]) == pid:
+            if int(state_and_parent(other)[1]) == pid:
                 found += processes_below(int(other))
     return found

@@ -7,12 +7,15 @@ from day import TESS, has
 
 
 def session_elsewhere(day):
-    """A session is opened elsewhere: the request waits until Tess signs in again, and is made once."""
+    """A session is opened elsewhere: the request waits until Tess signs in again, whatever is loaded anew, and is made once."""
     desk = day.desk
 
     def work():
         require(day.counter.ask("tess", "/session", "")[0], 200, "a session elsewhere")
-        has(desk.enter(account="101", amount="55.55"), "Not through yet", "doesn't know you in this session", "Rule 1, identity")
+        desk.send(account="101", amount="55.55")
+        desk.outcome("Not through yet", "doesn't know you in this session", "Rule 1, identity")
+        desk.load("#post")
+        desk.until_text("#waiting", "Sign in again, and it is sent again")
         desk.press("Sign in again")
         return desk.outcome("Done once", "Deposit of 55.55")
 
@@ -30,7 +33,7 @@ def second_window(day):
     desk.driver.switch_to.window(first)
     desk.driver.close()
     desk.driver.switch_to.window(second)
-    desk.until(lambda: desk.all("#menu a"), "the second window goes on")
+    desk.until(lambda: desk.all("#work h1"), "the second window goes on")
     desk.size(1280, 800)
 
 
@@ -49,11 +52,14 @@ def last_slip(day):
 
 
 def other_card(day):
-    """Tom's card is in, and the page is still Tess's: the front refuses it, and it is made by Tess, once."""
+    """Tom's card is in, and the page is still Tess's: the front refuses it, and it is made by Tess, once. The focus stays."""
     desk = day.desk
     day.relay.card = "tom"
     desk.send(account="101", amount="77.77")
-    desk.until_text("#waiting", "Somebody else's card is in")
+    before = desk.until_text("#waiting", "Somebody else's card is in")
+    desk.js("document.querySelector('#waiting button').focus()")
+    desk.until(lambda: desk.text("#waiting") != before, "another try")
+    require(desk.js("return document.activeElement.textContent"), "Send now", "what has the focus")
     day.relay.card = "tess"
     desk.hurry()
     desk.outcome("Done once", "Deposit of 77.77")
@@ -77,13 +83,14 @@ def set_aside(day):
     desk.until(lambda: desk.all("dialog"), "the question")
     day.look("set-aside")
     desk.press("Set aside", "dialog button")
-    has(desk.until(desk.faults, "a fault")[0], "Write why")
+    desk.fault("Write why")
+    desk.await_focus("reason")
     desk.keys("Paid by hand <b>today</b>", Keys.ENTER)
     desk.outcome("Set aside", "Deposit of 88.88")
     desk.await_nothing_waiting()
     day.relay.calm()
     desk.as_user("tess", "#journal")
-    line = desk.until(lambda: [one.text for one in desk.all("tbody tr") if "88.88" in one.text], "its line in the journal")[0]
+    line = desk.until(lambda: [one for one in desk.texts("tbody tr") if "88.88" in one], "its line in the journal")[0]
     has(line, "set aside", "by sue: Paid by hand <b>today</b>")
     require(day.posted(8888), 0, "made")
     desk.go("p", "Deposit, withdrawal")
@@ -91,7 +98,7 @@ def set_aside(day):
 
 
 def command(day, name):
-    day.desk.choose(day.desk.driver.find_element("id", "command"), name)
+    day.desk.steady(lambda: day.desk.choose(day.desk.driver.find_element("id", "command"), name))
 
 
 def office(day):

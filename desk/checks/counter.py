@@ -8,12 +8,13 @@ import shutil
 import sqlite3
 import sys
 import threading
+import time
 from pathlib import Path
 
 DESK = Path(__file__).resolve().parent.parent
 sys.path.insert(0, str(DESK.parent / "branch"))
 
-from branches import Branch, Files, free_port
+from branches import PATIENCE, Branch, Files, require
 
 BADGES = ["olga", "carl", "cora", "tess", "tom", "sue"]
 # Read at the start, as the unprivileged user whom the tests become may have no right to read this folder.
@@ -22,6 +23,9 @@ UNIT = {f"/unit/{it.name}": it.read_bytes() for it in (DESK / "unit").iterdir()}
 TYPES = {".html": "text/html; charset=utf-8", ".js": "text/javascript; charset=utf-8"}
 # What belongs to one connection, and what a browser would keep for this host.
 OWN_FIELDS = {"connection", "content-length", "host", "keep-alive", "strict-transport-security", "transfer-encoding"}
+
+# The front ends a connection on which nobody asked for some minutes, so after so many seconds another is made.
+OLD = 60
 
 
 class Cut(Exception):
@@ -32,7 +36,7 @@ class Counter(Branch):
     """A branch over the sample bank, with a certificate for each of its badges, and a relay in front of it."""
 
     def __init__(self, files):
-        self.relay_port = free_port()
+        self.relay = Relay(self, files)
         files.certificates("begin", "localhost")
         for badge in BADGES:
             files.certificates("teller", badge)
@@ -43,24 +47,37 @@ class Counter(Branch):
             (self.folder / "lists" / name).write_bytes(text)
         self.run_bank("init", self.file, self.folder / "lists", "--sums", says="made\n")
         self.keep()
-        self.relay = Relay(self)
 
     def write_settings(self, changes):
         """The front's settings, by which pages of the relay are its own."""
         super().write_settings(changes)
         with open(self.folder / "etc/origins.map", "a", encoding="ascii") as file:
-            file.write(f'"http://127.0.0.1:{self.relay_port}" own;\n')
+            file.write(f'"http://127.0.0.1:{self.relay.server_port}" own;\n')
 
     def sql(self, query, *values):
         """What the bank's file has. It is locked while it is served, so a copy is read, with its log."""
         copy = self.folder / "copy"
         shutil.rmtree(copy, ignore_errors=True)
         copy.mkdir()
-        for name in ("bank", "bank-wal"):
-            with contextlib.suppress(FileNotFoundError):
-                shutil.copy(self.file.with_name(name), copy / name)
+        for name, found in self.file_and_log().items():
+            (copy / name).write_bytes(found)
         with contextlib.closing(sqlite3.connect(copy / "bank")) as found:
             return found.execute(query, values).fetchall()
+
+    def file_and_log(self):
+        """Both as they were at one moment: they are read until they are the same twice, as the bank may write meanwhile."""
+        def read():
+            now = {}
+            for path in (self.file, self.file.with_name("bank-wal")):
+                with contextlib.suppress(FileNotFoundError):
+                    now[path.name] = path.read_bytes()
+            return now
+
+        found, end = read(), time.monotonic() + PATIENCE
+        while (again := read()) != found:
+            require(time.monotonic() < end, True, "the bank's file stands still")
+            found = again
+        return found
 
     def one(self, query, *values):
         return self.sql(query, *values)[0][0]
@@ -78,11 +95,12 @@ class Relay(http.server.ThreadingHTTPServer):
     that are exchanged on their way, by path: (old, new).
     """
     daemon_threads = True
+    request_queue_size = 128
 
-    def __init__(self, counter):
-        super().__init__(("127.0.0.1", counter.relay_port), Handler)
+    def __init__(self, counter, files):
+        super().__init__(("127.0.0.1", 0), Handler)
         self.counter, self.card = counter, "tess"
-        self.context = functools.lru_cache(maxsize=None)(counter.files.context)
+        self.context = functools.lru_cache(maxsize=None)(files.context)
         self.swaps, self.passed = {}, []
         self.calm()
         threading.Thread(target=self.serve_forever, daemon=True).start()
@@ -97,7 +115,7 @@ class Relay(http.server.ThreadingHTTPServer):
 
 class Handler(http.server.BaseHTTPRequestHandler):
     protocol_version = "HTTP/1.1"
-    front, card = None, None
+    front, card, asked_at = None, None, 0
 
     def do_GET(self):
         path = self.path.partition("?")[0]
@@ -137,7 +155,9 @@ class Handler(http.server.BaseHTTPRequestHandler):
 
     def asked(self, body):
         """The front's reply, on a connection that shows the card which is in."""
-        if self.card != self.server.card or self.front is None:
+        is_old = time.monotonic() - self.asked_at > OLD
+        self.asked_at = time.monotonic()
+        if self.card != self.server.card or self.front is None or is_old:
             self.card = self.server.card
             port = self.server.counter.port
             self.front = http.client.HTTPSConnection("localhost", port, timeout=90, context=self.server.context(self.card))

@@ -79,7 +79,7 @@ def bank_killed_before_it(day):
         desk.load("#post")
         desk.until_text("#waiting", "Deposit of 22.22")
         desk.go("j", "Journal of the shift")
-        has(desk.text("table"), "Deposit of 22.22", "waiting")
+        desk.until_text("table", "Deposit of 22.22", "waiting")
         day.counter.keep()
         day.relay.calm()
         desk.hurry()
@@ -132,7 +132,7 @@ def browser_killed_after_it(day):
     def linger(path, _):
         if path == "/do/post":
             done.set()
-            killed.wait(60)
+            killed.wait(2 * SECONDS)
 
     def work():
         desk = day.desk
@@ -162,7 +162,7 @@ def replies_of_others(day):
     def work():
         desk.send(account="101", amount="44.44")
         desk.until_text("#waiting", "1 request waits")
-        return desk.outcome("Done once (sent 7 times)", seconds=90)
+        return desk.outcome("Done once (sent 7 times)", seconds=45 + SECONDS) # the page waits 45 seconds in all between these
 
     acted_once(day, 4444, work)
     day.relay.calm()

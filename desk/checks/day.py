@@ -53,9 +53,12 @@ class Day:
     def count_cash(self, cents):
         """Types what was counted as one amount, and sends it."""
         self.desk.js("document.getElementById('outcome').replaceChildren()")
-        field = self.desk.until(lambda: self.desk.all("#cash-typed"), "the field of counted cash")[0]
-        field.send_keys(amount_of(cents), Keys.ENTER)
-        return self.desk.outcome()
+        css = "#cash-typed"
+        self.desk.until(lambda: self.desk.all(css), "the field of counted cash")
+        self.desk.steady(lambda: self.desk.all(css)[0].send_keys(amount_of(cents), Keys.ENTER))
+        text = self.desk.outcome()
+        self.desk.await_form()
+        return text
 
 
     def one(self, query, *values):

@@ -34,10 +34,10 @@ def markup_of_users(day):
     for text in MARKED:
         desk.go("p", "Deposit, withdrawal")
         desk.send(account=text, amount=text)
-        require(len(desk.faults()), 2, f"faults of {text}")
+        desk.until(lambda: len(desk.faults()) == 2, f"two faults of {text}")
         require(desk.js(MARKUP), [], f"{text} in fields")
     desk.load("#correct?entry=%3Cimg%20src%3Dx%20onerror%3Dran=1%3E&account=%22%3E%3Csvg/onload%3Dran=1%3E&way=%22x&amount=javascript:ran=1")
-    require(desk.field("account").get_attribute("value"), "\"><svg/onload=ran=1>", "as text")
+    require(desk.value("account"), "\"><svg/onload=ran=1>", "as text")
     desk.load("#<img src=x onerror=ran=1>")
     require(desk.js(MARKUP), [], "addresses")
 

@@ -1,4 +1,5 @@
 """The work of the day, from the sign-in of the morning to the closing of the day."""
+import os
 import time
 
 from selenium.webdriver.common.keys import Keys
@@ -24,7 +25,7 @@ def morning(day):
     desk, counter = day.desk, day.counter
     desk.as_user("tess")
     require(desk.text("h1"), "Sign in and out", "the first screen")
-    has(desk.text("header"), "tess", "none")
+    desk.until_text("header", "tess", "none")
     desk.fill(branch="1", teller="11")
     day.look("sign-in")
     desk.keys(Keys.ENTER)
@@ -32,11 +33,11 @@ def morning(day):
     require(counter.sql("SELECT session, is_on FROM users WHERE user_no = ?", TESS), [(1, 1)], "session")
     before = day.asked()
     desk.keys("x", Keys.ENTER, Keys.ENTER)
-    desk.js("arguments[0].closest('form').requestSubmit()", desk.field("cash"))
-    has(desk.faults()[0], "500.00", "Only digits")
+    desk.steady(lambda: desk.js("arguments[0].closest('form').requestSubmit()", desk.field("cash")))
+    desk.fault("500.00: Only digits")
     require(day.asked(), before, "requests of a wrong count")
-    desk.field("cash").send_keys(Keys.CONTROL, "a")
-    desk.field("cash").send_keys(Keys.DELETE)
+    desk.type("cash", Keys.CONTROL, "a")
+    desk.type("cash", Keys.DELETE)
     # 200 + 50 + 80 + 50 + 10 + 6 + 9 + 4 + .70 + .20 + .08 + .02 = 410.00, which the Enter after the last sends.
     for pieces in ["", "1", "", "1", "4", "5", "2", "3", "9", "8", "", "7", "4", "4", "2"]:
         desk.keys(*pieces, Keys.ENTER)
@@ -52,12 +53,13 @@ def wrong_amounts(day):
     desk.fill(account="101")
     for text, why in WRONG_AMOUNTS:
         desk.fill(amount=text)
-        desk.field("amount").send_keys(Keys.ENTER)
-        has(desk.until(desk.faults, f"a fault for {text}")[0], why)
-        require(desk.has_focus("amount"), True, "the wrong field has the focus")
+        desk.type("amount", Keys.ENTER)
+        desk.fault(why)
+        desk.await_focus("amount") # which is wrong
     desk.fill(account="10x", amount="25.000")
-    desk.field("amount").send_keys(Keys.ENTER)
-    require((len(desk.faults()), desk.has_focus("account")), (2, True), "both are wrong, and the first has the focus")
+    desk.type("amount", Keys.ENTER)
+    desk.until(lambda: len(desk.faults()) == 2, "two faults")
+    desk.await_focus("account") # both are wrong, and this is the first
     day.look("wrong-amount")
     require(day.asked(), before, "requests of wrong amounts")
 
@@ -70,7 +72,7 @@ def deposits(day):
         balances[account] += cents
         cash += cents
         has(desk.enter(way=way, account=account, amount=amount), "Done once", f"Balance of account {account}", amount_of(balances[account]))
-        require(desk.has_focus("account"), True, "the first field has the focus again")
+        desk.await_focus("account") # the first field, again
     require(day.counter.sql("SELECT account, balance FROM accounts ORDER BY account"), sorted(balances.items()), "balances")
     require(day.cash(11), cash, "cash")
     day.look("post")
@@ -80,9 +82,11 @@ def three_enters(day):
     """Enter three times in haste is one post."""
     desk, before = day.desk, day.entries()
     desk.send(account="101", amount="1.00")
-    desk.field("amount").send_keys(Keys.ENTER, Keys.ENTER)
+    desk.type("amount", Keys.ENTER, Keys.ENTER)
     desk.outcome("Done once")
+    desk.await_form()
     time.sleep(0.4)
+    desk.await_nothing_waiting()
     require(day.entries(), before + 1, "entries")
 
 
@@ -97,7 +101,7 @@ def refusals(day):
     desk.go("t", "Transfer")
     has(desk.enter(source=101, target=102, amount="5.00"), "Not done", "a certifier has to grant it", "Rule 3, no triple")
     desk.send(source=101, target=101, amount="5.00")
-    has(desk.until(desk.faults, "a fault")[0], "same account")
+    desk.fault("same account")
     require(day.entries(), before, "entries")
 
 
@@ -125,7 +129,7 @@ def receipts(day):
     desk.go("p", "Deposit, withdrawal")
     desk.enter(way="out", account=101, amount="12.00")
     desk.go("j", "Journal of the shift")
-    again = printed_receipt(day, lambda: desk.all("#work td button")[1].click())
+    again = printed_receipt(day, lambda: desk.click("#work td button", 1))
     has(again, "Deposit", f"Balance of 101{amount_of(balance)}", f"Entry{entry}")
 
 
@@ -180,14 +184,14 @@ def questions(day):
     has(desk.enter(account=101), amount_of(balance))
     desk.go("s", "Statement")
     desk.send(which="Infinity", account="101")
-    rows = desk.until(lambda: desk.all("table.statement tbody tr"), "a statement")
+    rows = desk.until(lambda: desk.texts("table.statement tbody tr"), "a statement")
     require(len(rows), day.one("SELECT turns FROM accounts WHERE account = 101"), "lines")
-    has(rows[-1].text, amount_of(balance))
+    has(rows[-1], amount_of(balance))
     day.look("statement")
-    desk.all("table.statement tbody tr td a")[-1].click()
+    desk.click("table.statement tbody tr td a", -1)
     desk.until_text("h1", "Correct an entry")
-    require(desk.field("amount").get_attribute("value"), "600.00", "the line's amount")
-    desk.field("amount").send_keys(Keys.ENTER)
+    desk.until(lambda: desk.value("amount") == "600.00", "the line's amount")
+    desk.type("amount", Keys.ENTER)
     desk.outcome("Done once", "Correct entry")
     desk.go("a", "Accounts")
     desk.keys(Keys.ENTER)
@@ -206,24 +210,31 @@ def evening(day):
     desk.go("d", "Drawer on, off")
     cash = day.cash(11)
     require(desk.all("[data-name=expected]"), [], "the expected cash is not shown at once")
-    desk.all("summary")[0].click()
-    has(desk.text("[data-name=expected]"), amount_of(cash))
+    desk.click("summary")
+    desk.until_text("[data-name=expected]", amount_of(cash))
     day.look("drawer")
     has(day.count_cash(cash - 150), "Cash is missing", "-1.50", "Drawer 11 is empty and free")
     require(day.counter.sql("SELECT cash, holder FROM tellers WHERE teller = 11"), [(0, 0)], "drawer 11 is off")
-    require(len(desk.all("#outcome .chart")), 1, "the line of the shift")
+    desk.until(lambda: len(desk.all("#outcome .chart")) == 1, "the line of the shift")
     day.look("drawer-off")
+
+
+def saved_text(day):
+    """The journal that was saved, once it is there whole: browsers write to a file of another name, or to one beside it."""
+    names = os.listdir(day.folder)
+    found = [day.folder / name for name in names if name.startswith("journal-tess-") and name.endswith(".csv")]
+    is_written = not any(name.endswith((".crdownload", ".part")) for name in names)
+    return found[0].read_text() if found and is_written else ""
 
 
 def journal(day):
     """The journal has what was asked and what came of it, and is saved as a file."""
     desk = day.desk
     desk.go("j", "Journal of the shift")
-    has(desk.text("table"), "Drawer 11 off", "refused: floor", "Statement of account 101", "set aside by sue")
+    desk.until_text("table", "Drawer 11 off", "refused: floor", "Statement of account 101", "set aside by sue")
     day.look("journal")
     desk.press("Save as CSV")
-    saved = desk.until(lambda: list(day.folder.glob("journal-tess-*.csv")), "the file")[0]
-    lines = saved.read_text().splitlines()
+    lines = desk.until(lambda: saved_text(day), "the file").splitlines()
     require(lines[0], "time,request,state,reply,slip,times sent,body,status,reply as sent", "headings")
     require(len([one for one in lines if "Deposit of 11.11" in one]), 1, "lines of one post")
     require(len([one for one in lines if ",aside," in one]), 1, "lines of what was set aside")
@@ -244,12 +255,13 @@ def day_closed(day):
     desk.keys(Keys.ENTER)
     has(desk.until(lambda: desk.text(".checks"), "the proof"), "Drawer 12 is still on: user 8", "Agrees: the cash")
     close_day(day)
-    require(desk.js("return document.activeElement.textContent"), "No, go back", "what has the focus")
+    desk.until(lambda: desk.js("return document.activeElement.textContent") == "No, go back", "the focus on No")
     day.look("sure")
     desk.keys(Keys.ESCAPE)
-    require((desk.all("dialog"), day.one("SELECT count(*) FROM proofs")), ([], 0), "closed by Escape")
+    desk.until(lambda: not desk.js("return document.querySelector('dialog')"), "no dialog after Escape")
+    require(day.one("SELECT count(*) FROM proofs"), 0, "days closed by Escape")
     close_day(day)
-    desk.all("dialog button.danger")[0].click()
+    desk.click("dialog button.danger")
     has(desk.outcome(), "Not done", "A drawer of the branch is still on", "Rule 15, day")
     desk.as_user("tom")
     desk.go("d", "Drawer on, off")
@@ -257,7 +269,7 @@ def day_closed(day):
     desk.as_user("sue")
     desk.go("c", "Close the day")
     close_day(day)
-    desk.all("dialog button.danger")[0].click()
+    desk.click("dialog button.danger")
     told = desk.outcome("Done once")
     balance, cash, entries = day.counter.sql("SELECT balance, cash, entries FROM proofs")[0]
     has(told, "Day 1 is closed", amount_of(balance), f"The vault has {amount_of(cash)}", f"{entries} entries")
@@ -287,8 +299,8 @@ def long_statement(day):
     desk.go("s", "Statement")
     turns, before = day.one("SELECT turns FROM accounts WHERE account = 201"), day.asked()
     desk.send(which="20", account="201")
-    rows = desk.until(lambda: desk.all("table.statement tbody tr"), "the last 20")
-    require((len(rows), rows[-1].text.split()[0]), (20, str(turns)), "the last 20")
+    rows = desk.until(lambda: desk.texts("table.statement tbody tr"), "the last 20")
+    require((len(rows), rows[-1].split()[0]), (20, str(turns)), "the last 20")
     few = day.asked() - before
     require(few <= 8, True, f"{few} requests for the last 20")
     desk.send(which="Infinity", account="201")

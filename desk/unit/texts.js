@@ -69,6 +69,7 @@ export function commands() {
   const grant = {user: 8, procedure: 'post', set: 2, limit: 0};
   same(bodyOf('grant', {...grant, first: null, last: null}), {body: grant}, 'grant');
   same(typeof bodyOf('grant', {...grant, first: '2026-11-28', last: '2026-11-27'}).faults.last, 'string', 'ends before');
+  same([parseMoment('2026-02-31', true), parseMoment('2026-02-28 24:00', true)], [null, null], 'no such day or time');
   same(parseMoment('2026-11-28', true) - parseMoment('2026-11-28', false), 86399, 'a day');
   const released = operationOf({procedure: 'post', branch: 1, teller: 12, way: 'out', account: 101, amount: 60000});
   same(released, {account: 101, branch: 1, delta: -60000, procedure: 'post', teller: 12}, 'released');

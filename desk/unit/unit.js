@@ -10,7 +10,7 @@ const TESTS = [amounts, reports, lastTurns, judged, slips, queues, queuesAcrossS
   outcomes, commands, cash];
 
 /** A test that waits for ever has failed. */
-const late = () => new Promise((_, reject) => setTimeout(() => reject(new Error('no end')), 3000));
+const late = () => new Promise((_, reject) => setTimeout(() => reject(new Error('no end')), 15000));
 
 for (const test of TESTS) {
   try {

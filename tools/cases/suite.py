@@ -102,8 +102,8 @@ def spelled(lines):
     counted = []
     for number, line in enumerate(lines):
         if LENGTH in line:
-            behind = lines[lines.index("", number) + 1:] if "" in lines[number:] else []
-            line = line.replace(LENGTH, str(len(bytes_of_lines(behind, b"\r\n"))))
+            below = lines[lines.index("", number) + 1:] if "" in lines[number:] else []
+            line = line.replace(LENGTH, str(len(bytes_of_lines(below, b"\r\n"))))
         counted.append(line)
     return bytes_of_lines(counted, b"\r\n")
 
@@ -344,11 +344,11 @@ class RowReader:
             self.step().given += request(*asked.groups())
         elif answered:
             *head, body = answered.groups()
-            self.step().output += reply(*head, bytes_of(body) if body else bytes_of_lines(self.behind("|")))
+            self.step().output += reply(*head, bytes_of(body) if body else bytes_of_lines(self.lines_after("|")))
         else:
             raise BadRow(f"no line begins so: {line[:40]}")
 
-    def behind(self, mark):
+    def lines_after(self, mark):
         """The lines with this mark that come next."""
         return self.groups.pop(0).lines if self.groups and self.groups[0].mark == mark else []
 
@@ -392,10 +392,10 @@ class RowReader:
         self.row.shows.append(text)
 
     def take_file(self, text):
-        self.row.changes.append(Written(text, bytes_of_lines(self.behind("|"))))
+        self.row.changes.append(Written(text, bytes_of_lines(self.lines_after("|"))))
 
     def take_edit(self, text):
-        old, new = bytes_of_lines(self.behind("-")), bytes_of_lines(self.behind("+"))
+        old, new = bytes_of_lines(self.lines_after("-")), bytes_of_lines(self.lines_after("+"))
         self.row.changes.append(Edited(text, old, new))
 
     def take_copy(self, text):
@@ -411,7 +411,7 @@ class RowReader:
         self.row.changes.append(SampleBadges(text))
 
     def take_sql(self, text):
-        self.row.changes.append(Statements(text, "\n".join(self.behind("|"))))
+        self.row.changes.append(Statements(text, "\n".join(self.lines_after("|"))))
 
 
 # What a line of a case may begin with, beside bytes, a request and a reply.

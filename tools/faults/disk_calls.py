@@ -6,7 +6,7 @@ import subprocess
 
 from preload import preloaded
 
-SECONDS = 60
+SECONDS = 240
 LINE = re.compile(rb"(\w) (\d+) (\d+) (\d+)\n")
 
 

@@ -30,7 +30,7 @@ class Held:
             make(self.synced, call)
         self.since = []
 
-    def behind(self, calls):
+    def with_calls(self, calls):
         """What was synced, and these calls."""
         text = bytearray(self.synced)
         for call in calls:
@@ -39,11 +39,11 @@ class Held:
 
     def written(self):
         """All that was written."""
-        return self.behind(self.since)
+        return self.with_calls(self.since)
 
     def ways(self):
         """What it can hold when the power fails."""
-        return self.written(), bytes(self.synced), self.behind(self.since[-1:])
+        return self.written(), bytes(self.synced), self.with_calls(self.since[-1:])
 
 
 class Disk:

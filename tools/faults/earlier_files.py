@@ -14,7 +14,7 @@ from cases.suite import Suite
 from repository import TOP
 from sample_file import Wrong, copy_bank
 
-SECONDS = 60
+SECONDS = 240
 # How an action ends: its status, and what it writes on both streams.
 CARRIED = (0, b"carried over\n", b"")
 HOLDS = (0, b"books hold\n", b"")

@@ -7,7 +7,7 @@ from preload import preloaded
 from sample_file import Wrong
 from served import Served
 
-SECONDS = 60
+SECONDS = 240
 MOST_CALLS = 100_000
 
 

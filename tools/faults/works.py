@@ -3,6 +3,7 @@
 The reference model gives the replies that are due, and how many rows there are of what only grows. A request bears the moment of
 the model, so the rows after it are always the same.
 """
+import contextlib
 import itertools
 import os
 import re
@@ -18,7 +19,7 @@ from sample_file import LISTS, Wrong, copy_bank, ended, require_sound, run_words
 from serving import asked, free_port, serve_words
 
 BROKEN = b"stream: broken\n"
-SECONDS = 60
+SECONDS = 240
 # How long a page of a new file is, in bytes.
 PAGE = 1024
 MADE = (0, b"made\n", b"")
@@ -398,12 +399,14 @@ class Serve(Run):
         self.name = f"serve, {kind.name}"
 
     def made(self, run, file, given=None):
-        """How it ends, but for what was written: the reply that the client got, or None where the run did not listen."""
+        """How it ends, but for what was written: the reply that the client got, or None where the run did not listen, or no
+        more."""
         port, replies = free_port(), []
 
         def ask(process):
             if process.stdout.readline():
-                replies.append(asked(port, self.given))
+                with contextlib.suppress(ConnectionRefusedError):
+                    replies.append(asked(port, self.given))
 
         status, _, errors = run(serve_words(file, port, 1), b"", ask)
         return status, replies[0] if replies else None, errors

@@ -293,8 +293,8 @@ def is_no_open_entry(bank, request):
 def falls_below_floor(bank, request):
     if request.kind not in ("post", "transfer", "correct"):
         return False
-    behind = after(bank, request)[0]
-    return any(behind.balance(it) < behind.accounts[it][2] for it in accounts_of(request.kind, request.body))
+    after_it = after(bank, request)[0]
+    return any(after_it.balance(it) < after_it.accounts[it][2] for it in accounts_of(request.kind, request.body))
 
 
 def cash_of(bank, branch):

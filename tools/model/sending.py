@@ -10,7 +10,7 @@ from model.bank import BADGES, COMMANDS, OPERATIONS, RULES
 from model.requests import DRAWN, Request, again, any_slip, slips_of, spoiled
 from sample_file import Wrong, require_sound, run_words
 
-SECONDS = 60
+SECONDS = 240
 
 # How often each kind is drawn.
 WEIGHTS = {

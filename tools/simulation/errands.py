@@ -9,7 +9,7 @@ import tempfile
 from faults.earlier_files import CARRIED, EARLIER_VERSIONS, OTHER, Tables, make_earlier_file
 from page_sums import RESERVED_AT, SUM, says_sums
 from sample_file import Wrong
-from serving import HOST, free_port
+from serving import HOST
 from simulation.machine import CHANGES, HALF_AND_KILLED, KILLED, KILLED_AFTER
 from simulation.table_rows import first_difference, rows_of_file
 
@@ -164,13 +164,10 @@ def bad_arguments(life):
 
 def port_of_another(life):
     """A port that another program has."""
-    port = free_port()
     with socket.socket() as other:
-        # a connection that has just ended may still have it
-        other.setsockopt(socket.SOL_SOCKET, socket.SO_REUSEADDR, 1)
-        other.bind((HOST, port))
+        other.bind((HOST, 0))
         other.listen()
-        words = ["serve", life.file, "--badges", life.badges, "--port", str(port), "--requests", "1"]
+        words = ["serve", life.file, "--badges", life.badges, "--port", str(other.getsockname()[1]), "--requests", "1"]
         refuse(life, words, 3, b"stream: broken\n")
 
 

@@ -113,6 +113,6 @@ def chosen_state(disk, rng):
     for ending, held in disk.held.items():
         ways = list(held.ways())
         for _ in range(SUBSETS if held.since else 0):
-            ways.append(held.behind([it for it in held.since if rng.random() < 0.5]))
+            ways.append(held.with_calls([it for it in held.since if rng.random() < 0.5]))
         state[ending] = rng.choice(ways)
     return state

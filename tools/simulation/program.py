@@ -8,14 +8,14 @@ import subprocess
 import time
 
 from sample_file import Wrong
-from serving import HOST, free_port
+from serving import HOST, listening
 from simulation.messages import size_of
 
 SECONDS = 120
 PIECE = 1 << 16
 MOST_REQUESTS = 1_000_000
-# A client that is silent is let go after this part of the time that it has.
-PART_OF_WAIT = 60
+# A client that is silent is let go after this part of the time that it has; on a busy machine its messages come within that.
+PART_OF_WAIT = 15
 # What a counter gives a client for a message is less, in seconds. So long it is given itself to hear of one.
 MORE_THAN_A_MESSAGE, HEARD = 31, 1.5
 RESET = b"\1\0\0\0\0\0\0\0"
@@ -112,13 +112,16 @@ class ByServe(Running):
     name = "serve"
 
     def __init__(self, machine, program, file, badges, moment, is_traced=False, requests=MOST_REQUESTS):
-        self.port = free_port()
+        def start(port):
+            self.port = port
+            word, *more = self.arguments(requests)
+            Running.__init__(self, machine, [program, word, *words_of_badges(file, badges), *more], file, is_traced)
+            return self.run
+
         self.proxy = None
         self.kept = None
         machine.set(moment=moment)
-        word, *more = self.arguments(requests)
-        super().__init__(machine, [program, word, *words_of_badges(file, badges), *more], file, is_traced)
-        self.line = self.run.stdout.readline()
+        self.port, self.run, self.line = listening(start)
 
     def arguments(self, requests):
         """The command and its arguments but for the file and the badges."""

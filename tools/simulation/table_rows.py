@@ -1,5 +1,6 @@
 """The rows that a bank of the reference model has in each table of docs/TABLES.md, and those that a file has, by
 Python's sqlite3."""
+import contextlib
 import os
 import shutil
 import sqlite3
@@ -108,7 +109,10 @@ TICK = 20_000_000
 
 def changes_of(file):
     """When a file and its log were last changed, and how long they are; none of one that is not there."""
-    found = [os.stat(file + it) for it in ENDINGS if os.path.exists(file + it)]
+    found = []
+    for it in ENDINGS:
+        with contextlib.suppress(FileNotFoundError):
+            found.append(os.stat(file + it))
     return [(it.st_mtime_ns, it.st_size) for it in found]
 
 
@@ -118,12 +122,13 @@ def copy_together(file, copy):
         before = changes_of(file)
         left = max(it for it, _ in before) + TICK - time.time_ns()
         if left > 0:
-            time.sleep(left / 1e9)
+            # (no longer than that: the clock may have been set back since)
+            time.sleep(min(left, TICK) / 1e9)
         for ending in ("", "-wal", "-shm"):
             if os.path.exists(copy + ending):
                 os.remove(copy + ending)
         for ending in ENDINGS:
-            if os.path.exists(file + ending):
+            with contextlib.suppress(FileNotFoundError):
                 shutil.copyfile(file + ending, copy + ending)
         if changes_of(file) == before:
             return

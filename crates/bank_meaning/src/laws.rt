@@ -88,8 +88,8 @@ pub fn commands_are_judged()
 {}
 
 /// An operation is allowed exactly when its user is known, some one triple of the user's holds all that it
-/// touches, up to its amount or by a valid release, the procedure is certified for that, and no rule of the
-/// books denies it.
+/// touches, up to its amount or by a valid release, the procedure is certified for that, no rule of the
+/// books denies it, and its slip, if it bears one, was not taken for another operation and has room.
 pub fn allowed_exactly_when_held()
     ensures { AllowedExactlyWhenHeld }
 {}

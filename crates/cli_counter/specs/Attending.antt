@@ -32,7 +32,7 @@ module _ {S C : Type 0} (status : S → Status) (users : List ℕ → Option ℕ
   messages_at place output_old output_new old new result (inl is) = one_list is.1.attended.turns
   messages_at place output_old output_new old new result (inr is) = []
 
-  -- and what went out is the replies to them
+  -- and what each outbox got is a beginning of the replies to its own
   abbrev pub AreRepliedAt : (place : Place) (output_old output_new : Stream) (old new : At S C) (result : Result Unit ActionFault) → IsAttendedAt place output_old output_new old new result
       → WorldLists → Type 0
   AreRepliedAt place output_old output_new old new result (inl is) w = AreAnswered users is.1.attended.turns w

@@ -9,20 +9,23 @@ use Rattle.store_rows.specs.Status.{Status}
 use Rattle.counter_api.specs.Run.{MarkedMessage, requests_of}
 use Rattle.cli_file.specs.Crash.{ActsOnceOverCrash, IsLeftByCrash}
 
--- One day of the bank in a file: of the World that the file held, of these messages, which are all that had a reply, in
--- their order, and of what is said of the bytes that went out. What it rests on beside proofs: the disk returned what
--- was written, up to the end of the day; the image of the file and its log represents what is at the path; a badge is
--- that of the user whom the list of badges names; and a message bears a moment that the clock gave.
+-- One day of the bank in a file: of the World that the file held, of these messages, which are all that were answered but
+-- those whose report broke, in their order, and of what is said of the bytes that went out. What it rests on beside proofs:
+-- the disk returned what was written, up to the end of the day, and a crash leaves what the model of a disk says; the image
+-- of the file and its log represents what is at the path; a badge is that of the user whom the list of badges names; and a
+-- message bears a moment that the clock gave.
 pub record IsBankDay (users : List ℕ → Option ℕ) (w : WorldLists) (ms : List MarkedMessage) (AreReplied : WorldLists → Type 0) (ended : Status) : Type 0 where
   -- The World that the file held passes both checks: its books hold, and its policy is sound and separated.
   pub checked : PassesChecks w
-  -- Each operation is carried out exactly where all that the policy and the books ask for is held. Any other request
-  -- changes nothing, and its reply names the first rule against it. No one executes what they certify. The sums agree
-  -- after each request. The policy is the one in force by last word. What bears a slip acts once.
+  -- Each operation that repeats none is carried out exactly where all that the policy, the books and its slip ask for is
+  -- held. A request that a rule denies changes nothing, and its reply names the first rule against it. No one executes
+  -- what they certify. The sums agree after each request. The policy is the one in force by last word, of commands as long
+  -- as there is a version left. What bears a slip acts once.
   pub headline : IsHeadline w (requests_of users ms)
-  -- What went out on each connection is the replies to its messages, each in the World that the messages before it left.
+  -- What went out on each connection (into its outbox, where connections are served at once) is the replies to its messages
+  -- or a beginning of them, each in the World that the messages before it left.
   pub replied : AreReplied w
-  -- At the end the file represents the World after all of them,
+  -- At the end the file represents the World after all of them, unless a fault of the disk had stopped the store,
   pub holds : ended.holds (world_after w (requests_of users ms))
   -- and a crash leaves that World; or that World and one request more, which a fault kept from being answered otherwise and since which none
   -- has changed the World. So nothing that was answered is undone.

@@ -132,7 +132,7 @@ fn clear(rt: &HostRuntime, beside: &str) -> io::Result<()> {
     }
 }
 
-/// Writes the page to a new file and gives it the owner and rights of the empty one. Whether it has them, and then all is on the disk.
+/// Gives a new file the owner and rights of the empty one, and writes the page to it. Whether it got them; if not, nothing is written.
 fn written(new: &File, empty: &Metadata, page: &[u8; PAGE_LEN]) -> io::Result<bool> {
     unless_denied(fchown(new, None, Some(empty.gid())))?;
     unless_denied(fchown(new, Some(empty.uid()), None))?;
@@ -146,6 +146,7 @@ fn written(new: &File, empty: &Metadata, page: &[u8; PAGE_LEN]) -> io::Result<bo
     Ok(true)
 }
 
+/// The outcome of a change that the system may deny. Whether it was made is looked at later.
 fn unless_denied(outcome: io::Result<()>) -> io::Result<()> {
     match outcome {
         Err(error) if error.kind() == ErrorKind::PermissionDenied => Ok(()),

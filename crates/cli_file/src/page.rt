@@ -15,7 +15,9 @@ const SUM_AT: usize = 1016;
 /// How long the beginning of a first page is, in bytes. What follows is 0.
 const HEAD_LEN: usize = 107;
 
-/// The header of a database of one page of 1,024 bytes, which are all used, and of an empty leaf.
+/// The header of a database of one page of 1,024 bytes, which are all used, and of an empty leaf. By offset: 16 how long a page is;
+/// 18 and 19 a log is kept; 20 the bytes kept at each page's end; 28 one page; 44 the schema's format; 56 UTF-8; 96 SQLite 3.45.0;
+/// 100 a leaf of a table with no cell; 105 where cells begin.
 const PLAIN: [u8; HEAD_LEN] = [
     83, 81, 76, 105, 116, 101, 32, 102, 111, 114, 109, 97, 116, 32, 51, 0, 4, 0, 2, 2, 0, 64, 32,
     32, 0, 0, 0, 0, 0, 0, 0, 1, 0, 0, 0, 0, 0, 0, 0, 0, 0, 0, 0, 1, 0, 0, 0, 4, 0, 0, 0, 0, 0, 0,

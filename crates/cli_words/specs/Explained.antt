@@ -14,7 +14,7 @@ use Rattle.exit_lines.specs.Streams.{IsWritten, Stream}
 abbrev pub IsHelp : Error → Type 0
 IsHelp error = (kind_of error ≡ kind.DisplayHelp) ⊎ (kind_of error ≡ kind.DisplayVersion)
 
--- words were refused on standard error, and the status is 2
+-- arguments were refused on standard error, and the status is 2
 abbrev pub IsRefused : Stream → Stream → ℕ → Type 0
 IsRefused errors_old errors_new status =
     (text : List ℕ) × IsWritten errors_old errors_new text × (status ≡ 2)
@@ -27,9 +27,9 @@ IsExplained error output_old output_new errors_old errors_new status =
     ⊎ (¬ (IsHelp error) × (kind_of error ≢ kind.OutOfMemory) × (output_new ≡ output_old)
     × IsRefused errors_old errors_new status))
 
--- why the arguments could not be read was printed: they are no text, or memory was refused for them
+-- why the arguments could not be read was printed: one is not UTF-8, or memory was refused for them
 abbrev pub IsUnread : ErrorKind → Stream → Stream → ℕ → Type 0
 IsUnread error_kind errors_old errors_new status =
     ((error_kind ≡ io_kind.InvalidData) × (status ≡ 2)
-    × IsWritten errors_old errors_new (line (codes "error: a word is no text")))
+    × IsWritten errors_old errors_new (line (codes "error: an argument is not UTF-8")))
     ⊎ ((error_kind ≢ io_kind.InvalidData) × IsFailed Memory errors_old errors_new status)

@@ -40,12 +40,12 @@ pub fn explain<W: Write, E: Write>(
     }
 }
 
-/// Prints why the arguments could not be read: they are no text, or memory is refused for them. Returns the status.
+/// Prints why the arguments could not be read: one is not UTF-8, or memory is refused for them. Returns the status.
 pub fn unread<E: Write>(errors: &mut Tallied<E>, kind: io::ErrorKind) -> u8
     ensures { IsUnread kind (stream_at E.contents errors.old) (stream_at E.contents errors.new) result }
 {
     if kind == io::ErrorKind::InvalidData {
-        tell(errors, "error: a word is no text\n");
+        tell(errors, "error: an argument is not UTF-8\n");
         REFUSED_WORDS
     } else {
         fail(errors, ServeFault::Memory)

@@ -271,7 +271,7 @@ fn action_of<'a>(matches: &ArgMatches<'a>) -> Option<Action<'a>>
 }
 
 /// The action that the arguments after the program's name ask for. The error is that they are refused, that help is
-/// asked for, or that memory is refused: arguments that are without fault, and name an action, meet the last alone.
+/// asked for, or that memory is refused. Arguments without fault that name an action are refused for want of memory alone.
 pub fn read_words<'a>(alloc: Global, words: &'a [&'a str]) -> Result<Action<'a>, Error>
     ensures named { IfOk result (IsNamedBy (subcommand_of bank_app (map (λ w. w.now) words.now))) }
     ensures taken { IfOk result (λ _. fault_of bank_app (map (λ w. w.now) words.now) ≡ []) }
@@ -281,6 +281,7 @@ pub fn read_words<'a>(alloc: Global, words: &'a [&'a str]) -> Result<Action<'a>,
     let matches = command.try_get_matches_from_mut(words)?;
     match action_of(&matches) {
         Some(action) => Ok(action),
+        // Of arguments that the parser lets through, only those of counter may lack something: its one place.
         None => Err(command.error(
             ErrorKind::MissingRequiredArgument,
             "counter takes exactly one of --port, --socket and --inherited",

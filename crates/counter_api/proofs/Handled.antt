@@ -18,7 +18,7 @@ use Rattle.reports.specs.Report.{BeginsWith}
 use Rattle.reports.proofs.StatusLemmas.{keeps_memory, keeps_still}
 use Rattle.money.specs.declared.tallied.Tallied.{Tallied}
 use Rattle.counter_api.specs.CarriedOut.{BreaksOff, IsCarried, IsCarriedOut, IsSent, KeepsWriter}
-use Rattle.counter_api.specs.Handled.{IsBrokenOff, IsDone, as_outcome}
+use Rattle.counter_api.specs.Handled.{IsBrokenOff, IsDone, outcome_of}
 use Rattle.counter_api.specs.Response.{ResponseParts, faulted_parts}
 use Rattle.counter_api.specs.Run.{FindsRoom, IsHandled, IsResponse, IsWhole, MayBear, RefusesRequest, framed, marked, pending_after, response_to, told_parts}
 use Rattle.counter_api.specs.declared.counter.Outcome.{Outcome}
@@ -27,7 +27,7 @@ use Rattle.counter_api.specs.declared.sent.Sent.TheVariants as sent
 
 -- a response as an outcome, whatever the message is
 pub told_outcome : (old new : Status) (before after : Option (List ℕ)) (m : MessageParts) (r : Request) (response : Result ResponseParts Fault) → IsCarriedOut IsResponse old new r response
-    → IsCarried old new before after m r (as_outcome response)
+    → IsCarried old new before after m r (outcome_of response)
 told_outcome old new before after m r (Ok response) done = done
 told_outcome old new before after m r (Err fault) done = done
 
@@ -65,7 +65,7 @@ module _ (users : List ℕ → Option ℕ) (old new : Status) (m : MessageParts)
 
   pub done : (before after : Option (List ℕ)) (result : Result Outcome Fault) → IsCarried old new before after m r result → IsDone users old new before after m moment result
   done before after (Err fault) d = handles IsResponse (λ response. faulted_parts fault ≡ response) (Err fault) d (λ clean w held. refl)
-  done before after (Ok (outcome.Told told)) d = handles IsResponse (λ response. told ≡ response) (Ok told) d d.replied
+  done before after (Ok (outcome.Response told)) d = handles IsResponse (λ response. told ≡ response) (Ok told) d d.replied
   done before after (Ok (outcome.Report sent.Whole)) (bytes, out, d) =
       (bytes, out, handles (IsSent IsWhole m) (λ response. IsWhole (framed m response) bytes) (Ok bytes) d d.replied)
   done before after (Ok (outcome.Report sent.Stopped)) (bytes, out, d) =
@@ -84,7 +84,7 @@ module _ (users : List ℕ → Option ℕ) (old new : Status) (m : MessageParts)
   )
 
 -- nothing was written
-pub writer_kept : {W : Type 0} (w : Tallied W) (response : Result ResponseParts Fault) → KeepsWriter w w (as_outcome response)
+pub writer_kept : {W : Type 0} (w : Tallied W) (response : Result ResponseParts Fault) → KeepsWriter w w (outcome_of response)
 writer_kept w (Ok response) = refl
 writer_kept w (Err fault) = refl
 

@@ -61,7 +61,7 @@ pub record BreaksOff (old new : Status) (r : Request) (m : MessageParts) (fault 
 -- A request was carried out, and its response is still to be written; or it is answered by a report, and so much of that went out.
 abbrev pub IsCarried : Status → Status → Option (List ℕ) → Option (List ℕ) → MessageParts → Request → Result Outcome Fault → Type 0
 IsCarried old new before after m r (Err fault) = IsCarriedOut IsResponse old new r (Err fault)
-IsCarried old new before after m r (Ok (outcome.Told response)) = IsCarriedOut IsResponse old new r (Ok response)
+IsCarried old new before after m r (Ok (outcome.Response response)) = IsCarriedOut IsResponse old new r (Ok response)
 IsCarried old new before after m r (Ok (outcome.Report sent.Whole)) =
     (bytes : List ℕ) × Appends before after bytes × IsCarriedOut (IsSent IsWhole m) old new r (Ok bytes)
 IsCarried old new before after m r (Ok (outcome.Report sent.Stopped)) =
@@ -72,5 +72,5 @@ IsCarried old new before after m r (Ok (outcome.Report (sent.Broken fault))) =
 -- nothing was written but a report, and the writer counted what that says
 abbrev pub KeepsWriter : {W : Type 0} → Tallied W → Tallied W → Result Outcome Fault → Type 0
 KeepsWriter old new (Err fault) = new ≡ old
-KeepsWriter old new (Ok (outcome.Told response)) = new ≡ old
+KeepsWriter old new (Ok (outcome.Response response)) = new ≡ old
 KeepsWriter old new (Ok (outcome.Report how)) = CountsBySent old new how

@@ -15,9 +15,9 @@ use Rattle.counter_api.specs.declared.counter.Outcome.TheVariants as outcome
 use Rattle.counter_api.specs.declared.sent.Sent.TheVariants as sent
 
 -- a response as what a request came to
-abbrev pub as_outcome : Result ResponseParts Fault → Result Outcome Fault
-as_outcome (Ok response) = Ok (outcome.Told response)
-as_outcome (Err fault) = Err fault
+abbrev pub outcome_of : Result ResponseParts Fault → Result Outcome Fault
+outcome_of (Ok response) = Ok (outcome.Response response)
+outcome_of (Err fault) = Err fault
 
 -- of a message whose reply a fault broke off, once its head had gone out
 pub record IsBrokenOff (users : List ℕ → Option ℕ) (old new : Status) (message : MessageParts) (moment : ℕ) (fault : Fault) (bytes : List ℕ) : Type 0 where
@@ -31,7 +31,7 @@ pub record IsBrokenOff (users : List ℕ → Option ℕ) (old new : Status) (mes
 -- Its response, or the fault that takes its place, is still to be written; or it is answered by a report, and so much of that went out.
 abbrev pub IsDone : (List ℕ → Option ℕ) → Status → Status → Option (List ℕ) → Option (List ℕ) → MessageParts → ℕ → Result Outcome Fault → Type 0
 IsDone users old new before after m moment (Err fault) = IsHandled users old new (record { message = m; moment = moment; mark = Some fault }) (λ response. faulted_parts fault ≡ response)
-IsDone users old new before after m moment (Ok (outcome.Told told)) = IsHandled users old new (record { message = m; moment = moment; mark = None }) (λ response. told ≡ response)
+IsDone users old new before after m moment (Ok (outcome.Response told)) = IsHandled users old new (record { message = m; moment = moment; mark = None }) (λ response. told ≡ response)
 IsDone users old new before after m moment (Ok (outcome.Report sent.Whole)) =
     (bytes : List ℕ) × Appends before after bytes × IsHandled users old new (record { message = m; moment = moment; mark = None }) (λ response. IsWhole (framed m response) bytes)
 IsDone users old new before after m moment (Ok (outcome.Report sent.Stopped)) =

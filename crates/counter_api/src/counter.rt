@@ -7,7 +7,7 @@ ghost use Rattle.money.specs.Counted.{AppendsBeginning, stream_of};
 ghost use Rattle.bank_meaning.specs.Sums.{IsProper};
 ghost use Rattle.http_messages.specs.Failures.{CountsByCall};
 ghost use Rattle.counter_api.specs.CarriedOut.{IsCarried, IsCarriedOut, IsResponded, KeepsWriter};
-ghost use Rattle.counter_api.specs.Handled.{IsDone, as_outcome};
+ghost use Rattle.counter_api.specs.Handled.{IsDone, outcome_of};
 ghost use Rattle.counter_api.specs.Run.{IsResponse, framed};
 
 use crate::response::Response;
@@ -37,7 +37,7 @@ pub(crate) struct Counter<'b, 'g, 'c, 'r, S, G, C> {
 /// What a request came to.
 enum Outcome {
     /// A response, which is still to be written.
-    Told(Response),
+    Response(Response),
     /// A report, and how far its reply went out.
     Report(Sent),
 }
@@ -58,21 +58,18 @@ fn carried_out<S: Store, W: Write>(
     let Request { who, moment, asked } = request;
     match asked {
         Asked::Operation(op) => operation_done(bank, alloc, who, moment, &op, message, writer),
-        Asked::Opening => to_tell(session_opened(bank, alloc, who, moment)),
-        Asked::Ending => to_tell(session_ended(bank, alloc, who, moment)),
-        Asked::Command(command) => to_tell(command_done(bank, alloc, who, moment, command)),
+        Asked::Opening => outcome_of(session_opened(bank, alloc, who, moment)),
+        Asked::Ending => outcome_of(session_ended(bank, alloc, who, moment)),
+        Asked::Command(command) => outcome_of(command_done(bank, alloc, who, moment, command)),
         Asked::Listing => policy_listed(bank, alloc, who, moment, message, writer),
     }
 }
 
 /// A response as what a request came to.
-fn to_tell(response: Result<Response, Fault>) -> Result<Outcome, Fault>
-    ensures { result ≡ as_outcome response }
+fn outcome_of(response: Result<Response, Fault>) -> Result<Outcome, Fault>
+    ensures { result ≡ outcome_of response }
 {
-    match response {
-        Ok(response) => Ok(Outcome::Told(response)),
-        Err(fault) => Err(fault),
-    }
+    Ok(Outcome::Response(response?))
 }
 
 /// Decides an operation, and carries it out where it is allowed.
@@ -90,10 +87,13 @@ fn operation_done<S: Store, W: Write>(
     ensures writer { KeepsWriter writer.old writer.new result }
 {
     match decide(bank, alloc, who, moment, op) {
-        Ok(Decision::Denied(denial)) => Ok(Outcome::Told(Response::denied(alloc, denial.rule())?)),
-        Ok(Decision::Repeated(done)) => Ok(Outcome::Told(Response::done(done.into_body()))),
+        Ok(Decision::Denied(denial)) => Ok(Outcome::Response(Response::denied(
+            alloc,
+            denial.rule(),
+        )?)),
+        Ok(Decision::Repeated(done)) => Ok(Outcome::Response(Response::done(done.into_body()))),
         Ok(Decision::Allowed(permit)) => match carry_out(permit) {
-            Ok(Reply::Done(done)) => Ok(Outcome::Told(Response::done(done.into_body()))),
+            Ok(Reply::Done(done)) => Ok(Outcome::Response(Response::done(done.into_body()))),
             Ok(Reply::Report(report)) => Ok(Outcome::Report(streamed(report, message, writer))),
             Err(fault) => Err(fault),
         },
@@ -114,10 +114,10 @@ fn policy_listed<S: Store, W: Write>(
     ensures writer { KeepsWriter writer.old writer.new result }
 {
     match list_policy(bank, alloc, who) {
-        Ok(Listed::Denied(denial)) => match Response::denied(alloc, denial.rule()) {
-            Ok(response) => Ok(Outcome::Told(response)),
-            Err(_) => Err(Fault::Memory),
-        },
+        Ok(Listed::Denied(denial)) => Ok(Outcome::Response(Response::denied(
+            alloc,
+            denial.rule(),
+        )?)),
         Ok(Listed::Report(report)) => Ok(Outcome::Report(streamed(report, message, writer))),
         Err(fault) => Err(fault),
     }
@@ -192,7 +192,7 @@ fn handled<S: Store, G: Gate, W: Write>(
     };
     match stated {
         Ok(request) => carried_out(bank, alloc, request, message, writer),
-        Err(fault) => Ok(Outcome::Told(Response::refused(fault))),
+        Err(fault) => Ok(Outcome::Response(Response::refused(fault))),
     }
 }
 
@@ -243,19 +243,13 @@ impl<'b, 'g, 'c, 'r, S: Store, G: Gate, C: Clock> Engine for Counter<'b, 'g, 'c,
             writer,
         );
         match outcome {
-            Ok(Outcome::Told(response)) => match write_response(message, &response, writer) {
-                Ok(()) => Ok(()),
-                Err(_) => Err(AnswerFault::Write),
-            },
+            Ok(Outcome::Response(response)) => Ok(write_response(message, &response, writer)?),
             Ok(Outcome::Report(Sent::Whole)) => Ok(()),
             Ok(Outcome::Report(Sent::Stopped)) => Err(AnswerFault::Write),
             Ok(Outcome::Report(Sent::Broken(_))) => Err(AnswerFault::Report),
             Err(fault) => {
                 let response = Response::faulted(fault);
-                match write_response(message, &response, writer) {
-                    Ok(()) => Ok(()),
-                    Err(_) => Err(AnswerFault::Write),
-                }
+                Ok(write_response(message, &response, writer)?)
             }
         }
     }

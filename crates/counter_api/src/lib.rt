@@ -1,7 +1,8 @@
 //! From the bytes of messages to the bytes of replies. `serve` answers the messages of a stream over any
-//! store, gate and clock. For each way to end it says which requests were read and answered, what was
-//! written, and that the store represents the World after them; a request that a fault kept from being made
-//! changed nothing. It gives `most` replies at most, and says which calls of the streams failed.
+//! store, gate and clock, `most` at most. For each way to end it says which requests were read and answered,
+//! what was written, which calls of the streams failed, and that the store represents the World after them; a
+//! request that a fault stopped changed nothing. `take_turn` answers one message at most of one of many
+//! connections, which share a `Desk`.
 #![tactic(auto)]
 
 mod counter;

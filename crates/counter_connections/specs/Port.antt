@@ -1,6 +1,5 @@
 -- A port of the machine, served over any store.
-use Rattle.std.specs.Prelude.{◌≡◌, ◌⊎◌, ℕ, ⊤, List, [], ◌∷◌, codes, decimal, Option, None, Result, Err}
-use Rattle.std.specs.List.{concat}
+use Rattle.std.specs.Prelude.{◌≡◌, ◌⊎◌, ℕ, ⊤, List, [], Option, None, Result, Err}
 use Rattle.std.proofs.Common.{inl, inr}
 use Rattle.bank_books.specs.WorldLists.{WorldLists}
 use Rattle.store_cached.specs.Standing.{below, cached_status, known_version, remembered}
@@ -9,13 +8,11 @@ use Rattle.exit_lines.specs.Streams.{GetsAll, GetsBeginning, Stream}
 use Rattle.store_rows.specs.Status.{Status, Tells}
 use Rattle.counter_api.specs.Day.{IsDay}
 use Rattle.counter_api.specs.Run.{MarkedMessage}
+use Rattle.counter_places.specs.Places.{listening_line}
+use Rattle.counter_places.specs.declared.place.Place.TheVariants as place
 use Rattle.counter_connections.specs.Connections.{AreAllReplied, AreAllServed, At, messages_of}
 use Rattle.counter_connections.specs.declared.fault.PortFault.{PortFault}
 use Rattle.counter_connections.specs.declared.fault.PortFault.TheVariants.{Broken, Memory}
-
--- the line that says at which port connections are waited for
-abbrev pub listening_line : ℕ → List ℕ
-listening_line port = concat (codes "listening " ∷ decimal port ∷ codes "\n" ∷ [])
 
 module _ {S C : Type 0} (status : S → Status) (users : List ℕ → Option ℕ) (may_give : C → ℕ → C → Type 0) where
   -- The port was bound and announced, and connections were served at it. A fault says that one could not be accepted.
@@ -27,8 +24,8 @@ module _ {S C : Type 0} (status : S → Status) (users : List ℕ → Option ℕ
   -- It was served so. Or it could not be bound, or could not be announced, and nothing was served.
   abbrev pub IsPortServed : ℕ → ℕ → Stream → Stream → At S C → At S C → Result Unit PortFault → Type 0
   IsPortServed port requests output_old output_new old new result =
-      (GetsAll output_old output_new (listening_line port) × IsListenedTo requests old new result)
-      ⊎ (((output_new ≡ output_old) ⊎ GetsBeginning output_old output_new (listening_line port)) × (new ≡ old) × (result ≡ Err Broken))
+      (GetsAll output_old output_new (listening_line (place.Port port)) × IsListenedTo requests old new result)
+      ⊎ (((output_new ≡ output_old) ⊎ GetsBeginning output_old output_new (listening_line (place.Port port))) × (new ≡ old) × (result ≡ Err Broken))
 
   -- the messages of all connections that were replied to, in their order
   abbrev pub port_messages : (port requests : ℕ) (output_old output_new : Stream) (old new : At S C) (result : Result Unit PortFault) → IsPortServed port requests output_old output_new old new result

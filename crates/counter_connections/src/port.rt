@@ -1,15 +1,14 @@
 //! Serving a port of 127.0.0.1 over a store, as it is or with a cache in front of it.
 
-ghost use Rattle.money.specs.Counted.{Sends};
 ghost use Rattle.exit_lines.specs.Streams.{stream_at};
-ghost use Rattle.counter_connections.specs.Port.{IsPortServed, IsPortServedBehindCache, listening_line};
+ghost use Rattle.counter_connections.specs.Port.{IsPortServed, IsPortServedBehindCache};
 
 use crate::connections::serve_connections;
 use crate::fault::PortFault;
 use crate::listener::CountedListener;
 use counter_api::{Clock, Gate};
-use itoa::Buffer;
-use money::{Tallied, WriteStopped, write_parts};
+use counter_places::{Place, say_listening};
+use money::Tallied;
 use std::alloc::Global;
 use std::io::Write;
 use std::net::{Ipv4Addr, Net, TcpListener, TcpStream};
@@ -43,27 +42,13 @@ pub fn serve_port<
     let Ok(listener) = TcpListener::bind(net, (Ipv4Addr::LOCALHOST, port)) else {
         return Err(PortFault::Broken);
     };
-    let Ok(()) = say_listening(output, port) else {
+    let Ok(()) = say_listening(output, Place::Port(port)) else {
         return Err(PortFault::Broken);
     };
     let mut listener = CountedListener::new(listener);
     match serve_connections(net, alloc, &mut listener, bank, gate, clock, requests) {
         Ok(()) => Ok(()),
         Err(_) => Err(PortFault::Broken),
-    }
-}
-
-/// Says at which port connections are waited for, and flushes that. Where a call fails a beginning of the line is written,
-/// which is all of it where that is the flush.
-fn say_listening<W: Write>(output: &mut Tallied<W>, port: u16) -> Result<(), WriteStopped>
-    ensures { Sends W.contents output.old output.new (listening_line port) result }
-{
-    let mut digits = Buffer::new();
-    let text = digits.format(port);
-    write_parts(output, &[b"listening ", text.as_bytes(), b"\n"])?;
-    match output.flush() {
-        Ok(()) => Ok(()),
-        Err(_) => Err(WriteStopped),
     }
 }
 

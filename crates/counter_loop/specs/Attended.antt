@@ -13,7 +13,7 @@ abbrev pub AreAnswered : (List ℕ → Option ℕ) → List Made → WorldLists 
 AreAnswered users turns w = (k : ℕ) → BeginsWith (due_to users k w turns) (of_one k (λ t. t.sent) turns)
 
 -- The connections had turns, one after another, in whatever order. The messages of all of them, in the order in which they became whole, are
--- one run of the bank, and each connection gets the replies to its own.
+-- one run of the bank, and each connection gets a beginning of the replies to its own.
 pub record AreAttended {S C : Type 0} (status : S → Status) (users : List ℕ → Option ℕ) (may_give : C → ℕ → C → Type 0) (old new : At S C) : Type 0 where
   pub turns : List Made
   pub after : Boxes

@@ -3,7 +3,7 @@
 ghost use Rattle.std.specs.Prelude.{◌≡◌, []};
 ghost use Rattle.counter_loop.specs.Boxes.{AreVisited, StaysSuited};
 
-use crate::client::{Client, Stand};
+use crate::client::{Client, WaitsFor};
 use crate::door::{Door, TwoWay};
 use counter_api::{Clock, Desk, Gate};
 use mio::Registry;
@@ -49,7 +49,7 @@ impl<T: Drop> Clients<T> {
     pub(crate) fn any_has_more(&self) -> bool {
         for key in 0..self.slab.capacity() {
             if let Some(client) = self.slab.get(key)
-                && client.stand() == Stand::HasMore
+                && client.waits_for() == WaitsFor::Visit
             {
                 return true;
             }
@@ -137,7 +137,7 @@ impl<T: Source + Drop> Clients<T> {
         let Some(key) = self.insert(alloc, stream, now) else {
             return;
         };
-        if self.is_registered(registry, key) {
+        if self.register(registry, key) {
             return;
         }
         self.let_go(key);
@@ -159,11 +159,11 @@ impl<T: Source + Drop> Clients<T> {
     }
 
     /// Has the system report when a connection is ready. Returns whether it will.
-    fn is_registered(&mut self, registry: &Registry, key: usize) -> bool
+    fn register(&mut self, registry: &Registry, key: usize) -> bool
         ensures { StaysSuited self.old self.new }
     {
         match self.slab.get_mut(key) {
-            Some(client) => client.is_registered(registry, key),
+            Some(client) => client.register(registry, key),
             None => false,
         }
     }
@@ -213,7 +213,6 @@ impl<T: Read + Write + TwoWay + Drop> Clients<T> {
     /// Visits a connection, and lets it go where it is over.
     pub(crate) fn visit<S: Store, G: Gate, C: Clock>(
         &mut self,
-        alloc: Global,
         key: usize,
         desk: &mut Desk,
         bank: &mut Bank<S>,
@@ -224,7 +223,7 @@ impl<T: Read + Write + TwoWay + Drop> Clients<T> {
         ensures { AreVisited S.status (G.users gate.now) C.may_give self.old self.new
             (record { store = bank.old.store; clock = clock.old }) (record { store = bank.new.store; clock = clock.new }) }
     {
-        if self.visit_there(alloc, key, desk, bank, gate, clock, now) == Stand::IsOver {
+        if self.visit_there(key, desk, bank, gate, clock, now) == WaitsFor::Nothing {
             self.let_go(key);
         }
     }
@@ -232,14 +231,13 @@ impl<T: Read + Write + TwoWay + Drop> Clients<T> {
     /// Visits a connection, if it is there, and answers what it waits for then.
     fn visit_there<S: Store, G: Gate, C: Clock>(
         &mut self,
-        alloc: Global,
         key: usize,
         desk: &mut Desk,
         bank: &mut Bank<S>,
         gate: &G,
         clock: &mut C,
         now: Instant,
-    ) -> Stand
+    ) -> WaitsFor
         ensures { AreVisited S.status (G.users gate.now) C.may_give self.old self.new
             (record { store = bank.old.store; clock = clock.old }) (record { store = bank.new.store; clock = clock.new }) }
     {
@@ -247,19 +245,18 @@ impl<T: Read + Write + TwoWay + Drop> Clients<T> {
         match self.slab.get_mut(key) {
             Some(client) => {
                 let waited = client.waiting();
-                client.visit(alloc, desk, bank, gate, clock, may_fill, now);
+                client.visit(desk, bank, gate, clock, may_fill, now);
                 let others = self.waiting.saturating_sub(waited);
                 self.waiting = others.saturating_add(client.waiting());
-                client.stand()
+                client.waits_for()
             }
-            None => Stand::Waits,
+            None => WaitsFor::Client,
         }
     }
 
     /// Visits a connection, if it waits for another visit.
     fn visit_once_more<S: Store, G: Gate, C: Clock>(
         &mut self,
-        alloc: Global,
         key: usize,
         desk: &mut Desk,
         bank: &mut Bank<S>,
@@ -272,19 +269,18 @@ impl<T: Read + Write + TwoWay + Drop> Clients<T> {
     {
         match self.slab.get(key) {
             Some(client) => {
-                if client.stand() != Stand::HasMore {
+                if client.waits_for() != WaitsFor::Visit {
                     return;
                 }
             }
             None => return,
         }
-        self.visit(alloc, key, desk, bank, gate, clock, now);
+        self.visit(key, desk, bank, gate, clock, now);
     }
 
     /// Visits the connections that wait for another visit.
     pub(crate) fn visit_again<S: Store, G: Gate, C: Clock>(
         &mut self,
-        alloc: Global,
         desk: &mut Desk,
         bank: &mut Bank<S>,
         gate: &G,
@@ -295,7 +291,7 @@ impl<T: Read + Write + TwoWay + Drop> Clients<T> {
             (record { store = bank.old.store; clock = clock.old }) (record { store = bank.new.store; clock = clock.new }) }
     {
         for key in 0..self.slab.capacity() {
-            self.visit_once_more(alloc, key, desk, bank, gate, clock, now);
+            self.visit_once_more(key, desk, bank, gate, clock, now);
         }
     }
 
@@ -309,7 +305,6 @@ impl<T: Read + Write + TwoWay + Drop> Clients<T> {
     /// Hears of no more than has come of any connection, and visits each.
     pub(crate) fn visit_last<S: Store, G: Gate, C: Clock>(
         &mut self,
-        alloc: Global,
         desk: &mut Desk,
         bank: &mut Bank<S>,
         gate: &G,
@@ -321,7 +316,7 @@ impl<T: Read + Write + TwoWay + Drop> Clients<T> {
     {
         for key in 0..self.slab.capacity() {
             self.end_reading(key);
-            self.visit(alloc, key, desk, bank, gate, clock, now);
+            self.visit(key, desk, bank, gate, clock, now);
         }
     }
 }

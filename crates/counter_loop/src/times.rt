@@ -86,17 +86,22 @@ impl Times {
     /// Whether something took too long.
     pub(crate) fn is_late(&self, now: Instant) -> bool {
         let lot = self.lot.map(|lot| lot.since);
-        is_behind(lot, MOST_SECONDS, now)
-            || lot.is_none() && is_behind(self.message, MOST_SECONDS, now)
-            || is_behind(self.parting, PARTING_SECONDS, now)
+        has_passed(lot, MOST_SECONDS, now)
+            || lot.is_none() && has_passed(self.message, MOST_SECONDS, now)
+            || has_passed(self.parting, PARTING_SECONDS, now)
     }
 
     /// For how long nothing has moved.
     pub(crate) fn idle_for(&self, now: Instant) -> Duration {
-        match now.checked_duration_since(self.idle) {
-            Some(idle) => idle,
-            None => Duration::ZERO,
-        }
+        waited_since(self.idle, now)
+    }
+}
+
+/// How long it is since then, or nothing where the clock shows less.
+pub(crate) fn waited_since(then: Instant, now: Instant) -> Duration {
+    match now.checked_duration_since(then) {
+        Some(waited) => waited,
+        None => Duration::ZERO,
     }
 }
 
@@ -110,12 +115,9 @@ fn lot_of(left: usize, since: Instant) -> Option<Lot> {
 }
 
 /// Whether more than so many seconds have passed since then.
-fn is_behind(since: Option<Instant>, seconds: u64, now: Instant) -> bool {
+fn has_passed(since: Option<Instant>, seconds: u64, now: Instant) -> bool {
     match since {
-        Some(since) => match now.checked_duration_since(since) {
-            Some(waited) => waited > Duration::from_secs(seconds),
-            None => false,
-        },
+        Some(since) => waited_since(since, now) > Duration::from_secs(seconds),
         None => false,
     }
 }

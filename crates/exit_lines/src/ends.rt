@@ -13,7 +13,7 @@ use std::io::Write;
 /// The status of a program that did what it was asked for.
 pub const DONE: u8 = 0;
 
-/// The status of a program that was kept from it by a stream or by want of memory.
+/// The status of a program that was kept from it by a file, a stream, a place, or want of memory.
 pub const FAILED: u8 = 3;
 
 /// Writes a text to standard output and flushes it, and returns `DONE`; or where it can't be written whole, or the

@@ -46,9 +46,13 @@ fn judge_lines(lines: &[u8], headers: &mut [HeaderSpan]) -> Judged
     }
 }
 
-/// Judges the first bytes of a stream, as `judge` does, where so many of them were judged before, and keeps how many are now.
-/// Where only further fields came, or further line ends before the start line, these alone are looked at: so a head takes
-/// time by its length, in however many pieces it comes. No contract says so.
+/// Judges the first bytes of a stream at the last line feed of the first `MAX_HEAD_LEN`, and writes where the fields of
+/// a head are to the front of `headers`. A head, and lines that begin none, stay so whatever bytes follow, and
+/// exclude each other; so this is what a judgement at each line feed comes to.
+///
+/// So many of the bytes were judged before, and how many are now is kept. Where only further fields came, or further line
+/// ends before the start line, these alone are looked at: so a head takes time by its length, in however many pieces it
+/// comes. No contract says so.
 pub fn judge_from(bytes: &[u8], headers: &mut [HeaderSpan], seen: &mut Seen) -> Judged
     requires room { max_fields ≤ length headers.old }
     requires known { IsSeen bytes.now seen.old }
@@ -82,14 +86,4 @@ pub fn judge_from(bytes: &[u8], headers: &mut [HeaderSpan], seen: &mut Seen) -> 
             }
         }
     }
-}
-
-/// Judges the first bytes of a stream at the last line feed of the first `MAX_HEAD_LEN`, and writes where the fields of
-/// a head are to the front of `headers`. A head, and lines that begin none, stay so whatever bytes follow, and
-/// exclude each other; so this is what a judgement at each line feed comes to.
-pub fn judge(bytes: &[u8], headers: &mut [HeaderSpan]) -> Judged
-    requires room { max_fields ≤ length headers.old }
-    ensures { IsJudged bytes.now headers.new result }
-{
-    judge_from(bytes, headers, &mut Seen::nothing())
 }

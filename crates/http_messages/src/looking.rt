@@ -33,7 +33,7 @@ pub(crate) enum Awaited {
 }
 
 /// What bytes begin with where this head begins them, and a body of this length follows it.
-fn look_behind(bytes: &[u8], spans: RequestSpans, body_len: usize) -> Next
+fn look_at_body(bytes: &[u8], spans: RequestSpans, body_len: usize) -> Next
     requires head { spans.len ≤ max_head_len }
     requires body { body_len ≤ max_body_len }
     ensures { (headers : List HeaderSpan) → BeginsSound bytes.now headers spans body_len → IsNext bytes.now headers result }
@@ -53,7 +53,7 @@ fn look_from(bytes: &[u8], headers: &mut [HeaderSpan], mut seen: Seen) -> Next
 {
     match judge_from(bytes, headers, &mut seen) {
         Judged::Head(spans) => match Head::new(bytes, headers, &spans).body_len() {
-            Ok(body_len) => look_behind(bytes, spans, body_len),
+            Ok(body_len) => look_at_body(bytes, spans, body_len),
             Err(fault) => Next::FaultyHead(spans, fault),
         },
         Judged::Malformed => Next::NoHead(MessageFault::BadHead),
@@ -70,7 +70,7 @@ pub(crate) fn look(bytes: &[u8], headers: &mut [HeaderSpan], awaited: Awaited) -
     ensures { IsNext bytes.now headers.new result }
 {
     match awaited {
-        Awaited::Body(spans, body_len) => look_behind(bytes, spans, body_len),
+        Awaited::Body(spans, body_len) => look_at_body(bytes, spans, body_len),
         Awaited::Head(seen) => look_from(bytes, headers, seen),
     }
 }

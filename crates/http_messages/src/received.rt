@@ -21,7 +21,7 @@ pub(crate) const MAX_MESSAGE_LEN: usize = MAX_HEAD_LEN + MAX_BODY_LEN;
 pub(crate) struct ReadFailed;
 
 /// Reads once into the room after the bytes that are held, and returns how many are held then.
-fn read_behind<R: Read>(
+fn read_after<R: Read>(
     reader: &mut Tallied<R>,
     room: &mut [u8],
     held: usize,
@@ -93,7 +93,7 @@ impl Received {
         ensures failures { CountsByCall reader.old reader.new result }
     {
         let before = self.len;
-        self.len = read_behind(reader, self.room.as_mut_slice(), before)?;
+        self.len = read_after(reader, self.room.as_mut_slice(), before)?;
         Ok(self.len > before)
     }
 

@@ -18,8 +18,8 @@ use crate::looking::{Awaited, Next, look};
 use crate::message::Message;
 use crate::received::{FieldRoom, Received};
 use crate::reply::write_reply;
-use http_heads::{Framing, Head, MAX_FIELDS, MessageFault, Seen, are_line_ends};
-use httparse::spans::{EMPTY_HEADER_SPAN, HeaderSpan};
+use http_heads::{Framing, Head, MessageFault, Seen, are_line_ends};
+use httparse::spans::HeaderSpan;
 use money::Tallied;
 use std::alloc::{AllocError, Global};
 use std::io::{Read, Write};
@@ -190,11 +190,7 @@ fn serve_one<E: Engine, R: Read, W: Write>(
         result }
     ensures failures { CountsByEnd reader.old reader.new writer.old writer.new result }
 {
-    let next = match read_next(reader, writer, written, received, headers) {
-        Ok(next) => next,
-        Err(fault) => return Err(fault),
-    };
-    match next {
+    match read_next(reader, writer, written, received, headers)? {
         Next::Message(spans, body_len) => {
             *written = true;
             let bytes = received.bytes();
@@ -271,10 +267,8 @@ fn flush_last<W: Write>(
     ensures kept { Keeps (W.contents (stream_of writer.old)) (W.contents (stream_of writer.new)) }
     ensures failures { CountsByCall writer.old writer.new result }
 {
-    match flush_written(writer, written) {
-        Ok(()) => Ok(served),
-        Err(fault) => Err(fault),
-    }
+    flush_written(writer, written)?;
+    Ok(served)
 }
 
 /// Answers the messages of a stream one after another: until the input ends between two of them, after a reply that ends
@@ -300,7 +294,7 @@ pub fn serve_messages<E: Engine, R: Read, W: Write>(
     ensures failures { CountsByExit reader.old reader.new writer.old writer.new result }
 {
     let mut received = Received::new(alloc)?;
-    let mut headers = vec![in alloc; EMPTY_HEADER_SPAN; MAX_FIELDS]?;
+    let mut fields = FieldRoom::new(alloc)?;
     let mut written = false;
     let end = serve_in(
         engine,
@@ -308,7 +302,7 @@ pub fn serve_messages<E: Engine, R: Read, W: Write>(
         writer,
         &mut written,
         &mut received,
-        headers.as_mut_slice(),
+        fields.spans.as_mut_slice(),
         most,
     );
     match end {
@@ -322,9 +316,9 @@ pub fn serve_messages<E: Engine, R: Read, W: Write>(
     }
 }
 
-/// Reads what is at hand, and answers one message where it has come whole. What has come of one that is not whole is held: a
-/// later turn goes on with it, and so it does where a read answered that nothing is at hand, which is an `Err(Read)`. A
-/// connection may have a turn as long as its turns end by `Answered` or so.
+/// Reads what is at hand, and answers one message where it has come whole. What has come of one that is not whole is held, and a
+/// later turn goes on with it. A turn that finds no more at hand ends by `Err(Read)`. After that, or after `Answered`, the
+/// connection may have another turn; after any other end it has none.
 pub fn serve_turn<E: Engine, R: Read, W: Write>(
     engine: &mut E,
     reader: &mut Tallied<R>,

@@ -13,6 +13,6 @@ mod stores;
 pub use answer::{answer_behind_cache, answer_sample};
 pub use badges::SampleBadges;
 pub use counter_service::{Moment, ServeFault, Served};
-pub use exit_lines::{DONE, FAILED, fail, line_of, show, tell};
+pub use exit_lines::{fail, tell};
 pub use service::{serve_sample, serve_sample_behind_cache};
 pub use stores::listed_sample;

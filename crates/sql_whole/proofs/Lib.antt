@@ -2,7 +2,6 @@ pub mod BankRowLemmas
 pub mod BankWhole
 pub mod BookWhole
 pub mod CountLemmas
-pub mod FoldLemmas
 pub mod HistoryWhole
 pub mod PolicyWhole
 pub mod ReadsLemmas

@@ -1,10 +1,8 @@
 pub mod BankRow
 pub mod BookRows
 pub mod Faults
-pub mod Folds
 pub mod PolicyTables
 pub mod Tables
 pub mod Texts
-pub mod TurnParts
 pub mod Typed
 pub mod Whole

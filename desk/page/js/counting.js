@@ -3,12 +3,14 @@ import {h} from './dom.js';
 import {countCash, parseAmount, showAmount} from './amounts.js';
 import {DENOMINATIONS} from './settings.js';
 
+const MOST = 999999999;
+
 /** What was counted as {value} or {fault}. Where both are there, they have to agree. */
 function countedValue(texts, typed) {
   const isTyped = typed.trim() !== '';
   if (texts.every(text => text.trim() === '')) {
     if (!isTyped) return {fault: 'Count the notes and coins, or type what they come to: 0.00 for none.'};
-    const {cents, fault} = parseAmount(typed, {most: 999999999});
+    const {cents, fault} = parseAmount(typed, {most: MOST});
     return {value: cents, fault};
   }
   const {cents, fault, at} = countCash(texts);
@@ -16,6 +18,7 @@ function countedValue(texts, typed) {
   if (isTyped && parseAmount(typed).cents !== cents) {
     return {fault: `Notes and coins come to ${showAmount(cents)}, and ${typed.trim()} is typed.`};
   }
+  if (cents > MOST) return {fault: `Notes and coins come to ${showAmount(cents)}: at most ${showAmount(MOST)}.`};
   return {value: cents};
 }
 
@@ -29,7 +32,7 @@ export function counting(name, label) {
   const total = h('output', {class: 'figure', 'data-name': 'total'}, '…');
   const inputs = DENOMINATIONS.map(worth => h('input', {
     type: 'text', inputmode: 'numeric', autocomplete: 'off', maxlength: 6, class: 'count', keydown: next,
-    'aria-label': `How many of ${showAmount(worth)}`,
+    'aria-label': `How many of ${showAmount(worth)}`, 'aria-describedby': `${name}-error`,
   }));
   const sums = DENOMINATIONS.map(() => h('output', {class: 'sum'}, ''));
   const error = h('p', {class: 'error', id: `${name}-error`});

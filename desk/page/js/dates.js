@@ -17,9 +17,17 @@ export function showTime(at) {
   return `${showDay(at)} ${showClock(at)}`;
 }
 
-/** The moment, in seconds, of a typed day or day and time, or null; a day alone is its first second, or its last. */
+/** The clock alone of a time of today, else day and clock. */
+export function showWhen(at) {
+  return showDay(at) === showDay(Date.now()) ? showClock(at) : showTime(at);
+}
+
+/**
+ * The moment, in seconds, of a typed day or day and time, or null; a day alone is its first second, or its last. (A browser
+ * takes the 31st of February for the 3rd of March.)
+ */
 export function parseMoment(text, isLast) {
   const [day, time] = text.split(' ');
   const at = new Date(`${day}T${time ?? (isLast ? '23:59:59' : '00:00:00')}`).getTime();
-  return Number.isNaN(at) ? null : Math.trunc(at / 1000);
+  return Number.isNaN(at) || showDay(at) !== day ? null : Math.trunc(at / 1000);
 }

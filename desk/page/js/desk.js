@@ -15,7 +15,9 @@ const isBalance = ({body}) => Number.isInteger(body?.balance);
 /** Why a reply is not what was asked for. */
 function failureText(reply) {
   if (reply.kind === 'none') return 'no reply';
-  return reply.body ? `refused: ${reply.body.name ?? reply.body.fault ?? reply.body.front}` : 'a reply that can\'t be read';
+  if (reply.body?.front) return `no reply of the bank: ${reply.body.front}`;
+  const why = reply.body?.name ?? reply.body?.fault;
+  return why ? `refused: ${why}` : 'a reply that can\'t be read';
 }
 
 /**
@@ -23,10 +25,15 @@ function failureText(reply) {
  * request; held, nosession, unkept, noreply, unsure and unreadable where one was not sent, not answered or not read; clear.
  */
 export async function makeDesk({store, badge, report}) {
-  let hurry = () => {};
+  const pauses = new Set(); // those that go on, each as a call that ends it
   const wait = seconds => new Promise(resolve => {
-    const timer = setTimeout(resolve, seconds * 1000);
-    hurry = () => { clearTimeout(timer); resolve(); };
+    const end = () => {
+      clearTimeout(timer);
+      pauses.delete(end);
+      resolve();
+    };
+    const timer = setTimeout(end, seconds * 1000);
+    pauses.add(end);
   });
   const sendSlip = ({name, body, slip, release}) => sendInSession({path: `/do/${name}`, slip, release, body});
   const queue = makeQueue({journal: store.journalOf(badge), send: sendSlip, isReply, wait, report});
@@ -44,9 +51,9 @@ export async function makeDesk({store, badge, report}) {
   }
 
   /** Keeps in the journal what bore no slip. */
-  function note(text, reply, end) {
+  function note(text, reply, end, state = end ? 'done' : 'refused') {
     const now = Date.now();
-    const row = {badge, text, end: end ?? failureText(reply), state: end ? 'done' : 'refused', at: now, answered: now};
+    const row = {badge, text, end: end ?? failureText(reply), state, at: now, answered: now};
     return store.note({...row, status: reply.status ?? 0, reply: reply.kind === 'none' ? '' : reply.text.slice(0, 200)});
   }
 
@@ -65,15 +72,16 @@ export async function makeDesk({store, badge, report}) {
     session: (await store.fact(`${badge} session`))?.number ?? null,
     place: (await store.fact(`${badge} place`)) ?? {branch: null, teller: null},
     shiftBegan: (await store.fact(`${badge} shift`)) ?? 0,
-    hurry: () => hurry(),
+    rowsBefore: (await store.fact(`${badge} shift after`)) ?? 0, // the number of the last row before the shift
+    hurry: () => [...pauses].forEach(end => end()),
     run: () => queue.run(),
     waiting: () => store.waiting(),
     waits: async () => (await store.waiting()).some(row => row.badge === badge),
 
-    /** The user's rows: those of this shift, or all that are kept. */
+    /** The user's rows: those of this shift, or all that are kept. (By their numbers, as a clock may be set back.) */
     async rows(isAll = false) {
-      const since = isAll ? 0 : desk.shiftBegan;
-      return (await store.rows()).filter(row => row.badge === badge && (row.at >= since || row.state === 'waiting'));
+      const before = isAll ? 0 : desk.rowsBefore;
+      return (await store.rows()).filter(row => row.badge === badge && (row.id > before || row.state === 'waiting'));
     },
 
     async setPlace(place) {
@@ -83,7 +91,9 @@ export async function makeDesk({store, badge, report}) {
 
     async beginShift() {
       desk.shiftBegan = Date.now();
+      desk.rowsBefore = (await store.rows()).at(-1)?.id ?? 0;
       await store.setFact(`${badge} shift`, desk.shiftBegan);
+      await store.setFact(`${badge} shift after`, desk.rowsBefore);
     },
 
     /** Opens a session. Its number was never before, so none of its slips was. */
@@ -162,7 +172,7 @@ export async function makeDesk({store, badge, report}) {
       report('clear');
       const reply = await sendInSession({path: `/policy/${name}`, body: JSON.stringify(body)});
       const state = judge(reply, ({body: found}) => found?.done === name);
-      await note(text, reply, state === 'done' ? 'done' : null);
+      await note(text, reply, state === 'done' ? 'done' : null, state === 'again' ? 'unsure' : undefined);
       report(state === 'again' ? 'unsure' : state, {name, text, kind: 'command'}, reply);
       return state;
     },

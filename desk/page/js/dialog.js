@@ -1,8 +1,12 @@
 // Questions that come before what can't be taken back.
 import {h, button} from './dom.js';
 
-/** Shows a dialog that `fill(close)` fills, and returns what it is closed with: '' where nothing is to be done. */
+/**
+ * Shows a dialog that `fill(close)` fills, and returns what it is closed with: '' where nothing is to be done, or where another
+ * is open, as after two clicks.
+ */
 function asked(question, fill) {
+  if (document.querySelector('dialog')) return Promise.resolve('');
   return new Promise(resolve => {
     const closed = () => {
       box.remove();

@@ -30,6 +30,11 @@ export function button(text, click, attributes = {}) {
   return h('button', {type: 'button', click, ...attributes}, text);
 }
 
+/** Gives the focus to an element where what had it was taken away. */
+export function refocus(element) {
+  if (document.activeElement === document.body) element?.focus();
+}
+
 /** A button that shows `exact` in place of `readable`, and back. */
 export function exactToggle(readable, exact) {
   exact.hidden = true;

@@ -25,8 +25,8 @@ export function field(spec) {
 }
 
 function choiceField(spec, id) {
-  const error = h('p', {class: 'error'});
-  const row = h('fieldset', {'data-name': spec.name}, h('legend', {}, spec.label),
+  const error = h('p', {id: `${id}-error`, class: 'error'});
+  const row = h('fieldset', {'data-name': spec.name, 'aria-describedby': error.id}, h('legend', {}, spec.label),
     h('div', {class: 'choices'}, spec.options.map(([value, label, mark]) => h('label', {class: `choice ${mark ?? ''}`},
       h('input', {type: 'radio', name: id, value, checked: value === spec.value}), h('span', {}, label)))),
     error);

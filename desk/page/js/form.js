@@ -1,11 +1,34 @@
 // Forms for the keyboard: Enter sends, a wrong field says so beside itself and gets the focus.
 import {h} from './dom.js';
 
+/** After so many milliseconds a form says that it waits. */
+const SLOW = 2000;
+
 function showFault(field, fault) {
   field.error.textContent = fault ?? '';
   if (fault && field.spec.tucked) field.row.open = true;
   if (fault) field.input.setAttribute('aria-invalid', 'true');
   else field.input.removeAttribute('aria-invalid');
+}
+
+/** How a form shows that what it sent is under way: by its button, and by a line where that takes long. */
+function makeProgress(submit) {
+  const line = h('p', {class: 'hint', role: 'status'});
+  let slow = null;
+  return {
+    line,
+    isBusy: () => slow !== null,
+    begin() {
+      submit.setAttribute('aria-disabled', 'true');
+      slow = setTimeout(() => { line.textContent = 'Not through yet.'; }, SLOW);
+    },
+    end() {
+      clearTimeout(slow);
+      slow = null;
+      line.textContent = '';
+      submit.removeAttribute('aria-disabled');
+    },
+  };
 }
 
 /** What was typed, by field, or null where a field is wrong: the first such gets the focus. */
@@ -38,9 +61,9 @@ function typedValues(fields) {
 export function form({fields, button, isDanger = false, isBeside = false, send, reads, clear = []}) {
   const submit = h('button', {type: 'submit', class: isDanger ? 'main danger' : 'main'}, button);
   const sentence = h('p', {class: 'reads', 'data-name': 'reads'});
+  const progress = makeProgress(submit);
   const byName = Object.fromEntries(fields.map(field => [field.spec.name, field]));
   const readBack = () => { if (reads) sentence.textContent = reads(typedValues(fields)); };
-  let isBusy = false;
 
   function settle(state) {
     for (const [name, fault] of Object.entries(state?.faults ?? {})) {
@@ -59,21 +82,19 @@ export function form({fields, button, isDanger = false, isBeside = false, send, 
 
   async function submitted(event) {
     event.preventDefault();
-    if (isBusy) return;
+    if (progress.isBusy()) return;
     const values = soundValues(fields);
     if (!values) return;
-    isBusy = true;
-    submit.setAttribute('aria-disabled', 'true');
+    progress.begin();
     try {
       settle(await send(values));
     } finally {
-      isBusy = false;
-      submit.removeAttribute('aria-disabled');
+      progress.end();
     }
   }
 
   const attributes = {novalidate: true, class: isBeside ? 'beside' : null, submit: submitted, input: readBack, change: readBack};
-  const element = h('form', attributes, fields.map(field => field.row), reads ? sentence : null, submit);
+  const element = h('form', attributes, fields.map(field => field.row), reads ? sentence : null, submit, progress.line);
   readBack();
   return {element, fields: byName, focus: () => fields.find(field => !field.row.hidden)?.input.focus()};
 }

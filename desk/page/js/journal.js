@@ -3,7 +3,7 @@ import {OPERATIONS} from './operations.js';
 import {toCsv} from './csv.js';
 import {showTime} from './dates.js';
 
-export const STATES = {done: 'done', refused: 'not done', waiting: 'waiting', aside: 'set aside'};
+export const STATES = {done: 'done', refused: 'not done', waiting: 'waiting', aside: 'set aside', unsure: 'done or not'};
 
 /** What was asked for. */
 export function askedText(row) {

@@ -17,7 +17,7 @@ const QUICK = 500;
 const [menu, work, place] = ['menu', 'work', 'place'].map(id => document.getElementById(id));
 let desk;
 let shown = null; // the screen
-let last = null; // what was reported of the request that waits
+let last = null; // {reply} that decided nothing about the request that waits
 let receipt = null; // the row whose receipt can be printed
 let quick = null;
 let turns = 0; // how often a screen was asked for
@@ -29,7 +29,8 @@ function showHeader() {
 }
 
 async function showWaiting() {
-  waiting.show(await desk.waiting(), desk.badge, last, {hurry: () => desk.hurry(), signIn, setAside});
+  const rows = await desk.waiting();
+  waiting.show(rows, desk.badge, desk.session ? last : {isSession: true}, {hurry: () => desk.hurry(), signIn, setAside});
 }
 
 /** Opens a session, or says why there is none; whether there is one. */
@@ -69,10 +70,9 @@ async function report(event, request, reply) {
     outcome.show(event, request, reply);
   }
   if (event === 'done' && hasReceipt(request)) offerReceipt(request);
-  if (['again', 'session', 'done', 'refused'].includes(event)) {
-    last = event === 'again' ? {reply} : event === 'session' ? {isSession: true} : null;
-    await showWaiting();
-  }
+  const bearsSlip = request && !request.kind;
+  if (bearsSlip) last = event === 'again' ? {reply} : null;
+  if (bearsSlip || event === 'session') await showWaiting();
   showHeader();
 }
 
@@ -83,7 +83,8 @@ async function showScreen(isAgain = false) {
   turns += 1;
   const turn = turns;
   const given = new URLSearchParams(query ?? '');
-  const made = await screen.make(desk, {given, changed: showHeader, again: () => showScreen(true), signIn});
+  const again = () => (turn === turns ? showScreen(true) : null); // where no other was asked for meanwhile
+  const made = await screen.make(desk, {given, changed: showHeader, again, signIn});
   if (turn !== turns) return; // another was asked for meanwhile
   const isOther = screen !== shown;
   if (isOther) outcome.clear();
@@ -147,6 +148,7 @@ async function begin() {
     outcome.note('Not possible here', 'This browser can\'t keep a journal, and what is not kept is not sent. Leave its private mode.');
     return;
   }
+  navigator.storage.persist?.().catch(() => {}); // a browser short of room is not to take away what waits
   await store.forget(Date.now());
   desk = await makeDesk({store, badge, report});
   showMenu();
@@ -165,6 +167,11 @@ async function begin() {
 
 /** Holds the lock as long as the window is there. */
 const workAlone = () => begin().then(() => new Promise(() => {}));
+
+// What nothing else says: the browser's store fails, say.
+addEventListener('unhandledrejection', () => outcome.note('This page failed', 'This browser couldn\'t keep or show something. '
+  + 'Make room on its disk, and load the page again. What waits is sent again then, and acts once. '
+  + 'Of anything else look whether it is done.'));
 
 // Two windows would take the same slips: the second waits until the first is closed.
 navigator.locks.request('desk', {ifAvailable: true}, lock => {

@@ -7,7 +7,7 @@ export const RULES = {
   2: ['not certified', 'Nobody has certified this for these accounts, drawers and branch.',
     'Look at the numbers. If they are right, a certifier has to certify it.'],
   3: ['no triple', 'You have no authorization for this with these numbers.',
-    'Look at the numbers. If they are right, a certifier has to grant it. A triple may have ended, or not begun.'],
+    'Look at the numbers. If they are right, a certifier has to grant it. What was granted may have ended, or not begun.'],
   4: ['limit', 'This is above your limit.',
     'Ask for less, or have a colleague give a release for exactly this, today. Then ask again with its number.'],
   5: ['release', 'That release is not valid here.',
@@ -53,7 +53,8 @@ const FAULTS = {
 /** A refusal in plain words: {title, advice, rule}. `name` is the operation that was refused. */
 export function refusalText(body, name) {
   if ('rule' in body) {
-    const [word, title, advice] = RULES[body.rule] ?? [body.name, 'The bank refuses this.', 'See docs/RULES.md.'];
+    const unknown = [body.name, 'The bank refuses this.', 'Report it to whoever keeps this page.'];
+    const [word, title, advice] = RULES[body.rule] ?? unknown;
     const special = body.rule === 8 ? {'drawer-on': DRAWER_ON, 'move-cash': MOVE_CASH}[name] : null;
     const [ownTitle, ownAdvice] = special ?? [title, advice];
     return {title: ownTitle, advice: ownAdvice, rule: `Rule ${body.rule}, ${word}`};

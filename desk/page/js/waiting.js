@@ -1,6 +1,6 @@
 // The strip that says what waits for a reply: the user's own requests, and those of others on this machine.
 import {h, button} from './dom.js';
-import {showClock} from './dates.js';
+import {showWhen} from './dates.js';
 import {askedText} from './journal.js';
 import {delayText} from './refusals.js';
 
@@ -15,7 +15,7 @@ function reason(last) {
 
 function line(row) {
   const times = row.tries === 1 ? 'once' : `${row.tries} times`;
-  return h('li', {}, `${askedText(row)} (written ${showClock(row.at)}, sent ${times})`);
+  return h('li', {}, `${askedText(row)} (written ${showWhen(row.at)}, sent ${times})`);
 }
 
 function ownRequests(rows, last, {hurry, signIn}) {
@@ -29,14 +29,20 @@ function requestOfAnother(row, setAside) {
   return h('div', {class: 'waits'},
     h('p', {}, h('strong', {}, `A request of ${row.badge} waits on this machine. `), `It is sent once ${row.badge} signs in here.`),
     h('ul', {}, line(row)),
-    button('Set aside', () => setAside(row)));
+    button('Set aside', () => setAside(row), {'aria-label': `Set aside: ${askedText(row)}, of ${row.badge}`}));
 }
 
-/** Shows the rows that wait; `actions` has hurry(), signIn() and setAside(row). */
+const nameOf = element => element.ariaLabel ?? element.textContent;
+
+/** Shows the rows that wait, and leaves the focus where it was; `actions` has hurry(), signIn() and setAside(row). */
 export function show(rows, badge, last, actions) {
+  const held = strip.contains(document.activeElement) ? nameOf(document.activeElement) : null;
   const own = rows.filter(row => row.badge === badge);
   const others = rows.filter(row => row.badge !== badge);
   strip.replaceChildren(
     ...(own.length === 0 ? [] : [ownRequests(own, last, actions)]),
     ...others.map(row => requestOfAnother(row, actions.setAside)));
+  if (held === null) return;
+  const again = [...strip.querySelectorAll('button')].find(one => nameOf(one) === held);
+  (again ?? document.getElementById('work')).focus();
 }

@@ -1,4 +1,4 @@
-import {h, table, button} from '../dom.js';
+import {h, table, button, refocus} from '../dom.js';
 import {form} from '../form.js';
 import {field} from '../fields.js';
 import {showAmount} from '../amounts.js';
@@ -12,28 +12,25 @@ const statementLink = of => h('a', {href: `#statement?account=${of}`, 'aria-labe
 
 async function make(desk) {
   const paper = h('div', {class: 'results'});
-  let rows = [];
 
-  async function more(after) {
+  async function more(after, before) {
     const page = await desk.ask('accounts', {after, count: PER_PAGE}, `Accounts above ${after}`, reply => readAccounts(reply.text));
     if (!page) return 'refused';
-    rows = [...rows, ...page];
-    const next = page.length === PER_PAGE ? button(`The next ${PER_PAGE}`, () => more(page.at(-1).account))
+    const rows = [...before, ...page];
+    const next = page.length === PER_PAGE ? button(`The next ${PER_PAGE}`, () => more(page.at(-1).account, rows))
       : h('span', {role: 'status'}, `${rows.length} accounts, all that you may see from there`);
     const cells = rows.map(({account, home, balance}) => [account, home, showAmount(balance), statementLink(account)]);
     paper.replaceChildren(
       h('div', {class: 'tools'}, button('Print', () => print()), next),
       h('div', {class: 'paper'}, table(`Accounts, ${showTime(Date.now())}`, COLUMNS, cells)));
+    refocus(paper.querySelector('button'));
     return 'shown';
   }
 
   const ask = form({
     fields: [field({name: 'after', label: 'Above account', kind: 'number', least: 0, value: '0'})],
     button: 'Show',
-    send: ({after}) => {
-      rows = [];
-      return more(after);
-    },
+    send: ({after}) => more(after, []),
   });
   return {elements: [h('div', {class: 'row'}, ask.element), paper], focus: ask.focus};
 }

@@ -41,7 +41,7 @@ async function make(desk) {
   const close = button('Close the day', async () => {
     const {value: branch} = ask.fields.branch.read();
     if (branch === undefined) {
-      ask.focus();
+      ask.element.requestSubmit(); // which says what is wrong
       return;
     }
     if (!await confirmed(`Close the day of branch ${branch}? Its entries can't be corrected afterwards.`, 'Close the day')) return;

@@ -6,7 +6,6 @@ import {lacksDrawer} from './post.js';
 const LEAD = 'An opposite entry corrects one that a colleague made today. Cash goes through your own drawer.';
 
 async function make(desk, {given}) {
-  const {branch, teller} = desk.place;
   const ways = [['in', 'Money in', 'in'], ['out', 'Money out', 'out']];
   const correct = form({
     fields: [
@@ -24,6 +23,7 @@ async function make(desk, {given}) {
       : `Entry ${entry}: ${amountText(cents)} ${way === 'in' ? 'goes out of' : 'comes back into'} account ${numberText(of)}`),
     async send({entry, account: of, way, amount: cents, other, release: by}) {
       if (other === of) return {faults: {other: 'That is the same account.'}};
+      const {branch, teller} = desk.place;
       const body = {account: of, branch, delta: way === 'out' ? -cents : cents, entry, other: other ?? 0, teller};
       return lacksDrawer(desk) ?? desk.act('correct', body, by);
     },

@@ -24,7 +24,7 @@ async function make(desk, {changed, again}) {
 
   async function sent({way, teller: of, cash, release: number}) {
     if (branch === null) {
-      location.hash = 'session';
+      location.hash = 'session?lacks=branch';
       return 'lacks branch';
     }
     const state = way === 'on' ? await desk.act('drawer-on', {branch, cash, teller: of}, number)

@@ -6,7 +6,7 @@ import {cashChart} from '../chart.js';
 import {hasReceipt} from '../receipt.js';
 import {printReceipt} from '../paper.js';
 import {showChange} from '../amounts.js';
-import {showClock, showDay, showTime} from '../dates.js';
+import {showDay, showTime, showWhen} from '../dates.js';
 import {JOURNAL_DAYS} from '../settings.js';
 
 const COLUMNS = [
@@ -35,7 +35,7 @@ function cellsOf(desk, row, isAll) {
   const attributes = {class: 'line', 'aria-label': `Print the receipt of slip ${row.slip}`};
   const receipt = hasReceipt(row) ? button('Print', () => printReceipt(desk, row), attributes) : '';
   const state = h('span', {class: `mark ${row.state}`}, STATES[row.state]);
-  const time = isAll ? showTime(row.at) : showClock(row.at);
+  const time = isAll ? showTime(row.at) : showWhen(row.at);
   return [time, askedText(row), state, endText(row), row.slip ?? '', row.tries ?? 1, receipt];
 }
 
@@ -47,7 +47,9 @@ async function make(desk) {
     [['shift', 'This shift'], ['all', `All of ${JOURNAL_DAYS} days`]].map(([value, label]) => h('option', {value}, label)));
 
   async function show(isAll) {
-    rows = isAll ? await desk.rows(true) : shiftRows;
+    const found = isAll ? await desk.rows(true) : shiftRows;
+    if (isAll !== (which.value === 'all')) return; // the other was chosen meanwhile
+    rows = found;
     const since = !isAll && desk.shiftBegan ? ` since ${showTime(desk.shiftBegan)}` : '';
     paper.replaceChildren(table(`Journal of ${desk.badge}${since}`, COLUMNS, rows.map(row => cellsOf(desk, row, isAll)).reverse()));
   }

@@ -9,7 +9,7 @@ function placeText(place) {
 }
 
 async function make(desk) {
-  const {branch, teller} = desk.place;
+  const {teller} = desk.place;
   const own = teller === null ? [] : [[String(teller), `My drawer, ${teller}`]];
   const places = [['0', 'Vault'], ...own, ['other', 'Another drawer']];
 
@@ -17,8 +17,9 @@ async function make(desk) {
     if ((from === 'other' || to === 'other') && other === null) return {faults: {other: 'Type the number of the other drawer.'}};
     const [source, target] = [placeOf(from, other), placeOf(to, other)];
     if (source === target) return {faults: {to: 'That is the same place.'}};
+    const {branch} = desk.place;
     if (branch !== null) return desk.act('move-cash', {amount: cents, branch, source, target}, by);
-    location.hash = 'session';
+    location.hash = 'session?lacks=branch';
     return 'lacks branch';
   }
 

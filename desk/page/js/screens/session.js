@@ -24,18 +24,21 @@ function signOutButton(desk, again) {
   });
 }
 
-async function make(desk, {changed, again, signIn}) {
+async function make(desk, {given, changed, again, signIn}) {
   const {branch, teller} = desk.place;
 
   async function sent(values) {
     await desk.setPlace(values);
     if (!desk.session) {
-      if (!await signIn()) return;
-      if (!await desk.waits() && !leavesDrawerOn(await desk.rows())) await desk.beginShift();
+      const hasWaited = await desk.waits();
+      if (!await signIn()) return null;
+      if (hasWaited) return again(); // what comes of it is shown here, and belongs to the shift before
+      if (!leavesDrawerOn(await desk.rows())) await desk.beginShift();
       outcome.answered('Signed in', 'Session', String(desk.session), 'It stays open until you sign out, or sign in elsewhere.');
     }
     changed();
     location.hash = teller === null && values.teller !== null ? 'drawer' : 'post';
+    return null;
   }
 
   const begin = form({
@@ -47,7 +50,9 @@ async function make(desk, {changed, again, signIn}) {
     send: sent,
   });
   const state = desk.session ? `, at work in session ${desk.session}.` : ', and not signed in.';
-  const elements = [h('p', {class: 'who'}, 'You are ', h('strong', {}, desk.badge), state), begin.element];
+  const place = given.get('lacks') === 'drawer' ? 'branch and drawer' : 'branch';
+  const lead = h('p', {class: 'lead', role: 'alert'}, `Nothing was sent. Say first at which ${place} you work.`);
+  const elements = [given.has('lacks') ? lead : null, h('p', {class: 'who'}, 'You are ', h('strong', {}, desk.badge), state), begin.element];
   return {elements: desk.session ? [...elements, signOutButton(desk, again)] : elements, focus: begin.focus};
 }
 

@@ -1,4 +1,4 @@
-import {h, table, button, exactToggle} from '../dom.js';
+import {h, table, button, exactToggle, refocus} from '../dom.js';
 import {form} from '../form.js';
 import {field, account} from '../fields.js';
 import {showAmount, showChange} from '../amounts.js';
@@ -37,7 +37,12 @@ async function lastLines(desk, of, wanted, read, progress) {
   const rows = [];
   while (rows.length < last - first + 1) {
     const start = first + rows.length;
-    rows.push(...await read(start, Math.min(LINES_PER_PAGE, last - start + 1)));
+    const page = await read(start, Math.min(LINES_PER_PAGE, last - start + 1));
+    if (page.length === 0) { // an earlier copy of the bank was brought back: the end that was known is no more
+      desk.lastTurns.delete(of);
+      return lastLines(desk, of, wanted, read, progress);
+    }
+    rows.push(...page);
     progress(rows.length, last - first + 1);
   }
   return rows;
@@ -64,6 +69,18 @@ function paperOf(of, rows, earlier) {
   return [h('div', {class: 'tools'}, button('Print', () => print()), toggle, more), h('div', {class: 'paper'}, readable, exact)];
 }
 
+/** How many lines are there by now, with a button that ends the reading. */
+function makeProgress(stopped) {
+  const bar = h('progress', {'aria-label': 'Lines read'});
+  const text = h('span', {role: 'status'}, 'Looking for the last entry');
+  const stop = button('Stop', stopped);
+  const show = (count, all) => {
+    [bar.max, bar.value] = [all, count];
+    text.textContent = `${count} of ${all} lines`;
+  };
+  return {element: h('div', {class: 'progress'}, bar, text, stop), stop, show};
+}
+
 async function make(desk, {given}) {
   const paper = h('div', {class: 'results'});
   let asked = 0;
@@ -72,14 +89,13 @@ async function make(desk, {given}) {
     asked += 1;
     const mine = asked;
     outcome.clear();
-    const bar = h('progress', {'aria-label': 'Lines read'});
-    const text = h('span', {role: 'status'}, 'Looking for the last entry');
-    const stop = button('Stop', () => { asked += 1; paper.replaceChildren(); });
-    paper.replaceChildren(h('div', {class: 'progress'}, bar, text, stop));
-    const progress = (count, all) => {
-      [bar.max, bar.value] = [all, count];
-      text.textContent = `${count} of ${all} lines`;
-    };
+    const progress = makeProgress(() => {
+      asked += 1;
+      paper.replaceChildren();
+      ask.focus();
+    });
+    paper.replaceChildren(progress.element);
+    refocus(progress.stop);
     let isNoted = false;
     const read = readerOf(desk, of, () => mine === asked);
     const noting = (start, count) => {
@@ -88,8 +104,9 @@ async function make(desk, {given}) {
       return read(start, count, note);
     };
     try {
-      const rows = await lastLines(desk, of, wanted, noting, progress);
+      const rows = await lastLines(desk, of, wanted, noting, progress.show);
       paper.replaceChildren(...paperOf(of, rows, () => show(of, wanted * 5)));
+      refocus(paper.querySelector('button'));
       return 'done';
     } catch (error) {
       if (!(error instanceof Stopped)) throw error;

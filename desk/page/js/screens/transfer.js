@@ -3,7 +3,6 @@ import {account, amount, release, amountText, numberText} from '../fields.js';
 import {lacksDrawer} from './post.js';
 
 async function make(desk) {
-  const {branch, teller} = desk.place;
   const transfer = form({
     fields: [account({name: 'source', label: 'From account'}), account({name: 'target', label: 'To account'}), amount(), release()],
     button: 'Send',
@@ -12,6 +11,7 @@ async function make(desk) {
       : `${amountText(cents)} from account ${numberText(source)} to account ${numberText(target)}`),
     async send({source, target, amount: cents, release: by}) {
       if (source === target) return {faults: {target: 'That is the same account.'}};
+      const {branch, teller} = desk.place;
       return lacksDrawer(desk) ?? desk.act('transfer', {amount: cents, branch, source, target, teller}, by);
     },
   });

@@ -5,7 +5,7 @@ use Rattle.store_rows.specs.Status.{Status}
 use Rattle.bank_meaning.specs.declared.request.Asked.{Asked}
 use Rattle.bank_meaning.specs.declared.request.Request.{Request}
 use Rattle.counter_api.specs.CarriedOut.{IsCarried, IsCarriedOut}
-use Rattle.counter_api.specs.Handled.{as_outcome}
+use Rattle.counter_api.specs.Handled.{outcome_of}
 use Rattle.counter_api.specs.Response.{ResponseParts}
 use Rattle.counter_api.specs.Run.{IsResponse}
 use Rattle.counter_api.specs.declared.counter.Outcome.{Outcome}
@@ -17,7 +17,7 @@ as_asked : (old new : Status) (before after : Option (List ℕ)) (m : MessagePar
 as_asked old new before after m r a result is done = subst (λ b. IsCarried old new before after m (record { who = r.who; moment = r.moment; asked = b }) result) (sym is) done
 
 -- and of a response that is still to be written
-to_carried : (old new : Status) (before after : Option (List ℕ)) (m : MessageParts) (r : Request) (response : Result ResponseParts Fault) (result : Result Outcome Fault) → result ≡ as_outcome response
+to_carried : (old new : Status) (before after : Option (List ℕ)) (m : MessageParts) (r : Request) (response : Result ResponseParts Fault) (result : Result Outcome Fault) → result ≡ outcome_of response
     → IsCarriedOut IsResponse old new r response → IsCarried old new before after m r result
 to_carried old new before after m r (Ok response) result is done = rw is done
 to_carried old new before after m r (Err fault) result is done = rw is done
@@ -30,5 +30,5 @@ returns-in-Listing-clause-carried g c = as_asked _ _ _ _ c.args.message.now c.ar
 
 pub returns-in-Command-clause-carried : goal.returns-in-Command-clause-carried
 returns-in-Command-clause-carried g c =
-    as_asked _ _ _ _ c.args.message.now c.args.request _ c.to_tell-in-Command.result c.in-Command.is
-    (to_carried _ _ _ _ _ _ c.command_done.result c.to_tell-in-Command.result c.to_tell-in-Command.ensures c.command_done.ensures)
+    as_asked _ _ _ _ c.args.message.now c.args.request _ c.outcome_of-in-Command.result c.in-Command.is
+    (to_carried _ _ _ _ _ _ c.command_done.result c.outcome_of-in-Command.result c.outcome_of-in-Command.ensures c.command_done.ensures)

@@ -1,5 +1,6 @@
-use Rattle.std.proofs.Common.{rules, ◌≡◌, None, Ok, refl, ap, subst, sym, ◌∙◌}
+use Rattle.std.proofs.Common.{rules, ◌≡◌, None, Ok, Err, refl, ap, subst, sym, ◌∙◌}
 use Rattle.money.specs.Counted.{stream_of}
+use Rattle.money.specs.declared.fault.Fault.TheVariants.{Memory}
 use Rattle.store_rows.specs.Status.{Keeps, Tells}
 use Rattle.store_rows.specs.declared.bank.Bank.{Bank}
 use Rattle.bank_meaning.specs.Requests.{verdict}
@@ -14,6 +15,11 @@ use Rattle.counter_api.proofs.counter.policy_listed.Goals as goal
 -- where the lender ends as the second, what holds of that holds of it
 at_end : {B : Type 0} (P : B → Type 0) (x y : B) → x ≡ y → P y → P x
 at_end P x y same h = subst P (sym same) h
+
+pub returns-in_err-denied-in-Ok-Denied-clause-carried : goal.returns-in_err-denied-in-Ok-Denied-clause-carried
+returns-in_err-denied-in-Ok-Denied-clause-carried g c =
+    let told : c.from_residual.result ≡ Err Memory = search rules in
+    rw told (search rules)
 
 pub returns-in-Ok-Report-clause-carried : goal.returns-in-Ok-Report-clause-carried
 returns-in-Ok-Report-clause-carried g c =

@@ -6,8 +6,8 @@ use Rattle.counter_loop.proofs.many.attend.Goals as goal
 
 pub loop-init : goal.loop-init
 loop-init g c =
-    served_none g.S.Stands.status (g.G.Gate.users c.args.gate.now) g.C.Clock.may_give c.let_in.new.clients nothing_yet _
-    (c.let_in.ensures nothing_yet (nobody c.new-clients.result c.new-clients.ensures))
+    served_none g.S.Stands.status (g.G.Gate.users c.args.gate.now) g.C.Clock.may_give c.begin.new.clients nothing_yet _
+    (c.begin.ensures nothing_yet (nobody c.new-clients.result c.new-clients.ensures))
 
 pub returns-then-is_ended : goal.returns-then-is_ended
 returns-then-is_ended g c =
@@ -16,9 +16,9 @@ returns-then-is_ended g c =
 
 pub loop-preserved : goal.loop-preserved
 loop-preserved g c =
-    let let_in = served_more g.S.Stands.status (g.G.Gate.users c.args.gate.now) g.C.Clock.may_give c.loop.clients c.let_in_if_told.new.clients nothing_yet _ _ _ c.loop.invariant
-    (stays_visited g.S.Stands.status (g.G.Gate.users c.args.gate.now) g.C.Clock.may_give c.loop.clients c.let_in_if_told.new.clients _ c.let_in_if_told.ensures) in
-    let served = served_more g.S.Stands.status (g.G.Gate.users c.args.gate.now) g.C.Clock.may_give c.let_in_if_told.new.clients c.serve_events.new.clients nothing_yet _ _ _ let_in c.serve_events.ensures in
-    let again = served_more g.S.Stands.status (g.G.Gate.users c.args.gate.now) g.C.Clock.may_give c.serve_events.new.clients c.visit_again.new.self nothing_yet _ _ _ served c.visit_again.ensures in
+    let served = served_more g.S.Stands.status (g.G.Gate.users c.args.gate.now) g.C.Clock.may_give c.loop.clients c.serve_events.new.clients nothing_yet _ _ _ c.loop.invariant c.serve_events.ensures in
+    let let_in = served_more g.S.Stands.status (g.G.Gate.users c.args.gate.now) g.C.Clock.may_give c.serve_events.new.clients c.let_in_if_reported.new.clients nothing_yet _ _ _ served
+    (stays_visited g.S.Stands.status (g.G.Gate.users c.args.gate.now) g.C.Clock.may_give c.serve_events.new.clients c.let_in_if_reported.new.clients _ c.let_in_if_reported.ensures) in
+    let again = served_more g.S.Stands.status (g.G.Gate.users c.args.gate.now) g.C.Clock.may_give c.let_in_if_reported.new.clients c.visit_again.new.self nothing_yet _ _ _ let_in c.visit_again.ensures in
     served_more g.S.Stands.status (g.G.Gate.users c.args.gate.now) g.C.Clock.may_give c.visit_again.new.self c.sweep-swept.new.clients nothing_yet _ _ _ again
     (stays_visited g.S.Stands.status (g.G.Gate.users c.args.gate.now) g.C.Clock.may_give c.visit_again.new.self c.sweep-swept.new.clients _ c.sweep-swept.ensures)

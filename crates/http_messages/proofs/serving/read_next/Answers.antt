@@ -3,7 +3,7 @@ use Rattle.std.proofs.Common.{rules, List, ℕ, sym, subst, ◌∙◌}
 use Rattle.std.proofs.KnownBytes.{Keeps-trans}
 use Rattle.http_messages.specs.Next.{IsAwaited}
 use Rattle.http_messages.proofs.AwaitedLemmas.{awaited_more, takes_more}
-use Rattle.http_messages.proofs.FailureLemmas.{one_behind}
+use Rattle.http_messages.proofs.FailureLemmas.{one_after}
 use Rattle.http_messages.proofs.serving.read_next.Goals as goal
 
 pub loop-found-init : goal.loop-found-init
@@ -28,4 +28,4 @@ returns-in-Err-clause-end g c = λ a is. let e = is in absurd cc
 
 pub returns-in-Err-clause-failures : goal.returns-in-Err-clause-failures
 returns-in-Err-clause-failures g c =
-    (one_behind c.args.reader.now c.loop-found.reader c.fill.new.reader c.loop-found.invariant.3 c.in-Err.ensures.failures, c.in_ok-flush_written.ensures.failures ∙ c.loop-found.invariant.4)
+    (one_after c.args.reader.now c.loop-found.reader c.fill.new.reader c.loop-found.invariant.3 c.in-Err.ensures.failures, c.in_ok-flush_written.ensures.failures ∙ c.loop-found.invariant.4)

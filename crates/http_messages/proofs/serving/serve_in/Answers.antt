@@ -1,7 +1,7 @@
 use Rattle.std.proofs.Common.{◌≡◌, ◌<◌, ℕ, length, [], ◌∷◌, ◌++◌, ◌+◌, length-append, refl, sym, ap, ◌∙◌, inl, inr, arith}
 use Rattle.http_messages.specs.declared.serving.Served.{Served}
 use Rattle.http_messages.specs.declared.serving.Turn.{Turn}
-use Rattle.http_messages.proofs.FailureLemmas.{end_behind}
+use Rattle.http_messages.proofs.FailureLemmas.{end_after}
 use Rattle.http_messages.proofs.RunLemmas.{run_none, run_more}
 use Rattle.http_messages.proofs.serving.serve_in.Goals as goal
 
@@ -30,7 +30,7 @@ returns-in-Err-clause-served g c =
 
 pub returns-in-Err-clause-failures : goal.returns-in-Err-clause-failures
 returns-in-Err-clause-failures g c =
-    end_behind Turn Served c.args.reader.now c.loop-done.reader c.serve_one.new.reader c.args.writer.now c.loop-done.writer c.serve_one.new.writer c.in-Err.fault (c.loop-done.invariant.1, c.loop-done.invariant.2) c.in-Err.ensures.failures
+    end_after Turn Served c.args.reader.now c.loop-done.reader c.serve_one.new.reader c.args.writer.now c.loop-done.writer c.serve_one.new.writer c.in-Err.fault (c.loop-done.invariant.1, c.loop-done.invariant.2) c.in-Err.ensures.failures
 
 pub loop-done-preserved : goal.loop-done-preserved
 loop-done-preserved g c =

@@ -4,7 +4,7 @@ use Rattle.http_messages.specs.declared.serving.Served.{Served}
 use Rattle.http_messages.specs.declared.serving.ServeFault.{ServeFault}
 use Rattle.http_messages.specs.declared.serving.ServeFault.TheVariants.{Report, Write}
 use Rattle.http_messages.proofs.ExitLemmas.{exit_ended, exit_flushed}
-use Rattle.http_messages.proofs.FailureLemmas.{exit_alone, flush_behind, report_behind}
+use Rattle.http_messages.proofs.FailureLemmas.{exit_alone, flush_after, report_after}
 use Rattle.http_messages.proofs.serving.serve_messages.Goals as goal
 
 pub returns-in-Ok-clause-exit : goal.returns-in-Ok-clause-exit
@@ -24,7 +24,7 @@ write_alone P (Err f) err = err.0
 
 pub returns-in-Ok-clause-failures : goal.returns-in-Ok-clause-failures
 returns-in-Ok-clause-failures g c =
-    flush_behind c.args.reader.now c.serve_in-end.new.reader c.args.writer.now c.serve_in-end.new.writer c.flush_last.new.writer c.flush_last.result c.in-Ok.ensures.failures (write_alone _ c.flush_last.result c.flush_last.ensures.err) c.flush_last.ensures.failures
+    flush_after c.args.reader.now c.serve_in-end.new.reader c.args.writer.now c.serve_in-end.new.writer c.flush_last.new.writer c.flush_last.result c.in-Ok.ensures.failures (write_alone _ c.flush_last.result c.flush_last.ensures.err) c.flush_last.ensures.failures
 
 pub returns-in-Err-Report-clause-exit : goal.returns-in-Err-Report-clause-exit
 returns-in-Err-Report-clause-exit g c =
@@ -40,7 +40,7 @@ pub returns-in-Err-Report-clause-failures : goal.returns-in-Err-Report-clause-fa
 returns-in-Err-Report-clause-failures g c =
     let fault = rw c.in-Err-Report.is at c.in-Err-Report.field-0-is in
     let before = rw fault at (rw c.in-Err-Report.is at c.serve_in-end.ensures.failures) in
-    report_behind c.args.reader.now c.serve_in-end.new.reader c.args.writer.now c.serve_in-end.new.writer c.flush_written.new.writer c.flush_written.result before c.flush_written.ensures.failures
+    report_after c.args.reader.now c.serve_in-end.new.reader c.args.writer.now c.serve_in-end.new.writer c.flush_written.new.writer c.flush_written.result before c.flush_written.ensures.failures
 
 pub returns-clause-failures : goal.returns-clause-failures
 returns-clause-failures g c =

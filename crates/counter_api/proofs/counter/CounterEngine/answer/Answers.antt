@@ -1,29 +1,33 @@
 -- The reply is that to the message, at the moment that the clock gave, or a beginning of it.
-use Rattle.std.proofs.Common.{None, Some, refl, subst}
+use Rattle.std.proofs.Common.{◌≡◌, None, Some, Err, refl, rules, subst}
+use Rattle.std.specs.Io.KnownBytes.{Appends}
 use Rattle.money.specs.Counted.{AppendsBeginning, stream_of}
+use Rattle.http_messages.specs.declared.engine.AnswerFault.TheVariants.{Write}
 use Rattle.counter_api.specs.Response.{ResponseParts, faulted_parts}
 use Rattle.counter_api.specs.Run.{framed}
-use Rattle.counter_api.proofs.Answering.{all_begun, begun_of}
+use Rattle.counter_api.proofs.Answering.{all_begun, begun_of, whole_of}
 use Rattle.counter_api.proofs.counter.CounterEngine.answer.Goals as goal
 
-pub returns-in-Ok-Told-clause-answered : goal.returns-in-Ok-Told-clause-answered
-returns-in-Ok-Told-clause-answered g c =
-    let done = rw c.in-Ok-Told.field-0-is at c.in-Ok-Told.ensures.done in
-    let same = rw c.in-Ok-Told.field-0-is at c.in-Ok-Told.ensures.writer in
-    let bytes = framed c.args.message.now c.in-Ok-Told.response in (
+pub returns-in_err-write_response-in-Ok-Response-clause-answered : goal.returns-in_err-write_response-in-Ok-Response-clause-answered
+returns-in_err-write_response-in-Ok-Response-clause-answered g c =
+    let done = rw c.in-Ok-Response.field-0-is at c.in-Ok-Response.ensures.done in
+    let same = rw c.in-Ok-Response.field-0-is at c.in-Ok-Response.ensures.writer in
+    let bytes = framed c.args.message.now c.in-Ok-Response.response in
+    let told : c.from_residual.result ≡ Err Write = search rules in
+    rw told (
       bytes,
       record {
         answered = record {
           moment = c.moment-moment.result;
           mark = None;
           given = c.moment-moment.ensures.given;
-          handled = begun_of _ _ _ _ c.in-Ok-Told.response done;
+          handled = begun_of _ _ _ _ c.in-Ok-Response.response done;
         };
         same_bank = refl;
         same_clock = refl;
         same_gate = refl;
       },
-      subst (λ t. AppendsBeginning (g.W.Write.contents (stream_of t)) (g.W.Write.contents (stream_of c.write_response.new.writer)) bytes) same c.in-Err-write_response.ensures.beginning,
+      subst (λ t. AppendsBeginning (g.W.Write.contents (stream_of t)) (g.W.Write.contents (stream_of c.write_response.new.writer)) bytes) same c.in_err-write_response-in-Ok-Response.ensures.beginning,
     )
 
 pub returns-in-Ok-Report-Stopped-clause-answered : goal.returns-in-Ok-Report-Stopped-clause-answered
@@ -62,11 +66,33 @@ returns-in-Ok-Report-Broken-clause-answered g c =
       done.1,
     )
 
-pub returns-clause-answered : goal.returns-clause-answered
-returns-clause-answered g c =
+pub returns-in_ok-write_response-in-Err-clause-answered : goal.returns-in_ok-write_response-in-Err-clause-answered
+returns-in_ok-write_response-in-Err-clause-answered g c =
+    let bytes = framed c.args.message.now (faulted_parts c.in-Err.fault) in
+    let whole = subst (λ (p : ResponseParts). Appends (g.W.Write.contents (stream_of c.handled-outcome.new.writer)) (g.W.Write.contents (stream_of c.write_response-in-Err.new.writer)) (framed c.args.message.now p))
+    c.faulted-response.ensures c.in_ok-write_response-in-Err.ensures.whole in (
+      bytes,
+      record {
+        answered = record {
+          moment = c.moment-moment.result;
+          mark = Some c.in-Err.fault;
+          given = c.moment-moment.ensures.given;
+          handled = whole_of _ _ _ _ (faulted_parts c.in-Err.fault) c.in-Err.ensures.done;
+        };
+        same_bank = refl;
+        same_clock = refl;
+        same_gate = refl;
+      },
+      subst (λ t. Appends (g.W.Write.contents (stream_of t)) (g.W.Write.contents (stream_of c.write_response-in-Err.new.writer)) bytes) c.in-Err.ensures.writer whole,
+    )
+
+pub returns-in_err-write_response-in-Err-clause-answered : goal.returns-in_err-write_response-in-Err-clause-answered
+returns-in_err-write_response-in-Err-clause-answered g c =
     let bytes = framed c.args.message.now (faulted_parts c.in-Err.fault) in
     let begun = subst (λ (p : ResponseParts). AppendsBeginning (g.W.Write.contents (stream_of c.handled-outcome.new.writer)) (g.W.Write.contents (stream_of c.write_response-in-Err.new.writer)) (framed c.args.message.now p))
-    c.faulted-response.ensures c.in-Err-write_response-2.ensures.beginning in (
+    c.faulted-response.ensures c.in_err-write_response-in-Err.ensures.beginning in
+    let told : c.from_residual-in_err-write_response-in-Err.result ≡ Err Write = search rules in
+    rw told (
       bytes,
       record {
         answered = record {

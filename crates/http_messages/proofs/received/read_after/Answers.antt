@@ -1,6 +1,6 @@
 use Rattle.std.proofs.Common.{arith}
 use Rattle.http_messages.proofs.RoomLemmas.{room_read}
-use Rattle.http_messages.proofs.received.read_behind.Goals as goal
+use Rattle.http_messages.proofs.received.read_after.Goals as goal
 
 pub returns-in-Ok-clause-ok : goal.returns-in-Ok-clause-ok
 returns-in-Ok-clause-ok g c =
