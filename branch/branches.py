@@ -198,7 +198,9 @@ class Branch:
         self.write_settings([*changes, ("unix:/run/bank.socket", f"127.0.0.1:{self.bank_port}" if tcp else f"unix:{self.socket_path}")])
         self.nginx = ["nginx", "-p", self.folder, "-c", self.folder / "etc/nginx.conf", "-e", self.folder / "log/error.log"]
         tested = subprocess.run([*self.nginx, "-t"], capture_output=True, text=True)
-        require((tested.returncode, "[warn]" in tested.stderr), (0, False), f"nginx -t said {tested.stderr!r}")
+        # (how many files a login may open is nothing of the settings)
+        warned = [line for line in tested.stderr.splitlines() if "[warn]" in line and "open file resource limit" not in line]
+        require((tested.returncode, warned), (0, []), f"nginx -t said {tested.stderr!r}")
         with door:
             self.front = subprocess.Popen([*self.nginx, "-g", "daemon off;"], stdin=subprocess.DEVNULL,
                                           stderr=subprocess.DEVNULL, pass_fds=[door.fileno()],
