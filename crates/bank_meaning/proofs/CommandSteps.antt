@@ -19,7 +19,8 @@ use Rattle.policy_commands.specs.declared.policy_op.PolicyOp.{PolicyOp}
 use Rattle.bank_meaning.specs.PolicyRules.{asker, is_identified}
 use Rattle.bank_meaning.specs.Requests.{commands, first}
 use Rattle.bank_meaning.specs.Sessions.{standing_of_asker}
-use Rattle.bank_meaning.specs.Sums.{PassesChecks, moves_nothing}
+use Rattle.bank_meaning.specs.Moves.{moves_nothing}
+use Rattle.bank_meaning.specs.Sums.{PassesChecks}
 use Rattle.bank_meaning.specs.declared.who.Who.{Who}
 use Rattle.bank_meaning.proofs.AllowedRequest.{user_there}
 use Rattle.bank_meaning.proofs.KeptOrder.{in_order_all_written, in_order_with_version}

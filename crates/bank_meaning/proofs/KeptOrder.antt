@@ -22,23 +22,13 @@ use Rattle.bank_books.specs.declared.row_write.RowWrite.TheVariants as write
 use Rattle.bank_books.specs.declared.signature.Signature.{Signature}
 use Rattle.certify.specs.Commands.{command_changes}
 use Rattle.counter_ops.specs.declared.op.Op.{Op}
-use Rattle.counter_ops.specs.declared.op.Op.TheVariants as op
-use Rattle.drawers.specs.CloseDay.{close_day_changes, closing_rows}
-use Rattle.drawers.specs.DrawerOff.{drawer_off_changes}
-use Rattle.drawers.specs.DrawerOn.{drawer_on_changes}
-use Rattle.drawers.specs.DrawerRows.{drawer_rows}
-use Rattle.drawers.specs.MoveCash.{move_changes, move_rows}
 use Rattle.money.specs.declared.fault.Fault.{Fault}
-use Rattle.postings.specs.Correct.{correct_changes, correct_rows}
-use Rattle.postings.specs.Post.{post_changes, post_rows}
-use Rattle.postings.specs.Transfer.{transfer_changes, transfer_rows}
 use Rattle.store_rows.specs.Status.{after_mark}
 use Rattle.bank_meaning.specs.Executions.{books_meaning, execution_meaning, signature_of}
-use Rattle.bank_meaning.specs.NewAccount.{opened}
-use Rattle.bank_meaning.specs.Operations.{meaning_of}
+use Rattle.bank_meaning.specs.Form.{changed_by}
+use Rattle.bank_meaning.specs.Operations.{form_of, meaning_of}
 use Rattle.bank_meaning.specs.Order.{AreBooksInOrder, IsInOrder, IsPolicyInOrder}
 use Rattle.bank_meaning.specs.PolicyRules.{asker, grounds, leave_of, used_by}
-use Rattle.bank_meaning.specs.Release.{release_changes, release_rows}
 use Rattle.bank_meaning.specs.Requests.{asked_meaning, effect, first, repeated}
 use Rattle.bank_meaning.specs.Run.{Marked, after_request, if_allowed, unless_repeated}
 use Rattle.bank_meaning.specs.Sessions.{latest, session_of, standing_of_asker}
@@ -265,54 +255,3 @@ in_order_with_version true w was = record {
   policy = was.policy;
 }
 in_order_with_version false w was = was
-
-in_order_applied : (cs : List RowWrite) (w : WorldLists) → IsInOrder w → IsInOrder (applied cs w)
-in_order_applied cs w was = go (has_version_for cs w.version)
-  where
-    go : (b : Bool) → IsInOrder (if b then with_version (changes_policy cs) (all_written cs w) else w)
-    go true = in_order_with_version (changes_policy cs) (all_written cs w) (in_order_all_written cs w was)
-    go false = was
-
--- ---- whatever is asked for
-
-by_form : (o : Op) (by : Signature) (w : WorldLists) → IsInOrder w → IsInOrder (meaning_of o by w).effect
-by_form (op.Post post) by w was = in_order_applied (post_changes (post_rows w post) post by) w was
-by_form (op.Transfer transfer) by w was = in_order_applied (transfer_changes (transfer_rows w transfer) transfer by) w was
-by_form (op.Correct correct) by w was = in_order_applied (correct_changes (correct_rows w correct) correct by) w was
-by_form (op.DrawerOn form) by w was = in_order_applied (drawer_on_changes (drawer_rows w form.teller form.branch) form by) w was
-by_form (op.DrawerOff form) by w was = in_order_applied (drawer_off_changes (drawer_rows w form.teller form.branch) form by) w was
-by_form (op.MoveCash move) by w was = in_order_applied (move_changes (move_rows w move) move by) w was
-by_form (op.NewAccount form) by w was = in_order_written (write.Account (opened form)) w was
-by_form (op.Release form) by w was = in_order_applied (release_changes (release_rows w form) form by) w was
-by_form (op.Balance form) by w was = was
-by_form (op.Statement form) by w was = was
-by_form (op.Accounts form) by w was = was
-by_form (op.Proof form) by w was = was
-by_form (op.CloseDay form) by w was = in_order_applied (close_day_changes (closing_rows w form) form) w was
-
-with_leave : (l : Leave) (user : ℕ) (w : WorldLists) → IsInOrder w → IsInOrder (used_by l user w)
-with_leave leave.Triple user w was = was
-with_leave (leave.Release number) user w was = in_order_written (write.Used (record { user = user; number = number })) w was
-
-with_taken : (b : Bool) (row : SlipRow) (w : WorldLists) → IsInOrder w → IsInOrder (if b then w else written (write.Slip row) w)
-with_taken true row w was = was
-with_taken false row w was = in_order_written (write.Slip row) w was
-
-by_asked : (a : Asked) (who : Who) (moment : ℕ) (w : WorldLists) → IsInOrder w → IsInOrder (asked_meaning a who moment w).effect
-by_asked (asked.Operation o) who moment w was =
-    let x : Execution = record { who = who; moment = moment; op = o } in
-    with_taken (slip_named x == 0) (slip_of x (execution_meaning w x).reply.bytes) (execution_meaning w x).effect
-    (with_leave (leave_of (grounds w x)) (asker who) (books_meaning w x).effect (by_form o (signature_of x) w was))
-by_asked asked.Opening who moment w was = in_order_written (write.Session (session_of who (latest (standing_of_asker who w) + 1) true)) w was
-by_asked asked.Ending who moment w was = in_order_written (write.Session (session_of who (latest (standing_of_asker who w)) false)) w was
-by_asked (asked.Command command) who moment w was = in_order_applied (command_changes command (asker who)) w was
-by_asked asked.Listing who moment w was = was
-
-pub stays_in_order : (w : WorldLists) (m : Marked) → IsInOrder w → IsInOrder (after_request w m)
-stays_in_order w m was = go m.mark (repeated w m.request) (first w m.request)
-  where
-    go : (mark : Option Fault) (kept : Option (List ℕ)) (r : Option Rule) → IsInOrder (after_mark mark (unless_repeated kept (if_allowed r (effect w m.request) w) w) w)
-    go None None None = by_asked m.request.asked m.request.who m.request.moment w was
-    go None None (Some r) = was
-    go None (Some kept) r = was
-    go (Some f) kept r = was

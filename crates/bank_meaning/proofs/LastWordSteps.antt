@@ -23,7 +23,8 @@ use Rattle.bank_meaning.specs.declared.request.Request.{Request}
 use Rattle.bank_meaning.specs.declared.who.Who.{Who}
 use Rattle.bank_meaning.proofs.FirstRule.{none_denies}
 use Rattle.bank_meaning.proofs.LastWordCommands as said_by
-use Rattle.bank_meaning.proofs.LastWordKept.{IsPolicyKept, kept_itself, operation_kept}
+use Rattle.bank_meaning.proofs.BookChanges.{IsPolicyKept, kept_itself}
+use Rattle.bank_meaning.proofs.LastWordKept.{operation_kept}
 use Rattle.bank_meaning.proofs.LastWordSaid.{IsSaid, listing_said, none_more, operation_said}
 use Rattle.bank_meaning.proofs.LastWordUsers.{active_there, ended, identified_there, opened}
 

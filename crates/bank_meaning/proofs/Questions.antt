@@ -9,13 +9,13 @@ use Rattle.bank_terms.specs.Procedure.{takes_slip}
 use Rattle.bank_terms.specs.declared.rule.Rule.{Rule}
 use Rattle.bank_terms.specs.declared.rule.Rule.TheVariants as rule
 use Rattle.bank_books.specs.WorldLists.{WorldLists}
-use Rattle.bank_books.specs.Effects.{written}
+use Rattle.bank_books.specs.Effects.{applied, written}
 use Rattle.bank_books.specs.declared.row_write.RowWrite.TheVariants as write
 use Rattle.counter_ops.specs.Op.{procedure_of}
 use Rattle.counter_ops.specs.Touched.{amount, touched}
 use Rattle.counter_ops.specs.declared.op.Op.{Op}
-use Rattle.counter_ops.specs.declared.op.Op.TheVariants as op
-use Rattle.bank_meaning.specs.Executions.{books_meaning}
+use Rattle.bank_meaning.specs.Executions.{books_meaning, signature_of}
+use Rattle.bank_meaning.specs.Operations.{form_of}
 use Rattle.bank_meaning.specs.PolicyRules.{asker, grounds, is_in_limit, used_by}
 use Rattle.bank_meaning.specs.Questions.{QuestionsChangeNothing}
 use Rattle.bank_meaning.specs.Requests.{effect, executes, first, repeated}
@@ -27,6 +27,7 @@ use Rattle.bank_meaning.specs.declared.request.Asked.{Asked}
 use Rattle.bank_meaning.specs.declared.request.Asked.TheVariants as asked
 use Rattle.bank_meaning.specs.declared.request.Request.{Request}
 use Rattle.bank_meaning.specs.declared.who.Who.{Who}
+use Rattle.bank_meaning.proofs.Forms.{law_of}
 use Rattle.bank_meaning.proofs.FirstRule.{none_denies}
 
 -- some triple holds all that is touched, so it reaches an amount of 0
@@ -65,19 +66,14 @@ no_step w x question = go (repeated w (executes x)) (first w (executes x)) refl
     go (Some text) r is = refl
 
 question_of : (w : WorldLists) (who : Who) (moment : ℕ) (o : Op) → takes_slip (procedure_of o) ≡ false → IsQuestion w (record { who = who; moment = moment; op = o })
-question_of w who moment (op.Post post) is = absurd cc
-question_of w who moment (op.Transfer transfer) is = absurd cc
-question_of w who moment (op.Correct correct) is = absurd cc
-question_of w who moment (op.DrawerOn form) is = absurd cc
-question_of w who moment (op.DrawerOff form) is = absurd cc
-question_of w who moment (op.MoveCash move) is = absurd cc
-question_of w who moment (op.NewAccount form) is = absurd cc
-question_of w who moment (op.Release release) is = absurd cc
-question_of w who moment (op.Balance balance) is = record { nothing = refl; no_slip = refl; books = refl }
-question_of w who moment (op.Statement statement) is = record { nothing = refl; no_slip = refl; books = refl }
-question_of w who moment (op.Accounts accounts) is = record { nothing = refl; no_slip = refl; books = refl }
-question_of w who moment (op.Proof proof) is = record { nothing = refl; no_slip = refl; books = refl }
-question_of w who moment (op.CloseDay form) is = absurd cc
+question_of w who moment o is =
+    let x : Execution = record { who = who; moment = moment; op = o } in
+    let question = (law_of o).asks is in
+    record {
+      nothing = question.nothing;
+      no_slip = ap (λ b. if b then who.slip else 0) is;
+      books = ap (λ m. m.effect) ((law_of o).said (signature_of x) w) ∙ ap (λ changes. applied changes w) (question.silent ((form_of o).rows (signature_of x) w) (signature_of x));
+    }
 
 -- denied or not, a listing leaves the World
 listing_leaves : (r : Option Rule) (w : WorldLists) → if_allowed r w w ≡ w

@@ -9,35 +9,27 @@ use Rattle.bank_books.specs.WorldLists.{WorldLists}
 use Rattle.bank_books.specs.declared.signature.Signature.{Signature}
 use Rattle.counter_ops.specs.Op.{procedure_of}
 use Rattle.counter_ops.specs.declared.op.Op.{Op}
-use Rattle.counter_ops.specs.declared.op.Op.TheVariants as op
 use Rattle.bank_meaning.specs.Executions.{signature_of}
 use Rattle.bank_meaning.specs.Meaning.{ReplyText, json}
-use Rattle.bank_meaning.specs.Operations.{meaning_of}
+use Rattle.bank_meaning.specs.Operations.{form_of, meaning_of}
 use Rattle.bank_meaning.specs.PolicyRules.{grounds, is_identified}
 use Rattle.bank_meaning.specs.Repeats.{BearsSlipOf, HasActedOnce, IsAlone, IsRetried, IsSentAgain, MayBeLeft, RetriesActOnce}
 use Rattle.bank_meaning.specs.Requests.{denies, effect, executes, first, repeated, reply_text}
 use Rattle.bank_meaning.specs.Run.{if_allowed, is_accepted, reply, step, told, told_again, unless_repeated}
 use Rattle.bank_meaning.specs.Slips.{kept_reply, slip_grounds, slip_named}
 use Rattle.bank_meaning.specs.declared.execution.Execution.{Execution}
+use Rattle.bank_meaning.proofs.Forms.{law_of}
 use Rattle.bank_meaning.proofs.FirstRule.{none_denies}
 use Rattle.bank_meaning.proofs.KeptReplies.{replies_are_kept}
 use Rattle.bank_meaning.proofs.LastWordKept.{operation_kept}
 
 -- the reply to a form that takes a slip is in JSON
 in_json : (o : Op) (by : Signature) (w : WorldLists) (n : ℕ) → (if takes_slip (procedure_of o) then n else 0) ≢ 0 → json (meaning_of o by w).reply.bytes ≡ (meaning_of o by w).reply
-in_json (op.Post form) by w n named = refl
-in_json (op.Transfer form) by w n named = refl
-in_json (op.Correct form) by w n named = refl
-in_json (op.DrawerOn form) by w n named = refl
-in_json (op.DrawerOff form) by w n named = refl
-in_json (op.MoveCash form) by w n named = refl
-in_json (op.NewAccount form) by w n named = refl
-in_json (op.Release form) by w n named = refl
-in_json (op.Balance form) by w n named = refl
-in_json (op.Statement form) by w n named = absurd (named refl)
-in_json (op.Accounts form) by w n named = absurd (named refl)
-in_json (op.Proof form) by w n named = absurd (named refl)
-in_json (op.CloseDay form) by w n named = refl
+in_json o by w n named = go (takes_slip (procedure_of o)) refl named
+  where
+    go : (b : Bool) → takes_slip (procedure_of o) ≡ b → (if b then n else 0) ≢ 0 → json (meaning_of o by w).reply.bytes ≡ (meaning_of o by w).reply
+    go true is named = subst (λ m. json m.reply.bytes ≡ m.reply) (sym ((law_of o).said by w)) ((law_of o).in_json is ((form_of o).rows by w) by)
+    go false is named = absurd (named refl)
 
 module _ (w : WorldLists) (x : Execution) (named : slip_named x ≢ 0) where
   -- where it left the World as it was, it is as if it were not sent

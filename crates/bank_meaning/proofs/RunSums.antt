@@ -19,7 +19,8 @@ use Rattle.book_laws.proofs.LineAdded.{cash_balances}
 use Rattle.store_rows.specs.Status.{after_mark}
 use Rattle.bank_meaning.specs.Requests.{effect, first, repeated}
 use Rattle.bank_meaning.specs.Run.{Marked, accepted, after_request, if_allowed, is_accepted, world_after, unless_repeated}
-use Rattle.bank_meaning.specs.Sums.{AreProper, IsProper, Moves, PassesChecks, SumsAlwaysAgree, branch_cash, moved_along, moves, moves_nothing}
+use Rattle.bank_meaning.specs.Moves.{Moves, moves_nothing}
+use Rattle.bank_meaning.specs.Sums.{AreProper, IsProper, PassesChecks, SumsAlwaysAgree, branch_cash, moved_along, moves}
 use Rattle.bank_meaning.proofs.OperationSteps.{by_asked}
 use Rattle.bank_meaning.proofs.Steps.{IsStep, none_more, plus_zero, stands}
 

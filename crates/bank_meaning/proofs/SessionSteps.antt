@@ -31,7 +31,8 @@ use Rattle.book_laws.proofs.SessionSet.{session_keeps_books}
 use Rattle.bank_meaning.specs.Laws.{ChangesSessionAlone, IsSameUser, SessionsChangeNoMore}
 use Rattle.bank_meaning.specs.Requests.{effect, first}
 use Rattle.bank_meaning.specs.Sessions.{latest, session_of, standing_of_asker}
-use Rattle.bank_meaning.specs.Sums.{PassesChecks, moves_nothing}
+use Rattle.bank_meaning.specs.Moves.{moves_nothing}
+use Rattle.bank_meaning.specs.Sums.{PassesChecks}
 use Rattle.bank_meaning.specs.declared.request.Asked.{Asked}
 use Rattle.bank_meaning.specs.declared.request.Asked.TheVariants as asked
 use Rattle.bank_meaning.specs.declared.request.Request.{Request}

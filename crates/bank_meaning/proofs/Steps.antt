@@ -17,7 +17,8 @@ use Rattle.book_laws.specs.PlanMoves.{IsPosting, account_share, branch_share, ca
 use Rattle.book_laws.proofs.Kept.{adds_nothing}
 use Rattle.book_laws.proofs.PlanMoves.{plan_moves}
 use Rattle.bank_meaning.specs.Order.{IsInOrder}
-use Rattle.bank_meaning.specs.Sums.{Moves, PassesChecks, moves_nothing}
+use Rattle.bank_meaning.specs.Moves.{Moves, moves_nothing}
+use Rattle.bank_meaning.specs.Sums.{PassesChecks}
 use Rattle.bank_meaning.proofs.KeptOrder.{in_order_all_written}
 
 pub plus_zero : (z : ℤ) → z ≡ z +ℤ pos 0

@@ -24,7 +24,8 @@ use Rattle.bank_meaning.specs.Once.{is_out}
 use Rattle.bank_meaning.specs.PolicyRules.{asker}
 use Rattle.bank_meaning.specs.Requests.{effect, executes, first, repeated}
 use Rattle.bank_meaning.specs.Slips.{has_no_room, slip_grounds, slip_named, slip_of}
-use Rattle.bank_meaning.specs.Sums.{Moves, PassesChecks}
+use Rattle.bank_meaning.specs.Moves.{Moves}
+use Rattle.bank_meaning.specs.Sums.{PassesChecks}
 use Rattle.bank_meaning.specs.declared.execution.Execution.{Execution}
 use Rattle.bank_meaning.proofs.AllowedRequest.{allowed_user}
 use Rattle.bank_meaning.proofs.KeptOrder.{in_order_written}

@@ -17,7 +17,7 @@ use Rattle.bank_meaning.specs.Executions.{books_meaning, execution_meaning}
 use Rattle.bank_meaning.specs.Slips.{slip_named, taken_by}
 use Rattle.bank_meaning.specs.Laws.{IsUsedOnce, Released, ReleasesAreUsedOnce}
 use Rattle.bank_meaning.specs.PolicyRules.{asker, used_by}
-use Rattle.bank_meaning.specs.Sums.{Moves}
+use Rattle.bank_meaning.specs.Moves.{Moves}
 use Rattle.bank_meaning.specs.declared.execution.Execution.{Execution}
 use Rattle.bank_meaning.specs.declared.leave.Leave.{Leave}
 use Rattle.bank_meaning.specs.declared.leave.Leave.TheVariants as leave

@@ -6,11 +6,27 @@ use Rattle.counter_ops.specs.declared.accounts.Accounts.{Accounts}
 use Rattle.reports.specs.Listing.{report_text}
 use Rattle.reports.specs.declared.listing.Listing.{Listing}
 use Rattle.reports.specs.declared.listing.Listing.TheVariants as listing
+use Rattle.std.specs.Prelude.{ℕ, List, [], true, ⊤}
+use Rattle.bank_meaning.specs.Form.{Form}
+use Rattle.bank_meaning.specs.Moves.{moves_nothing}
 use Rattle.bank_meaning.specs.Meaning.{Meaning, plain}
 
 -- the accounts that it lists to the user who asks, by their triples that are valid at the moment
 abbrev pub accounts_of : Accounts → Signature → Listing
 accounts_of form by = listing.Accounts (record { user = by.user; after = form.after; moment = by.moment })
+
+-- all that it is
+abbrev pub accounts_form : Accounts → Form
+accounts_form form = record {
+  Rows = List ℕ;
+  rows = λ by w. report_text w (accounts_of form by) form.count;
+  tests = λ rows by. [];
+  changes = λ rows by. [];
+  reply = λ rows by. plain rows;
+  is_report = true;
+  moves = moves_nothing;
+  IsJudged = λ w user. ⊤;
+}
 
 abbrev pub accounts_meaning : Accounts → Signature → WorldLists → Meaning
 accounts_meaning form by w = record {

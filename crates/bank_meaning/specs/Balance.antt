@@ -11,6 +11,10 @@ use Rattle.bank_books.specs.WorldLists.{WorldLists}
 use Rattle.bank_books.specs.declared.records.AccountRecord.{AccountRecord}
 use Rattle.counter_ops.specs.declared.balance.Balance.{Balance}
 use Rattle.rule_tests.specs.Denial.{first_denial, is_denial}
+use Rattle.bank_books.specs.declared.signature.Signature.{Signature}
+use Rattle.bank_meaning.specs.JudgedRows.{HasAccount}
+use Rattle.bank_meaning.specs.Form.{Form}
+use Rattle.bank_meaning.specs.Moves.{moves_nothing}
 use Rattle.bank_meaning.specs.Denial.{cents}
 use Rattle.bank_meaning.specs.Meaning.{Meaning, json}
 
@@ -30,6 +34,19 @@ balance_text z = codes "{\"balance\":" ++ signed_decimal z ++ codes "}"
 -- the JSON value of the reply
 abbrev pub balance_data : ℤ → Data
 balance_data z = object (member (codes "balance") (cents z) no_members)
+
+-- all that it is
+abbrev pub balance_form : Balance → Form
+balance_form form = record {
+  Rows = Option AccountRecord;
+  rows = λ by w. account_record w form.account;
+  tests = λ rows by. balance_tests rows;
+  changes = λ rows by. [];
+  reply = λ rows by. json (option_map_or (λ a. balance_text a.balance) rows []);
+  is_report = false;
+  moves = moves_nothing;
+  IsJudged = λ w user. HasAccount w form.account;
+}
 
 abbrev pub balance_meaning : Balance → WorldLists → Meaning
 balance_meaning form w = record {

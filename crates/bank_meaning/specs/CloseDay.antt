@@ -8,6 +8,12 @@ use Rattle.counter_ops.specs.declared.close_day.CloseDay.{CloseDay}
 use Rattle.rule_tests.specs.Denial.{is_denial}
 use Rattle.drawers.specs.CloseDay.{close_day_tests, close_day_effect, closed_of, closing_rows}
 use Rattle.drawers.specs.declared.close_day.Closed.{Closed}
+use Rattle.std.specs.Prelude.{false}
+use Rattle.drawers.specs.CloseDay.{close_day_changes}
+use Rattle.drawers.specs.declared.close_day.ClosingRows.{ClosingRows}
+use Rattle.bank_meaning.specs.JudgedRows.{IsCloseDayJudged}
+use Rattle.bank_meaning.specs.Form.{Form}
+use Rattle.bank_meaning.specs.Moves.{moves_nothing}
 use Rattle.bank_meaning.specs.Denial.{cents, natural}
 use Rattle.bank_meaning.specs.Meaning.{Meaning, json}
 
@@ -20,6 +26,19 @@ closed_text c =
 abbrev pub closed_data : Closed → Data
 closed_data c =
     object (member (codes "balance") (cents c.balance) (member (codes "cash") (cents c.cash) (member (codes "closed") (natural c.closed) (member (codes "entries") (natural c.entries) no_members))))
+
+-- all that it is
+abbrev pub close_day_form : CloseDay → Form
+close_day_form form = record {
+  Rows = ClosingRows;
+  rows = λ by w. closing_rows w form;
+  tests = λ rows by. close_day_tests rows;
+  changes = λ rows by. close_day_changes rows form;
+  reply = λ rows by. json (option_map_or closed_text (closed_of rows) []);
+  is_report = false;
+  moves = moves_nothing;
+  IsJudged = λ w user. IsCloseDayJudged w form;
+}
 
 abbrev pub close_day_meaning : CloseDay → WorldLists → Meaning
 close_day_meaning form w = record {

@@ -10,6 +10,12 @@ use Rattle.rule_tests.specs.Denial.{is_denial}
 use Rattle.drawers.specs.DrawerOff.{drawer_off_tests, drawer_off_effect, put_off_of}
 use Rattle.drawers.specs.DrawerRows.{drawer_rows}
 use Rattle.drawers.specs.declared.drawer_off.PutOff.{PutOff}
+use Rattle.std.specs.Prelude.{false}
+use Rattle.drawers.specs.DrawerOff.{drawer_off_changes}
+use Rattle.drawers.specs.declared.drawer_rows.DrawerRows.{DrawerRows}
+use Rattle.bank_meaning.specs.JudgedRows.{IsDrawerOffJudged}
+use Rattle.bank_meaning.specs.Form.{Form}
+use Rattle.bank_meaning.specs.Moves.{moves_nothing}
 use Rattle.bank_meaning.specs.Denial.{cents, natural}
 use Rattle.bank_meaning.specs.Meaning.{Meaning, json}
 
@@ -22,6 +28,19 @@ put_off_text p =
 abbrev pub put_off_data : PutOff → Data
 put_off_data p =
     object (member (codes "difference") (cents p.difference) (member (codes "teller") (natural p.teller) (member (codes "vault") (cents p.vault) no_members)))
+
+-- all that it is
+abbrev pub drawer_off_form : DrawerOff → Form
+drawer_off_form form = record {
+  Rows = DrawerRows;
+  rows = λ by w. drawer_rows w form.teller form.branch;
+  tests = λ rows by. drawer_off_tests rows form by;
+  changes = λ rows by. drawer_off_changes rows form by;
+  reply = λ rows by. json (option_map_or put_off_text (put_off_of rows form) []);
+  is_report = false;
+  moves = moves_nothing;
+  IsJudged = λ w user. IsDrawerOffJudged w user form;
+}
 
 abbrev pub drawer_off_meaning : DrawerOff → Signature → WorldLists → Meaning
 drawer_off_meaning form by w = record {

@@ -10,6 +10,12 @@ use Rattle.rule_tests.specs.Denial.{is_denial}
 use Rattle.drawers.specs.DrawerOn.{drawer_on_tests, drawer_on_effect, put_on_of}
 use Rattle.drawers.specs.DrawerRows.{drawer_rows}
 use Rattle.drawers.specs.declared.drawer_on.PutOn.{PutOn}
+use Rattle.std.specs.Prelude.{false}
+use Rattle.drawers.specs.DrawerOn.{drawer_on_changes}
+use Rattle.drawers.specs.declared.drawer_rows.DrawerRows.{DrawerRows}
+use Rattle.bank_meaning.specs.JudgedRows.{IsDrawerOnJudged}
+use Rattle.bank_meaning.specs.Form.{Form}
+use Rattle.bank_meaning.specs.Moves.{moves_nothing}
 use Rattle.bank_meaning.specs.Denial.{cents, natural}
 use Rattle.bank_meaning.specs.Meaning.{Meaning, json}
 
@@ -22,6 +28,19 @@ put_on_text p =
 abbrev pub put_on_data : PutOn → Data
 put_on_data p =
     object (member (codes "cash") (cents p.cash) (member (codes "teller") (natural p.teller) (member (codes "vault") (cents p.vault) no_members)))
+
+-- all that it is
+abbrev pub drawer_on_form : DrawerOn → Form
+drawer_on_form form = record {
+  Rows = DrawerRows;
+  rows = λ by w. drawer_rows w form.teller form.branch;
+  tests = λ rows by. drawer_on_tests rows form;
+  changes = λ rows by. drawer_on_changes rows form by;
+  reply = λ rows by. json (option_map_or put_on_text (put_on_of rows form) []);
+  is_report = false;
+  moves = moves_nothing;
+  IsJudged = λ w user. IsDrawerOnJudged w form;
+}
 
 abbrev pub drawer_on_meaning : DrawerOn → Signature → WorldLists → Meaning
 drawer_on_meaning form by w = record {

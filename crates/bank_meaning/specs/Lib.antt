@@ -10,13 +10,16 @@ pub mod Denial
 pub mod DrawerOff
 pub mod DrawerOn
 pub mod Executions
+pub mod Form
 pub mod Headline
 pub mod InForce
+pub mod JudgedRows
 pub mod LastWord
 pub mod Laws
 pub mod Listing
 pub mod Meaning
 pub mod MoveCash
+pub mod Moves
 pub mod NamedRelease
 pub mod NewAccount
 pub mod Once

@@ -9,6 +9,12 @@ use Rattle.counter_ops.specs.declared.move_cash.MoveCash.{MoveCash}
 use Rattle.rule_tests.specs.Denial.{is_denial}
 use Rattle.drawers.specs.MoveCash.{move_tests, move_effect, move_rows, moved_of}
 use Rattle.drawers.specs.declared.move_cash.Moved.{Moved}
+use Rattle.std.specs.Prelude.{false}
+use Rattle.drawers.specs.MoveCash.{move_changes}
+use Rattle.drawers.specs.declared.move_cash.MoveRows.{MoveRows}
+use Rattle.bank_meaning.specs.JudgedRows.{IsMoveJudged}
+use Rattle.bank_meaning.specs.Form.{Form}
+use Rattle.bank_meaning.specs.Moves.{moves_nothing}
 use Rattle.bank_meaning.specs.Denial.{cents, natural}
 use Rattle.bank_meaning.specs.Meaning.{Meaning, json}
 
@@ -21,6 +27,19 @@ moved_text m =
 abbrev pub moved_data : Moved → Data
 moved_data m =
     object (member (codes "moved") (natural m.moved) (member (codes "source") (cents m.source) (member (codes "target") (cents m.target) no_members)))
+
+-- all that it is
+abbrev pub move_form : MoveCash → Form
+move_form move = record {
+  Rows = MoveRows;
+  rows = λ by w. move_rows w move;
+  tests = λ rows by. move_tests rows move by;
+  changes = λ rows by. move_changes rows move by;
+  reply = λ rows by. json (option_map_or moved_text (moved_of rows move) []);
+  is_report = false;
+  moves = moves_nothing;
+  IsJudged = λ w user. IsMoveJudged w user move;
+}
 
 abbrev pub move_meaning : MoveCash → Signature → WorldLists → Meaning
 move_meaning move by w = record {

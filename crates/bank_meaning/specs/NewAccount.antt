@@ -12,6 +12,10 @@ use Rattle.bank_books.specs.Records.{account_record, branch_record}
 use Rattle.bank_books.specs.WorldLists.{WorldLists}
 use Rattle.bank_books.specs.declared.rows.Account.{Account}
 use Rattle.rule_tests.specs.Denial.{first_denial, is_denial}
+use Rattle.bank_books.specs.declared.row_write.RowWrite.TheVariants as write
+use Rattle.bank_meaning.specs.JudgedRows.{IsNewAccountJudged}
+use Rattle.bank_meaning.specs.Form.{Form}
+use Rattle.bank_meaning.specs.Moves.{moves_nothing}
 use Rattle.bank_meaning.specs.Denial.{natural}
 use Rattle.bank_meaning.specs.Meaning.{Meaning, json}
 use Rattle.bank_meaning.specs.declared.opening_rows.OpeningRows.{OpeningRows}
@@ -46,6 +50,19 @@ opened_text form = codes "{\"account\":" ++ decimal form.account ++ codes ",\"br
 -- the JSON value of the reply
 abbrev pub opened_data : NewAccount → Data
 opened_data form = object (member (codes "account") (natural form.account) (member (codes "branch") (natural form.branch) no_members))
+
+-- all that it is
+abbrev pub new_account_form : NewAccount → Form
+new_account_form form = record {
+  Rows = OpeningRows;
+  rows = λ by w. opening_rows w form;
+  tests = λ rows by. new_account_tests rows;
+  changes = λ rows by. write.Account (opened form) ∷ [];
+  reply = λ rows by. json (opened_text form);
+  is_report = false;
+  moves = moves_nothing;
+  IsJudged = λ w user. IsNewAccountJudged w form;
+}
 
 abbrev pub new_account_meaning : NewAccount → WorldLists → Meaning
 new_account_meaning form w = record {

@@ -9,6 +9,12 @@ use Rattle.counter_ops.specs.declared.post.Post.{Post}
 use Rattle.rule_tests.specs.Denial.{is_denial}
 use Rattle.postings.specs.Post.{post_tests, post_effect, post_rows, posted_of}
 use Rattle.postings.specs.declared.post.Posted.{Posted}
+use Rattle.std.specs.Prelude.{ℤ, pos, ◌==◌, false, if◌then◌else◌}
+use Rattle.postings.specs.Post.{post_changes}
+use Rattle.postings.specs.declared.post.PostRows.{PostRows}
+use Rattle.bank_meaning.specs.JudgedRows.{IsPostJudged}
+use Rattle.bank_meaning.specs.Form.{Form}
+use Rattle.bank_meaning.specs.Moves.{Moves}
 use Rattle.bank_meaning.specs.Denial.{cents, natural}
 use Rattle.bank_meaning.specs.Meaning.{Meaning, json}
 
@@ -19,6 +25,28 @@ posted_text p = codes "{\"balance\":" ++ signed_decimal p.balance ++ codes ",\"b
 -- the JSON value of the reply
 abbrev pub posted_data : Posted → Data
 posted_data p = object (member (codes "balance") (cents p.balance) (member (codes "branch") (natural p.branch) (member (codes "entry") (natural p.entry) no_members)))
+
+-- a post: its delta
+abbrev pub post_moves : Post → Moves
+post_moves post = record {
+  branches = λ branch. if post.branch == branch then post.delta else pos 0;
+  tellers = λ teller. if post.teller == teller then post.delta else pos 0;
+  accounts = λ account. if post.account == account then post.delta else pos 0;
+  entries = λ branch. if post.branch == branch then 1 else 0;
+}
+
+-- all that it is
+abbrev pub post_form : Post → Form
+post_form post = record {
+  Rows = PostRows;
+  rows = λ by w. post_rows w post;
+  tests = λ rows by. post_tests rows post by;
+  changes = λ rows by. post_changes rows post by;
+  reply = λ rows by. json (option_map_or posted_text (posted_of rows post) []);
+  is_report = false;
+  moves = post_moves post;
+  IsJudged = λ w user. IsPostJudged w user post;
+}
 
 abbrev pub post_meaning : Post → Signature → WorldLists → Meaning
 post_meaning post by w = record {

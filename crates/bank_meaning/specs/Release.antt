@@ -17,6 +17,9 @@ use Rattle.bank_books.specs.declared.rows.Release.{Release as ReleaseRow}
 use Rattle.bank_books.specs.declared.signature.Signature.{Signature}
 use Rattle.rule_tests.specs.Denial.{first_denial, is_denial}
 use Rattle.world_reads.specs.PolicyReads.{user_record}
+use Rattle.bank_meaning.specs.JudgedRows.{IsReleaseJudged}
+use Rattle.bank_meaning.specs.Form.{Form}
+use Rattle.bank_meaning.specs.Moves.{moves_nothing}
 use Rattle.bank_meaning.specs.Denial.{natural}
 use Rattle.bank_meaning.specs.Meaning.{Meaning, json}
 use Rattle.bank_meaning.specs.declared.release_rows.ReleaseRows.{ReleaseRows}
@@ -67,6 +70,19 @@ release_text beneficiary number = codes "{\"beneficiary\":" ++ decimal beneficia
 -- the JSON value of the reply
 abbrev pub release_data : ℕ → ℕ → Data
 release_data beneficiary number = object (member (codes "beneficiary") (natural beneficiary) (member (codes "release") (natural number) no_members))
+
+-- all that it is
+abbrev pub release_form : Release → Form
+release_form form = record {
+  Rows = ReleaseRows;
+  rows = λ by w. release_rows w form;
+  tests = λ rows by. release_tests rows form by;
+  changes = λ rows by. release_changes rows form by;
+  reply = λ rows by. json (option_map_or (λ given. release_text form.beneficiary (given + 1)) rows.given []);
+  is_report = false;
+  moves = moves_nothing;
+  IsJudged = λ w user. IsReleaseJudged w user form;
+}
 
 abbrev pub release_meaning : Release → Signature → WorldLists → Meaning
 release_meaning form by w = record {

@@ -13,13 +13,8 @@ use Rattle.bank_books.specs.WorldLists.{WorldLists}
 use Rattle.book_laws.specs.Kept.{OnlyAdds}
 use Rattle.counter_ops.specs.Op.{procedure_of}
 use Rattle.counter_ops.specs.Operations.{IsOp}
-use Rattle.counter_ops.specs.declared.correct.Correct.{Correct}
-use Rattle.counter_ops.specs.declared.op.Op.{Op}
-use Rattle.counter_ops.specs.declared.op.Op.TheVariants as op
-use Rattle.counter_ops.specs.declared.post.Post.{Post}
-use Rattle.counter_ops.specs.declared.transfer.Transfer.{Transfer}
-use Rattle.postings.specs.Correct.{is_of_post, undoing}
-use Rattle.postings.specs.Transfer.{given, taken}
+use Rattle.bank_meaning.specs.Moves.{Moves, moves_nothing}
+use Rattle.bank_meaning.specs.Operations.{moves_of}
 use Rattle.bank_meaning.specs.Order.{IsInOrder}
 use Rattle.bank_meaning.specs.PolicyRules.{asker}
 use Rattle.bank_meaning.specs.Requests.{executes, first}
@@ -55,58 +50,6 @@ pub record IsProper (r : Request) : Type 0 where
 -- as a counter hands them on: those that are made are proper
 abbrev pub AreProper : List Marked → Type 0
 AreProper requests = All (λ m. m.mark ≡ None → IsProper m.request) requests
-
--- What an operation that is carried out adds to the balance of each branch, each teller and each account, and how many entries to the history of each branch.
-pub record Moves : Type 0 where
-  pub branches : ℕ → ℤ
-  pub tellers : ℕ → ℤ
-  pub accounts : ℕ → ℤ
-  pub entries : ℕ → ℕ
-
-abbrev pub moves_nothing : Moves
-moves_nothing = record { branches = λ branch. pos 0; tellers = λ teller. pos 0; accounts = λ account. pos 0; entries = λ branch. 0 }
-
--- a post: its delta
-abbrev pub post_moves : Post → Moves
-post_moves post = record {
-  branches = λ branch. if post.branch == branch then post.delta else pos 0;
-  tellers = λ teller. if post.teller == teller then post.delta else pos 0;
-  accounts = λ account. if post.account == account then post.delta else pos 0;
-  entries = λ branch. if post.branch == branch then 1 else 0;
-}
-
--- a transfer: what each of its two legs takes or gives. At their branch they come to nothing, and no teller has a part in it.
-abbrev pub transfer_moves : Transfer → Moves
-transfer_moves transfer = record {
-  branches = λ branch. pos 0;
-  tellers = λ teller. pos 0;
-  accounts = λ account. (if transfer.source == account then taken transfer else pos 0) +ℤ (if transfer.target == account then given transfer else pos 0);
-  entries = λ branch. if transfer.branch == branch then 2 else 0;
-}
-
--- a correction: minus what the post brought, at the teller that it names; or minus what each leg of the transfer did
-abbrev pub correct_moves : Correct → Moves
-correct_moves correct = record {
-  branches = λ branch. if is_of_post correct && correct.branch == branch then undoing correct else pos 0;
-  tellers = λ teller. if is_of_post correct && correct.teller == teller then undoing correct else pos 0;
-  accounts = λ account. (if correct.account == account then undoing correct else pos 0) +ℤ (if not (is_of_post correct) && correct.other == account then correct.delta else pos 0);
-  entries = λ branch. if correct.branch == branch then (if is_of_post correct then 1 else 2) else 0;
-}
-
-abbrev pub moves_of : Op → Moves
-moves_of (op.Post post) = post_moves post
-moves_of (op.Transfer transfer) = transfer_moves transfer
-moves_of (op.Correct correct) = correct_moves correct
-moves_of (op.DrawerOn form) = moves_nothing
-moves_of (op.DrawerOff form) = moves_nothing
-moves_of (op.MoveCash form) = moves_nothing
-moves_of (op.NewAccount form) = moves_nothing
-moves_of (op.Release form) = moves_nothing
-moves_of (op.Balance form) = moves_nothing
-moves_of (op.Statement form) = moves_nothing
-moves_of (op.Accounts form) = moves_nothing
-moves_of (op.Proof form) = moves_nothing
-moves_of (op.CloseDay form) = moves_nothing
 
 -- the same of all that may be asked for: operations alone move anything
 abbrev pub moves_of_asked : Asked → Moves

@@ -9,6 +9,12 @@ use Rattle.counter_ops.specs.declared.transfer.Transfer.{Transfer}
 use Rattle.rule_tests.specs.Denial.{is_denial}
 use Rattle.postings.specs.Transfer.{transfer_tests, transfer_effect, transfer_rows, transferred_of}
 use Rattle.postings.specs.declared.transfer.Transferred.{Transferred}
+use Rattle.std.specs.Prelude.{ℤ, pos, ◌==◌, ◌+ℤ◌, false, if◌then◌else◌}
+use Rattle.postings.specs.Transfer.{given, taken, transfer_changes}
+use Rattle.postings.specs.declared.transfer.TransferRows.{TransferRows}
+use Rattle.bank_meaning.specs.JudgedRows.{IsTransferJudged}
+use Rattle.bank_meaning.specs.Form.{Form}
+use Rattle.bank_meaning.specs.Moves.{Moves}
 use Rattle.bank_meaning.specs.Denial.{cents, natural}
 use Rattle.bank_meaning.specs.Meaning.{Meaning, json}
 
@@ -21,6 +27,28 @@ transferred_text t =
 abbrev pub transferred_data : Transferred → Data
 transferred_data t =
     object (member (codes "branch") (natural t.branch) (member (codes "first") (natural t.first) (member (codes "second") (natural t.second) (member (codes "source") (cents t.source) (member (codes "target") (cents t.target) no_members)))))
+
+-- a transfer: what each of its two legs takes or gives. At their branch they come to nothing, and no teller has a part in it.
+abbrev pub transfer_moves : Transfer → Moves
+transfer_moves transfer = record {
+  branches = λ branch. pos 0;
+  tellers = λ teller. pos 0;
+  accounts = λ account. (if transfer.source == account then taken transfer else pos 0) +ℤ (if transfer.target == account then given transfer else pos 0);
+  entries = λ branch. if transfer.branch == branch then 2 else 0;
+}
+
+-- all that it is
+abbrev pub transfer_form : Transfer → Form
+transfer_form transfer = record {
+  Rows = TransferRows;
+  rows = λ by w. transfer_rows w transfer;
+  tests = λ rows by. transfer_tests rows transfer by;
+  changes = λ rows by. transfer_changes rows transfer by;
+  reply = λ rows by. json (option_map_or transferred_text (transferred_of rows transfer) []);
+  is_report = false;
+  moves = transfer_moves transfer;
+  IsJudged = λ w user. IsTransferJudged w user transfer;
+}
 
 abbrev pub transfer_meaning : Transfer → Signature → WorldLists → Meaning
 transfer_meaning transfer by w = record {

@@ -15,6 +15,7 @@ use Rattle.cli_file.specs.Files.{BankStore, IsClosed, IsFound, file_status}
 use Rattle.cli_file.specs.declared.fault.ActionFault.{ActionFault}
 use Rattle.cli_file.proofs.DayLemmas.{bank_day, day_uncovered, tells_below}
 use Rattle.cli_counter.specs.Attending.{AreReplied, AreRepliedAt, IsAttendedAt, IsAttendedBehindCache, messages_at, messages_had}
+use Rattle.cli_counter.proofs.MomentLemmas.{moments_had}
 use Rattle.cli_counter.specs.InFile.{IsAttendedAndClosed, IsAttendedOverFile, end_of_counter}
 
 module _ {S C : Type 0} (status : S → Status) (users : List ℕ → Option ℕ) (may_give : C → ℕ → C → Type 0) (place : Place) (output_old output_new : Stream) where
@@ -56,6 +57,7 @@ module _ {D C : Type 0} (g : Ghosts D) (users : List ℕ → Option ℕ) (may_gi
     day = bank_day users opened begun ended _ found
         (day_had file_status users may_give place output_old output_new (record { store = begun; clock = from }) (record { store = ended; clock = to }) result attended) _
         (replied_had file_status users may_give place output_old output_new (record { store = begun; clock = from }) (record { store = ended; clock = to }) result attended);
+    moments = moments_had users may_give opened begun ended found place output_old output_new from to result attended;
   }
 
   pub and_closed : (files : Files D) (ended : BankStore D g) (exit result : Result Unit ActionFault) → IsAttendedOverFile g users may_give opened place output_old output_new from to ended exit
@@ -66,5 +68,9 @@ module _ {D C : Type 0} (g : Ghosts D) (users : List ℕ → Option ℕ) (may_gi
     over = over;
     closed = closed;
     bank = λ image w of opens works reads. closed.bank works _ (over.day image w of opens (closed.copied reads).was_clean).holds reads;
+    one = λ image w of opens reads.
+        let day = over.day image w of opens (closed.copied reads).was_clean in
+        let left = closed.one reads day.whole in
+        (left.0, day.leaves left.0 left.1, left.2);
     reported = reported;
   }

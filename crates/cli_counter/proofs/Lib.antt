@@ -1,2 +1,3 @@
 mod ActionLemmas
 mod DayLemmas
+mod MomentLemmas

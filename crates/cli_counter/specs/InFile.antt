@@ -6,6 +6,7 @@ use Rattle.sqlite.specs.declared.FileStore.{FileStore}
 use Rattle.sqlite.specs.Held.{Held}
 use Rattle.sqlite.specs.Files.{file_state}
 use Rattle.sqlite.specs.State.{HasCleanDisk}
+use Rattle.sqlite_wal.specs.Reads.{AreClean}
 use Rattle.sqlite_wal.specs.Recovery.{Image}
 use Rattle.bank_books.specs.WorldLists.{WorldLists}
 use Rattle.bank_meaning.specs.Run.{world_after}
@@ -13,12 +14,14 @@ use Rattle.counter_api.specs.Run.{requests_of}
 use Rattle.counter_places.specs.declared.place.Place.{Place}
 use Rattle.exit_lines.specs.Streams.{Stream}
 use Rattle.cli_file.specs.BankDay.{IsBankDay}
+use Rattle.cli_file.specs.Crash.{IsLeftByCrash}
 use Rattle.cli_file.specs.Opened.{HoldTheBank, IsBankImage, IsOpenedFrom}
 use Rattle.cli_file.specs.Files.{BankStore, IsClosed, IsFound, IsNotClosed, IsNotFound, file_status}
 use Rattle.cli_file.specs.declared.fault.ActionFault.{ActionFault}
 use Rattle.cli_file.specs.declared.left.FileLeft.{FileLeft}
 use Rattle.cli_file.specs.declared.left.FileLeft.TheVariants as left
 use Rattle.cli_counter.specs.Attending.{AreReplied, IsAttendedBehindCache, messages_had}
+use Rattle.cli_counter.specs.Moments.{AreMoments}
 
 -- a fault of the connections is reported before one of closing
 abbrev pub end_of_counter : Result Unit ActionFault → Option ActionFault → Result Unit ActionFault
@@ -39,6 +42,10 @@ module _ {D C : Type 0} (g : Ghosts D) (users : List ℕ → Option ℕ) (may_gi
         (messages_had file_status users may_give place output_old output_new (record { store = begun; clock = from }) (record { store = ended; clock = to }) result attended)
         (AreReplied file_status users may_give place output_old output_new (record { store = begun; clock = from }) (record { store = ended; clock = to }) result attended)
         (file_status ended)
+    -- And so are the messages of its turns at each moment, whatever the next turn has begun: a crash at any moment of it leaves the World after
+    -- all requests whose turns are over, or with the request of the turn under way carried out.
+    pub moments : (image : Image) (w : WorldLists) → IsBankImage image w → IsOpenedFrom image opened → HasCleanDisk (file_state ended.conn)
+        → AreMoments g users may_give place output_old output_new (record { store = begun; clock = from }) (record { store = ended; clock = to }) result attended w
 
   -- It was closed after that: over every image of a bank, the file alone is the bank of the World after the day, also after a crash, and the next
   -- day begins with it; unless a fault of the disk had stopped the store.
@@ -50,6 +57,10 @@ module _ {D C : Type 0} (g : Ghosts D) (users : List ℕ → Option ℕ) (may_gi
     pub bank : (image : Image) (w : WorldLists) → IsBankImage image w → IsOpenedFrom image opened → ended.is_stopped ≡ false
         → HoldTheBank g files (world_after w (requests_of users (messages_had file_status users may_give place output_old output_new
         (record { store = over.begun; clock = from }) (record { store = ended; clock = to }) exit over.attended)))
+    -- Also where one had, the file alone is the bank of a World that a crash could have left at the end of the day.
+    pub one : (image : Image) (w : WorldLists) → IsBankImage image w → IsOpenedFrom image opened → AreClean g files.log files.db
+        → (left : WorldLists) × IsLeftByCrash w (requests_of users (messages_had file_status users may_give place output_old output_new
+        (record { store = over.begun; clock = from }) (record { store = ended; clock = to }) exit over.attended)) left × HoldTheBank g files left
     pub reported : result ≡ end_of_counter exit None
 
   -- It was served and closed; or it could not be closed; or no bank was found, and nothing was listened to or written.

@@ -2,3 +2,4 @@ pub mod Actions
 pub mod Attending
 pub mod Faults
 pub mod InFile
+pub mod Moments

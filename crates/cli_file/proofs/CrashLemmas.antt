@@ -138,3 +138,54 @@ acts_once_over_crash w requests left is = record {
   as_it_was = λ x named may. retries_act_once.0 (world_after w requests) x left named may;
   sent_again = λ x y text named sent may told. retries_act_once.1 (world_after w requests) x y left text named sent may told;
 }
+
+-- ---- one request more, which was under way
+
+-- also where the crash may have carried out another request at last, whatever it would have been answered
+pub acts_once_within : (w : WorldLists) (requests : List Marked) (q : Request) (left : WorldLists) → left ≡ step (world_after w requests) q → ActsOnceOverCrash w requests left
+acts_once_within w requests q left same = record {
+  accepted = λ n x is.
+      subst (λ v. IsKeptReply v x (reply_text (world_after w (take n requests)) (executes x))) (sym same)
+      (kept_after w requests (record { request = q; mark = None } ∷ []) n x is.there is.slip is.accepted);
+  as_it_was = λ x named may. retries_act_once.0 (world_after w requests) x left named may;
+  sent_again = λ x y text named sent may told. retries_act_once.1 (world_after w requests) x y left text named sent may told;
+}
+
+quiet_on : (w : WorldLists) (d : Marked) (over : List Marked) → w ≡ world_after w (d ∷ over) → AreQuiet (after_request w d) over → AreQuiet w (d ∷ over)
+quiet_on w d over same quiet zero = same
+quiet_on w d over same quiet (suc n) = quiet n
+
+-- requests that change nothing, but for the last
+quiet_before : (w : WorldLists) (over : List Marked) (m : Marked) → AreQuiet w (over ++ m ∷ []) → AreQuiet w over × (world_after w over ≡ world_after w (over ++ m ∷ []))
+quiet_before w [] m quiet = (none_quiet w, quiet 0)
+quiet_before w (d ∷ over) m quiet =
+    let rest = quiet_before (after_request w d) over m (λ n. quiet (suc n)) in
+    (quiet_on w d over (quiet 0 ∙ sym rest.1) rest.0, rest.1)
+
+-- one of these requests was answered by a fault, and that was before the last, or it was the last
+unanswered_before : (w : WorldLists) (over : List Marked) (m : Marked) (q : Request) (place : ℕ) (fault : Fault) → slice_get (over ++ m ∷ []) place ≡ Some (record { request = q; mark = Some fault })
+    → ((n : ℕ) → place ≤ n → world_after w (take n (over ++ m ∷ [])) ≡ world_after w (over ++ m ∷ []))
+    → (IsUnanswered w over q × (world_after w over ≡ world_after w (over ++ m ∷ []))) ⊎ (m ≡ record { request = q; mark = Some fault })
+unanswered_before w [] m q zero fault there since = let is : m ≡ record { request = q; mark = Some fault } = cc in inr is
+unanswered_before w [] m q (suc place) fault there since = absurd cc
+unanswered_before w (d ∷ over) m q zero fault there since =
+    let quiet = quiet_before w (d ∷ over) m (λ n. since n (omega arith)) in
+    inl (record { place = 0; fault = fault; there = there; since = λ n later. quiet.0 n }, quiet.1)
+unanswered_before w (d ∷ over) m q (suc place) fault there since =
+    elim (unanswered_before (after_request w d) over m q place fault there (λ n later. since (suc n) (omega (arith, later)))) [
+      | inl before ↦ inl (unanswered_in_front w d over q before.0, before.1)
+      | inr last ↦ inr last
+    ]
+
+-- What is left after requests, and one more, is what is left after them, or that one was carried out.
+pub left_within : (w : WorldLists) (over : List Marked) (q : Request) (mark : Option Fault) (left : WorldLists) → IsLeftByCrash w (over ++ record { request = q; mark = mark } ∷ []) left
+    → IsLeftByCrash w over left ⊎ (left ≡ step (world_after w over) q)
+left_within w over q None left (inl is) = inr (is ∙ joined w over (record { request = q; mark = None } ∷ []))
+left_within w over q (Some fault) left (inl is) = inl (inl (is ∙ joined w over (record { request = q; mark = Some fault } ∷ [])))
+left_within w over q mark left (inr (r, one, is)) =
+    elim (unanswered_before w over (record { request = q; mark = mark }) r one.place one.fault one.there one.since) [
+      | inl before ↦ inl (inr (r, before.0, is ∙ ap (λ v. step v r) (sym before.1)))
+      | inr last ↦ inr (
+          is ∙ ap (λ v. step v r) (joined w over (record { request = q; mark = mark } ∷ []) ∙ ap (after_request (world_after w over)) last)
+          ∙ ap (λ (z : Marked). step (world_after w over) z.request) (sym last))
+    ]

@@ -1,6 +1,7 @@
 mod ActionLemmas
 pub mod CrashLemmas
 pub mod DayLemmas
+pub mod MomentLemmas
 pub mod OpenedLemmas
 mod PageLemmas
 mod SumLemmas

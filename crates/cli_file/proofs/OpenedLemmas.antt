@@ -10,6 +10,7 @@ use Rattle.sqlite.specs.Files.{file_state}
 use Rattle.sqlite.specs.Held.{Held}
 use Rattle.sqlite.specs.State.{HasCleanDisk, State, Survives}
 use Rattle.sqlite.specs.Tree.{Trees}
+use Rattle.sqlite_store.specs.Laws.{stays_at}
 use Rattle.sqlite_trees.specs.Props.{Trees-set}
 use Rattle.sqlite_wal.specs.Reads.{AreClean}
 use Rattle.sqlite_wal.specs.Recovery.{Image}
@@ -162,3 +163,20 @@ closed_holds g conn files copies w holds reads image which =
 pub closed_bank : {D : Type 0} (g : Ghosts D) (store : BankStore D g) (files : Files D) → (AreClean g files.log files.db → IsCopied store.conn files)
     → store.is_stopped ≡ false → (w : WorldLists) → (file_status store).holds w → HoldTheBank g files w
 closed_bank g store files copies works w holds = closed_holds g store.conn files copies w (holds works)
+
+-- what the files hold then is one of the outcomes that a crash had before
+pub closed_one : {D : Type 0} (g : Ghosts D) (store : BankStore D g) (files : Files D) → ((file : D) → g.may_leave file (g.seen file)) → (AreClean g files.log files.db → IsCopied store.conn files)
+    → AreClean g files.log files.db → (file_status store).leaves_a_world → (left : WorldLists) × (file_status store).may_leave left × HoldTheBank g files left
+closed_one g store files stays copies reads whole =
+    let copied = copies reads in
+    let may : (file_state store.conn).may_leave (file_state store.conn).committed.trees = stays_at store.conn.store stays copied.was_open in
+    let world = whole (file_state store.conn).committed.trees may in (
+      world.0,
+      ((file_state store.conn).committed.trees, may, world.1),
+      λ clean image which.
+          let alone : HoldsAlone image (file_state store.conn).committed.trees = elim which [
+            | inl same ↦ subst (λ (i : Image). HoldsAlone i (file_state store.conn).committed.trees) (sym same) copied.seen
+            | inr left ↦ copied.left image left
+          ] in
+          record { trees = (file_state store.conn).committed.trees; held = alone.both; of_world = world.1 },
+    )

@@ -102,3 +102,5 @@ pub record IsClosed {D : Type 0} (g : Ghosts D) (store : BankStore D g) (files :
   pub copied : AreClean g files.log files.db → IsCopied store.conn files
   -- So the file alone is the bank of the World that the store represented, unless a fault of the disk had stopped it.
   pub bank : store.is_stopped ≡ false → (w : WorldLists) → (file_status store).holds w → HoldTheBank g files w
+  -- Also where one had: the file alone is the bank of a World that a crash could have left before, where it could leave Worlds alone.
+  pub one : AreClean g files.log files.db → (file_status store).leaves_a_world → (left : WorldLists) × (file_status store).may_leave left × HoldTheBank g files left

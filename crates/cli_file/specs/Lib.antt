@@ -4,6 +4,7 @@ pub mod Crash
 pub mod Faults
 pub mod Files
 pub mod Laws
+pub mod Moments
 pub mod Opened
 pub mod Pages
 pub mod Progress

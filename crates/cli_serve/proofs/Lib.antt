@@ -1,2 +1,3 @@
 mod ActionLemmas
+mod MomentLemmas
 mod ServedLemmas

@@ -19,6 +19,7 @@ use Rattle.http_messages.specs.declared.serving.Served.{Served}
 use Rattle.cli_file.specs.Files.{BankStore, IsClosed, IsFound, file_status}
 use Rattle.cli_file.specs.declared.fault.ActionFault.{ActionFault}
 use Rattle.cli_file.proofs.DayLemmas.{bank_day, day_uncovered, tells_below}
+use Rattle.cli_serve.proofs.MomentLemmas.{port_moments, stream_moments}
 use Rattle.cli_serve.specs.Listening.{IsListenedAndClosed, IsListenedOverFile, end_of_port}
 use Rattle.cli_serve.specs.Replied.{AreListenedReplied, IsPortReplied, IsStreamReplied, messages_at, messages_listened, messages_served}
 use Rattle.cli_serve.specs.Serving.{IsServedAndClosed, IsServedOverFile, end_of}
@@ -81,6 +82,7 @@ over_stream g users opened moment old new begun ended result found served = reco
   found = found;
   served = served;
   day = bank_day users opened begun ended _ found (stream_day file_status users begun moment old new ended result served) _ (stream_replied file_status users begun moment old new ended result served);
+  moments = λ image w of opens clean. stream_moments users opened begun ended found image w of opens clean moment old new result served;
 }
 
 pub over_port : {D C : Type 0} (g : Ghosts D) (users : List ℕ → Option ℕ) (may_give : C → ℕ → C → Type 0) (opened : Held (FileStore D g)) (port requests : ℕ) (output_old output_new : Stream) (from to : C)
@@ -94,6 +96,7 @@ over_port g users may_give opened port requests output_old output_new from to be
   day = bank_day users opened begun ended _ found
       (listened_day file_status users may_give port requests output_old output_new (record { store = begun; clock = from }) (record { store = ended; clock = to }) result served) _
       (listened_replied file_status users may_give port requests output_old output_new (record { store = begun; clock = from }) (record { store = ended; clock = to }) result served);
+  moments = λ image w of opens clean. port_moments users opened begun ended found image w of opens clean may_give port requests output_old output_new from to result served;
 }
 
 -- ---- closed
@@ -107,6 +110,10 @@ module _ {D : Type 0} (g : Ghosts D) (opened : Held (FileStore D g)) (files : Fi
     over = over;
     closed = closed;
     bank = λ image w of from works reads. closed.bank works _ (over.day image w of from (closed.copied reads).was_clean).holds reads;
+    one = λ image w of opens reads.
+        let day = over.day image w of opens (closed.copied reads).was_clean in
+        let left = closed.one reads day.whole in
+        (left.0, day.leaves left.0 left.1, left.2);
     reported = reported;
   }
 
@@ -119,5 +126,9 @@ module _ {D : Type 0} (g : Ghosts D) (opened : Held (FileStore D g)) (files : Fi
     over = over;
     closed = closed;
     bank = λ image w of opens works reads. closed.bank works _ (over.day image w of opens (closed.copied reads).was_clean).holds reads;
+    one = λ image w of opens reads.
+        let day = over.day image w of opens (closed.copied reads).was_clean in
+        let left = closed.one reads day.whole in
+        (left.0, day.leaves left.0 left.1, left.2);
     reported = reported;
   }

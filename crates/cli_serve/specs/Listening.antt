@@ -6,6 +6,7 @@ use Rattle.sqlite.specs.declared.FileStore.{FileStore}
 use Rattle.sqlite.specs.Held.{Held}
 use Rattle.sqlite.specs.Files.{file_state}
 use Rattle.sqlite.specs.State.{HasCleanDisk}
+use Rattle.sqlite_wal.specs.Reads.{AreClean}
 use Rattle.sqlite_wal.specs.Recovery.{Image}
 use Rattle.bank_books.specs.WorldLists.{WorldLists}
 use Rattle.bank_meaning.specs.Run.{world_after}
@@ -14,6 +15,8 @@ use Rattle.counter_connections.specs.Port.{IsPortServedBehindCache}
 use Rattle.counter_connections.specs.declared.fault.PortFault.{PortFault}
 use Rattle.exit_lines.specs.Streams.{Stream}
 use Rattle.cli_file.specs.BankDay.{IsBankDay}
+use Rattle.cli_file.specs.Crash.{IsLeftByCrash}
+use Rattle.cli_file.specs.Moments.{AreMoments}
 use Rattle.cli_file.specs.Opened.{HoldTheBank, IsBankImage, IsOpenedFrom}
 use Rattle.cli_file.specs.Files.{BankStore, IsClosed, IsFound, IsNotClosed, IsNotFound, file_status}
 use Rattle.cli_file.specs.declared.fault.ActionFault.{ActionFault}
@@ -41,6 +44,11 @@ module _ {D C : Type 0} (g : Ghosts D) (users : List ℕ → Option ℕ) (may_gi
         (messages_listened file_status users may_give port requests output_old output_new (record { store = begun; clock = from }) (record { store = ended; clock = to }) result served)
         (AreListenedReplied file_status users may_give port requests output_old output_new (record { store = begun; clock = from }) (record { store = ended; clock = to }) result served)
         (file_status ended)
+    -- And so is each beginning of it: a crash at any moment leaves the World after all messages that are over, or with the request of the one
+    -- under way carried out.
+    pub moments : (image : Image) (w : WorldLists) → IsBankImage image w → IsOpenedFrom image opened → HasCleanDisk (file_state ended.conn)
+        → AreMoments file_status users w
+        (messages_listened file_status users may_give port requests output_old output_new (record { store = begun; clock = from }) (record { store = ended; clock = to }) result served) begun
 
   -- It was closed after that: over every image of a bank, the file alone is the bank of the World after the day, also after a crash, and the next
   -- day begins with it; unless a fault of the disk had stopped the store.
@@ -52,6 +60,10 @@ module _ {D C : Type 0} (g : Ghosts D) (users : List ℕ → Option ℕ) (may_gi
     pub bank : (image : Image) (w : WorldLists) → IsBankImage image w → IsOpenedFrom image opened → ended.is_stopped ≡ false
         → HoldTheBank g files (world_after w (requests_of users (messages_listened file_status users may_give port requests output_old output_new
         (record { store = over.begun; clock = from }) (record { store = ended; clock = to }) exit over.served)))
+    -- Also where one had, the file alone is the bank of a World that a crash could have left at the end of the day.
+    pub one : (image : Image) (w : WorldLists) → IsBankImage image w → IsOpenedFrom image opened → AreClean g files.log files.db
+        → (left : WorldLists) × IsLeftByCrash w (requests_of users (messages_listened file_status users may_give port requests output_old output_new
+        (record { store = over.begun; clock = from }) (record { store = ended; clock = to }) exit over.served)) left × HoldTheBank g files left
     pub reported : result ≡ end_of_port exit None
 
   -- It was served and closed; or it could not be closed; or no bank was found, and nothing was listened to or written.

@@ -6,6 +6,7 @@ use Rattle.sqlite.specs.declared.FileStore.{FileStore}
 use Rattle.sqlite.specs.Held.{Held}
 use Rattle.sqlite.specs.Files.{file_state}
 use Rattle.sqlite.specs.State.{HasCleanDisk}
+use Rattle.sqlite_wal.specs.Reads.{AreClean}
 use Rattle.sqlite_wal.specs.Recovery.{Image}
 use Rattle.bank_books.specs.WorldLists.{WorldLists}
 use Rattle.bank_meaning.specs.Run.{world_after}
@@ -15,6 +16,8 @@ use Rattle.http_messages.specs.declared.serving.Served.{Served}
 use Rattle.exit_lines.specs.Streams.{Streams}
 use Rattle.counter_service.specs.Serving.{IsServedBehindCache}
 use Rattle.cli_file.specs.BankDay.{IsBankDay}
+use Rattle.cli_file.specs.Crash.{IsLeftByCrash}
+use Rattle.cli_file.specs.Moments.{AreMoments}
 use Rattle.cli_file.specs.Opened.{HoldTheBank, IsBankImage, IsOpenedFrom}
 use Rattle.cli_file.specs.Files.{BankStore, IsClosed, IsFound, IsNotClosed, IsNotFound, file_status}
 use Rattle.cli_file.specs.declared.fault.ActionFault.{ActionFault}
@@ -39,6 +42,10 @@ module _ {D : Type 0} (g : Ghosts D) (users : List ℕ → Option ℕ) (opened :
     pub day : (image : Image) (w : WorldLists) → IsBankImage image w → IsOpenedFrom image opened → HasCleanDisk (file_state ended.conn)
         → IsBankDay users w (messages_served file_status users begun moment old new ended result served)
         (IsStreamReplied file_status users begun moment old new ended result served) (file_status ended)
+    -- And so is each beginning of it: a crash at any moment leaves the World after all messages that are over, or with the request of the one
+    -- under way carried out.
+    pub moments : (image : Image) (w : WorldLists) → IsBankImage image w → IsOpenedFrom image opened → HasCleanDisk (file_state ended.conn)
+        → AreMoments file_status users w (messages_served file_status users begun moment old new ended result served) begun
 
   -- It was closed after that: over every image of a bank, the file alone is the bank of the World after the day, also after a crash, and the next
   -- day begins with it; unless a fault of the disk had stopped the store.
@@ -49,6 +56,9 @@ module _ {D : Type 0} (g : Ghosts D) (users : List ℕ → Option ℕ) (opened :
     pub closed : IsClosed g ended files
     pub bank : (image : Image) (w : WorldLists) → IsBankImage image w → IsOpenedFrom image opened → ended.is_stopped ≡ false
         → HoldTheBank g files (world_after w (requests_of users (messages_served file_status users over.begun moment old new ended exit over.served)))
+    -- Also where one had, the file alone is the bank of a World that a crash could have left at the end of the day.
+    pub one : (image : Image) (w : WorldLists) → IsBankImage image w → IsOpenedFrom image opened → AreClean g files.log files.db
+        → (left : WorldLists) × IsLeftByCrash w (requests_of users (messages_served file_status users over.begun moment old new ended exit over.served)) left × HoldTheBank g files left
     pub reported : result ≡ end_of exit None
 
   -- It was served and closed; or it could not be closed; or no bank was found, and nothing was read or written on the stream.

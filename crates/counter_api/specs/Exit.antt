@@ -1,5 +1,5 @@
 -- How a call of `serve` ends: what was read, what was written, and what became of the bank, by its exit.
-use Rattle.std.specs.Prelude.{◌≡◌, ◌⊎◌, ℕ, ◌+◌, ◌≤◌, List, [], ◌∷◌, ◌++◌, length, map, Option, Result, Ok, Err}
+use Rattle.std.specs.Prelude.{◌≡◌, ◌⊎◌, ⊤, ℕ, ◌+◌, ◌≤◌, List, [], ◌∷◌, ◌++◌, length, map, Option, Result, Ok, Err}
 use Rattle.std.specs.Io.KnownBytes.{Appends, Consumes, IsAtEnd}
 use Rattle.http_messages.specs.Blank.{AreLineEnds}
 use Rattle.http_messages.specs.Exit.{Ends, GoesOn, StopsWithin}
@@ -13,7 +13,7 @@ use Rattle.http_messages.specs.declared.serving.Served.{Served}
 use Rattle.store_rows.specs.Status.{Status, Tells}
 use Rattle.reports.specs.Report.{BeginsWith}
 use Rattle.counter_api.specs.Answers.{IsBroken}
-use Rattle.counter_api.specs.Run.{IsRun, IsWhole, MarkedMessage, replies_to}
+use Rattle.counter_api.specs.Run.{IsHandled, IsRun, IsWhole, MarkedMessage, replies_to}
 
 -- a counter at one point, as its caller sees it: what its reader has left, what its writer has, its store and its clock
 pub record Place (S C : Type 0) : Type 0 where
@@ -28,6 +28,11 @@ module _ {S C : Type 0} (status : S → Status) (users : List ℕ → Option ℕ
   Gives from [] to = to ≡ from
   Gives from (m ∷ ms) to = (mid : C) × may_give from m.moment mid × Gives mid ms to
 
+  -- the store went through a state after each of these messages
+  abbrev pub Passes : S → List MarkedMessage → S → Type 0
+  Passes from [] to = to ≡ from
+  Passes from (m ∷ ms) to = (mid : S) × IsHandled users (status from) (status mid) m (λ response. ⊤) × Passes mid ms to
+
   -- The bytes that were read are these messages, one after another, and a rest. Each message bore a moment of the clock, and a
   -- mark, and out stands so to the replies to them.
   pub record Serves (how : List ℕ → List ℕ → Type 0) (old new : Place S C) (messages : List WholeMessage) (rest : List ℕ) (run : List MarkedMessage) (out : List ℕ) : Type 0 where
@@ -37,6 +42,7 @@ module _ {S C : Type 0} (status : S → Status) (users : List ℕ → Option ℕ
     pub marked : map (λ m. m.message) run ≡ map message_parts messages
     pub given : Gives old.clock run new.clock
     pub ran : IsRun how users (status old.store) (status new.store) run out
+    pub passed : Passes old.store run new.store
     pub bounded : length rest ≤ max_message_len
 
   -- the reply to the last of the messages stopped: all those before it were written, and a beginning of it
@@ -58,6 +64,7 @@ module _ {S C : Type 0} (status : S → Status) (users : List ℕ → Option ℕ
     pub clock : C
     pub given : Gives old.clock run clock
     pub ran : IsRun IsWhole users (status old.store) (status store) run replies
+    pub passed : Passes old.store run store
     pub broken : IsBroken users may_give (status store) (status new.store) clock new.clock (message_parts last) sent
     pub bounded : length rest ≤ max_message_len
 

@@ -10,7 +10,6 @@ use Rattle.bank_terms.specs.declared.item.Cdi.{Cdi}
 use Rattle.bank_policy.specs.HeldRows.{HeldTriple}
 use Rattle.bank_policy.specs.Tests.{holds, is_held, is_held_for}
 use Rattle.counter_ops.specs.declared.op.Op.{Op}
-use Rattle.counter_ops.specs.declared.op.Op.TheVariants as op
 use Rattle.counter_ops.specs.Touched.{amount}
 use Rattle.reports.specs.declared.contents.Contents.{Contents}
 use Rattle.bank_books.specs.Effects.{applied}
@@ -28,6 +27,7 @@ use Rattle.bank_meaning.specs.declared.leave.Leave.{Leave}
 use Rattle.bank_meaning.specs.declared.leave.Leave.TheVariants as leave
 use Rattle.op_prepare.specs.declared.prepared.Prepared.{Prepared}
 use Rattle.bank_meaning.proofs.PolicyLemmas.{books_decide, leave_given}
+use Rattle.bank_meaning.proofs.Forms.{law_of}
 
 -- where the policy authorizes it, what the books say is all that is said
 pub denied_by_books : (w : WorldLists) (x : Execution) (l : Leave) (r : Rule) → leave_by_policy (grounds w x) ≡ Ok l → (by_books (books_meaning w x)).first ≡ Some r → (execution_verdict x w).first ≡ Some r
@@ -54,19 +54,7 @@ prepared w x l p plan leave books takes =
 -- ---- a report comes to no amount, so a triple that holds what it touches reaches that
 
 no_amount : (o : Op) → is_report o ≡ true → amount o ≡ 0
-no_amount (op.Post o) is = cc
-no_amount (op.Transfer o) is = cc
-no_amount (op.Correct o) is = cc
-no_amount (op.DrawerOn o) is = cc
-no_amount (op.DrawerOff o) is = cc
-no_amount (op.MoveCash o) is = cc
-no_amount (op.NewAccount o) is = cc
-no_amount (op.Release o) is = cc
-no_amount (op.Balance o) is = cc
-no_amount (op.Statement o) is = refl
-no_amount (op.Accounts o) is = refl
-no_amount (op.Proof o) is = refl
-no_amount (op.CloseDay o) is = cc
+no_amount o is = ((law_of o).asks ((law_of o).reports_ask is)).nothing
 
 held_for_none : (rows : List HeldTriple) (items : List Cdi) → is_held_for rows items 0 ≡ is_held rows items
 held_for_none [] items = refl

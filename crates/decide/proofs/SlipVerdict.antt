@@ -21,12 +21,11 @@ use Rattle.bank_policy.specs.HeldRows.{standing}
 use Rattle.counter_ops.specs.Op.{procedure_of}
 use Rattle.counter_ops.specs.Rows.{row_of}
 use Rattle.counter_ops.specs.declared.op.Op.{Op}
-use Rattle.counter_ops.specs.declared.op.Op.TheVariants as op
 use Rattle.world_reads.specs.BookReads.{slip}
 use Rattle.bank_meaning.specs.Executions.{execution_meaning, execution_verdict, rules_of_executions, signature_of}
 use Rattle.bank_meaning.specs.Meaning.{by_books}
 use Rattle.bank_meaning.specs.NamedRelease.{is_same_operation}
-use Rattle.bank_meaning.specs.Operations.{is_report, meaning_of}
+use Rattle.bank_meaning.specs.Operations.{form_of, is_report, meaning_of}
 use Rattle.bank_meaning.specs.PolicyRules.{asker, grounds, is_identified, leave_by_policy}
 use Rattle.bank_meaning.specs.Repeats.{BearsSlipOf}
 use Rattle.bank_meaning.specs.Requests.{effect, executes, first, repeated}
@@ -47,6 +46,7 @@ use Rattle.decide.specs.Slips.{IsDenied, IsJudgedWithSlip, IsMade, IsOfFound, or
 use Rattle.decide.specs.declared.slips.Judgement.{Judgement}
 use Rattle.decide.specs.declared.slips.Judgement.TheVariants as judgement
 use Rattle.decide.proofs.UsedUp.{taken_behind}
+use Rattle.bank_meaning.proofs.Forms.{law_of}
 
 -- ---- the rule on counts, with the slip and without
 
@@ -77,19 +77,7 @@ behind = rule.Officer ∷ rule.Certifier ∷ rule.Separation ∷ rule.PolicyUnkn
 
 -- no rule on commands denies an operation
 none_behind : (w : WorldLists) (o : Op) (by : Signature) → find (λ r. (meaning_of o by w).denies r) behind ≡ None
-none_behind w (op.Post form) by = refl
-none_behind w (op.Transfer form) by = refl
-none_behind w (op.Correct form) by = refl
-none_behind w (op.DrawerOn form) by = refl
-none_behind w (op.DrawerOff form) by = refl
-none_behind w (op.MoveCash form) by = refl
-none_behind w (op.NewAccount form) by = refl
-none_behind w (op.Release form) by = refl
-none_behind w (op.Balance form) by = refl
-none_behind w (op.Statement form) by = refl
-none_behind w (op.Accounts form) by = refl
-none_behind w (op.Proof form) by = refl
-none_behind w (op.CloseDay form) by = refl
+none_behind w o by = subst (λ m. find (λ r. m.denies r) behind ≡ None) (sym ((law_of o).said by w)) ((law_of o).no_commands ((form_of o).rows by w) by)
 
 with_full : (full : Bool) (d : Rule → Bool) → first_by false full d ≡ or_else (find d front) (cond (full || d rule.Full) (Some rule.Full) (find d behind))
 with_full full d = find-or (by_slip false full d) front_with_slip (rule.Full ∷ behind)
@@ -153,19 +141,7 @@ denies_without w x zero some = subst IsSome (told_fresh w x (fresh w x (none_fou
 
 -- a report bears no slip
 slip_of_form : (o : Op) (n : ℕ) → is_report o ≡ true → (if takes_slip (procedure_of o) then n else 0) ≡ 0
-slip_of_form (op.Post form) n is = absurd cc
-slip_of_form (op.Transfer form) n is = absurd cc
-slip_of_form (op.Correct form) n is = absurd cc
-slip_of_form (op.DrawerOn form) n is = absurd cc
-slip_of_form (op.DrawerOff form) n is = absurd cc
-slip_of_form (op.MoveCash form) n is = absurd cc
-slip_of_form (op.NewAccount form) n is = absurd cc
-slip_of_form (op.Release form) n is = absurd cc
-slip_of_form (op.Balance form) n is = absurd cc
-slip_of_form (op.Statement form) n is = refl
-slip_of_form (op.Accounts form) n is = refl
-slip_of_form (op.Proof form) n is = refl
-slip_of_form (op.CloseDay form) n is = absurd cc
+slip_of_form o n is = ap (λ b. if b then n else 0) ((law_of o).reports_ask is)
 
 pub report_bears_none : (x : Execution) (number : ℕ) → slip_named x ≡ number → number ≢ 0 → is_report x.op ≡ true → ⊥
 report_bears_none x number named some is = some (sym named ∙ slip_of_form x.op x.who.slip is)

@@ -38,7 +38,7 @@ use Rattle.bank_meaning.specs.Executions.{execution_meaning, is_of_policy, signa
 use Rattle.bank_meaning.specs.LastWord as Said
 use Rattle.bank_meaning.specs.Meaning.{Meaning, ReplyText, rules_behind_policy, by_books}
 use Rattle.bank_meaning.specs.NamedRelease.{counts, release_grounds_of}
-use Rattle.bank_meaning.specs.Operations.{meaning_of}
+use Rattle.bank_meaning.specs.Operations.{form_of, meaning_of}
 use Rattle.bank_meaning.specs.PolicyRules.{asker, grounds, is_identified, is_in_limit, is_released, leave_of, used_by}
 use Rattle.bank_meaning.specs.Order.{IsInOrder}
 use Rattle.bank_meaning.specs.Requests.{denies, effect, executes, first, repeated, reply_text, rules}
@@ -54,14 +54,18 @@ use Rattle.bank_meaning.proofs.AllowedRequest.{allowed_by_books}
 use Rattle.bank_meaning.proofs.FirstRule.{none_denies}
 use Rattle.bank_meaning.proofs.KeptOrder.{in_order_all_written}
 use Rattle.bank_meaning.proofs.LastWord.{last_word}
-use Rattle.bank_meaning.proofs.LastWordKept.{IsPolicyKept, kept_itself, operation_kept}
+use Rattle.bank_meaning.proofs.LastWordKept.{operation_kept}
+use Rattle.bank_meaning.proofs.BookChanges.{IsPolicyKept, kept_itself}
 use Rattle.two_worlds.specs.Agree.{AgreeOnGiver, Agree, AgreeByForm, AgreeOnPolicy, AgreeOnSlip, AgreeOnSlipCount, releases_given}
 use Rattle.two_worlds.specs.Laws.{AgreeingAnswerAlike, BlindlyDenied, IsNotGiven, IsOtherRelease, OnlyOperationsChangeItems, OthersAreLeftAlone, TwoWorlds, Undisturbed, is_blind, is_operation}
 use Rattle.two_worlds.specs.View.{view_at, view_of}
 use Rattle.two_worlds.proofs.DrawerSum.{have_drawers}
-use Rattle.two_worlds.proofs.Forms.{changes_of, effect_is}
+use Rattle.bank_meaning.specs.Form.{changed_by}
+use Rattle.bank_meaning.proofs.BookChanges.{all_applied}
+use Rattle.bank_meaning.proofs.Forms.{law_of}
+use Rattle.two_worlds.proofs.LocalForms.{local_of}
 use Rattle.two_worlds.proofs.Judged.{judged_alike, judgement_of}
-use Rattle.two_worlds.proofs.Plans.{IsCarried, carried}
+use Rattle.two_worlds.proofs.PlanParts.{IsCarried}
 use Rattle.two_worlds.proofs.Policy.{blind_same, leave_same, policy_same}
 use Rattle.two_worlds.proofs.Releases.{all_given_after, plan_gives, plan_release, releases_after, use_leaves, uses}
 use Rattle.two_worlds.proofs.Slips.{another_same, count_still, denied_is_none, made, other_count, other_slip, repeated_same, room_same, slip_still, stays_taken, taken_of, takes, unknown_is_none, used_and_taken}
@@ -69,12 +73,9 @@ use Rattle.two_worlds.proofs.Within.{AreAlike, AreWithin, IsSteady, plan_alike, 
 
 -- ---- what a request makes of a World, as changes
 
-applied_plain : (cs : List RowWrite) (w : WorldLists) → changes_policy cs ≡ false → applied cs w ≡ all_written cs w
-applied_plain cs w plain = ap (λ b. if (not b || nat_lt w.version max_version) then with_version b (all_written cs w) else w) plain
-
 -- those of its operation, and the use of a release and of a slip; none where it is a repeat or a rule denies it
 abbrev plan_of : WorldLists → Execution → List RowWrite
-plan_of w x = made w x (changes_of x.op (signature_of x) w) []
+plan_of w x = made w x (changed_by (form_of x.op) (signature_of x) w) []
 
 abbrev uses_of : WorldLists → Execution → List RowWrite
 uses_of w x = made w x (uses (leave_of (grounds w x)) (asker x.who) ++ takes x (reply_text w (executes x)).bytes) []
@@ -84,8 +85,8 @@ is_steady w bank = record { order = bank.in_order; drawers = have_drawers w bank
 
 -- what an operation that no rule denies changes is among what it touches
 module _ (w : WorldLists) (x : Execution) (bank : PassesChecks w) (proper : IsOp x.op) where
-  its_changes : first w (executes x) ≡ None → IsCarried (touched x.op) w.tellers (IsNotGiven w x.op) (changes_of x.op (signature_of x) w)
-  its_changes none = carried x.op (signature_of x) w bank.books.in_range.keys.tellers proper (allowed_by_books w x none)
+  its_changes : first w (executes x) ≡ None → IsCarried (touched x.op) w.tellers (IsNotGiven w x.op) (changed_by (form_of x.op) (signature_of x) w)
+  its_changes none = (local_of x.op).carried (signature_of x) w bank.books.in_range.keys.tellers proper (allowed_by_books w x none)
 
   step_is : step w (executes x) ≡ all_written (uses_of w x) (all_written (plan_of w x) w)
   step_is = go (repeated w (executes x)) (first w (executes x)) refl
@@ -96,11 +97,12 @@ module _ (w : WorldLists) (x : Execution) (bank : PassesChecks w) (proper : IsOp
       go : (kept : Option (List ℕ)) (f : Option Rule) → first w (executes x) ≡ f
           → unless_repeated kept (if_allowed f (effect w (executes x)) w) w
           ≡ all_written (unless_repeated kept (if_allowed f (uses (leave_of (grounds w x)) (asker x.who) ++ takes x bytes) []) [])
-          (all_written (unless_repeated kept (if_allowed f (changes_of x.op (signature_of x) w) []) []) w)
+          (all_written (unless_repeated kept (if_allowed f (changed_by (form_of x.op) (signature_of x) w) []) []) w)
       go None None none =
           ap (λ z. taken_by x bytes (used_by (leave_of (grounds w x)) (asker x.who) z))
-          (effect_is x.op (signature_of x) w ∙ applied_plain (changes_of x.op (signature_of x) w) w (its_changes none).plain)
-          ∙ used_and_taken (leave_of (grounds w x)) (asker x.who) x bytes (all_written (changes_of x.op (signature_of x) w) w)
+          (ap (λ m. m.effect) ((law_of x.op).said (signature_of x) w)
+          ∙ all_applied (changed_by (form_of x.op) (signature_of x) w) w ((law_of x.op).books_alone ((form_of x.op).rows (signature_of x) w) (signature_of x)))
+          ∙ used_and_taken (leave_of (grounds w x)) (asker x.who) x bytes (all_written (changed_by (form_of x.op) (signature_of x) w) w)
       go None (Some r) denied = refl
       go (Some again) f is = refl
 
@@ -108,7 +110,7 @@ module _ (w : WorldLists) (x : Execution) (bank : PassesChecks w) (proper : IsOp
   plan_within = go (repeated w (executes x)) (first w (executes x)) refl
     where
       go : (kept : Option (List ℕ)) (f : Option Rule) → first w (executes x) ≡ f
-          → AreWithin (touched x.op) w.tellers (unless_repeated kept (if_allowed f (changes_of x.op (signature_of x) w) []) [])
+          → AreWithin (touched x.op) w.tellers (unless_repeated kept (if_allowed f (changed_by (form_of x.op) (signature_of x) w) []) [])
       go None None none = (its_changes none).within
       go None (Some r) denied = tt
       go (Some again) f is = tt
@@ -373,7 +375,7 @@ module _ (w : WorldLists) (x : Execution) (bank : PassesChecks w) (proper : IsOp
   plan_leaves_release user number other o = go (repeated w (executes x)) (first w (executes x)) refl
     where
       go : (kept : Option (List ℕ)) (f : Option Rule) → first w (executes x) ≡ f
-          → releases_after (unless_repeated kept (if_allowed f (changes_of x.op (signature_of x) w) []) []) user number o ≡ o
+          → releases_after (unless_repeated kept (if_allowed f (changed_by (form_of x.op) (signature_of x) w) []) []) user number o ≡ o
       go None None none = (its_changes w x bank proper none).releases user number other.not_given o
       go None (Some r) denied = refl
       go (Some again) f is = refl
@@ -429,7 +431,7 @@ module _ (w v : WorldLists) (x : Execution) (bank : PassesChecks w) (bank' : Pas
       (sym (ap (λ z. release z user number) (step_is w x bank proper) ∙ release_after_is w v x bank bank' proper agree w bank.in_order (plan_of w x) (uses_of w x) user number) ∙ is)
     where
       none_given : (kept : Option (List ℕ)) (f : Option Rule) → first w (executes x) ≡ f
-          → releases_after (unless_repeated kept (if_allowed f (changes_of x.op (signature_of x) w) []) []) user number None ≡ None
+          → releases_after (unless_repeated kept (if_allowed f (changed_by (form_of x.op) (signature_of x) w) []) []) user number None ≡ None
       none_given None None none =
           (its_changes w x bank proper none).releases user number
           (subst (λ u. IsNotGiven w x.op u number) (sym by) (not_to_himself x.op (signature_of x) w number (allowed_by_books w x none))) None

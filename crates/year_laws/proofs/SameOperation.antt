@@ -19,6 +19,7 @@ use Rattle.bank_meaning.specs.Meaning.{ReplyText, json}
 use Rattle.bank_meaning.specs.NamedRelease.{is_same_operation}
 use Rattle.year_laws.specs.GoesOn.{Turn, correct_at_old, op_at_old, releasable_at_old}
 use Rattle.year_laws.specs.RepliedAlike.{IsRepliedAlike}
+use Rattle.year_laws.proofs.YearForms.{year_of}
 
 -- ---- numbers
 
@@ -131,11 +132,4 @@ replied_too t y x a b same replied =
 
 -- and so is what is kept of both replies
 pub kept_too : (t : Turn) (x : Op) (a b : ReplyText) → IsRepliedAlike t x a b → IsRepliedAlike t x (json a.bytes) (json b.bytes)
-kept_too t (op.Post f) a b replied = (replied.0, ap (λ r. json r.bytes) replied.1, ap (λ r. json r.bytes) replied.2)
-kept_too t (op.Transfer f) a b replied = (replied.0, ap (λ r. json r.bytes) replied.1, ap (λ r. json r.bytes) replied.2)
-kept_too t (op.Correct f) a b replied = (replied.0, ap (λ r. json r.bytes) replied.1, ap (λ r. json r.bytes) replied.2)
-kept_too t (op.CloseDay f) a b replied = (replied.0, ap (λ r. json r.bytes) replied.1, ap (λ r. json r.bytes) replied.2)
-kept_too t (op.Statement f) a b replied = tt
-kept_too t (op.Accounts f) a b replied = tt
-kept_too t (op.Proof f) a b replied = tt
-kept_too t x a b replied = ap (λ (r : ReplyText). json r.bytes) replied
+kept_too t x a b replied = (year_of x).kept t a b replied

@@ -40,15 +40,10 @@ use Rattle.year_laws.specs.JudgedAlike.{NamesAnEntry}
 use Rattle.year_laws.specs.StaysAlike.{AddsLast, BooksStayAlike, IsReleaseAlike, StayAlike, TurnsAlike}
 use Rattle.year_laws.proofs.AccountsAlike.{account_stays, no_turns}
 use Rattle.year_laws.proofs.AtTheTurn.{year_turns}
-use Rattle.year_laws.proofs.CorrectionsAlike.{correct_stays}
-use Rattle.year_laws.proofs.DaysAlike.{day_stays}
-use Rattle.year_laws.proofs.DrawersAlike.{drawer_off_stays, drawer_on_stays}
 use Rattle.year_laws.proofs.FoundAlike.{same_branch}
-use Rattle.year_laws.proofs.MovesAlike.{move_stays}
-use Rattle.year_laws.proofs.PostsAlike.{post_stays}
 use Rattle.year_laws.proofs.ReleasesAlike.{release_stays}
 use Rattle.year_laws.proofs.RowsAlike.{carried}
-use Rattle.year_laws.proofs.TransfersAlike.{transfer_stays}
+use Rattle.year_laws.proofs.YearForms.{year_of}
 
 -- ---- when the year turns
 
@@ -113,76 +108,7 @@ turns_alike w books order closed =
     let adds = books_add w books order in
     record { alike = year_turns w books closed; old_adds = adds; new_adds = begun_adds w adds; turns = λ key none. no_turns w adds key none; given = λ user. refl; releases = past_release w books }
 
--- ---- an account, a release and a day
-
--- it is not there where the rule lets it pass
-not_there : (w : WorldLists) (form : NewAccount) → first_against_new_account (opening_rows w form) ≡ None → account_row form.account w.accounts ≡ None
-not_there w form none = go (account_row form.account w.accounts) (passed_by _ _ _ (passed_by _ _ _ none).1).0
-  where
-    go : (o : Option Account) → is_some (option_map (account_record_of w) o) ≡ false → o ≡ None
-    go None free = refl
-    go (Some a) free = absurd cc
-
--- a release is of the same branch at both banks
-same_place : (t : Turn) (o : Releasable) → branch_of (releasable_at_old t o) ≡ branch_of o
-same_place t (form.Correct f) = refl
-same_place t other = refl
-
-module _ (t : Turn) (old new : WorldLists) (stay : StayAlike t old new) where
-  new_account_stays : (form : NewAccount) → first_against_new_account (opening_rows old form) ≡ None → first_against_new_account (opening_rows new form) ≡ None
-      → StayAlike t (new_account_effect old form) (new_account_effect new form)
-  new_account_stays form old_none new_none = account_stays t old new stay (opened form) (not_there old form old_none) (not_there new form new_none)
-
-  gives_alike : (r : ReleaseForm) (by : Signature) → let moved : ReleaseForm = record r { operation = releasable_at_old t r.operation } in
-      first_against_release (release_rows old moved) moved by ≡ None → first_against_release (release_rows new r) r by ≡ None → StayAlike t (release_effect old moved by) (release_effect new r by)
-  gives_alike r by old_none new_none =
-      let moved : ReleaseForm = record r { operation = releasable_at_old t r.operation } in
-      let o = given.are_there old moved by old_none in
-      let n = given.are_there new r by new_none in
-      carried (StayAlike t) _ _ _ _ (given.effect_is old moved by o) (given.effect_is new r by n)
-      (release_stays t old new stay (given_release (release_count o.user.user old.releases) o.branch.day moved by) (given_release (release_count n.user.user new.releases) n.branch.day r by) refl
-      (ap (λ k. k + 1) (counts_are o n))
-      (record {
-        giver = refl;
-        branch = same_place t r.operation;
-        day = (same_branch t old new stay.alike (branch_of r.operation) o.branch n.branch (subst (λ k. branch_row k old.branches ≡ Some o.branch) (same_place t r.operation) o.branch_there) n.branch_there).day;
-        used = refl;
-        operation = (r.operation, (refl, refl));
-      })
-      (ap (λ k. release_count k old.releases + 1) (found_row user_key r.beneficiary old.policy.users o.user o.user_there).1)
-      (ap (λ k. release_count k new.releases + 1) (found_row user_key r.beneficiary new.policy.users n.user n.user_there).1))
-    where
-      counts_are : (o : given.AreThere old (record r { operation = releasable_at_old t r.operation })) (n : given.AreThere new r) → release_count o.user.user old.releases ≡ release_count n.user.user new.releases
-      counts_are o n =
-          ap (λ k. release_count k old.releases) (found_row user_key r.beneficiary old.policy.users o.user o.user_there).1 ∙ stay.given r.beneficiary
-          ∙ sym (ap (λ k. release_count k new.releases) (found_row user_key r.beneficiary new.policy.users n.user n.user_there).1)
-
-  closes_alike : (form : CloseDay) → first_against_close_day (closing_rows old form) ≡ None → first_against_close_day (closing_rows new form) ≡ None
-      → StayAlike t (close_day_effect old form) (close_day_effect new form)
-  closes_alike form old_none new_none =
-      let o = close.is_there old form (close.is_allowed (closing_rows old form) old_none) in
-      let n = close.is_there new form (close.is_allowed (closing_rows new form) new_none) in
-      let branch = same_branch t old new stay.alike form.branch o.branch n.branch o.branch_is n.branch_is in
-      carried (StayAlike t) _ _ _ _ (close.effect_is old form o) (close.effect_is new form n)
-      (day_stays t old new stay (close.proof_of old form o) (close.proof_of new form n) refl branch.day)
-
-  -- ---- every form
-
-  stays : (x : Op) → NamesAnEntry x → (by : Signature) → (by_books (meaning_of (op_at_old t x) by old)).first ≡ None → (by_books (meaning_of x by new)).first ≡ None
-      → StayAlike t (meaning_of (op_at_old t x) by old).effect (meaning_of x by new).effect
-  stays (op.Post post) names by old_none new_none = post_stays t old new stay post by old_none new_none
-  stays (op.Transfer form) names by old_none new_none = transfer_stays t old new stay form by old_none new_none
-  stays (op.Correct c) names by old_none new_none = correct_stays t old new stay c names by old_none new_none
-  stays (op.DrawerOn form) names by old_none new_none = drawer_on_stays t old new stay by form old_none new_none
-  stays (op.DrawerOff form) names by old_none new_none = drawer_off_stays t old new stay by form old_none new_none
-  stays (op.MoveCash move) names by old_none new_none = move_stays t old new stay move by old_none new_none
-  stays (op.NewAccount form) names by old_none new_none = new_account_stays form old_none new_none
-  stays (op.Release r) names by old_none new_none = gives_alike r by old_none new_none
-  stays (op.Balance form) names by old_none new_none = stay
-  stays (op.Statement form) names by old_none new_none = stay
-  stays (op.Accounts form) names by old_none new_none = stay
-  stays (op.Proof form) names by old_none new_none = stay
-  stays (op.CloseDay form) names by old_none new_none = closes_alike form old_none new_none
+-- ---- every form
 
 pub books_stay_alike : BooksStayAlike
-books_stay_alike t old new stay x names by old_none new_none = stays t old new stay x names by old_none new_none
+books_stay_alike t old new stay x names by old_none new_none = (year_of x).stays t old new stay names by old_none new_none

@@ -3,13 +3,17 @@ use Rattle.sqlite_disk.specs.declared.Files.{Files}
 use Rattle.sqlite_wal.specs.Reads.{AreClean}
 use Rattle.sqlite.specs.Closing.{IsCopied}
 use Rattle.sqlite.specs.Files.{IsClosed}
-use Rattle.cli_file.proofs.OpenedLemmas.{closed_bank}
+use Rattle.cli_file.proofs.OpenedLemmas.{closed_bank, closed_one}
 use Rattle.cli_file.proofs.file.close.Goals as goal
 
 pub returns-in-Ok : goal.returns-in-Ok
 returns-in-Ok g c =
     let copied = subst (λ conn. AreClean g.D.Disk c.in-Ok.files.log c.in-Ok.files.db → IsCopied conn c.in-Ok.files) c.into_connection.ensures.connection c.in-Ok.ensures.copied in
-    record { copied = copied; bank = closed_bank g.D.Disk c.args.store c.in-Ok.files copied }
+    record {
+      copied = copied;
+      bank = closed_bank g.D.Disk c.args.store c.in-Ok.files copied;
+      one = closed_one g.D.Disk c.args.store c.in-Ok.files g.met.D.Disk.seen_may_stay copied;
+    }
 
 pub returns-in-Err : goal.returns-in-Err
 returns-in-Err g c = record {

@@ -1,4 +1,4 @@
--- Form by form: what an operation changes, and that in two Worlds in which what it touches is alike the rows that it is judged on are the same.
+-- In two Worlds in which what it touches is alike the rows that a form is judged on are the same.
 use Rattle.std.proofs.Common.{◌≡◌, ℕ, List, [], ◌∷◌, Bool, true, false, not, refl, ap, ap₂, arith, sym, ◌∙◌, ◌==◌, ◌&&◌, ◌||◌, Option, Some, None, Contains}
 use Rattle.std.specs.Prelude.{if◌then◌else◌, is_some, option_and_then, option_map}
 use Rattle.std.specs.List.{find, list_any}
@@ -35,35 +35,12 @@ use Rattle.world_reads.specs.BookReads.{entry, is_entry, roster, undoes_entry, u
 use Rattle.rule_tests.specs.BranchParts.{cash_book_of, ledger_of}
 use Rattle.counter_ops.specs.Touched.{account_item, branch_item, drawer_item, history_item, teller_item, touched_at, touched_by_books, touched_by_correct, touched_by_drawer, touched_by_move_cash, touched_by_post, touched_by_releasable, touched_by_transfer, vault_item}
 use Rattle.bank_meaning.specs.NewAccount.{opened, opening_rows}
-use Rattle.bank_meaning.specs.Operations.{meaning_of}
 use Rattle.bank_meaning.specs.Release.{release_changes, release_rows}
 use Rattle.two_worlds.specs.View.{view_of}
 use Rattle.two_worlds.proofs.DrawerSum.{book_in, book_seen}
 use Rattle.two_worlds.proofs.Places.{at_counter, branch_there, branch_touched, other_there, place_there, source_there, target_there, vault_there}
 use Rattle.two_worlds.proofs.Seen.{account_in, account_seen, day_seen, entry_seen, held_seen, homed_in, homed_seen, ledger_in, ledger_seen, teller_in, teller_seen, undone_seen, vault_in, vault_seen}
 use Rattle.two_worlds.proofs.Within.{AreAlike}
-
--- ---- what it changes
-
--- by the rows that it finds
-abbrev pub changes_of : Op → Signature → WorldLists → List RowWrite
-changes_of (op.Post post) by w = post_changes (post_rows w post) post by
-changes_of (op.Transfer transfer) by w = transfer_changes (transfer_rows w transfer) transfer by
-changes_of (op.Correct correct) by w = correct_changes (correct_rows w correct) correct by
-changes_of (op.DrawerOn form) by w = drawer_on_changes (drawer_rows w form.teller form.branch) form by
-changes_of (op.DrawerOff form) by w = drawer_off_changes (drawer_rows w form.teller form.branch) form by
-changes_of (op.MoveCash move) by w = move_changes (move_rows w move) move by
-changes_of (op.NewAccount form) by w = write.Account (opened form) ∷ []
-changes_of (op.Release form) by w = release_changes (release_rows w form) form by
-changes_of (op.Balance form) by w = []
-changes_of (op.Statement form) by w = []
-changes_of (op.Accounts form) by w = []
-changes_of (op.Proof form) by w = []
-changes_of (op.CloseDay form) by w = close_day_changes (closing_rows w form) form
-
-pub effect_is : (o : Op) (by : Signature) (w : WorldLists) → (meaning_of o by w).effect ≡ applied (changes_of o by w) w
-effect_is (op.Post post) by w = refl
-effect_is _ by w = refl
 
 -- ---- the rows
 
@@ -74,44 +51,35 @@ module _ (w v : WorldLists) (books : Books w) (books' : Books v) where
   pub same_account : (key : ℕ) → Same (account_item key) → account_record w key ≡ account_record v key
   same_account key same = account_seen w key ∙ ap account_in same ∙ sym (account_seen v key)
 
-  same_teller : (key : ℕ) → Same (teller_item key) → Same (drawer_item key) → teller_record w key ≡ teller_record v key
+  pub same_teller : (key : ℕ) → Same (teller_item key) → Same (drawer_item key) → teller_record w key ≡ teller_record v key
   same_teller key same drawer = teller_seen w key ∙ ap₂ (teller_in key) same drawer ∙ sym (teller_seen v key)
 
-  same_ledger : (key : ℕ) → Same (branch_item key) → Same (history_item key) → option_map ledger_of (branch_record w key) ≡ option_map ledger_of (branch_record v key)
+  pub same_ledger : (key : ℕ) → Same (branch_item key) → Same (history_item key) → option_map ledger_of (branch_record w key) ≡ option_map ledger_of (branch_record v key)
   same_ledger key same history = ledger_seen w key ∙ ap₂ ledger_in same history ∙ sym (ledger_seen v key)
 
-  same_book : (key : ℕ) → Same (branch_item key) → option_map cash_book_of (branch_record w key) ≡ option_map cash_book_of (branch_record v key)
+  pub same_book : (key : ℕ) → Same (branch_item key) → option_map cash_book_of (branch_record w key) ≡ option_map cash_book_of (branch_record v key)
   same_book key same = book_seen w key books ∙ ap book_in same ∙ sym (book_seen v key books')
 
-  same_vault : (key : ℕ) → Same (vault_item key) → option_map (λ b. b.vault) (branch_record w key) ≡ option_map (λ b. b.vault) (branch_record v key)
+  pub same_vault : (key : ℕ) → Same (vault_item key) → option_map (λ b. b.vault) (branch_record w key) ≡ option_map (λ b. b.vault) (branch_record v key)
   same_vault key same = vault_seen w key ∙ ap vault_in same ∙ sym (vault_seen v key)
 
   pub same_day : (key : ℕ) → Same (branch_item key) → option_map (λ b. b.row.day) (branch_record w key) ≡ option_map (λ b. b.row.day) (branch_record v key)
   same_day key same = day_seen w key ∙ ap (λ s. option_map (λ row. row.day) s.branch) same ∙ sym (day_seen v key)
 
-  same_homed : (key : ℕ) → Same (branch_item key) → option_map (λ b. b.accounts) (branch_record w key) ≡ option_map (λ b. b.accounts) (branch_record v key)
+  pub same_homed : (key : ℕ) → Same (branch_item key) → option_map (λ b. b.accounts) (branch_record w key) ≡ option_map (λ b. b.accounts) (branch_record v key)
   same_homed key same = homed_seen w key ∙ ap homed_in same ∙ sym (homed_seen v key)
 
-  same_held : (key : ℕ) → Same (branch_item key) → list_any (λ t. is_some t.holder) (roster w key) ≡ list_any (λ t. is_some t.holder) (roster v key)
+  pub same_held : (key : ℕ) → Same (branch_item key) → list_any (λ t. is_some t.holder) (roster w key) ≡ list_any (λ t. is_some t.holder) (roster v key)
   same_held key same = held_seen w key ∙ ap (λ s. list_any (λ r. is_some r.holder) s.roster) same ∙ sym (held_seen v key)
 
-  same_entry : (key number : ℕ) → Same (history_item key) → entry w key number ≡ entry v key number
+  pub same_entry : (key number : ℕ) → Same (history_item key) → entry w key number ≡ entry v key number
   same_entry key number same = entry_seen w key number ∙ ap (λ s. find (is_entry key number) s.entries) same ∙ sym (entry_seen v key number)
 
-  same_undone : (key number : ℕ) → Same (history_item key) → undone w key number ≡ undone v key number
+  pub same_undone : (key number : ℕ) → Same (history_item key) → undone w key number ≡ undone v key number
   same_undone key number same =
       undone_seen w key number ∙ ap (λ s. not (number == 0) && list_any (undoes_entry key number) s.entries) same ∙ sym (undone_seen v key number)
 
-  -- ---- of a post and of a transfer
-
-  pub post_same : (post : Post) → AreAlike (touched_by_post post) w v → post_rows w post ≡ post_rows v post
-  post_same post same =
-      let branch = same (branch_item post.branch) (2, omega arith, refl) in
-      let account = same_account post.account (same (account_item post.account) (0, omega arith, refl)) in
-      let teller = same_teller post.teller (same (teller_item post.teller) (1, omega arith, refl)) (same (drawer_item post.teller) (4, omega arith, refl)) in
-      let ledger = same_ledger post.branch branch (same (history_item post.branch) (3, omega arith, refl)) in
-      let book = same_book post.branch branch in
-      λ i. record { account = account i; teller = teller i; ledger = ledger i; cash_book = book i }
+  -- ---- of a transfer
 
   pub transfer_same : (transfer : Transfer) → AreAlike (touched_by_transfer transfer) w v → transfer_rows w transfer ≡ transfer_rows v transfer
   transfer_same transfer same =

@@ -1,0 +1,26 @@
+-- The laws of a question for a balance: it changes nothing.
+use Rattle.std.proofs.Common.{refl, ap}
+use Rattle.bank_terms.specs.declared.rule.Rule.TheVariants as rule
+use Rattle.bank_meaning.proofs.JudgedParts.{account_there}
+use Rattle.counter_ops.specs.declared.op.Op.TheVariants as op
+use Rattle.counter_ops.specs.declared.balance.Balance.{Balance}
+use Rattle.bank_meaning.proofs.AmountParts.{no_amount}
+use Rattle.bank_meaning.proofs.BookChanges.{none_at_all}
+use Rattle.bank_meaning.proofs.IsForm.{IsForm}
+use Rattle.bank_meaning.proofs.NoMoves.{none_within}
+use Rattle.bank_meaning.proofs.Steps.{stands}
+
+pub balance_is_form : (form : Balance) → IsForm (op.Balance form)
+balance_is_form form = record {
+  said = λ by w. refl;
+  books_alone = λ rows by. none_at_all;
+  no_slips = λ s by w. refl;
+  asks = λ is. record { nothing = refl; silent = λ rows by. refl };
+  in_json = λ is rows by. refl;
+  reports_ask = λ is. absurd cc;
+  no_commands = λ rows by. refl;
+  steps = λ by w checks proper signed none. stands w checks;
+  judged = λ w who moment none. account_there w form.account (none rule.Unknown);
+  moves = none_within 0;
+  cash = λ is by w branch place. no_amount 0;
+}

@@ -1,0 +1,105 @@
+-- The laws of a day that is closed.
+use Rattle.bank_books.specs.Balances.{account_balance, branch_balance, entry_count, teller_balance}
+use Rattle.bank_books.specs.Books.{Books}
+use Rattle.bank_books.specs.Cash.{cash_entry_total, holder_of, place_cash, vault_opening}
+use Rattle.bank_books.specs.Keys.{proof_key}
+use Rattle.bank_books.specs.Records.{branch_record, teller_record_of}
+use Rattle.bank_books.specs.WorldLists.{WorldLists}
+use Rattle.bank_books.specs.declared.row_write.RowWrite.TheVariants as write
+use Rattle.bank_books.specs.declared.rows.Proof.{Proof}
+use Rattle.bank_meaning.proofs.AmountParts.{no_amount, placed}
+use Rattle.bank_meaning.proofs.BookChanges.{by_row}
+use Rattle.bank_meaning.proofs.IsForm.{IsForm}
+use Rattle.bank_meaning.proofs.JudgedParts.{NoneDenies, branch_of_ledger, no_holder}
+use Rattle.bank_meaning.proofs.KeptOrder.{in_order_all_written}
+use Rattle.bank_meaning.proofs.NoMoves.{none_within}
+use Rattle.bank_meaning.proofs.Steps.{IsStep, none_more, passes, plus_zero}
+use Rattle.bank_meaning.specs.JudgedRows.{IsCloseDayJudged}
+use Rattle.bank_meaning.specs.Moves.{moves_nothing}
+use Rattle.bank_meaning.specs.Sums.{PassesChecks}
+use Rattle.bank_meaning.specs.declared.who.Who.{Who}
+use Rattle.bank_policy.proofs.RowsTell.{in_filter}
+use Rattle.bank_terms.specs.declared.rule.Rule.TheVariants as rule
+use Rattle.book_laws.proofs.DayProved.{branch_still, proof_and_day_move_nothing}
+use Rattle.book_laws.proofs.Kept.{kept_beside, kept_same}
+use Rattle.book_laws.specs.Moves.{with_proof}
+use Rattle.certify.proofs.SomeRows.{none_passes}
+use Rattle.counter_ops.specs.declared.close_day.CloseDay.{CloseDay}
+use Rattle.counter_ops.specs.declared.op.Op.TheVariants as op
+use Rattle.drawers.proofs.AllowedClose as close_allowed
+use Rattle.drawers.specs.CloseDay.{close_day_changes, close_day_effect, closing_rows, first_against_close_day}
+use Rattle.keyed_rows.proofs.Rows.{Contains-map}
+use Rattle.rule_tests.specs.BranchParts.{ledger_of}
+use Rattle.rule_tests.specs.declared.ledger.Ledger.{Ledger}
+use Rattle.std.proofs.Common.{Bool, None, Option, Some, [], arith, false, refl, subst, sym, true, ℕ, ℤ, ◌+ℤ◌, ◌+◌, ◌∙◌, ◌∷◌, ◌≡◌, ◌≢◌, ◌≤◌}
+use Rattle.std.proofs.lemmas.Bool.{eq-eqb, or_parts}
+use Rattle.std.proofs.lemmas.Int.{ints}
+use Rattle.std.specs.List.{filter}
+use Rattle.std.specs.Prelude.{is_none, is_some, option_map, unsigned_abs}
+use Rattle.world_reads.specs.BookReads.{is_teller_of, roster}
+
+same_opening : (before after rest : ℤ) → after +ℤ rest ≡ before +ℤ rest → after ≡ before
+same_opening before after rest same = omega (arith, ints)
+
+proves : (w : WorldLists) (p : Proof) → PassesChecks w → Books (with_proof p w) → IsStep w (with_proof p w) moves_nothing
+proves w p checks books =
+    let nothing = proof_and_day_move_nothing w p in
+    record {
+      checks = passes w (with_proof p w) checks (in_order_all_written (write.Proof p ∷ write.Day (record { branch = p.branch; day = p.day + 1 }) ∷ []) w checks.in_order) refl books;
+      branches = λ key. nothing.branch_balances key ∙ plus_zero (branch_balance w key);
+      tellers = λ key. nothing.teller_balances key ∙ plus_zero (teller_balance w key);
+      accounts = λ key. nothing.account_balances key ∙ plus_zero (account_balance w key);
+      history = λ branch. none_more (entry_count branch w.entries);
+      cash_entries = λ branch. plus_zero (cash_entry_total branch w.lines);
+      stay = λ branch there. branch_still w p branch there;
+      vaults = λ branch. same_opening (vault_opening branch w.branches) (vault_opening branch (with_proof p w).branches) (place_cash branch 0 w.lines) (nothing.cash branch 0);
+      added = record { entries = kept_same w.entries; lines = kept_same w.lines; proofs = kept_beside proof_key p w.proofs };
+    }
+
+closes : (w : WorldLists) (form : CloseDay) → PassesChecks w → first_against_close_day (closing_rows w form) ≡ None → IsStep w (close_day_effect w form) moves_nothing
+closes w form checks is =
+    let there = close_allowed.is_there w form (close_allowed.is_allowed (closing_rows w form) is) in
+    let effect = close_allowed.effect_is w form there in
+    subst (λ after. IsStep w after moves_nothing) (sym effect)
+    (proves w (close_allowed.proof_of w form there) checks (subst Books effect (close_allowed.close_day_keeps_books w form checks.books is)))
+
+close_day_lines : (w : WorldLists) (form : CloseDay) (branch place : ℕ) → unsigned_abs (placed branch place (close_day_changes (closing_rows w form) form)) ≤ 0
+close_day_lines w form branch place = go (closing_rows w form).ledger (closing_rows w form).vault
+  where
+    go : (l : Option Ledger) (v : Option ℤ) → unsigned_abs (placed branch place (close_day_changes (record (closing_rows w form) { ledger = l; vault = v }) form)) ≤ 0
+    go (Some l) (Some v) = no_amount 0
+    go (Some l) None = no_amount 0
+    go None v = no_amount 0
+
+is_false : (b : Bool) → b ≢ true → b ≡ false
+is_false false is = refl
+is_false true is = absurd (is refl)
+
+close_day_judged : (w : WorldLists) (who : Who) (moment : ℕ) (form : CloseDay) → NoneDenies w who moment (op.CloseDay form) → IsCloseDayJudged w form
+close_day_judged w who moment form none =
+    let ledger = option_map ledger_of (branch_record w form.branch) in
+    let vault = option_map (λ b. b.vault) (branch_record w form.branch) in
+    let known = or_parts (is_none ledger) (is_none vault) (none rule.Unknown) in
+    record {
+      branch = branch_of_ledger w form.branch known.0;
+      drawers = λ t there of.
+          no_holder (holder_of w.lines t.teller)
+          (is_false (is_some (holder_of w.lines t.teller))
+          (none_passes (λ r. is_some r.holder) (roster w form.branch) (none rule.Day) (teller_record_of w t)
+          (Contains-map (teller_record_of w) (filter (is_teller_of form.branch) w.tellers) t (in_filter (is_teller_of form.branch) w.tellers t there (eq-eqb t.branch form.branch of)))));
+    }
+
+pub close_day_is_form : (form : CloseDay) → IsForm (op.CloseDay form)
+close_day_is_form form = record {
+  said = λ by w. refl;
+  books_alone = λ rows by. by_row _ rows.ledger (λ ledger. by_row _ rows.vault (λ vault. record { each = (refl, (refl, tt)) }));
+  no_slips = λ s by w. refl;
+  asks = λ is. absurd cc;
+  in_json = λ is rows by. refl;
+  reports_ask = λ is. absurd cc;
+  no_commands = λ rows by. refl;
+  steps = λ by w checks proper signed none. closes w form checks none;
+  judged = λ w who moment none. close_day_judged w who moment form none;
+  moves = none_within _;
+  cash = λ is by w branch place. close_day_lines w form branch place;
+}

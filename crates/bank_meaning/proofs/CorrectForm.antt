@@ -1,0 +1,300 @@
+-- The laws of a correction.
+use Rattle.bank_books.specs.Books.{Books}
+use Rattle.bank_books.specs.Effects.{applied}
+use Rattle.bank_books.specs.Records.{account_record, account_record_of, branch_record, branch_record_of}
+use Rattle.bank_books.specs.WorldLists.{WorldLists}
+use Rattle.bank_books.specs.declared.records.AccountRecord.{AccountRecord}
+use Rattle.bank_books.specs.declared.row_write.RowWrite.TheVariants as write
+use Rattle.bank_books.specs.declared.rows.Branch.{Branch}
+use Rattle.bank_books.specs.declared.rows.Entry.{Entry}
+use Rattle.bank_books.specs.declared.rows.EntryForm.TheVariants as entry_form
+use Rattle.bank_books.specs.declared.rows.EntryForm.{EntryForm}
+use Rattle.bank_books.specs.declared.signature.Signature.{Signature}
+use Rattle.bank_meaning.proofs.AmountParts.{abs_of_neg, if_added, no_amount, one_line, out_in, placed}
+use Rattle.bank_meaning.proofs.BookChanges.{AreOfBooks, by_row}
+use Rattle.bank_meaning.proofs.IsForm.{IsForm}
+use Rattle.bank_meaning.proofs.JudgedParts.{NoneDenies, branch_of_ledger, branch_there, drawer_covered, holds_drawer, keeps_floor}
+use Rattle.bank_meaning.proofs.Shares.{cash_alone, legs_cancel, legs_count, one_alone, one_counts, two_alone}
+use Rattle.bank_meaning.proofs.Steps.{IsStep, IsSumOf, passes, plan_step}
+use Rattle.bank_meaning.specs.JudgedRows.{IsCorrectJudged, IsNamed, KeepsFloor}
+use Rattle.bank_meaning.specs.Operations.{moves_of}
+use Rattle.bank_meaning.specs.PolicyRules.{asker}
+use Rattle.bank_meaning.specs.Sums.{PassesChecks}
+use Rattle.bank_meaning.specs.declared.who.Who.{Who}
+use Rattle.bank_terms.specs.declared.rule.Rule.TheVariants as rule
+use Rattle.certify.proofs.SomeRows.{none_passes}
+use Rattle.counter_ops.specs.Correct.{IsCorrect}
+use Rattle.counter_ops.specs.declared.correct.Correct.{Correct}
+use Rattle.counter_ops.specs.declared.op.Op.TheVariants as op
+use Rattle.counter_ops.specs.declared.post.Post.{Post}
+use Rattle.drawers.proofs.DrawerThere.{are_there}
+use Rattle.keyed_rows.proofs.Rows.{find-found}
+use Rattle.postings.proofs.AllowedCorrect as correct_allowed
+use Rattle.postings.proofs.CorrectBooks.{correct_keeps_books}
+use Rattle.postings.specs.Correct.{correct_changes, correct_effect, correct_rows, first_against_correct, is_correctable, is_of_post, other_is_as_named, partner_of, undoing, undoing_entry, undoing_leg, undoing_legs, undoing_line, undoing_other, undoing_post}
+use Rattle.postings.specs.declared.correct.CorrectRows.{CorrectRows}
+use Rattle.rule_tests.specs.BranchParts.{cash_book_of, ledger_of}
+use Rattle.rule_tests.specs.Rules.{account_keeps_floor, drawer_covers}
+use Rattle.rule_tests.specs.Signed.{IsSigned}
+use Rattle.rule_tests.specs.declared.cash_book.CashBook.{CashBook}
+use Rattle.rule_tests.specs.declared.ledger.Ledger.{Ledger}
+use Rattle.std.proofs.Common.{Bool, Contains, None, Option, Some, [], ap, arith, false, inl, inr, neg_ℤ, not, pos, refl, subst, sym, true, ℕ, ℤ, ◌&&◌, ◌+ℤ◌, ◌+◌, ◌==◌, ◌||◌, ◌∙◌, ◌∷◌, ◌≡◌, ◌≢◌, ◌≤◌}
+use Rattle.std.proofs.lemmas.Bool.Decides.{Decides-int_eq}
+use Rattle.std.proofs.lemmas.Bool.{and_parts, cases_Bool, eq-eqb, eqb-false, eqb-true, false≢true, ne_eqb, not-false, not-true, or_parts}
+use Rattle.std.proofs.lemmas.Int.{ints}
+use Rattle.std.specs.List.{list_any}
+use Rattle.std.specs.Option.{option_map_or}
+use Rattle.std.specs.Ordering.{int_eq}
+use Rattle.std.specs.Prelude.{if◌then◌else◌, is_none, neg_ℤ, option_and_then, option_map, unsigned_abs}
+use Rattle.world_reads.specs.BookReads.{entry, is_entry, undoes_entry, undone}
+
+if_of_post : (o b : Bool) (z : ℤ) → o ≡ true → (if b then z else pos 0) ≡ (if o && b then z else pos 0)
+if_of_post o b z is = ap (λ p. if p && b then z else pos 0) (sym is)
+
+none_of_transfer : (o b : Bool) (z : ℤ) → o ≡ false → pos 0 ≡ (if o && b then z else pos 0)
+none_of_transfer o b z is = ap (λ p. if p && b then z else pos 0) (sym is)
+
+no_other : (o b : Bool) (y z : ℤ) → o ≡ true → y ≡ y +ℤ (if not o && b then z else pos 0)
+no_other o b y z is = plain y ∙ ap (λ p. y +ℤ (if not p && b then z else pos 0)) (sym is)
+  where
+    plain : (v : ℤ) → v ≡ v +ℤ pos 0
+    plain v = omega (arith, ints)
+
+with_other : (o b : Bool) (y z : ℤ) → o ≡ false → y +ℤ (if b then z else pos 0) ≡ y +ℤ (if not o && b then z else pos 0)
+with_other o b y z is = ap (λ p. y +ℤ (if not p && b then z else pos 0)) (sym is)
+
+-- n entries of a post, and m of a transfer
+counts_one : (o b : Bool) (n m none : ℕ) → o ≡ true → (if b then n else none) ≡ (if b then (if o then n else m) else none)
+counts_one o b n m none is = ap (λ p. if b then (if p then n else m) else none) (sym is)
+
+counts_two : (o b : Bool) (n m none : ℕ) → o ≡ false → (if b then m else none) ≡ (if b then (if o then n else m) else none)
+counts_two o b n m none is = ap (λ p. if b then (if p then n else m) else none) (sym is)
+
+undone_post_sums : (account : AccountRecord) (ledger : Ledger) (book : CashBook) (correct : Correct) (by : Signature) → is_of_post correct ≡ true
+    → IsSumOf (write.Entry (undoing_entry account ledger correct by) ∷ write.Line (undoing_line book correct by) ∷ []) (moves_of (op.Correct correct))
+undone_post_sums account ledger book correct by is = record {
+  branches = λ key. one_alone (if correct.branch == key then undoing correct else pos 0) ∙ if_of_post (is_of_post correct) (correct.branch == key) (undoing correct) is;
+  tellers = λ key. one_alone (if correct.teller == key then undoing correct else pos 0) ∙ if_of_post (is_of_post correct) (correct.teller == key) (undoing correct) is;
+  accounts = λ key.
+      one_alone (if correct.account == key then undoing correct else pos 0)
+      ∙ no_other (is_of_post correct) (correct.other == key) (if correct.account == key then undoing correct else pos 0) correct.delta is;
+  entries = λ key. one_counts (correct.branch == key) ∙ counts_one (is_of_post correct) (correct.branch == key) 1 2 0 is;
+  cash_entries = λ key. cash_alone (correct.branch == key) (undoing correct) ∙ if_of_post (is_of_post correct) (correct.branch == key) (undoing correct) is;
+}
+
+undone_transfer_sums : (account other : AccountRecord) (ledger : Ledger) (number : ℕ) (correct : Correct) (by : Signature) → is_of_post correct ≡ false
+    → IsSumOf (write.Entry (undoing_leg account ledger correct by) ∷ write.Entry (undoing_other other ledger number correct by) ∷ []) (moves_of (op.Correct correct))
+undone_transfer_sums account other ledger number correct by is = record {
+  branches = λ key. legs_cancel (correct.branch == key) correct.delta ∙ none_of_transfer (is_of_post correct) (correct.branch == key) (undoing correct) is;
+  tellers = λ key. legs_cancel (correct.teller == key) correct.delta ∙ none_of_transfer (is_of_post correct) (correct.teller == key) (undoing correct) is;
+  accounts = λ key.
+      two_alone (if correct.account == key then undoing correct else pos 0) (if correct.other == key then correct.delta else pos 0)
+      ∙ with_other (is_of_post correct) (correct.other == key) (if correct.account == key then undoing correct else pos 0) correct.delta is;
+  entries = λ key. legs_count (correct.branch == key) ∙ counts_two (is_of_post correct) (correct.branch == key) 1 2 0 is;
+  cash_entries = λ key. none_of_transfer (is_of_post correct) (correct.branch == key) (undoing correct) is;
+}
+
+-- of a post, or of a transfer
+corrects : (w : WorldLists) (correct : Correct) (by : Signature) → PassesChecks w → IsCorrect correct → IsSigned w by → first_against_correct (correct_rows w correct) correct by ≡ None
+    → IsStep w (correct_effect w correct by) (moves_of (op.Correct correct))
+corrects w correct by checks proper signed is =
+    let allowed = correct_allowed.is_allowed (correct_rows w correct) correct by is in
+    let there = correct_allowed.are_there w correct by allowed in
+    let account = account_record_of w there.account in
+    let branch = branch_record_of w there.branch in
+    let books = correct_keeps_books w correct by checks.books signed proper is in
+    elim (cases_Bool (is_of_post correct)) [
+      | inl post ↦
+          let effect = ap (λ changes. applied changes w) (correct_allowed.changes_of_post w correct there by post) in
+          subst (λ after. IsStep w after (moves_of (op.Correct correct))) (sym effect)
+          (plan_step w _ (moves_of (op.Correct correct)) checks (tt, (tt, tt)) (undone_post_sums account (ledger_of branch) (cash_book_of branch) correct by post) (subst Books effect books))
+      | inr legs ↦
+          let also = correct_allowed.other_is_there w correct by allowed legs in
+          let effect = ap (λ changes. applied changes w) (correct_allowed.changes_of_legs w correct there also by legs) in
+          subst (λ after. IsStep w after (moves_of (op.Correct correct))) (sym effect)
+          (plan_step w _ (moves_of (op.Correct correct)) checks (tt, (tt, tt))
+          (undone_transfer_sums account (account_record_of w also.other) (ledger_of branch) there.entry.partner correct by legs) (subst Books effect books))
+    ]
+
+undone_post_lines : (w : WorldLists) (c : Correct) (by : Signature) (branch place : ℕ) → unsigned_abs (placed branch place (undoing_post (correct_rows w c) c by)) ≤ unsigned_abs c.delta
+undone_post_lines w c by branch place = go (correct_rows w c).account (correct_rows w c).ledger (correct_rows w c).cash_book
+  where
+    go : (a : Option AccountRecord) (l : Option Ledger) (k : Option CashBook)
+        → unsigned_abs (placed branch place (undoing_post (record (correct_rows w c) { account = a; ledger = l; cash_book = k }) c by)) ≤ unsigned_abs c.delta
+    go (Some a) (Some l) (Some k) = one_line (c.branch == branch && c.teller == place) (undoing c) (unsigned_abs c.delta) (abs_of_neg c.delta)
+    go (Some a) (Some l) None = no_amount (unsigned_abs c.delta)
+    go (Some a) None k = no_amount (unsigned_abs c.delta)
+    go None l k = no_amount (unsigned_abs c.delta)
+
+undone_leg_lines : (w : WorldLists) (c : Correct) (by : Signature) (branch place : ℕ) → unsigned_abs (placed branch place (undoing_legs (correct_rows w c) c by)) ≤ unsigned_abs c.delta
+undone_leg_lines w c by branch place = go (correct_rows w c).account (correct_rows w c).other (correct_rows w c).ledger (correct_rows w c).entry
+  where
+    go : (a o : Option AccountRecord) (l : Option Ledger) (e : Option Entry)
+        → unsigned_abs (placed branch place (undoing_legs (record (correct_rows w c) { account = a; other = o; ledger = l; entry = e }) c by)) ≤ unsigned_abs c.delta
+    go (Some a) (Some o) (Some l) (Some e) = no_amount (unsigned_abs c.delta)
+    go (Some a) (Some o) (Some l) None = no_amount (unsigned_abs c.delta)
+    go (Some a) (Some o) None e = no_amount (unsigned_abs c.delta)
+    go (Some a) None l e = no_amount (unsigned_abs c.delta)
+    go None o l e = no_amount (unsigned_abs c.delta)
+
+correct_lines : (w : WorldLists) (c : Correct) (by : Signature) (branch place : ℕ) → unsigned_abs (placed branch place (correct_changes (correct_rows w c) c by)) ≤ unsigned_abs c.delta
+correct_lines w c by branch place = go (is_of_post c)
+  where
+    go : (b : Bool) → unsigned_abs (placed branch place (if b then undoing_post (correct_rows w c) c by else undoing_legs (correct_rows w c) c by)) ≤ unsigned_abs c.delta
+    go true = undone_post_lines w c by branch place
+    go false = undone_leg_lines w c by branch place
+
+there_since : {X : Type 0} (test : X → Bool) (o : Option X) → option_map_or test o false ≡ true → (x : X) × ((o ≡ Some x) × (test x ≡ true))
+there_since test None passes = absurd cc
+there_since test (Some x) passes = (x, (refl, passes))
+
+is_no_correction : (form : EntryForm) (leg : Option Entry) (c : Correct) → other_is_as_named form leg c ≡ true → form ≢ entry_form.Correction
+is_no_correction entry_form.Post leg c is same = absurd cc
+is_no_correction entry_form.TransferLeg leg c is same = absurd cc
+is_no_correction entry_form.Correction leg c is same = absurd cc
+
+of_post_form : (form : EntryForm) (leg : Option Entry) (c : Correct) → other_is_as_named form leg c ≡ true → c.other ≡ 0 → form ≡ entry_form.Post
+of_post_form entry_form.Post leg c is none = refl
+of_post_form entry_form.TransferLeg leg c is none =
+    absurd (false≢true (sym (not-true (is_of_post c) (and_parts (not (is_of_post c)) (option_map_or (λ p. p.account == c.other) leg false) is).0) ∙ eq-eqb c.other 0 none))
+of_post_form entry_form.Correction leg c is none = absurd cc
+
+of_transfer_form : (form : EntryForm) (leg : Option Entry) (c : Correct) → other_is_as_named form leg c ≡ true → c.other ≢ 0 → form ≡ entry_form.TransferLeg
+of_transfer_form entry_form.Post leg c is some = absurd (some (eqb-true c.other 0 is))
+of_transfer_form entry_form.TransferLeg leg c is some = refl
+of_transfer_form entry_form.Correction leg c is some = absurd cc
+
+other_leg_of : (form : EntryForm) (leg : Option Entry) (c : Correct) → other_is_as_named form leg c ≡ true → c.other ≢ 0 → (e : Entry) × ((leg ≡ Some e) × (e.account ≡ c.other))
+other_leg_of entry_form.Post leg c is some = absurd (some (eqb-true c.other 0 is))
+other_leg_of entry_form.TransferLeg leg c is some =
+    let found = there_since (λ p. p.account == c.other) leg (and_parts (not (is_of_post c)) (option_map_or (λ p. p.account == c.other) leg false) is).1 in
+    (found.0, (found.1.0, eqb-true found.0.account c.other found.1.1))
+other_leg_of entry_form.Correction leg c is some = absurd cc
+
+-- the leg that an entry names
+leg_there : (w : WorldLists) (branch : ℕ) (e leg : Entry) → (if e.partner == 0 then None else entry w e.branch e.partner) ≡ Some leg → e.branch ≡ branch → entry w branch e.partner ≡ Some leg
+leg_there w branch e leg is of = go (e.partner == 0) is
+  where
+    go : (b : Bool) → (if b then None else entry w e.branch e.partner) ≡ Some leg → entry w branch e.partner ≡ Some leg
+    go true is = absurd cc
+    go false is = ap (λ k. entry w k e.partner) (sym of) ∙ is
+
+both_true : (a b : Bool) → a ≡ true → b ≡ true → (a && b) ≡ true
+both_true true b is also = also
+both_true false b is also = absurd cc
+
+not_undone_twice : (w : WorldLists) (branch number : ℕ) (e : Entry) → undone w branch number ≡ false → number ≢ 0 → Contains w.entries e → e.branch ≡ branch → e.undoes ≢ number
+not_undone_twice w branch number e never some there of undoes =
+    let none : list_any (undoes_entry branch number) w.entries ≡ false = subst (λ b. (not b && list_any (undoes_entry branch number) w.entries) ≡ false) (ne_eqb number 0 some) never in
+    none_passes (undoes_entry branch number) w.entries none e there (both_true (e.branch == branch) (e.undoes == number) (eq-eqb e.branch branch of) (eq-eqb e.undoes number undoes))
+
+-- the entry that is named, with what the test on entries says of it
+pub record IsCorrectable (w : WorldLists) (c : Correct) (e : Entry) : Type 0 where
+  pub there : entry w c.branch c.entry ≡ Some e
+  pub of_branch : e.branch ≡ c.branch
+  pub not_undone : undone w c.branch c.entry ≡ false
+  pub account : e.account ≡ c.account
+  pub delta : e.delta ≡ c.delta
+  pub form : other_is_as_named e.form (partner_of w e) c ≡ true
+  pub today : option_map_or (λ ledger. e.day == ledger.day) (option_map ledger_of (branch_record w c.branch)) true ≡ true
+
+correctable : (w : WorldLists) (c : Correct) → (not (undone w c.branch c.entry) && option_map_or (λ e. is_correctable e (correct_rows w c) c) (entry w c.branch c.entry) false) ≡ true
+    → (e : Entry) × IsCorrectable w c e
+correctable w c is =
+    let parts = and_parts (not (undone w c.branch c.entry)) (option_map_or (λ e. is_correctable e (correct_rows w c) c) (entry w c.branch c.entry) false) is in
+    let found = there_since (λ e. is_correctable e (correct_rows w c) c) (entry w c.branch c.entry) parts.1 in
+    let e : Entry = found.0 in
+    let today = and_parts _ _ found.1.1 in
+    let form = and_parts _ _ today.0 in
+    let delta = and_parts (e.account == c.account) (int_eq e.delta c.delta) form.0 in
+    let at = and_parts (e.branch == c.branch) (e.number == c.entry) (find-found (is_entry c.branch c.entry) w.entries e found.1.0).1 in (
+      e,
+      record {
+        there = found.1.0;
+        of_branch = eqb-true e.branch c.branch at.0;
+        not_undone = not-true (undone w c.branch c.entry) parts.0;
+        account = eqb-true e.account c.account delta.0;
+        delta = (Decides-int_eq e.delta c.delta).0 delta.1;
+        form = subst (λ o. other_is_as_named e.form (option_and_then (partner_of w) o) c ≡ true) found.1.0 form.1;
+        today = today.1;
+      },
+    )
+
+is_named : (w : WorldLists) (c : Correct) (e : Entry) → IsCorrectable w c e → IsNamed w c e
+is_named w c e is = record {
+  account = is.account;
+  delta = is.delta;
+  of_post = of_post_form e.form (partner_of w e) c is.form;
+  of_transfer = of_transfer_form e.form (partner_of w e) c is.form;
+  other_leg = λ some.
+      let leg = other_leg_of e.form (partner_of w e) c is.form some in
+      (leg.0, (leg_there w c.branch e leg.0 leg.1.0 is.of_branch, leg.1.1));
+}
+
+-- what is asked of the other account, where one is named
+other_floor_of : (w : WorldLists) (c : Correct) → (not (is_of_post c) && is_none (if is_of_post c then None else account_record w c.other)) ≡ false
+    → account_keeps_floor (if is_of_post c then None else account_record w c.other) c.delta ≡ true → c.other ≢ 0 → KeepsFloor w c.other c.delta
+other_floor_of w c known keeps some =
+    let of = ne_eqb c.other 0 some in
+    keeps_floor w c.other c.delta
+    (subst (λ b. (not b && is_none (if b then None else account_record w c.other)) ≡ false) of known)
+    (subst (λ b. account_keeps_floor (if b then None else account_record w c.other) c.delta ≡ true) of keeps)
+
+correct_judged : (w : WorldLists) (who : Who) (moment : ℕ) (c : Correct) → NoneDenies w who moment (op.Correct c) → IsCorrectJudged w (asker who) c
+correct_judged w who moment c none =
+    let rows : CorrectRows = correct_rows w c in
+    let other_test : Bool = not (is_of_post c) && is_none rows.other in
+    let first = or_parts (is_none rows.account || other_test || is_none rows.teller || is_none rows.ledger) (is_none rows.cash_book) (none rule.Unknown) in
+    let second = or_parts (is_none rows.account || other_test || is_none rows.teller) (is_none rows.ledger) first.0 in
+    let third = or_parts (is_none rows.account || other_test) (is_none rows.teller) second.0 in
+    let accounts = or_parts (is_none rows.account) other_test third.0 in
+    let drawer = holds_drawer w (asker who) c.teller c.branch third.1 (none rule.Branch) (none rule.Drawer) in
+    let branch = branch_of_ledger w c.branch second.1 in
+    let found = correctable w c (not-false _ (none rule.Entry)) in
+    let e : Entry = found.0 in
+    let floors = and_parts (account_keeps_floor rows.account (neg_ℤ c.delta)) (account_keeps_floor rows.other c.delta) (not-false _ (none rule.Floor)) in
+    let maker : (e.user == asker who) ≡ false = subst (λ o. option_map_or (λ (r : Entry). r.user == asker who) o false ≡ false) found.1.there (none rule.SecondPerson) in
+    let day : (e.day == branch.0.day) ≡ true =
+    subst (λ o. option_map_or (λ ledger. e.day == ledger.day) (option_map ledger_of (option_map (branch_record_of w) o)) true ≡ true) branch.1 found.1.today in
+    record {
+      drawer = drawer;
+      row = e;
+      there = found.1.there;
+      by_another = eqb-false e.user (asker who) maker;
+      branch = branch.0;
+      branch_there = branch.1;
+      today = eqb-true e.day branch.0.day day;
+      not_undone = record {
+        form = is_no_correction e.form (partner_of w e) c found.1.form;
+        once = λ some other there of. not_undone_twice w c.branch c.entry other found.1.not_undone some there of;
+      };
+      named = is_named w c e found.1;
+      floor = keeps_floor w c.account (neg_ℤ c.delta) accounts.0 floors.0;
+      other_floor = other_floor_of w c accounts.1 floors.1;
+      cash = λ none_named.
+          drawer_covered w (asker who) c.teller c.branch (neg_ℤ c.delta) drawer
+          (subst (λ b. (not b || drawer_covers rows.teller (neg_ℤ c.delta)) ≡ true) (eq-eqb c.other 0 none_named) (not-false _ (none rule.Cash)));
+    }
+
+alone : (rows : CorrectRows) (form : Correct) (by : Signature) (b : Bool) → AreOfBooks (if b then undoing_post rows form by else undoing_legs rows form by)
+alone rows form by true = by_row _ rows.account (λ account. by_row _ rows.ledger (λ ledger. by_row _ rows.cash_book (λ cash_book. record { each = (refl, (refl, tt)) })))
+alone rows form by false = by_row _ rows.account (λ account. by_row _ rows.other (λ other. by_row _ rows.ledger (λ ledger. by_row _ rows.entry (λ entry. record { each = (refl, (refl, tt)) }))))
+
+pub correct_is_form : (form : Correct) → IsForm (op.Correct form)
+correct_is_form form = record {
+  said = λ by w. refl;
+  books_alone = λ rows by. alone rows form by (is_of_post form);
+  no_slips = λ s by w. refl;
+  asks = λ is. absurd cc;
+  in_json = λ is rows by. refl;
+  reports_ask = λ is. absurd cc;
+  no_commands = λ rows by. refl;
+  steps = λ by w checks proper signed none. corrects w form by checks proper signed none;
+  judged = λ w who moment none. correct_judged w who moment form none;
+  moves = record {
+    branches = λ key. if_added (is_of_post form && form.branch == key) (undoing form) (unsigned_abs form.delta) (abs_of_neg form.delta);
+    tellers = λ key. if_added (is_of_post form && form.teller == key) (undoing form) (unsigned_abs form.delta) (abs_of_neg form.delta);
+    accounts = λ key. out_in (form.account == key) (not (is_of_post form) && form.other == key) form.delta;
+  };
+  cash = λ is by w branch place. correct_lines w form by branch place;
+}

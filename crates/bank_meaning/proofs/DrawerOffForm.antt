@@ -1,0 +1,87 @@
+-- The laws of a drawer that is put off.
+use Rattle.bank_books.specs.Books.{Books}
+use Rattle.bank_books.specs.Effects.{applied}
+use Rattle.bank_books.specs.Records.{branch_record, teller_record, teller_record_of}
+use Rattle.bank_books.specs.WorldLists.{WorldLists}
+use Rattle.bank_books.specs.declared.records.TellerRecord.{TellerRecord}
+use Rattle.bank_books.specs.declared.row_write.RowWrite.TheVariants as write
+use Rattle.bank_books.specs.declared.rows.Branch.{Branch}
+use Rattle.bank_books.specs.declared.signature.Signature.{Signature}
+use Rattle.bank_meaning.proofs.BookChanges.{by_row}
+use Rattle.bank_meaning.proofs.IsForm.{IsForm}
+use Rattle.bank_meaning.proofs.JudgedParts.{NoneDenies, branch_of_book, holds_drawer}
+use Rattle.bank_meaning.proofs.NoMoves.{none_within}
+use Rattle.bank_meaning.proofs.Shares.{no_cash_entry, two_none}
+use Rattle.bank_meaning.proofs.Steps.{IsStep, IsSumOf, plan_step}
+use Rattle.bank_meaning.specs.JudgedRows.{IsDrawerOffJudged}
+use Rattle.bank_meaning.specs.Moves.{moves_nothing}
+use Rattle.bank_meaning.specs.PolicyRules.{asker}
+use Rattle.bank_meaning.specs.Sums.{PassesChecks}
+use Rattle.bank_meaning.specs.declared.who.Who.{Who}
+use Rattle.bank_terms.specs.declared.rule.Rule.TheVariants as rule
+use Rattle.counter_ops.specs.DrawerOff.{IsDrawerOff}
+use Rattle.counter_ops.specs.declared.drawer_off.DrawerOff.{DrawerOff}
+use Rattle.counter_ops.specs.declared.op.Op.TheVariants as op
+use Rattle.drawers.proofs.AllowedOff as off_allowed
+use Rattle.drawers.proofs.DrawerThere.{are_there, book_of}
+use Rattle.drawers.specs.DrawerOff.{difference_line, drawer_off_effect, emptied_line, first_against_drawer_off, returned_line}
+use Rattle.drawers.specs.DrawerRows.{drawer_rows}
+use Rattle.drawers.specs.declared.drawer_rows.DrawerRows.{DrawerRows}
+use Rattle.rule_tests.specs.BranchParts.{cash_book_of}
+use Rattle.rule_tests.specs.Signed.{IsSigned}
+use Rattle.rule_tests.specs.declared.cash_book.CashBook.{CashBook}
+use Rattle.std.proofs.Common.{Bool, None, [], ap, false, neg_ℤ, pos, refl, subst, sym, ℕ, ℤ, ◌&&◌, ◌+ℤ◌, ◌+◌, ◌==◌, ◌||◌, ◌∙◌, ◌∷◌, ◌≡◌}
+use Rattle.std.proofs.lemmas.Bool.{or_parts}
+use Rattle.std.specs.Prelude.{if◌then◌else◌, is_none, neg_ℤ, option_map}
+
+three_none : (a b c : Bool) (x y z : ℤ) → (if a && false then x else pos 0) +ℤ ((if b && false then y else pos 0) +ℤ ((if c && false then z else pos 0) +ℤ pos 0)) ≡ pos 0
+three_none a b c x y z =
+    ap (λ v. v +ℤ ((if b && false then y else pos 0) +ℤ ((if c && false then z else pos 0) +ℤ pos 0))) (no_cash_entry a x) ∙ ap (λ v. pos 0 +ℤ v) (two_none b c y z)
+
+put_off_sums : (book : CashBook) (teller : TellerRecord) (form : DrawerOff) (by : Signature)
+    → IsSumOf (write.Line (difference_line book teller form by) ∷ write.Line (emptied_line book form by) ∷ write.Line (returned_line book form by) ∷ []) moves_nothing
+put_off_sums book teller form by = record {
+  branches = λ key. refl;
+  tellers = λ key. refl;
+  accounts = λ key. refl;
+  entries = λ key. refl;
+  cash_entries = λ key.
+      three_none (form.branch == key) (form.branch == key) (form.branch == key) (form.counted +ℤ neg_ℤ teller.cash) (neg_ℤ form.counted) form.counted;
+}
+
+puts_off : (w : WorldLists) (form : DrawerOff) (by : Signature) → PassesChecks w → IsDrawerOff form → IsSigned w by
+    → first_against_drawer_off (drawer_rows w form.teller form.branch) form by ≡ None → IsStep w (drawer_off_effect w form by) moves_nothing
+puts_off w form by checks proper signed is =
+    let rows : DrawerRows = drawer_rows w form.teller form.branch in
+    let there = are_there w form.teller form.branch (off_allowed.is_allowed rows form by is).known in
+    let effect = ap (λ changes. applied changes w) (off_allowed.changes_are w form there by) in
+    subst (λ after. IsStep w after moves_nothing) (sym effect)
+    (plan_step w _ moves_nothing checks (tt, (tt, (tt, tt))) (put_off_sums (book_of w form.teller form.branch there) (teller_record_of w there.holder) form by)
+    (subst Books effect (off_allowed.drawer_off_keeps_books w form by checks.books signed proper is)))
+
+drawer_off_judged : (w : WorldLists) (who : Who) (moment : ℕ) (form : DrawerOff) → NoneDenies w who moment (op.DrawerOff form) → IsDrawerOffJudged w (asker who) form
+drawer_off_judged w who moment form none =
+    let teller = teller_record w form.teller in
+    let book = option_map cash_book_of (branch_record w form.branch) in
+    let vault = option_map (λ b. b.vault) (branch_record w form.branch) in
+    let first = or_parts (is_none teller || is_none book) (is_none vault) (none rule.Unknown) in
+    let second = or_parts (is_none teller) (is_none book) first.0 in
+    record {
+      branch = branch_of_book w form.branch second.1;
+      drawer = holds_drawer w (asker who) form.teller form.branch second.0 (none rule.Branch) (none rule.Drawer);
+    }
+
+pub drawer_off_is_form : (form : DrawerOff) → IsForm (op.DrawerOff form)
+drawer_off_is_form form = record {
+  said = λ by w. refl;
+  books_alone = λ rows by. by_row _ rows.teller (λ teller. by_row _ rows.cash_book (λ cash_book. record { each = (refl, (refl, (refl, tt))) }));
+  no_slips = λ s by w. refl;
+  asks = λ is. absurd cc;
+  in_json = λ is rows by. refl;
+  reports_ask = λ is. absurd cc;
+  no_commands = λ rows by. refl;
+  steps = λ by w checks proper signed none. puts_off w form by checks proper signed none;
+  judged = λ w who moment none. drawer_off_judged w who moment form none;
+  moves = none_within _;
+  cash = λ is by w branch place. absurd cc;
+}

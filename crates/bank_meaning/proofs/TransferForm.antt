@@ -1,0 +1,101 @@
+-- The laws of a transfer.
+use Rattle.bank_books.specs.Books.{Books}
+use Rattle.bank_books.specs.Effects.{applied}
+use Rattle.bank_books.specs.Records.{account_record, account_record_of, branch_record, branch_record_of, teller_record}
+use Rattle.bank_books.specs.WorldLists.{WorldLists}
+use Rattle.bank_books.specs.declared.records.AccountRecord.{AccountRecord}
+use Rattle.bank_books.specs.declared.row_write.RowWrite.TheVariants as write
+use Rattle.bank_books.specs.declared.rows.Branch.{Branch}
+use Rattle.bank_books.specs.declared.rows.Entry.{Entry}
+use Rattle.bank_books.specs.declared.signature.Signature.{Signature}
+use Rattle.bank_meaning.proofs.AmountParts.{no_amount, out_in, placed}
+use Rattle.bank_meaning.proofs.BookChanges.{by_row}
+use Rattle.bank_meaning.proofs.IsForm.{IsForm}
+use Rattle.bank_meaning.proofs.JudgedParts.{NoneDenies, branch_of_ledger, holds_drawer, keeps_floor}
+use Rattle.bank_meaning.proofs.Shares.{legs_cancel, legs_count, two_alone}
+use Rattle.bank_meaning.proofs.Steps.{IsStep, IsSumOf, plan_step}
+use Rattle.bank_meaning.specs.JudgedRows.{IsTransferJudged}
+use Rattle.bank_meaning.specs.Operations.{moves_of}
+use Rattle.bank_meaning.specs.PolicyRules.{asker}
+use Rattle.bank_meaning.specs.Sums.{PassesChecks}
+use Rattle.bank_meaning.specs.declared.who.Who.{Who}
+use Rattle.bank_terms.specs.declared.rule.Rule.TheVariants as rule
+use Rattle.counter_ops.specs.Touched.{amount}
+use Rattle.counter_ops.specs.Transfer.{IsTransfer}
+use Rattle.counter_ops.specs.declared.op.Op.TheVariants as op
+use Rattle.counter_ops.specs.declared.transfer.Transfer.{Transfer}
+use Rattle.drawers.proofs.DrawerThere.{are_there}
+use Rattle.postings.proofs.AllowedTransfer as transfer_allowed
+use Rattle.postings.specs.Transfer.{first_against_transfer, first_leg, second_leg, taken, transfer_changes, transfer_effect, transfer_rows}
+use Rattle.rule_tests.specs.BranchParts.{ledger_of}
+use Rattle.rule_tests.specs.Rules.{account_keeps_floor}
+use Rattle.rule_tests.specs.Signed.{IsSigned}
+use Rattle.rule_tests.specs.declared.ledger.Ledger.{Ledger}
+use Rattle.std.proofs.Common.{None, Option, Some, [], ap, neg_ℤ, pos, refl, subst, sym, ℕ, ◌==◌, ◌||◌, ◌∷◌, ◌≡◌, ◌≤◌}
+use Rattle.std.proofs.lemmas.Bool.{and_parts, not-false, or_parts}
+use Rattle.std.specs.Prelude.{if◌then◌else◌, is_none, neg_ℤ, option_map, unsigned_abs}
+
+transfer_sums : (source target : AccountRecord) (ledger : Ledger) (transfer : Transfer) (by : Signature)
+    → IsSumOf (write.Entry (first_leg source ledger transfer by) ∷ write.Entry (second_leg target ledger transfer by) ∷ []) (moves_of (op.Transfer transfer))
+transfer_sums source target ledger transfer by = record {
+  branches = λ key. legs_cancel (transfer.branch == key) (pos transfer.amount);
+  tellers = λ key. legs_cancel (transfer.teller == key) (pos transfer.amount);
+  accounts = λ key. two_alone (if transfer.source == key then taken transfer else pos 0) (if transfer.target == key then pos transfer.amount else pos 0);
+  entries = λ key. legs_count (transfer.branch == key);
+  cash_entries = λ key. refl;
+}
+
+transfers : (w : WorldLists) (transfer : Transfer) (by : Signature) → PassesChecks w → IsTransfer transfer → IsSigned w by → first_against_transfer (transfer_rows w transfer) transfer by ≡ None
+    → IsStep w (transfer_effect w transfer by) (moves_of (op.Transfer transfer))
+transfers w transfer by checks proper signed is =
+    let there = transfer_allowed.are_there w transfer by (transfer_allowed.is_allowed (transfer_rows w transfer) transfer by is) in
+    let effect = ap (λ changes. applied changes w) (transfer_allowed.changes_are w transfer there by) in
+    subst (λ after. IsStep w after (moves_of (op.Transfer transfer))) (sym effect)
+    (plan_step w _ (moves_of (op.Transfer transfer)) checks (tt, (tt, tt))
+    (transfer_sums (account_record_of w there.source) (account_record_of w there.target) (ledger_of (branch_record_of w there.branch)) transfer by)
+    (subst Books effect (transfer_allowed.transfer_keeps_books w transfer by checks.books signed proper is)))
+
+transfer_lines : (w : WorldLists) (t : Transfer) (by : Signature) (branch place : ℕ) → unsigned_abs (placed branch place (transfer_changes (transfer_rows w t) t by)) ≤ t.amount
+transfer_lines w t by branch place = go (transfer_rows w t).source (transfer_rows w t).target (transfer_rows w t).ledger
+  where
+    go : (a o : Option AccountRecord) (l : Option Ledger) → unsigned_abs (placed branch place (transfer_changes (record (transfer_rows w t) { source = a; target = o; ledger = l }) t by)) ≤ t.amount
+    go (Some a) (Some o) (Some l) = no_amount t.amount
+    go (Some a) (Some o) None = no_amount t.amount
+    go (Some a) None l = no_amount t.amount
+    go None o l = no_amount t.amount
+
+transfer_judged : (w : WorldLists) (who : Who) (moment : ℕ) (transfer : Transfer) → NoneDenies w who moment (op.Transfer transfer) → IsTransferJudged w (asker who) transfer
+transfer_judged w who moment transfer none =
+    let source = account_record w transfer.source in
+    let target = account_record w transfer.target in
+    let teller = teller_record w transfer.teller in
+    let ledger = option_map ledger_of (branch_record w transfer.branch) in
+    let first = or_parts (is_none source || is_none target || is_none teller) (is_none ledger) (none rule.Unknown) in
+    let second = or_parts (is_none source || is_none target) (is_none teller) first.0 in
+    let third = or_parts (is_none source) (is_none target) second.0 in
+    let floors = and_parts (account_keeps_floor source (neg_ℤ (pos transfer.amount))) (account_keeps_floor target (pos transfer.amount)) (not-false _ (none rule.Floor)) in
+    record {
+      branch = branch_of_ledger w transfer.branch first.1;
+      drawer = holds_drawer w (asker who) transfer.teller transfer.branch second.1 (none rule.Branch) (none rule.Drawer);
+      source = keeps_floor w transfer.source (neg_ℤ (pos transfer.amount)) third.0 floors.0;
+      target = keeps_floor w transfer.target (pos transfer.amount) third.1 floors.1;
+    }
+
+pub transfer_is_form : (form : Transfer) → IsForm (op.Transfer form)
+transfer_is_form form = record {
+  said = λ by w. refl;
+  books_alone = λ rows by. by_row _ rows.source (λ source. by_row _ rows.target (λ target. by_row _ rows.ledger (λ ledger. record { each = (refl, (refl, tt)) })));
+  no_slips = λ s by w. refl;
+  asks = λ is. absurd cc;
+  in_json = λ is rows by. refl;
+  reports_ask = λ is. absurd cc;
+  no_commands = λ rows by. refl;
+  steps = λ by w checks proper signed none. transfers w form by checks proper signed none;
+  judged = λ w who moment none. transfer_judged w who moment form none;
+  moves = record {
+    branches = λ key. no_amount form.amount;
+    tellers = λ key. no_amount form.amount;
+    accounts = λ key. out_in (form.source == key) (form.target == key) (pos form.amount);
+  };
+  cash = λ is by w branch place. transfer_lines w form by branch place;
+}

@@ -1,0 +1,34 @@
+-- A transfer: what it looks at in two Worlds, and what it changes.
+use Rattle.bank_books.specs.declared.rows.Teller.{Teller}
+use Rattle.bank_books.specs.declared.signature.Signature.{Signature}
+use Rattle.bank_meaning.specs.Operations.{meaning_of}
+use Rattle.counter_ops.specs.Touched.{touched_by_transfer}
+use Rattle.counter_ops.specs.declared.op.Op.TheVariants as op
+use Rattle.counter_ops.specs.declared.transfer.Transfer.{Transfer}
+use Rattle.postings.specs.Transfer.{transfer_changes, transfer_rows}
+use Rattle.postings.specs.declared.transfer.TransferRows.{TransferRows}
+use Rattle.std.proofs.Common.{List, arith, refl, ℕ}
+use Rattle.std.proofs.lemmas.Bool.{not-false}
+use Rattle.two_worlds.proofs.FormRows.{transfer_same}
+use Rattle.two_worlds.proofs.IsLocalForm.{IsLocalForm}
+use Rattle.two_worlds.proofs.PlanParts.{IsCarried, branch_passes, by_row, of_its_branch}
+use Rattle.two_worlds.proofs.Within.{IsOfBranch}
+use Rattle.two_worlds.specs.Laws.{IsNotGiven}
+
+transfers : (tellers : List Teller) (other : ℕ → ℕ → Type 0) (rows : TransferRows) (transfer : Transfer) (by : Signature) → IsOfBranch tellers transfer.teller transfer.branch
+    → IsCarried (touched_by_transfer transfer) tellers other (transfer_changes rows transfer by)
+transfers tellers other rows transfer by of =
+    let items = touched_by_transfer transfer in
+    by_row items tellers other _ rows.source (λ source. by_row items tellers other _ rows.target (λ target. by_row items tellers other _ rows.ledger (λ ledger. record {
+      releases = λ user number is o. refl;
+      within = (
+        record { account = (0, omega arith, refl); teller = (2, omega arith, refl); branch = (3, omega arith, refl); history = (4, omega arith, refl); of = of },
+        (record { account = (1, omega arith, refl); teller = (2, omega arith, refl); branch = (3, omega arith, refl); history = (4, omega arith, refl); of = of }, tt),
+      );
+    })))
+
+pub transfer_is_local : (form : Transfer) → IsLocalForm (op.Transfer form)
+transfer_is_local form = record {
+  rows_same = λ by w v bank bank' same held agree. transfer_same w v bank.books bank'.books form same;
+  carried = λ by w distinct proper none. transfers w.tellers (IsNotGiven w (op.Transfer form)) (transfer_rows w form) form by (of_its_branch w form.teller form.branch distinct (not-false _ (branch_passes (meaning_of (op.Transfer form) by w) none)));
+}
