@@ -14,7 +14,7 @@ use Rattle.bank_meaning.proofs.JudgedParts.{NoneDenies, branch_of_ledger, no_hol
 use Rattle.bank_meaning.proofs.KeptOrder.{in_order_all_written}
 use Rattle.bank_meaning.proofs.NoMoves.{none_within}
 use Rattle.bank_meaning.proofs.Steps.{IsStep, none_more, passes, plus_zero}
-use Rattle.bank_meaning.specs.JudgedRows.{IsCloseDayJudged}
+use Rattle.bank_meaning.specs.CloseDay.{IsCloseDayJudged}
 use Rattle.bank_meaning.specs.Moves.{moves_nothing}
 use Rattle.bank_meaning.specs.Sums.{PassesChecks}
 use Rattle.bank_meaning.specs.declared.who.Who.{Who}

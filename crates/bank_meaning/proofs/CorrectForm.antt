@@ -16,7 +16,8 @@ use Rattle.bank_meaning.proofs.IsForm.{IsForm}
 use Rattle.bank_meaning.proofs.JudgedParts.{NoneDenies, branch_of_ledger, branch_there, drawer_covered, holds_drawer, keeps_floor}
 use Rattle.bank_meaning.proofs.Shares.{cash_alone, legs_cancel, legs_count, one_alone, one_counts, two_alone}
 use Rattle.bank_meaning.proofs.Steps.{IsStep, IsSumOf, passes, plan_step}
-use Rattle.bank_meaning.specs.JudgedRows.{IsCorrectJudged, IsNamed, KeepsFloor}
+use Rattle.bank_meaning.specs.Correct.{IsCorrectJudged, IsNamed}
+use Rattle.bank_meaning.specs.JudgedRows.{KeepsFloor}
 use Rattle.bank_meaning.specs.Operations.{moves_of}
 use Rattle.bank_meaning.specs.PolicyRules.{asker}
 use Rattle.bank_meaning.specs.Sums.{PassesChecks}

@@ -13,7 +13,7 @@ use Rattle.bank_meaning.proofs.JudgedParts.{NoneDenies, branch_of_book, holds_dr
 use Rattle.bank_meaning.proofs.NoMoves.{none_within}
 use Rattle.bank_meaning.proofs.Shares.{no_cash_entry, two_none}
 use Rattle.bank_meaning.proofs.Steps.{IsStep, IsSumOf, plan_step}
-use Rattle.bank_meaning.specs.JudgedRows.{IsDrawerOffJudged}
+use Rattle.bank_meaning.specs.DrawerOff.{IsDrawerOffJudged}
 use Rattle.bank_meaning.specs.Moves.{moves_nothing}
 use Rattle.bank_meaning.specs.PolicyRules.{asker}
 use Rattle.bank_meaning.specs.Sums.{PassesChecks}

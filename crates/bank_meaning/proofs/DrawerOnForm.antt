@@ -16,7 +16,8 @@ use Rattle.bank_meaning.proofs.JudgedParts.{NoneDenies, a_teller, at_row, branch
 use Rattle.bank_meaning.proofs.NoMoves.{none_within}
 use Rattle.bank_meaning.proofs.Shares.{two_none}
 use Rattle.bank_meaning.proofs.Steps.{IsStep, IsSumOf, plan_step}
-use Rattle.bank_meaning.specs.JudgedRows.{HasDrawer, IsDrawerOnJudged}
+use Rattle.bank_meaning.specs.DrawerOn.{IsDrawerOnJudged}
+use Rattle.bank_meaning.specs.JudgedRows.{HasDrawer}
 use Rattle.bank_meaning.specs.Moves.{moves_nothing}
 use Rattle.bank_meaning.specs.Sums.{PassesChecks}
 use Rattle.bank_meaning.specs.declared.who.Who.{Who}

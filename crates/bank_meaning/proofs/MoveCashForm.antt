@@ -15,7 +15,8 @@ use Rattle.bank_meaning.proofs.JudgedParts.{NoneDenies, a_teller, at_row, branch
 use Rattle.bank_meaning.proofs.NoMoves.{none_within}
 use Rattle.bank_meaning.proofs.Shares.{two_none}
 use Rattle.bank_meaning.proofs.Steps.{IsStep, IsSumOf, plan_step}
-use Rattle.bank_meaning.specs.JudgedRows.{DrawerCovers, HasBranch, HoldsDrawer, IsMoveJudged, PlaceCovers}
+use Rattle.bank_meaning.specs.JudgedRows.{DrawerCovers, HasBranch, HoldsDrawer, PlaceCovers}
+use Rattle.bank_meaning.specs.MoveCash.{IsMoveJudged}
 use Rattle.bank_meaning.specs.Moves.{moves_nothing}
 use Rattle.bank_meaning.specs.PolicyRules.{asker}
 use Rattle.bank_meaning.specs.Sums.{PassesChecks}

@@ -12,7 +12,7 @@ use Rattle.bank_meaning.proofs.KeptOrder.{in_order_written}
 use Rattle.bank_meaning.proofs.NoMoves.{none_within}
 use Rattle.bank_meaning.proofs.OpenedAccount.{new_account_keeps_books, opened_is_next}
 use Rattle.bank_meaning.proofs.Steps.{IsStep, none_more, passes, plus_zero}
-use Rattle.bank_meaning.specs.JudgedRows.{IsNewAccountJudged}
+use Rattle.bank_meaning.specs.NewAccount.{IsNewAccountJudged}
 use Rattle.bank_meaning.specs.Moves.{moves_nothing}
 use Rattle.bank_meaning.specs.NewAccount.{first_against_new_account, new_account_effect, opened, opening_rows}
 use Rattle.bank_meaning.specs.Sums.{PassesChecks}

@@ -12,7 +12,7 @@ use Rattle.bank_meaning.proofs.IsForm.{IsForm}
 use Rattle.bank_meaning.proofs.JudgedParts.{NoneDenies, branch_of_ledger, drawer_covered, holds_drawer, keeps_floor}
 use Rattle.bank_meaning.proofs.Shares.{cash_alone, one_alone, one_counts}
 use Rattle.bank_meaning.proofs.Steps.{IsStep, IsSumOf, plan_step}
-use Rattle.bank_meaning.specs.JudgedRows.{IsPostJudged}
+use Rattle.bank_meaning.specs.Post.{IsPostJudged}
 use Rattle.bank_meaning.specs.Operations.{moves_of}
 use Rattle.bank_meaning.specs.PolicyRules.{asker}
 use Rattle.bank_meaning.specs.Sums.{PassesChecks}

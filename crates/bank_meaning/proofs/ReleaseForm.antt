@@ -16,7 +16,7 @@ use Rattle.bank_meaning.proofs.JudgedParts.{NoneDenies, branch_there}
 use Rattle.bank_meaning.proofs.KeptOrder.{in_order_written}
 use Rattle.bank_meaning.proofs.NoMoves.{none_within}
 use Rattle.bank_meaning.proofs.Steps.{IsStep, none_more, passes, plus_zero}
-use Rattle.bank_meaning.specs.JudgedRows.{IsReleaseJudged}
+use Rattle.bank_meaning.specs.Release.{IsReleaseJudged}
 use Rattle.bank_meaning.specs.Moves.{moves_nothing}
 use Rattle.bank_meaning.specs.PolicyRules.{asker}
 use Rattle.bank_meaning.specs.Release.{first_against_release, given_release, release_changes, release_effect, release_rows}

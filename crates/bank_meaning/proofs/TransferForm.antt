@@ -14,7 +14,7 @@ use Rattle.bank_meaning.proofs.IsForm.{IsForm}
 use Rattle.bank_meaning.proofs.JudgedParts.{NoneDenies, branch_of_ledger, holds_drawer, keeps_floor}
 use Rattle.bank_meaning.proofs.Shares.{legs_cancel, legs_count, two_alone}
 use Rattle.bank_meaning.proofs.Steps.{IsStep, IsSumOf, plan_step}
-use Rattle.bank_meaning.specs.JudgedRows.{IsTransferJudged}
+use Rattle.bank_meaning.specs.Transfer.{IsTransferJudged}
 use Rattle.bank_meaning.specs.Operations.{moves_of}
 use Rattle.bank_meaning.specs.PolicyRules.{asker}
 use Rattle.bank_meaning.specs.Sums.{PassesChecks}

@@ -11,7 +11,6 @@ use Rattle.bank_books.specs.WorldLists.{WorldLists}
 use Rattle.bank_books.specs.declared.records.AccountRecord.{AccountRecord}
 use Rattle.counter_ops.specs.declared.balance.Balance.{Balance}
 use Rattle.rule_tests.specs.Denial.{first_denial, is_denial}
-use Rattle.bank_books.specs.declared.signature.Signature.{Signature}
 use Rattle.bank_meaning.specs.JudgedRows.{HasAccount}
 use Rattle.bank_meaning.specs.Form.{Form}
 use Rattle.bank_meaning.specs.Moves.{moves_nothing}

@@ -11,11 +11,14 @@ use Rattle.drawers.specs.declared.close_day.Closed.{Closed}
 use Rattle.std.specs.Prelude.{false}
 use Rattle.drawers.specs.CloseDay.{close_day_changes}
 use Rattle.drawers.specs.declared.close_day.ClosingRows.{ClosingRows}
-use Rattle.bank_meaning.specs.JudgedRows.{IsCloseDayJudged}
 use Rattle.bank_meaning.specs.Form.{Form}
 use Rattle.bank_meaning.specs.Moves.{moves_nothing}
 use Rattle.bank_meaning.specs.Denial.{cents, natural}
 use Rattle.bank_meaning.specs.Meaning.{Meaning, json}
+use Rattle.bank_books.specs.Cash.{holder_of}
+use Rattle.bank_books.specs.declared.rows.Teller.{Teller}
+use Rattle.bank_meaning.specs.JudgedRows.{HasBranch}
+use Rattle.std.specs.Prelude.{◌≡◌, Contains, None}
 
 -- what the proof of the day holds
 unfoldable pub closed_text : Closed → List ℕ
@@ -26,6 +29,12 @@ closed_text c =
 abbrev pub closed_data : Closed → Data
 closed_data c =
     object (member (codes "balance") (cents c.balance) (member (codes "cash") (cents c.cash) (member (codes "closed") (natural c.closed) (member (codes "entries") (natural c.entries) no_members))))
+
+-- nobody holds a drawer of the branch
+pub record IsCloseDayJudged (w : WorldLists) (form : CloseDay) : Type 0 where
+  pub branch : HasBranch w form.branch
+  pub drawers : (t : Teller) → Contains w.tellers t → t.branch ≡ form.branch → holder_of w.lines t.teller ≡ None
+
 
 -- all that it is
 abbrev pub close_day_form : CloseDay → Form

@@ -11,12 +11,18 @@ use Rattle.postings.specs.declared.correct.Corrected.TheVariants as corrected
 use Rattle.std.specs.Prelude.{ℤ, pos, ◌==◌, ◌+ℤ◌, ◌&&◌, not, false, if◌then◌else◌}
 use Rattle.postings.specs.Correct.{correct_changes, is_of_post, undoing}
 use Rattle.postings.specs.declared.correct.CorrectRows.{CorrectRows}
-use Rattle.bank_meaning.specs.JudgedRows.{IsCorrectJudged}
 use Rattle.bank_meaning.specs.Form.{Form}
 use Rattle.bank_meaning.specs.Moves.{Moves}
 use Rattle.bank_meaning.specs.Meaning.{Meaning, json}
 use Rattle.bank_meaning.specs.Post.{posted_text}
 use Rattle.bank_meaning.specs.Transfer.{transferred_text}
+use Rattle.bank_books.specs.declared.rows.EntryForm.TheVariants as entry_form
+use Rattle.bank_books.specs.Balances.{branch_row}
+use Rattle.bank_books.specs.declared.rows.Branch.{Branch}
+use Rattle.bank_books.specs.declared.rows.Entry.{Entry}
+use Rattle.bank_meaning.specs.JudgedRows.{KeepsFloor, HoldsDrawer, DrawerCovers}
+use Rattle.std.specs.Prelude.{neg_ℤ, ◌≡◌, ◌≢◌, Contains, Some}
+use Rattle.world_reads.specs.BookReads.{entry}
 
 -- that of a post as a post, that of a transfer as a transfer
 abbrev pub corrected_text : Corrected → List ℕ
@@ -31,6 +37,34 @@ correct_moves correct = record {
   accounts = λ account. (if correct.account == account then undoing correct else pos 0) +ℤ (if not (is_of_post correct) && correct.other == account then correct.delta else pos 0);
   entries = λ branch. if correct.branch == branch then (if is_of_post correct then 1 else 2) else 0;
 }
+
+-- No correction is undone, and no entry twice; 0 is the number of none.
+pub record IsNotUndone (w : WorldLists) (branch number : ℕ) (e : Entry) : Type 0 where
+  pub form : e.form ≢ entry_form.Correction
+  pub once : number ≢ 0 → (other : Entry) → Contains w.entries other → other.branch ≡ branch → other.undoes ≢ number
+
+-- The entry is as it is named: a post, where no other account is, or the leg of a transfer whose other leg is of that account.
+pub record IsNamed (w : WorldLists) (correct : Correct) (e : Entry) : Type 0 where
+  pub account : e.account ≡ correct.account
+  pub delta : e.delta ≡ correct.delta
+  pub of_post : correct.other ≡ 0 → e.form ≡ entry_form.Post
+  pub of_transfer : correct.other ≢ 0 → e.form ≡ entry_form.TransferLeg
+  pub other_leg : correct.other ≢ 0 → (leg : Entry) × ((entry w correct.branch e.partner ≡ Some leg) × (leg.account ≡ correct.other))
+
+-- Four eyes: somebody else made the entry. It is of the day that the branch has today.
+pub record IsCorrectJudged (w : WorldLists) (user : ℕ) (correct : Correct) : Type 0 where
+  pub drawer : HoldsDrawer w user correct.teller correct.branch
+  pub row : Entry
+  pub there : entry w correct.branch correct.entry ≡ Some row
+  pub by_another : row.user ≢ user
+  pub branch : Branch
+  pub branch_there : branch_row correct.branch w.branches ≡ Some branch
+  pub today : row.day ≡ branch.day
+  pub not_undone : IsNotUndone w correct.branch correct.entry row
+  pub named : IsNamed w correct row
+  pub floor : KeepsFloor w correct.account (neg_ℤ correct.delta)
+  pub other_floor : correct.other ≢ 0 → KeepsFloor w correct.other correct.delta
+  pub cash : correct.other ≡ 0 → DrawerCovers w correct.teller correct.branch (neg_ℤ correct.delta)
 
 -- all that it is
 abbrev pub correct_form : Correct → Form

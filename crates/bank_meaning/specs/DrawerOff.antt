@@ -13,11 +13,11 @@ use Rattle.drawers.specs.declared.drawer_off.PutOff.{PutOff}
 use Rattle.std.specs.Prelude.{false}
 use Rattle.drawers.specs.DrawerOff.{drawer_off_changes}
 use Rattle.drawers.specs.declared.drawer_rows.DrawerRows.{DrawerRows}
-use Rattle.bank_meaning.specs.JudgedRows.{IsDrawerOffJudged}
 use Rattle.bank_meaning.specs.Form.{Form}
 use Rattle.bank_meaning.specs.Moves.{moves_nothing}
 use Rattle.bank_meaning.specs.Denial.{cents, natural}
 use Rattle.bank_meaning.specs.Meaning.{Meaning, json}
+use Rattle.bank_meaning.specs.JudgedRows.{HasBranch, HoldsDrawer}
 
 -- what the count differed by, and the cash of the vault after it
 unfoldable pub put_off_text : PutOff → List ℕ
@@ -28,6 +28,10 @@ put_off_text p =
 abbrev pub put_off_data : PutOff → Data
 put_off_data p =
     object (member (codes "difference") (cents p.difference) (member (codes "teller") (natural p.teller) (member (codes "vault") (cents p.vault) no_members)))
+
+pub record IsDrawerOffJudged (w : WorldLists) (user : ℕ) (form : DrawerOff) : Type 0 where
+  pub branch : HasBranch w form.branch
+  pub drawer : HoldsDrawer w user form.teller form.branch
 
 -- all that it is
 abbrev pub drawer_off_form : DrawerOff → Form

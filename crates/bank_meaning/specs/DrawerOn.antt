@@ -13,11 +13,12 @@ use Rattle.drawers.specs.declared.drawer_on.PutOn.{PutOn}
 use Rattle.std.specs.Prelude.{false}
 use Rattle.drawers.specs.DrawerOn.{drawer_on_changes}
 use Rattle.drawers.specs.declared.drawer_rows.DrawerRows.{DrawerRows}
-use Rattle.bank_meaning.specs.JudgedRows.{IsDrawerOnJudged}
 use Rattle.bank_meaning.specs.Form.{Form}
 use Rattle.bank_meaning.specs.Moves.{moves_nothing}
 use Rattle.bank_meaning.specs.Denial.{cents, natural}
 use Rattle.bank_meaning.specs.Meaning.{Meaning, json}
+use Rattle.bank_meaning.specs.JudgedRows.{HasBranch, HasDrawer, PlaceCovers}
+use Rattle.std.specs.Prelude.{pos, neg_ℤ, None}
 
 -- the cash of the drawer and of the vault after it
 unfoldable pub put_on_text : PutOn → List ℕ
@@ -28,6 +29,12 @@ put_on_text p =
 abbrev pub put_on_data : PutOn → Data
 put_on_data p =
     object (member (codes "cash") (cents p.cash) (member (codes "teller") (natural p.teller) (member (codes "vault") (cents p.vault) no_members)))
+
+-- a drawer that nobody holds, and cash that the vault has
+pub record IsDrawerOnJudged (w : WorldLists) (form : DrawerOn) : Type 0 where
+  pub branch : HasBranch w form.branch
+  pub drawer : HasDrawer w form.teller form.branch None
+  pub cash : PlaceCovers w 0 form.branch (neg_ℤ (pos form.cash))
 
 -- all that it is
 abbrev pub drawer_on_form : DrawerOn → Form

@@ -12,11 +12,12 @@ use Rattle.drawers.specs.declared.move_cash.Moved.{Moved}
 use Rattle.std.specs.Prelude.{false}
 use Rattle.drawers.specs.MoveCash.{move_changes}
 use Rattle.drawers.specs.declared.move_cash.MoveRows.{MoveRows}
-use Rattle.bank_meaning.specs.JudgedRows.{IsMoveJudged}
 use Rattle.bank_meaning.specs.Form.{Form}
 use Rattle.bank_meaning.specs.Moves.{moves_nothing}
 use Rattle.bank_meaning.specs.Denial.{cents, natural}
 use Rattle.bank_meaning.specs.Meaning.{Meaning, json}
+use Rattle.bank_meaning.specs.JudgedRows.{HasBranch, HoldsDrawer, PlaceCovers}
+use Rattle.std.specs.Prelude.{pos, neg_ℤ, ◌≡◌, ◌≢◌}
 
 -- the cash of both places after it
 unfoldable pub moved_text : Moved → List ℕ
@@ -27,6 +28,14 @@ moved_text m =
 abbrev pub moved_data : Moved → Data
 moved_data m =
     object (member (codes "moved") (natural m.moved) (member (codes "source") (cents m.source) (member (codes "target") (cents m.target) no_members)))
+
+-- Who moves cash holds the drawer that gives it, or where the vault gives, the one that takes it; and somebody holds the drawer that takes it. The vault is place 0.
+pub record IsMoveJudged (w : WorldLists) (user : ℕ) (move : MoveCash) : Type 0 where
+  pub branch : HasBranch w move.branch
+  pub source : move.source ≢ 0 → HoldsDrawer w user move.source move.branch
+  pub from_vault : move.source ≡ 0 → move.target ≢ 0 → HoldsDrawer w user move.target move.branch
+  pub target : move.target ≢ 0 → (holder : ℕ) × HoldsDrawer w holder move.target move.branch
+  pub cash : PlaceCovers w move.source move.branch (neg_ℤ (pos move.amount))
 
 -- all that it is
 abbrev pub move_form : MoveCash → Form

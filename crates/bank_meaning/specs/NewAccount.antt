@@ -13,12 +13,14 @@ use Rattle.bank_books.specs.WorldLists.{WorldLists}
 use Rattle.bank_books.specs.declared.rows.Account.{Account}
 use Rattle.rule_tests.specs.Denial.{first_denial, is_denial}
 use Rattle.bank_books.specs.declared.row_write.RowWrite.TheVariants as write
-use Rattle.bank_meaning.specs.JudgedRows.{IsNewAccountJudged}
 use Rattle.bank_meaning.specs.Form.{Form}
 use Rattle.bank_meaning.specs.Moves.{moves_nothing}
 use Rattle.bank_meaning.specs.Denial.{natural}
 use Rattle.bank_meaning.specs.Meaning.{Meaning, json}
 use Rattle.bank_meaning.specs.declared.opening_rows.OpeningRows.{OpeningRows}
+use Rattle.bank_books.specs.Balances.{account_row}
+use Rattle.bank_meaning.specs.JudgedRows.{HasBranch}
+use Rattle.std.specs.Prelude.{◌≡◌, None}
 
 -- the account that is there already, and how many accounts its home has
 abbrev pub opening_rows : WorldLists → NewAccount → OpeningRows
@@ -50,6 +52,10 @@ opened_text form = codes "{\"account\":" ++ decimal form.account ++ codes ",\"br
 -- the JSON value of the reply
 abbrev pub opened_data : NewAccount → Data
 opened_data form = object (member (codes "account") (natural form.account) (member (codes "branch") (natural form.branch) no_members))
+
+pub record IsNewAccountJudged (w : WorldLists) (form : NewAccount) : Type 0 where
+  pub branch : HasBranch w form.branch
+  pub new : account_row form.account w.accounts ≡ None
 
 -- all that it is
 abbrev pub new_account_form : NewAccount → Form

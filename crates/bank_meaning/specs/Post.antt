@@ -9,14 +9,14 @@ use Rattle.counter_ops.specs.declared.post.Post.{Post}
 use Rattle.rule_tests.specs.Denial.{is_denial}
 use Rattle.postings.specs.Post.{post_tests, post_effect, post_rows, posted_of}
 use Rattle.postings.specs.declared.post.Posted.{Posted}
-use Rattle.std.specs.Prelude.{ℤ, pos, ◌==◌, false, if◌then◌else◌}
+use Rattle.std.specs.Prelude.{pos, ◌==◌, false, if◌then◌else◌}
 use Rattle.postings.specs.Post.{post_changes}
 use Rattle.postings.specs.declared.post.PostRows.{PostRows}
-use Rattle.bank_meaning.specs.JudgedRows.{IsPostJudged}
 use Rattle.bank_meaning.specs.Form.{Form}
 use Rattle.bank_meaning.specs.Moves.{Moves}
 use Rattle.bank_meaning.specs.Denial.{cents, natural}
 use Rattle.bank_meaning.specs.Meaning.{Meaning, json}
+use Rattle.bank_meaning.specs.JudgedRows.{HasBranch, KeepsFloor, HoldsDrawer, DrawerCovers}
 
 -- the balance of the account after it, and the place of its entry
 unfoldable pub posted_text : Posted → List ℕ
@@ -34,6 +34,12 @@ post_moves post = record {
   accounts = λ account. if post.account == account then post.delta else pos 0;
   entries = λ branch. if post.branch == branch then 1 else 0;
 }
+
+pub record IsPostJudged (w : WorldLists) (user : ℕ) (post : Post) : Type 0 where
+  pub branch : HasBranch w post.branch
+  pub drawer : HoldsDrawer w user post.teller post.branch
+  pub floor : KeepsFloor w post.account post.delta
+  pub cash : DrawerCovers w post.teller post.branch post.delta
 
 -- all that it is
 abbrev pub post_form : Post → Form

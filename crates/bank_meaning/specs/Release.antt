@@ -11,18 +11,21 @@ use Rattle.counter_ops.specs.declared.release.Release.{Release}
 use Rattle.bank_books.specs.Effects.{applied}
 use Rattle.bank_books.specs.Records.{branch_record}
 use Rattle.bank_books.specs.WorldLists.{WorldLists}
+use Rattle.bank_books.specs.declared.rows.Release.{Release as ReleaseRow}
 use Rattle.bank_books.specs.declared.row_write.RowWrite.{RowWrite}
 use Rattle.bank_books.specs.declared.row_write.RowWrite.TheVariants as write
-use Rattle.bank_books.specs.declared.rows.Release.{Release as ReleaseRow}
 use Rattle.bank_books.specs.declared.signature.Signature.{Signature}
 use Rattle.rule_tests.specs.Denial.{first_denial, is_denial}
 use Rattle.world_reads.specs.PolicyReads.{user_record}
-use Rattle.bank_meaning.specs.JudgedRows.{IsReleaseJudged}
 use Rattle.bank_meaning.specs.Form.{Form}
 use Rattle.bank_meaning.specs.Moves.{moves_nothing}
 use Rattle.bank_meaning.specs.Denial.{natural}
 use Rattle.bank_meaning.specs.Meaning.{Meaning, json}
 use Rattle.bank_meaning.specs.declared.release_rows.ReleaseRows.{ReleaseRows}
+use Rattle.bank_meaning.specs.JudgedRows.{HasBranch}
+use Rattle.bank_policy.specs.HeldRows.{user_row}
+use Rattle.bank_policy.specs.declared.rows.User.{User}
+use Rattle.std.specs.Prelude.{◌≡◌, ◌≢◌, Some}
 
 -- how many releases the user has for whom it is, and the present day of the branch of the operation
 abbrev pub release_rows : WorldLists → Release → ReleaseRows
@@ -70,6 +73,13 @@ release_text beneficiary number = codes "{\"beneficiary\":" ++ decimal beneficia
 -- the JSON value of the reply
 abbrev pub release_data : ℕ → ℕ → Data
 release_data beneficiary number = object (member (codes "beneficiary") (natural beneficiary) (member (codes "release") (natural number) no_members))
+
+-- to somebody else, who is there
+pub record IsReleaseJudged (w : WorldLists) (user : ℕ) (form : Release) : Type 0 where
+  pub branch : HasBranch w (branch_of form.operation)
+  pub row : User
+  pub there : user_row w.policy form.beneficiary ≡ Some row
+  pub other : form.beneficiary ≢ user
 
 -- all that it is
 abbrev pub release_form : Release → Form

@@ -12,11 +12,12 @@ use Rattle.postings.specs.declared.transfer.Transferred.{Transferred}
 use Rattle.std.specs.Prelude.{ℤ, pos, ◌==◌, ◌+ℤ◌, false, if◌then◌else◌}
 use Rattle.postings.specs.Transfer.{given, taken, transfer_changes}
 use Rattle.postings.specs.declared.transfer.TransferRows.{TransferRows}
-use Rattle.bank_meaning.specs.JudgedRows.{IsTransferJudged}
 use Rattle.bank_meaning.specs.Form.{Form}
 use Rattle.bank_meaning.specs.Moves.{Moves}
 use Rattle.bank_meaning.specs.Denial.{cents, natural}
 use Rattle.bank_meaning.specs.Meaning.{Meaning, json}
+use Rattle.bank_meaning.specs.JudgedRows.{HasBranch, KeepsFloor, HoldsDrawer}
+use Rattle.std.specs.Prelude.{neg_ℤ}
 
 -- the places of its entries, and the balances of both accounts after it
 unfoldable pub transferred_text : Transferred → List ℕ
@@ -36,6 +37,12 @@ transfer_moves transfer = record {
   accounts = λ account. (if transfer.source == account then taken transfer else pos 0) +ℤ (if transfer.target == account then given transfer else pos 0);
   entries = λ branch. if transfer.branch == branch then 2 else 0;
 }
+
+pub record IsTransferJudged (w : WorldLists) (user : ℕ) (transfer : Transfer) : Type 0 where
+  pub branch : HasBranch w transfer.branch
+  pub drawer : HoldsDrawer w user transfer.teller transfer.branch
+  pub source : KeepsFloor w transfer.source (neg_ℤ (pos transfer.amount))
+  pub target : KeepsFloor w transfer.target (pos transfer.amount)
 
 -- all that it is
 abbrev pub transfer_form : Transfer → Form
