@@ -81,8 +81,8 @@ pub fn questions_change_nothing()
 {}
 
 /// A command that no rule denies is asked for by a user who is known and not suspended: by an officer to appoint, dismiss, enrol,
-/// suspend or restore; by a certifier of the procedure to certify, withdraw, grant or revoke; by any certifier to define a set. The
-/// policy is listed to officers alone.
+/// suspend or restore; by a certifier of the procedure to certify, withdraw, grant or revoke; by any certifier to define a set. What
+/// it adds was not there, what it takes away was, and nobody suspends themselves. The policy is listed to officers alone.
 pub fn commands_are_judged()
     ensures { CommandsAreJudged }
 {}
