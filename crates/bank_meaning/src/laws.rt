@@ -1,7 +1,7 @@
 //! What holds of every World, of every decision, of the rows that it goes by, of amounts, of releases, of a new account, of sessions, and along every list of requests. The functions change nothing; their contracts are the laws.
 
 ghost use Rattle.bank_meaning.specs.Amounts.{AmountsBound};
-ghost use Rattle.bank_meaning.specs.BooksJudged.{BooksAreJudged};
+ghost use Rattle.bank_meaning.specs.BooksJudged.{BooksAreJudged, BooksDenyNoMore};
 ghost use Rattle.bank_meaning.specs.CommandsJudged.{CommandsAreJudged};
 ghost use Rattle.bank_meaning.specs.Headline.{Headline};
 ghost use Rattle.bank_meaning.specs.LastWord.{LastWord};
@@ -66,6 +66,13 @@ pub fn denied_before_the_books()
 /// is opened is new, and a release is given to somebody else.
 pub fn books_are_judged()
     ensures { BooksAreJudged }
+{}
+
+/// And the rules of the books deny no more than that. Of every World that passes both checks, a proper operation that is asked for by
+/// whom and where it has to be, and after which the books hold, is denied by none of them. That the books hold after it says that
+/// each sum stays in the range of money, and that a number was left for each row.
+pub fn books_deny_no_more()
+    ensures { BooksDenyNoMore }
 {}
 
 /// Of every World that passes both checks, and of every proper operation: its amount, in cents, is the most by which it moves the
