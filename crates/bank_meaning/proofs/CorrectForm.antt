@@ -5,7 +5,6 @@ use Rattle.bank_books.specs.Records.{account_record, account_record_of, branch_r
 use Rattle.bank_books.specs.WorldLists.{WorldLists}
 use Rattle.bank_books.specs.declared.records.AccountRecord.{AccountRecord}
 use Rattle.bank_books.specs.declared.row_write.RowWrite.TheVariants as write
-use Rattle.bank_books.specs.declared.rows.Branch.{Branch}
 use Rattle.bank_books.specs.declared.rows.Entry.{Entry}
 use Rattle.bank_books.specs.declared.rows.EntryForm.TheVariants as entry_form
 use Rattle.bank_books.specs.declared.rows.EntryForm.{EntryForm}
@@ -13,7 +12,7 @@ use Rattle.bank_books.specs.declared.signature.Signature.{Signature}
 use Rattle.bank_meaning.proofs.AmountParts.{abs_of_neg, if_added, no_amount, one_line, out_in, placed}
 use Rattle.bank_meaning.proofs.BookChanges.{AreOfBooks, by_row}
 use Rattle.bank_meaning.proofs.IsForm.{IsForm}
-use Rattle.bank_meaning.proofs.JudgedParts.{NoneDenies, branch_of_ledger, branch_there, drawer_covered, holds_drawer, keeps_floor}
+use Rattle.bank_meaning.proofs.JudgedParts.{NoneDenies, branch_of_ledger, drawer_covered, holds_drawer, keeps_floor}
 use Rattle.bank_meaning.proofs.Shares.{cash_alone, legs_cancel, legs_count, one_alone, one_counts, two_alone}
 use Rattle.bank_meaning.proofs.Steps.{IsStep, IsSumOf, passes, plan_step}
 use Rattle.bank_meaning.specs.Correct.{IsCorrectJudged, IsNamed, IsNotUndone}
@@ -27,8 +26,6 @@ use Rattle.certify.proofs.SomeRows.{none_passes, all_of}
 use Rattle.counter_ops.specs.Correct.{IsCorrect}
 use Rattle.counter_ops.specs.declared.correct.Correct.{Correct}
 use Rattle.counter_ops.specs.declared.op.Op.TheVariants as op
-use Rattle.counter_ops.specs.declared.post.Post.{Post}
-use Rattle.drawers.proofs.DrawerThere.{are_there}
 use Rattle.keyed_rows.proofs.Rows.{find-found, Contains-map, found_row}
 use Rattle.postings.proofs.AllowedCorrect as correct_allowed
 use Rattle.postings.proofs.CorrectBooks.{correct_keeps_books}
@@ -39,7 +36,7 @@ use Rattle.rule_tests.specs.Rules.{account_keeps_floor, drawer_covers, cash_book
 use Rattle.rule_tests.specs.Signed.{IsSigned}
 use Rattle.rule_tests.specs.declared.cash_book.CashBook.{CashBook}
 use Rattle.rule_tests.specs.declared.ledger.Ledger.{Ledger}
-use Rattle.std.proofs.Common.{Bool, Contains, None, Option, Some, [], ap, arith, false, inl, inr, neg_ℤ, not, pos, refl, subst, sym, true, ℕ, ℤ, ◌&&◌, ◌+ℤ◌, ◌+◌, ◌==◌, ◌||◌, ◌∙◌, ◌∷◌, ◌≡◌, ◌≢◌, ◌≤◌}
+use Rattle.std.proofs.Common.{Bool, Contains, None, Option, Some, [], ap, arith, false, inl, inr, neg_ℤ, not, pos, refl, subst, sym, true, ℕ, ℤ, ◌&&◌, ◌+ℤ◌, ◌==◌, ◌||◌, ◌∙◌, ◌∷◌, ◌≡◌, ◌≢◌, ◌≤◌}
 use Rattle.std.proofs.lemmas.Bool.Decides.{Decides-int_eq}
 use Rattle.std.proofs.lemmas.Bool.{and_parts, cases_Bool, eq-eqb, eqb-false, eqb-true, false≢true, ne_eqb, not-false, not-true, or_parts, and_from, and_left, and_right, false_from_ne_true, not_from_true, or_from, or_left, or_right}
 use Rattle.std.proofs.lemmas.Int.{ints}
@@ -54,7 +51,6 @@ use Rattle.bank_books.specs.Keys.{account_key, branch_key}
 use Rattle.postings.proofs.CashedEntry.{cash_of_entry}
 use Rattle.book_laws.specs.Next.{lined}
 use Rattle.std.proofs.lemmas.List.Folds.{list_any_none}
-use Rattle.rule_tests.proofs.RuleTests.{none_named}
 
 if_of_post : (o b : Bool) (z : ℤ) → o ≡ true → (if b then z else pos 0) ≡ (if o && b then z else pos 0)
 if_of_post o b z is = ap (λ p. if p && b then z else pos 0) (sym is)

@@ -30,14 +30,14 @@ use Rattle.drawers.specs.declared.drawer_rows.DrawerRows.{DrawerRows}
 use Rattle.rule_tests.specs.BranchParts.{cash_book_of}
 use Rattle.rule_tests.specs.Signed.{IsSigned}
 use Rattle.rule_tests.specs.declared.cash_book.CashBook.{CashBook}
-use Rattle.std.proofs.Common.{Bool, None, [], ap, false, neg_ℤ, pos, refl, subst, sym, ℕ, ℤ, ◌&&◌, ◌+ℤ◌, ◌+◌, ◌==◌, ◌||◌, ◌∙◌, ◌∷◌, ◌≡◌, Some, arith, not, true}
+use Rattle.std.proofs.Common.{Bool, None, [], ap, false, neg_ℤ, pos, refl, subst, sym, ℕ, ℤ, ◌&&◌, ◌+ℤ◌, ◌==◌, ◌||◌, ◌∙◌, ◌∷◌, ◌≡◌, Some, arith, not, true}
 use Rattle.std.proofs.lemmas.Bool.{or_parts, and_from, ne_eqb, not_from_true}
 use Rattle.std.specs.Prelude.{if◌then◌else◌, is_none, neg_ℤ, option_map}
 use Rattle.book_laws.specs.Limits.{IsBranchWithin}
 use Rattle.counter_ops.specs.Ranges.{IsCash}
 use Rattle.money.specs.Range.{IsCents}
 use Rattle.bank_books.specs.Keys.{branch_key}
-use Rattle.bank_meaning.proofs.PassingParts.{branch_with_lines, cash_as, holder_is, is_money, is_no_vault, is_of_branch, key_of_drawer, limits_of, money_as, none_by, number_is_left, holds_it}
+use Rattle.bank_meaning.proofs.PassingParts.{branch_with_lines, cash_as, is_money, is_no_vault, is_of_branch, key_of_drawer, limits_of, money_as, none_by, number_is_left, holds_it}
 use Rattle.keyed_rows.proofs.Rows.{found_row}
 use Rattle.std.proofs.lemmas.Int.{ints}
 use Rattle.book_laws.specs.Next.{lined}

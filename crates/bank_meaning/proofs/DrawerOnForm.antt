@@ -35,7 +35,7 @@ use Rattle.rule_tests.specs.BranchParts.{cash_book_of}
 use Rattle.rule_tests.specs.Rules.{drawer_is_held, teller_is_of}
 use Rattle.rule_tests.specs.Signed.{IsSigned}
 use Rattle.rule_tests.specs.declared.cash_book.CashBook.{CashBook}
-use Rattle.std.proofs.Common.{None, Option, Some, [], ap, false, neg_ℤ, not, pos, refl, subst, sym, ℕ, ◌&&◌, ◌==◌, ◌||◌, ◌∷◌, ◌≡◌, ◌≤◌, true, ℤ, ◌+ℤ◌, ◌∙◌, arith}
+use Rattle.std.proofs.Common.{None, Option, Some, [], ap, false, neg_ℤ, not, pos, refl, subst, sym, ℕ, ◌&&◌, ◌==◌, ◌||◌, ◌∷◌, ◌≡◌, ◌≤◌, true, ◌+ℤ◌, ◌∙◌, arith}
 use Rattle.std.proofs.lemmas.Bool.{not-false, or_parts, and_from, eq-eqb, ne_eqb, not_from_true}
 use Rattle.std.proofs.lemmas.List.Elements.{All-contains}
 use Rattle.std.specs.Prelude.{is_none, neg_ℤ, option_map, unsigned_abs, is_some}

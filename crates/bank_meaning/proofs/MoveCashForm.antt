@@ -23,18 +23,15 @@ use Rattle.bank_meaning.specs.Sums.{PassesChecks}
 use Rattle.bank_meaning.specs.declared.who.Who.{Who}
 use Rattle.bank_terms.specs.declared.rule.Rule.TheVariants as rule
 use Rattle.counter_ops.specs.MoveCash.{IsMoveCash}
-use Rattle.counter_ops.specs.Touched.{amount}
 use Rattle.counter_ops.specs.declared.move_cash.MoveCash.{MoveCash}
 use Rattle.counter_ops.specs.declared.op.Op.TheVariants as op
 use Rattle.drawers.proofs.AllowedMove as move_allowed
-use Rattle.drawers.proofs.DrawerThere.{book_of}
 use Rattle.drawers.specs.MoveCash.{from_source, first_against_move, is_missing, is_vault, move_changes, move_effect, move_rows, place_covers, source_line, target_line, teller_at, into_drawers, into_target, place_in_range}
 use Rattle.drawers.specs.declared.move_cash.MoveRows.{MoveRows}
-use Rattle.rule_tests.proofs.RuleTests.{source_of}
 use Rattle.rule_tests.specs.Rules.{drawer_covers, drawer_is_free, drawer_is_held_by, teller_is_of, vault_covers, drawer_in_range, vault_in_range}
 use Rattle.rule_tests.specs.Signed.{IsSigned}
 use Rattle.rule_tests.specs.declared.cash_book.CashBook.{CashBook}
-use Rattle.std.proofs.Common.{Bool, None, Option, Some, [], ap, arith, false, neg_ℤ, not, pos, refl, subst, sym, true, zero, ℕ, ℤ, ◌&&◌, ◌+ℤ◌, ◌+◌, ◌==◌, ◌||◌, ◌∷◌, ◌≡◌, ◌≢◌, ◌≤◌, Contains, ◌∙◌}
+use Rattle.std.proofs.Common.{Bool, None, Option, Some, [], ap, arith, false, neg_ℤ, not, pos, refl, subst, sym, true, ℕ, ℤ, ◌&&◌, ◌+ℤ◌, ◌==◌, ◌||◌, ◌∷◌, ◌≡◌, ◌≢◌, ◌≤◌, Contains, ◌∙◌}
 use Rattle.std.proofs.lemmas.Bool.{and_parts, eq-eqb, eqb-false, eqb-true, ne_eqb, not-false, not-true, or_parts, and_from, not_from_true, or_from}
 use Rattle.std.proofs.lemmas.Int.{ints}
 use Rattle.std.specs.Prelude.{if◌then◌else◌, is_none, neg_ℤ, option_map, unsigned_abs, ◌≤ℤ◌}
@@ -44,7 +41,6 @@ use Rattle.bank_books.specs.declared.rows.Teller.{Teller}
 use Rattle.bank_books.specs.Keys.{branch_key}
 use Rattle.bank_meaning.proofs.PassingParts.{branch_with_lines, cash_as, covers_it, first_alone, holder_is, holds_it, is_of_branch, key_of_drawer, limits_of, money_as, none_by, number_is_left, place_with_lines, second_alone, vault_covers_it}
 use Rattle.keyed_rows.proofs.Rows.{found_row}
-use Rattle.drawers.specs.DrawerOn.{from_vault}
 use Rattle.money.specs.Range.{is_cents}
 use Rattle.book_laws.specs.Next.{lined}
 

@@ -1,7 +1,7 @@
 -- Where the rows are as the rules of the books ask, and the books hold with what an operation adds, their tests let it pass.
 use Rattle.std.proofs.Common.{◌≡◌, ◌≢◌, ℕ, ◌+◌, ◌≤◌, ◌==◌, ℤ, pos, ◌+ℤ◌, Bool, true, false, cond, not, Option, Some, None, refl, ap, sym, ◌∙◌, subst, arith, int_lt, Contains, List, [], ◌&&◌, ◌∷◌}
-use Rattle.std.specs.Prelude.{◌≤ℤ◌, if◌then◌else◌, nat_le, nat_lt}
-use Rattle.std.proofs.lemmas.Bool.{and_from, eq-eqb, le-ltb, lt-leb, not_from_true, ne_eqb}
+use Rattle.std.specs.Prelude.{◌≤ℤ◌, if◌then◌else◌, nat_le}
+use Rattle.std.proofs.lemmas.Bool.{and_from, eq-eqb, le-ltb, lt-leb, ne_eqb}
 use Rattle.std.proofs.lemmas.Int.{ints}
 use Rattle.money.specs.Range.{IsCents, is_cents, max_cents, min_cents}
 use Rattle.bank_terms.specs.Limits.{max_key}

@@ -31,7 +31,6 @@ use Rattle.counter_ops.specs.Release.{IsRelease}
 use Rattle.counter_ops.specs.Touched.{amount_of_releasable}
 use Rattle.counter_ops.specs.declared.op.Op.TheVariants as op
 use Rattle.counter_ops.specs.declared.release.Release.{Release}
-use Rattle.drawers.proofs.DrawerThere.{are_there}
 use Rattle.rule_tests.proofs.RuleTests.{source_of}
 use Rattle.rule_tests.specs.Signed.{IsSigned}
 use Rattle.std.proofs.Common.{None, Option, Some, ap, refl, subst, sym, ℕ, ◌∙◌, ◌≡◌, ◌≤◌, ◌==◌}

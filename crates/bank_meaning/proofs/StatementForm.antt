@@ -1,5 +1,5 @@
 -- The laws of a question for a statement: it changes nothing.
-use Rattle.std.proofs.Common.{refl, ap, None, subst, sym, ◌≡◌}
+use Rattle.std.proofs.Common.{refl, None, subst, sym, ◌≡◌}
 use Rattle.bank_terms.specs.declared.rule.Rule.TheVariants as rule
 use Rattle.bank_meaning.proofs.JudgedParts.{account_there}
 use Rattle.counter_ops.specs.declared.op.Op.TheVariants as op

@@ -6,7 +6,6 @@ use Rattle.bank_books.specs.WorldLists.{WorldLists}
 use Rattle.bank_books.specs.declared.records.AccountRecord.{AccountRecord}
 use Rattle.bank_books.specs.declared.row_write.RowWrite.TheVariants as write
 use Rattle.bank_books.specs.declared.rows.Branch.{Branch}
-use Rattle.bank_books.specs.declared.rows.Entry.{Entry}
 use Rattle.bank_books.specs.declared.signature.Signature.{Signature}
 use Rattle.bank_meaning.proofs.AmountParts.{no_amount, out_in, placed}
 use Rattle.bank_meaning.proofs.BookChanges.{by_row}
@@ -20,18 +19,16 @@ use Rattle.bank_meaning.specs.PolicyRules.{asker}
 use Rattle.bank_meaning.specs.Sums.{PassesChecks}
 use Rattle.bank_meaning.specs.declared.who.Who.{Who}
 use Rattle.bank_terms.specs.declared.rule.Rule.TheVariants as rule
-use Rattle.counter_ops.specs.Touched.{amount}
 use Rattle.counter_ops.specs.Transfer.{IsTransfer}
 use Rattle.counter_ops.specs.declared.op.Op.TheVariants as op
 use Rattle.counter_ops.specs.declared.transfer.Transfer.{Transfer}
-use Rattle.drawers.proofs.DrawerThere.{are_there}
 use Rattle.postings.proofs.AllowedTransfer as transfer_allowed
 use Rattle.postings.specs.Transfer.{given, first_against_transfer, first_leg, second_leg, taken, transfer_changes, transfer_effect, transfer_rows}
 use Rattle.rule_tests.specs.BranchParts.{ledger_of}
 use Rattle.rule_tests.specs.Rules.{account_keeps_floor}
 use Rattle.rule_tests.specs.Signed.{IsSigned}
 use Rattle.rule_tests.specs.declared.ledger.Ledger.{Ledger}
-use Rattle.std.proofs.Common.{None, Option, Some, [], ap, neg_ℤ, pos, refl, subst, sym, ℕ, ◌==◌, ◌||◌, ◌∷◌, ◌≡◌, ◌≤◌, ℤ}
+use Rattle.std.proofs.Common.{None, Option, Some, [], ap, neg_ℤ, pos, refl, subst, sym, ℕ, ◌==◌, ◌||◌, ◌∷◌, ◌≡◌, ◌≤◌}
 use Rattle.std.proofs.lemmas.Bool.{and_parts, not-false, or_parts, and_from, not_from_true, or_from}
 use Rattle.std.specs.Prelude.{if◌then◌else◌, is_none, neg_ℤ, option_map, unsigned_abs}
 use Rattle.bank_books.specs.Keys.{account_key, branch_key}
