@@ -5,7 +5,7 @@ ghost use Rattle.counter_ops.specs.declared.op.Op.TheVariants as op;
 use crate::item_list::ItemList;
 use crate::operation::{Form, Operation};
 use crate::row_numbers::{key_or_zero, number};
-use crate::row_places::two;
+use crate::row_places::{in_places, two};
 use bank_terms::{MAX_LISTED, Procedure};
 
 /// The accounts that the user may see, asked for.
@@ -25,16 +25,7 @@ impl Operation for Accounts {
     }
 
     fn places(&self) -> [i64; 8] {
-        [
-            i64::from(self.after),
-            i64::from(self.count),
-            0,
-            0,
-            0,
-            0,
-            0,
-            0,
-        ]
+        in_places(&[i64::from(self.after), i64::from(self.count)])
     }
 
     fn touches(&self) -> ItemList {

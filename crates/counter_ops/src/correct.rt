@@ -6,7 +6,7 @@ use crate::item_list::ItemList;
 use crate::items::{account, entry_items, size};
 use crate::operation::{Form, Operation};
 use crate::row_numbers::{delta, key, key_or_zero};
-use crate::row_places::six;
+use crate::row_places::{in_places, six};
 use bank_terms::Procedure;
 use money::Delta;
 
@@ -35,16 +35,14 @@ impl Operation for Correct {
     }
 
     fn places(&self) -> [i64; 8] {
-        [
+        in_places(&[
             i64::from(self.branch),
             i64::from(self.entry),
             i64::from(self.account),
             i64::from(self.other),
             i64::from(self.teller),
             self.delta.get(),
-            0,
-            0,
-        ]
+        ])
     }
 
     fn touches(&self) -> ItemList {

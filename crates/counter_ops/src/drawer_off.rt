@@ -6,7 +6,7 @@ use crate::item_list::ItemList;
 use crate::items::items_of_drawer;
 use crate::operation::{Form, Operation};
 use crate::row_numbers::{cash, key};
-use crate::row_places::three;
+use crate::row_places::{in_places, three};
 use bank_terms::Procedure;
 use money::Cents;
 
@@ -29,16 +29,11 @@ impl Operation for DrawerOff {
     }
 
     fn places(&self) -> [i64; 8] {
-        [
+        in_places(&[
             i64::from(self.teller),
             i64::from(self.branch),
             self.counted.get(),
-            0,
-            0,
-            0,
-            0,
-            0,
-        ]
+        ])
     }
 
     fn touches(&self) -> ItemList {

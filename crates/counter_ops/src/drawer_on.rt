@@ -6,7 +6,7 @@ use crate::item_list::ItemList;
 use crate::items::items_of_drawer;
 use crate::operation::{Form, Operation};
 use crate::row_numbers::{key, number};
-use crate::row_places::three;
+use crate::row_places::{in_places, three};
 use bank_terms::{MAX_LIMIT, Procedure};
 
 /// A drawer given to the user, with cash from the vault.
@@ -28,16 +28,11 @@ impl Operation for DrawerOn {
     }
 
     fn places(&self) -> [i64; 8] {
-        [
+        in_places(&[
             i64::from(self.teller),
             i64::from(self.branch),
             i64::from(self.cash),
-            0,
-            0,
-            0,
-            0,
-            0,
-        ]
+        ])
     }
 
     fn touches(&self) -> ItemList {

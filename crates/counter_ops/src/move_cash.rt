@@ -8,7 +8,7 @@ use crate::item_list::ItemList;
 use crate::items::{branch, drawer, teller, vault};
 use crate::operation::{Form, Operation};
 use crate::row_numbers::{key, key_or_zero, number};
-use crate::row_places::four;
+use crate::row_places::{four, in_places};
 use bank_terms::{MAX_LIMIT, Procedure};
 
 /// Cash moved from one place of a branch to another.
@@ -32,16 +32,12 @@ impl Operation for MoveCash {
     }
 
     fn places(&self) -> [i64; 8] {
-        [
+        in_places(&[
             i64::from(self.source),
             i64::from(self.target),
             i64::from(self.branch),
             i64::from(self.amount),
-            0,
-            0,
-            0,
-            0,
-        ]
+        ])
     }
 
     fn touches(&self) -> ItemList {

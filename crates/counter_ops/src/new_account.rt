@@ -6,7 +6,7 @@ use crate::item_list::ItemList;
 use crate::items::{account, branch};
 use crate::operation::{Form, Operation};
 use crate::row_numbers::{floor, key};
-use crate::row_places::three;
+use crate::row_places::{in_places, three};
 use bank_terms::Procedure;
 
 /// A new account, with nothing in it.
@@ -28,16 +28,11 @@ impl Operation for NewAccount {
     }
 
     fn places(&self) -> [i64; 8] {
-        [
+        in_places(&[
             i64::from(self.account),
             i64::from(self.branch),
             i64::from(self.floor),
-            0,
-            0,
-            0,
-            0,
-            0,
-        ]
+        ])
     }
 
     fn touches(&self) -> ItemList {

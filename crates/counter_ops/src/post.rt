@@ -6,7 +6,7 @@ use crate::item_list::ItemList;
 use crate::items::{account, entry_items, size};
 use crate::operation::{Form, Operation};
 use crate::row_numbers::{delta, key};
-use crate::row_places::four;
+use crate::row_places::{four, in_places};
 use bank_terms::Procedure;
 use money::Delta;
 
@@ -31,16 +31,12 @@ impl Operation for Post {
     }
 
     fn places(&self) -> [i64; 8] {
-        [
+        in_places(&[
             i64::from(self.account),
             i64::from(self.teller),
             i64::from(self.branch),
             self.delta.get(),
-            0,
-            0,
-            0,
-            0,
-        ]
+        ])
     }
 
     fn touches(&self) -> ItemList {

@@ -6,7 +6,7 @@ use crate::item_list::ItemList;
 use crate::items::account;
 use crate::operation::{Form, Operation};
 use crate::row_numbers::{key, number};
-use crate::row_places::three;
+use crate::row_places::{in_places, three};
 use bank_terms::{MAX_LISTED, Procedure};
 
 /// The entries of an account, asked for.
@@ -28,16 +28,11 @@ impl Operation for Statement {
     }
 
     fn places(&self) -> [i64; 8] {
-        [
+        in_places(&[
             i64::from(self.account),
             i64::from(self.start),
             i64::from(self.count),
-            0,
-            0,
-            0,
-            0,
-            0,
-        ]
+        ])
     }
 
     fn touches(&self) -> ItemList {

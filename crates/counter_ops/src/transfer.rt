@@ -6,7 +6,7 @@ use crate::item_list::ItemList;
 use crate::items::{account, entry_items};
 use crate::operation::{Form, Operation};
 use crate::row_numbers::{key, number};
-use crate::row_places::five;
+use crate::row_places::{five, in_places};
 use bank_terms::{MAX_TRANSFER, Procedure};
 
 /// An amount moved from one account to another.
@@ -32,16 +32,13 @@ impl Operation for Transfer {
     }
 
     fn places(&self) -> [i64; 8] {
-        [
+        in_places(&[
             i64::from(self.source),
             i64::from(self.target),
             i64::from(self.teller),
             i64::from(self.branch),
             i64::from(self.amount),
-            0,
-            0,
-            0,
-        ]
+        ])
     }
 
     fn touches(&self) -> ItemList {
