@@ -146,8 +146,8 @@ impl Op {
         Operation::to_row(self)
     }
 
-    /// The operation, with all its members in their ranges, whose row this is, or none where there
-    /// is no such operation. No two operations have one row.
+    /// The operation, with all its members in their ranges, whose row this is, or none if there is
+    /// no such operation. No two operations have one row.
     pub fn from_row(row: &OperationRow) -> Option<Op>
         ensures some { IfSome result (λ op. IsOp op × (row_of op ≡ row.now)) }
         ensures only { (op : AnOp) → IsOp op → row_of op ≡ row.now → result ≡ Some op }
@@ -180,8 +180,8 @@ pub fn touches(op: &Op) -> ItemList
     op.touches()
 }
 
-/// What the operation comes to, in cents and without a sign: what a triple's limit is compared
-/// with. It takes no memory.
+/// The cents that the operation amounts to, without a sign: what a triple's limit is compared with.
+/// It takes no memory.
 pub fn amount(op: &Op) -> u32
     ensures { result ≡ amount_of op.now }
 {

@@ -30,8 +30,8 @@ pub trait Operation {
         ensures items { result ≡ touched (op self.now) }
         ensures at_most_six { length result ≤ 6 };
 
-    /// What it comes to, in cents and without a sign: what a triple's limit is compared with. It
-    /// takes no memory.
+    /// The cents that it amounts to, without a sign: what a triple's limit is compared with. It takes
+    /// no memory.
     fn amount(&self) -> u32
         ensures { result ≡ amount_of (op self.now) };
 

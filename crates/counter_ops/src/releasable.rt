@@ -51,8 +51,8 @@ impl Releasable {
         Operation::to_row(self)
     }
 
-    /// The operation, with all its members in their ranges, whose row this is, or none where there
-    /// is no such operation that a release may be for.
+    /// The operation, with all its members in their ranges, whose row this is, or none if there is
+    /// no such operation that a release may be for.
     pub fn from_row(row: &OperationRow) -> Option<Releasable>
         ensures some { IfSome result (λ operation. IsReleasable operation × (row_of (op_of operation) ≡ row.now)) }
         ensures only { (operation : AReleasable) → IsReleasable operation → row_of (op_of operation) ≡ row.now → result ≡ Some operation }
