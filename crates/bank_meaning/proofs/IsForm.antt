@@ -29,7 +29,7 @@ use Rattle.bank_meaning.proofs.BookChanges.{AreOfBooks}
 use Rattle.bank_meaning.proofs.JudgedParts.{NoneDenies}
 use Rattle.bank_meaning.proofs.Steps.{IsStep}
 
--- the rules on commands, which stand behind those of the books
+-- the rules on commands, which follow those of the books
 abbrev pub on_commands : List Rule
 on_commands = rule.Officer ∷ rule.Certifier ∷ rule.Separation ∷ rule.PolicyUnknown ∷ rule.PolicyState ∷ []
 
