@@ -1,21 +1,21 @@
 -- A post: what it looks at in two Worlds, and what it changes.
-use Rattle.std.proofs.Common.{◌≡◌, ◌≢◌, ◌+◌, ◌<◌, ℕ, List, refl, arith, inr}
-use Rattle.bank_meaning.specs.Operations.{meaning_of}
+use Rattle.std.proofs.Common.{List, arith, inr, refl, ℕ, ◌≡◌, ◌≢◌}
 use Rattle.std.proofs.lemmas.Bool.{not-false}
-use Rattle.two_worlds.specs.Laws.{IsNotGiven}
 use Rattle.bank_books.specs.Books.{Books}
 use Rattle.bank_books.specs.WorldLists.{WorldLists}
 use Rattle.bank_books.specs.declared.rows.Teller.{Teller}
 use Rattle.bank_books.specs.declared.signature.Signature.{Signature}
 use Rattle.counter_ops.specs.Touched.{account_item, branch_item, drawer_item, history_item, teller_item, touched_by_post}
-use Rattle.postings.specs.Post.{post_changes, post_rows}
-use Rattle.postings.specs.declared.post.PostRows.{PostRows}
-use Rattle.two_worlds.proofs.FormRows.{same_account, same_book, same_ledger, same_teller}
-use Rattle.two_worlds.proofs.PlanParts.{IsCarried, branch_passes, by_row, not_nothing, of_its_branch}
-use Rattle.two_worlds.proofs.Within.{AreAlike, IsOfBranch}
 use Rattle.counter_ops.specs.declared.op.Op.TheVariants as op
 use Rattle.counter_ops.specs.declared.post.Post.{Post}
+use Rattle.postings.specs.Post.{post_changes, post_rows}
+use Rattle.postings.specs.declared.post.PostRows.{PostRows}
+use Rattle.bank_meaning.specs.Operations.{meaning_of}
+use Rattle.two_worlds.specs.Laws.{IsNotGiven}
 use Rattle.two_worlds.proofs.IsLocalForm.{IsLocalForm}
+use Rattle.two_worlds.proofs.PlanParts.{IsCarried, branch_passes, by_row, not_nothing, of_its_branch}
+use Rattle.two_worlds.proofs.SameRows.{same_account, same_book, same_ledger, same_teller}
+use Rattle.two_worlds.proofs.Within.{AreAlike, IsOfBranch}
 
 rows_same : (w v : WorldLists) (books : Books w) (books' : Books v) (post : Post) → AreAlike (touched_by_post post) w v → post_rows w post ≡ post_rows v post
 rows_same w v books books' post same =

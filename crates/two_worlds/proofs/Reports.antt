@@ -41,7 +41,7 @@ use Rattle.world_reads.specs.BookReads.{accounts_triples, entry_at, is_account_a
 use Rattle.counter_ops.specs.Touched.{account_item, branch_item, history_item, touched_by_books, vault_item}
 use Rattle.two_worlds.specs.View.{RosterLine, View, roster_line_of, roster_of, view_of}
 use Rattle.two_worlds.proofs.DrawerSum.{drawers_of}
-use Rattle.two_worlds.proofs.FormRows.{same_account}
+use Rattle.two_worlds.proofs.SameRows.{same_account}
 use Rattle.two_worlds.proofs.Grown.{find_passing, total_both, total_passing}
 use Rattle.two_worlds.proofs.Within.{AreAlike}
 

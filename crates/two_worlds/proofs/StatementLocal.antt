@@ -1,15 +1,15 @@
 -- A question for a statement: what it looks at in two Worlds, and what it changes.
-use Rattle.std.proofs.Common.{◌+◌, ◌<◌, ◌++◌, length, refl, ap, ap₂, arith}
-use Rattle.counter_ops.specs.Touched.{account_item}
+use Rattle.std.proofs.Common.{ap₂, arith, length, refl, ◌++◌}
 use Rattle.std.specs.List.{concat}
-use Rattle.reports.specs.Listing.{heading}
-use Rattle.two_worlds.proofs.FormRows.{same_account}
-use Rattle.two_worlds.proofs.PlanParts.{nothing_carried}
-use Rattle.two_worlds.proofs.Reports.{statement_alike}
-use Rattle.bank_meaning.specs.Statement.{statement_of}
+use Rattle.counter_ops.specs.Touched.{account_item}
 use Rattle.counter_ops.specs.declared.op.Op.TheVariants as op
 use Rattle.counter_ops.specs.declared.statement.Statement.{Statement}
+use Rattle.reports.specs.Listing.{heading}
+use Rattle.bank_meaning.specs.Statement.{statement_of}
 use Rattle.two_worlds.proofs.IsLocalForm.{IsLocalForm}
+use Rattle.two_worlds.proofs.PlanParts.{nothing_carried}
+use Rattle.two_worlds.proofs.Reports.{statement_alike}
+use Rattle.two_worlds.proofs.SameRows.{same_account}
 
 pub statement_is_local : (form : Statement) → IsLocalForm (op.Statement form)
 statement_is_local form = record {
