@@ -9,7 +9,7 @@ use Rattle.counter_ops.specs.Op.{procedure_of}
 use Rattle.counter_ops.specs.Operations.{IsOp}
 use Rattle.counter_ops.specs.Touched.{touched}
 use Rattle.counter_ops.specs.declared.op.Op.{Op}
-use Rattle.bank_meaning.specs.Form.{Form, changed_by}
+use Rattle.bank_meaning.specs.Form.{changed_by}
 use Rattle.bank_meaning.specs.Meaning.{by_books}
 use Rattle.bank_meaning.specs.Operations.{form_of, meaning_of}
 use Rattle.bank_meaning.specs.Sums.{PassesChecks}

@@ -4,7 +4,6 @@ use Rattle.bank_terms.specs.declared.rule.Rule.{Rule}
 use Rattle.bank_books.specs.WorldLists.{WorldLists}
 use Rattle.bank_books.specs.declared.signature.Signature.{Signature}
 use Rattle.counter_ops.specs.declared.op.Op.{Op}
-use Rattle.bank_meaning.specs.Form.{Form}
 use Rattle.bank_meaning.specs.Meaning.{ReplyText, by_books, json}
 use Rattle.bank_meaning.specs.Operations.{form_of, meaning_of}
 use Rattle.year_laws.specs.GoesOn.{GoesOn, Turn, op_at_old}
