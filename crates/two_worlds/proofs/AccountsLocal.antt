@@ -12,6 +12,7 @@ use Rattle.two_worlds.proofs.Reports.{accounts_alike}
 
 pub accounts_is_local : (form : Accounts) → IsLocalForm (op.Accounts form)
 accounts_is_local form = record {
-  rows_same = λ by w v bank bank' same held agree. ap (λ lines. heading (accounts_of form by) (length lines) ++ concat lines) (accounts_alike w v by.user by.moment form.after form.count bank bank' (ap (current by.moment) held) agree);
+  rows_same = λ by w v bank bank' same held agree.
+      ap (λ lines. heading (accounts_of form by) (length lines) ++ concat lines) (accounts_alike w v by.user by.moment form.after form.count bank bank' (ap (current by.moment) held) agree);
   carried = λ by w distinct proper none. nothing_carried _ _ _;
 }

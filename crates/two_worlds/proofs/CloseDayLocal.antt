@@ -34,7 +34,10 @@ module _ (w v : WorldLists) (books : Books w) (books' : Books v) where
 closes : (tellers : List Teller) (other : ℕ → ℕ → Type 0) (rows : ClosingRows) (form : CloseDay) → IsCarried (touched_by_books form.branch) tellers other (close_day_changes rows form)
 closes tellers other rows form =
     let items = touched_by_books form.branch in
-    by_row items tellers other _ rows.ledger (λ ledger. by_row items tellers other _ rows.vault (λ vault. record { releases = λ user number is o. refl; within = ((0, omega arith, refl), ((0, omega arith, refl), tt)) }))
+    by_row items tellers other _ rows.ledger (λ ledger. by_row items tellers other _ rows.vault (λ vault. record {
+      releases = λ user number is o. refl;
+      within = ((0, omega arith, refl), ((0, omega arith, refl), tt));
+    }))
 
 pub close_day_is_local : (form : CloseDay) → IsLocalForm (op.CloseDay form)
 close_day_is_local form = record {

@@ -2,7 +2,7 @@
 use Rattle.std.proofs.Common.{Bool, Contains, List, None, Option, Some, ap, arith, false, inr, not, refl, sym, true, ℕ, ◌&&◌, ◌==◌, ◌∙◌, ◌≡◌, ◌≢◌}
 use Rattle.std.specs.List.{find, list_any}
 use Rattle.std.specs.Prelude.{if◌then◌else◌, option_and_then}
-use Rattle.std.proofs.lemmas.Bool.{and_parts, eqb-true, not-false}
+use Rattle.std.proofs.lemmas.Bool.{and_parts, eqb-true}
 use Rattle.keyed_rows.proofs.Rows.{find-found}
 use Rattle.bank_terms.specs.declared.item.Cdi.{Cdi}
 use Rattle.bank_books.specs.Books.{Books}
@@ -22,7 +22,7 @@ use Rattle.two_worlds.specs.Laws.{IsNotGiven}
 use Rattle.two_worlds.specs.View.{view_of}
 use Rattle.two_worlds.proofs.IsLocalForm.{IsLocalForm}
 use Rattle.two_worlds.proofs.Places.{at_counter, other_there}
-use Rattle.two_worlds.proofs.PlanParts.{IsCarried, branch_passes, by_row, not_nothing, of_its_branch}
+use Rattle.two_worlds.proofs.PlanParts.{IsCarried, by_row, not_nothing, passed_teller}
 use Rattle.two_worlds.proofs.SameRows.{same_account, same_book, same_ledger, same_teller}
 use Rattle.two_worlds.proofs.Seen.{entry_seen, undone_seen}
 use Rattle.two_worlds.proofs.Within.{AreAlike, IsOfBranch}
@@ -67,7 +67,8 @@ module _ (w v : WorldLists) (books : Books w) (books' : Books v) where
       let undone = same_undone c.branch c.entry history in
       λ i. record { account = account i; other = other i; teller = teller i; ledger = ledger i; cash_book = book i; entry = named i; partner = partner i; is_undone = undone i }
 
-corrects : (tellers : List Teller) (other : ℕ → ℕ → Type 0) (rows : CorrectRows) (c : Correct) (by : Signature) → c.teller ≢ 0 → IsOfBranch tellers c.teller c.branch → IsCarried (touched_by_correct c) tellers other (correct_changes rows c by)
+corrects : (tellers : List Teller) (other : ℕ → ℕ → Type 0) (rows : CorrectRows) (c : Correct) (by : Signature) → c.teller ≢ 0 → IsOfBranch tellers c.teller c.branch
+    → IsCarried (touched_by_correct c) tellers other (correct_changes rows c by)
 corrects tellers other rows c by drawer of = go (is_of_post c) refl
   where
     go : (b : Bool) → (c.other == 0) ≡ b → IsCarried (touched_by_correct c) tellers other (if b then undoing_post rows c by else undoing_legs rows c by)
@@ -113,5 +114,7 @@ corrects tellers other rows c by drawer of = go (is_of_post c) refl
 pub correct_is_local : (form : Correct) → IsLocalForm (op.Correct form)
 correct_is_local form = record {
   rows_same = λ by w v bank bank' same held agree. rows_same w v bank.books bank'.books form same;
-  carried = λ by w distinct proper none. corrects w.tellers (IsNotGiven w (op.Correct form)) (correct_rows w form) form by (not_nothing form.teller proper.teller) (of_its_branch w form.teller form.branch distinct (not-false _ (branch_passes (meaning_of (op.Correct form) by w) none)));
+  carried = λ by w distinct proper none.
+      let of = passed_teller w (meaning_of (op.Correct form) by w) form.teller form.branch distinct refl none in
+      corrects w.tellers (IsNotGiven w (op.Correct form)) (correct_rows w form) form by (not_nothing form.teller proper.teller) of;
 }

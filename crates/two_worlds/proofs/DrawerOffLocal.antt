@@ -1,6 +1,5 @@
 -- A drawer that is put off: what it looks at in two Worlds, and what it changes.
 use Rattle.std.proofs.Common.{List, arith, inl, inr, refl, ℕ, ◌≢◌}
-use Rattle.std.proofs.lemmas.Bool.{not-false}
 use Rattle.bank_books.specs.declared.rows.Teller.{Teller}
 use Rattle.bank_books.specs.declared.signature.Signature.{Signature}
 use Rattle.counter_ops.specs.Touched.{touched_by_drawer}
@@ -12,7 +11,7 @@ use Rattle.drawers.specs.declared.drawer_rows.DrawerRows.{DrawerRows}
 use Rattle.bank_meaning.specs.Operations.{meaning_of}
 use Rattle.two_worlds.specs.Laws.{IsNotGiven}
 use Rattle.two_worlds.proofs.IsLocalForm.{IsLocalForm}
-use Rattle.two_worlds.proofs.PlanParts.{IsCarried, branch_passes, by_row, not_nothing, of_its_branch}
+use Rattle.two_worlds.proofs.PlanParts.{IsCarried, by_row, not_nothing, passed_teller}
 use Rattle.two_worlds.proofs.SameRows.{same_drawer}
 use Rattle.two_worlds.proofs.Within.{IsOfBranch}
 
@@ -34,5 +33,7 @@ puts_off tellers other rows d by drawer of =
 pub drawer_off_is_local : (form : DrawerOff) → IsLocalForm (op.DrawerOff form)
 drawer_off_is_local form = record {
   rows_same = λ by w v bank bank' same held agree. same_drawer w v bank.books bank'.books form.teller form.branch same;
-  carried = λ by w distinct proper none. puts_off w.tellers (IsNotGiven w (op.DrawerOff form)) (drawer_rows w form.teller form.branch) form by (not_nothing form.teller proper.teller) (of_its_branch w form.teller form.branch distinct (not-false _ (branch_passes (meaning_of (op.DrawerOff form) by w) none)));
+  carried = λ by w distinct proper none.
+      let of = passed_teller w (meaning_of (op.DrawerOff form) by w) form.teller form.branch distinct refl none in
+      puts_off w.tellers (IsNotGiven w (op.DrawerOff form)) (drawer_rows w form.teller form.branch) form by (not_nothing form.teller proper.teller) of;
 }

@@ -27,5 +27,8 @@ module _ (w v : WorldLists) (books : Books w) (books' : Books v) where
 pub new_account_is_local : (form : NewAccount) → IsLocalForm (op.NewAccount form)
 new_account_is_local form = record {
   rows_same = λ by w v bank bank' same held agree. rows_same w v bank.books bank'.books form same;
-  carried = λ by w distinct proper none. record { within = (((0, omega arith, refl), (1, omega arith, refl)), tt); releases = λ user number is r. refl };
+  carried = λ by w distinct proper none. record {
+    releases = λ user number is o. refl;
+    within = (((0, omega arith, refl), (1, omega arith, refl)), tt);
+  };
 }

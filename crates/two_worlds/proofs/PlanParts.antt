@@ -1,8 +1,8 @@
 -- Changes that are all among the items that an operation touches, and what forms have in common to show it.
-use Rattle.std.proofs.Common.{List, None, Option, Some, [], arith, false, map, refl, subst, true, ℕ, ◌≡◌, ◌≢◌}
+use Rattle.std.proofs.Common.{List, None, Option, Some, [], arith, false, map, not, refl, subst, sym, true, ℕ, ◌∙◌, ◌≡◌, ◌≢◌}
 use Rattle.std.specs.Option.{option_map_or}
 use Rattle.std.specs.Prelude.{option_map}
-use Rattle.std.proofs.lemmas.Bool.{eqb-true}
+use Rattle.std.proofs.lemmas.Bool.{eqb-true, not-false}
 use Rattle.keyed_rows.specs.Ordered.{AreDistinct}
 use Rattle.keyed_rows.proofs.Rows.{find_of_key}
 use Rattle.bank_terms.specs.declared.item.Cdi.{Cdi}
@@ -46,3 +46,7 @@ branch_passes m none = (passed_by (m.denies rule.Branch) _ _ (passed_by (m.denie
 pub of_its_branch : (w : WorldLists) (teller branch : ℕ) → AreDistinct (map teller_key w.tellers) → teller_is_of (teller_record w teller) branch ≡ true → IsOfBranch w.tellers teller branch
 of_its_branch w teller branch distinct is t there named =
     eqb-true t.branch branch (subst (λ o. teller_is_of (option_map (teller_record_of w) o) branch ≡ true) (find_of_key teller_key teller w.tellers t distinct there named) is)
+
+pub passed_teller : (w : WorldLists) (m : Meaning) (teller branch : ℕ) → AreDistinct (map teller_key w.tellers) → m.denies rule.Branch ≡ not (teller_is_of (teller_record w teller) branch) → (by_books m).first ≡ None
+    → IsOfBranch w.tellers teller branch
+passed_teller w m teller branch distinct is none = of_its_branch w teller branch distinct (not-false (teller_is_of (teller_record w teller) branch) (sym is ∙ branch_passes m none))

@@ -13,6 +13,9 @@ use Rattle.two_worlds.proofs.SameRows.{same_account}
 
 pub statement_is_local : (form : Statement) → IsLocalForm (op.Statement form)
 statement_is_local form = record {
-  rows_same = λ by w v bank bank' same held agree. ap₂ (λ row lines. (row, heading (statement_of form) (length lines) ++ concat lines)) (same_account w v bank.books bank'.books form.account (same (account_item form.account) (0, omega arith, refl))) (statement_alike w v form.account form.start form.count (same (account_item form.account) (0, omega arith, refl)));
+  rows_same = λ by w v bank bank' same held agree.
+      let account = same (account_item form.account) (0, omega arith, refl) in
+      ap₂ (λ row lines. (row, heading (statement_of form) (length lines) ++ concat lines)) (same_account w v bank.books bank'.books form.account account)
+      (statement_alike w v form.account form.start form.count account);
   carried = λ by w distinct proper none. nothing_carried _ _ _;
 }

@@ -1,6 +1,5 @@
 -- A transfer: what it looks at in two Worlds, and what it changes.
 use Rattle.std.proofs.Common.{List, arith, refl, ℕ, ◌≡◌}
-use Rattle.std.proofs.lemmas.Bool.{not-false}
 use Rattle.bank_books.specs.Books.{Books}
 use Rattle.bank_books.specs.WorldLists.{WorldLists}
 use Rattle.bank_books.specs.declared.rows.Teller.{Teller}
@@ -13,7 +12,7 @@ use Rattle.postings.specs.declared.transfer.TransferRows.{TransferRows}
 use Rattle.bank_meaning.specs.Operations.{meaning_of}
 use Rattle.two_worlds.specs.Laws.{IsNotGiven}
 use Rattle.two_worlds.proofs.IsLocalForm.{IsLocalForm}
-use Rattle.two_worlds.proofs.PlanParts.{IsCarried, branch_passes, by_row, of_its_branch}
+use Rattle.two_worlds.proofs.PlanParts.{IsCarried, by_row, passed_teller}
 use Rattle.two_worlds.proofs.SameRows.{same_account, same_ledger, same_teller}
 use Rattle.two_worlds.proofs.Within.{AreAlike, IsOfBranch}
 
@@ -41,5 +40,7 @@ transfers tellers other rows transfer by of =
 pub transfer_is_local : (form : Transfer) → IsLocalForm (op.Transfer form)
 transfer_is_local form = record {
   rows_same = λ by w v bank bank' same held agree. rows_same w v bank.books bank'.books form same;
-  carried = λ by w distinct proper none. transfers w.tellers (IsNotGiven w (op.Transfer form)) (transfer_rows w form) form by (of_its_branch w form.teller form.branch distinct (not-false _ (branch_passes (meaning_of (op.Transfer form) by w) none)));
+  carried = λ by w distinct proper none.
+      let of = passed_teller w (meaning_of (op.Transfer form) by w) form.teller form.branch distinct refl none in
+      transfers w.tellers (IsNotGiven w (op.Transfer form)) (transfer_rows w form) form by of;
 }

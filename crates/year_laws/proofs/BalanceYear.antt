@@ -16,11 +16,12 @@ use Rattle.year_laws.proofs.TestParts.{AreTestsAlike, anew, no_account}
 
 module _ (t : Turn) (old new : WorldLists) (on : GoesOn t old new) where
   balance_alike : (key : ℕ) → AreTestsAlike (balance_tests (account_record old key)) (balance_tests (account_record new key))
-  balance_alike key = (refl, (λ z. no_account t old new on key), (refl, (λ z. anew _ _ z), tt))
+  balance_alike key = (refl, (λ z. no_account on key), (refl, (λ z. anew _ _ z), tt))
 
   balance_replied : (form : Balance) (by : Signature) → IsRepliedAlike t (op.Balance form) (meaning_of (op_at_old t (op.Balance form)) by old).reply (meaning_of (op.Balance form) by new).reply
   balance_replied form by =
-      ap json (asked_same (IsSameAccount (t.turns form.account)) (λ a. balance_text a.balance) [] (λ x y s. ap balance_text s.balance) (account_record old form.account) (account_record new form.account) (on.accounts form.account))
+      ap json (asked_same (IsSameAccount (t.turns form.account)) (λ a. balance_text a.balance) [] (λ x y s. ap balance_text s.balance)
+      (account_record old form.account) (account_record new form.account) (on.accounts form.account))
 
 pub balance_in_years : (form : Balance) → IsYearForm (op.Balance form)
 balance_in_years form = record {

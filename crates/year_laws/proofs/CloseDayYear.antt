@@ -1,5 +1,5 @@
 -- A day that is closed at the bank that goes on and at the next year's.
-use Rattle.std.proofs.Common.{None, Option, Some, [], ap, ap₂, refl, ℕ, ◌||◌, ◌≡◌}
+use Rattle.std.proofs.Common.{None, Option, Some, [], ap, refl, ℕ, ◌≡◌}
 use Rattle.std.specs.Option.{option_map_or}
 use Rattle.std.specs.Prelude.{is_none, is_some, option_and_then, option_map}
 use Rattle.bank_books.specs.Records.{branch_record}
@@ -23,7 +23,7 @@ use Rattle.year_laws.proofs.DaysAlike.{day_stays}
 use Rattle.year_laws.proofs.FoundAlike.{same_branch}
 use Rattle.year_laws.proofs.IsYearForm.{IsYearForm}
 use Rattle.year_laws.proofs.RowsAlike.{carried}
-use Rattle.year_laws.proofs.TestParts.{AreTestsAlike, anew, no_ledger, vaults}
+use Rattle.year_laws.proofs.TestParts.{AreTestsAlike, anew, either, no_ledger, vaults}
 
 module _ (t : Turn) (branch : ℕ) where
   closing_left : (a b : Option BranchRecord) → AreBoth (IsSameBranch (t.entries branch)) a b
@@ -43,7 +43,7 @@ module _ (t : Turn) (old new : WorldLists) (on : GoesOn t old new) where
   closing_alike : (c : CloseDay) → AreTestsAlike (close_day_tests (closing_rows old c)) (close_day_tests (closing_rows new c))
   closing_alike c = (
     refl,
-    (λ z. ap₂ (λ p q. p || q) (no_ledger t old new on c.branch) (ap is_none (vaults t old new on c.branch))),
+    (λ z. either (no_ledger on c.branch) (ap is_none (vaults on c.branch))),
     (
       refl,
       (λ z. anew _ _ z),

@@ -26,7 +26,7 @@ use Rattle.year_laws.proofs.AlikeRows.{chosen_same, covers_same, keeps_floor_sam
 use Rattle.year_laws.proofs.CorrectionsAlike.{correct_stays}
 use Rattle.year_laws.proofs.IsYearForm.{IsYearForm}
 use Rattle.year_laws.proofs.NextNumbers.{next, second}
-use Rattle.year_laws.proofs.TestParts.{AreTestsAlike, anew, floors, held_by, no_account, no_book, no_ledger, no_teller, of_branch}
+use Rattle.year_laws.proofs.TestParts.{AreTestsAlike, anew, both, either, floors, held_by, no_account, no_book, no_ledger, no_teller, of_branch}
 
 module _ (t : Turn) (n m : ℕ) where
   -- by whether it is of a post
@@ -126,13 +126,14 @@ module _ (t : Turn) (old new : WorldLists) (on : GoesOn t old new) where
     correct_alike : (by : Signature) → AreTestsAlike (correct_tests (correct_rows old moved) moved by) (correct_tests (correct_rows new c) c by)
     correct_alike by = (
       refl,
-      (λ z. ap₂ (λ p q. p || q) (ap₂ (λ p q. p || q) (ap₂ (λ p q. p || q) (ap₂ (λ p q. p || q) (no_account t old new on c.account) (ap (λ p. not (is_of_post c) && p) (none_same (IsSameAccount (t.turns c.other)) _ _ others))) (no_teller t old new on c.teller)) (no_ledger t old new on c.branch)) (no_book t old new on c.branch)),
+      (λ z. either (either (either (either (no_account on c.account) (ap (λ p. not (is_of_post c) && p) (none_same (IsSameAccount (t.turns c.other)) _ _ others)))
+          (no_teller on c.teller)) (no_ledger on c.branch)) (no_book on c.branch)),
       (
         refl,
-        (λ z. ap not (of_branch t old new on c.teller c.branch)),
+        (λ z. ap not (of_branch on c.teller c.branch)),
         (
           refl,
-          (λ z. ap not (held_by t old new on c.teller by.user)),
+          (λ z. ap not (held_by on c.teller by.user)),
           (
             refl,
             (λ z. by_maker by.user),
@@ -141,7 +142,7 @@ module _ (t : Turn) (old new : WorldLists) (on : GoesOn t old new) where
               (λ z. ap not has_alike),
               (
                 refl,
-                (λ z. ap not (ap₂ (λ p q. p && q) (floors t old new on c.account (undoing c)) (keeps_floor_same (t.turns c.other) _ _ others c.delta))),
+                (λ z. ap not (both (floors on c.account (undoing c)) (keeps_floor_same (t.turns c.other) _ _ others c.delta))),
                 (
                   refl,
                   (λ z. ap (λ p. not (not (is_of_post c) || p)) (covers_same (teller_record old c.teller) (teller_record new c.teller) (on.tellers c.teller) (undoing c))),
@@ -165,7 +166,8 @@ module _ (t : Turn) (old new : WorldLists) (on : GoesOn t old new) where
   correct_replied : (k : Correct) (by : Signature) → IsRepliedAlike t (op.Correct k) (meaning_of (op_at_old t (op.Correct k)) by old).reply (meaning_of (op.Correct k) by new).reply
   correct_replied k by = (
     corrected_of (correct_rows new k) k,
-    ap (λ o. json (option_map_or corrected_text o [])) (correct_left t (t.turns k.account) (t.turns k.other) k (is_of_post k) (account_record old k.account) (account_record new k.account) (correct_rows old (correct_at_old t k)).other (correct_rows new k).other
+    ap (λ o. json (option_map_or corrected_text o [])) (correct_left t (t.turns k.account) (t.turns k.other) k (is_of_post k)
+        (account_record old k.account) (account_record new k.account) (correct_rows old (correct_at_old t k)).other (correct_rows new k).other
         (branch_record old k.branch) (branch_record new k.branch) (on.accounts k.account)
         (chosen_same (IsSameAccount (t.turns k.other)) (is_of_post k) (account_record old k.other) (account_record new k.other) (on.accounts k.other)) (on.branches k.branch)),
     refl,

@@ -31,13 +31,13 @@ module _ (t : Turn) (old new : WorldLists) (on : GoesOn t old new) where
   drawer_off_alike : (form : DrawerOff) (by : Signature) → AreTestsAlike (drawer_off_tests (drawer_rows old form.teller form.branch) form by) (drawer_off_tests (drawer_rows new form.teller form.branch) form by)
   drawer_off_alike form by = (
     refl,
-    (λ z. no_drawer t old new on form.teller form.branch),
+    (λ z. no_drawer on form.teller form.branch),
     (
       refl,
-      (λ z. ap not (of_branch t old new on form.teller form.branch)),
+      (λ z. ap not (of_branch on form.teller form.branch)),
       (
         refl,
-        (λ z. ap not (held_by t old new on form.teller by.user)),
+        (λ z. ap not (held_by on form.teller by.user)),
         (
           refl,
           (λ z. anew _ _ z),
@@ -53,7 +53,7 @@ module _ (t : Turn) (old new : WorldLists) (on : GoesOn t old new) where
 
   drawer_off_replied : (form : DrawerOff) (by : Signature) → IsRepliedAlike t (op.DrawerOff form) (meaning_of (op_at_old t (op.DrawerOff form)) by old).reply (meaning_of (op.DrawerOff form) by new).reply
   drawer_off_replied form by =
-      ap (λ o. json (option_map_or put_off_text o [])) (put_off_same form (teller_record old form.teller) (teller_record new form.teller) _ _ (on.tellers form.teller) (vaults t old new on form.branch))
+      ap (λ o. json (option_map_or put_off_text o [])) (put_off_same form (teller_record old form.teller) (teller_record new form.teller) _ _ (on.tellers form.teller) (vaults on form.branch))
 
 pub drawer_off_in_years : (form : DrawerOff) → IsYearForm (op.DrawerOff form)
 drawer_off_in_years form = record {

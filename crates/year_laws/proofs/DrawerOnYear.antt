@@ -33,16 +33,16 @@ module _ (t : Turn) (old new : WorldLists) (on : GoesOn t old new) where
   drawer_on_alike : (form : DrawerOn) → AreTestsAlike (drawer_on_tests (drawer_rows old form.teller form.branch) form) (drawer_on_tests (drawer_rows new form.teller form.branch) form)
   drawer_on_alike form = (
     refl,
-    (λ z. no_drawer t old new on form.teller form.branch),
+    (λ z. no_drawer on form.teller form.branch),
     (
       refl,
-      (λ z. ap not (of_branch t old new on form.teller form.branch)),
+      (λ z. ap not (of_branch on form.teller form.branch)),
       (
         refl,
         (λ z. held_same (teller_record old form.teller) (teller_record new form.teller) (on.tellers form.teller)),
         (
           refl,
-          (λ z. ap (λ v. not (vault_covers v (from_vault form))) (vaults t old new on form.branch)),
+          (λ z. ap (λ v. not (vault_covers v (from_vault form))) (vaults on form.branch)),
           (
             refl,
             (λ z. anew _ _ z),
@@ -59,7 +59,7 @@ module _ (t : Turn) (old new : WorldLists) (on : GoesOn t old new) where
 
   drawer_on_replied : (form : DrawerOn) (by : Signature) → IsRepliedAlike t (op.DrawerOn form) (meaning_of (op_at_old t (op.DrawerOn form)) by old).reply (meaning_of (op.DrawerOn form) by new).reply
   drawer_on_replied form by =
-      ap (λ o. json (option_map_or put_on_text o [])) (put_on_same form (teller_record old form.teller) (teller_record new form.teller) _ _ (on.tellers form.teller) (vaults t old new on form.branch))
+      ap (λ o. json (option_map_or put_on_text o [])) (put_on_same form (teller_record old form.teller) (teller_record new form.teller) _ _ (on.tellers form.teller) (vaults on form.branch))
 
 pub drawer_on_in_years : (form : DrawerOn) → IsYearForm (op.DrawerOn form)
 drawer_on_in_years form = record {

@@ -18,7 +18,7 @@ use Rattle.year_laws.specs.RepliedAlike.{IsRepliedAlike}
 use Rattle.year_laws.proofs.AlikeRows.{chosen_same, covers_same, free_same, held_by_same, mapped_same, none_same, teller_is_of_same}
 use Rattle.year_laws.proofs.IsYearForm.{IsYearForm}
 use Rattle.year_laws.proofs.MovesAlike.{move_stays}
-use Rattle.year_laws.proofs.TestParts.{AreTestsAlike, anew, no_book, vaults}
+use Rattle.year_laws.proofs.TestParts.{AreTestsAlike, anew, both, either, no_book, vaults}
 
 place_same : (place : ℕ) (c : Bool) (a b : Option TellerRecord) (v u : Option ℤ) → AreBoth IsSameTeller a b → v ≡ u
     → (if c then v else option_map (λ x. x.cash) a) ≡ (if c then u else option_map (λ x. x.cash) b)
@@ -30,7 +30,7 @@ module _ (t : Turn) (old new : WorldLists) (on : GoesOn t old new) where
   places key = chosen_same IsSameTeller (is_vault key) (teller_record old key) (teller_record new key) (on.tellers key)
 
   move_vault : (move : MoveCash) → (move_rows old move).vault ≡ (move_rows new move).vault
-  move_vault move = ap (λ v. if is_vault move.source || is_vault move.target then v else None) (vaults t old new on move.branch)
+  move_vault move = ap (λ v. if is_vault move.source || is_vault move.target then v else None) (vaults on move.branch)
 
   missing : (key : ℕ) → is_missing key (teller_at old key) ≡ is_missing key (teller_at new key)
   missing key = ap (λ p. not (is_vault key) && p) (none_same IsSameTeller (teller_at old key) (teller_at new key) (places key))
@@ -47,14 +47,14 @@ module _ (t : Turn) (old new : WorldLists) (on : GoesOn t old new) where
   move_alike : (move : MoveCash) (by : Signature) → AreTestsAlike (move_tests (move_rows old move) move by) (move_tests (move_rows new move) move by)
   move_alike move by = (
     refl,
-    (λ z. ap₂ (λ p q. p || q) (ap₂ (λ p q. p || q) (ap₂ (λ p q. p || q) (missing move.source) (missing move.target)) (no_book t old new on move.branch)) (ap (λ v. (is_vault move.source || is_vault move.target) && is_none v) (move_vault move))),
+    (λ z. either (either (either (missing move.source) (missing move.target)) (no_book on move.branch)) (ap (λ v. (is_vault move.source || is_vault move.target) && is_none v) (move_vault move))),
     (
       refl,
-      (λ z. ap not (ap₂ (λ p q. p && q) (teller_is_of_same (teller_at old move.source) (teller_at new move.source) (places move.source) move.branch)
+      (λ z. ap not (both (teller_is_of_same (teller_at old move.source) (teller_at new move.source) (places move.source) move.branch)
           (teller_is_of_same (teller_at old move.target) (teller_at new move.target) (places move.target) move.branch))),
       (
         refl,
-        (λ z. ap not (ap₂ (λ p q. p && q) (held_by_same _ _ (giver (is_vault move.source) move.source move.target) by.user)
+        (λ z. ap not (both (held_by_same _ _ (giver (is_vault move.source) move.source move.target) by.user)
             (ap not (free_same (teller_at old move.target) (teller_at new move.target) (places move.target))))),
         (
           refl,
@@ -75,8 +75,7 @@ module _ (t : Turn) (old new : WorldLists) (on : GoesOn t old new) where
 
   cash_at : (move : MoveCash) (place : ℕ) → place_cash place (teller_at old place) (move_rows old move).vault ≡ place_cash place (teller_at new place) (move_rows new move).vault
   cash_at move place =
-      place_same place (is_vault place) (teller_at old place) (teller_at new place) (move_rows old move).vault (move_rows new move).vault
-      (places place) (move_vault move)
+      place_same place (is_vault place) (teller_at old place) (teller_at new place) (move_rows old move).vault (move_rows new move).vault (places place) (move_vault move)
 
   move_cash_replied : (move : MoveCash) (by : Signature) → IsRepliedAlike t (op.MoveCash move) (meaning_of (op_at_old t (op.MoveCash move)) by old).reply (meaning_of (op.MoveCash move) by new).reply
   move_cash_replied move by =

@@ -1,5 +1,5 @@
 -- A post at the bank that goes on and at the next year's.
-use Rattle.std.proofs.Common.{None, Option, Some, [], ap, ap₂, not, refl, ℕ, ◌+ℤ◌, ◌||◌, ◌≡◌}
+use Rattle.std.proofs.Common.{None, Option, Some, [], ap, ap₂, not, refl, ℕ, ◌+ℤ◌, ◌≡◌}
 use Rattle.std.specs.Option.{option_map_or}
 use Rattle.std.specs.Prelude.{option_and_then, option_map}
 use Rattle.bank_books.specs.Records.{account_record, branch_record, teller_record}
@@ -20,7 +20,7 @@ use Rattle.year_laws.proofs.AlikeRows.{covers_same}
 use Rattle.year_laws.proofs.IsYearForm.{IsYearForm}
 use Rattle.year_laws.proofs.NextNumbers.{next}
 use Rattle.year_laws.proofs.PostsAlike.{post_stays}
-use Rattle.year_laws.proofs.TestParts.{AreTestsAlike, anew, floors, held_by, no_account, no_book, no_ledger, no_teller, of_branch}
+use Rattle.year_laws.proofs.TestParts.{AreTestsAlike, anew, either, floors, held_by, no_account, no_book, no_ledger, no_teller, of_branch}
 
 module _ (t : Turn) (n : ℕ) where
   post_left : (post : Post) (a b : Option AccountRecord) (c d : Option BranchRecord) → AreBoth (IsSameAccount n) a b → AreBoth (IsSameBranch (t.entries post.branch)) c d
@@ -39,16 +39,16 @@ module _ (t : Turn) (old new : WorldLists) (on : GoesOn t old new) where
   post_alike : (post : Post) (by : Signature) → AreTestsAlike (post_tests (post_rows old post) post by) (post_tests (post_rows new post) post by)
   post_alike post by = (
     refl,
-    (λ z. ap₂ (λ p q. p || q) (ap₂ (λ p q. p || q) (ap₂ (λ p q. p || q) (no_account t old new on post.account) (no_teller t old new on post.teller)) (no_ledger t old new on post.branch)) (no_book t old new on post.branch)),
+    (λ z. either (either (either (no_account on post.account) (no_teller on post.teller)) (no_ledger on post.branch)) (no_book on post.branch)),
     (
       refl,
-      (λ z. ap not (of_branch t old new on post.teller post.branch)),
+      (λ z. ap not (of_branch on post.teller post.branch)),
       (
         refl,
-        (λ z. ap not (held_by t old new on post.teller by.user)),
+        (λ z. ap not (held_by on post.teller by.user)),
         (
           refl,
-          (λ z. ap not (floors t old new on post.account post.delta)),
+          (λ z. ap not (floors on post.account post.delta)),
           (
             refl,
             (λ z. ap not (covers_same (teller_record old post.teller) (teller_record new post.teller) (on.tellers post.teller) post.delta)),
@@ -70,7 +70,8 @@ module _ (t : Turn) (old new : WorldLists) (on : GoesOn t old new) where
   post_replied : (post : Post) (by : Signature) → IsRepliedAlike t (op.Post post) (meaning_of (op_at_old t (op.Post post)) by old).reply (meaning_of (op.Post post) by new).reply
   post_replied post by = (
     posted_of (post_rows new post) post,
-    ap (λ o. json (option_map_or posted_text o [])) (post_left t (t.turns post.account) post (account_record old post.account) (account_record new post.account) (branch_record old post.branch) (branch_record new post.branch) (on.accounts post.account) (on.branches post.branch)),
+    ap (λ o. json (option_map_or posted_text o [])) (post_left t (t.turns post.account) post (account_record old post.account) (account_record new post.account)
+        (branch_record old post.branch) (branch_record new post.branch) (on.accounts post.account) (on.branches post.branch)),
     refl,
   )
 

@@ -1,5 +1,5 @@
 -- A release that is given at the bank that goes on and at the next year's.
-use Rattle.std.proofs.Common.{None, Some, [], ap, ap₂, refl, subst, sym, ◌+◌, ◌||◌, ◌∙◌, ◌≡◌}
+use Rattle.std.proofs.Common.{None, Some, [], ap, refl, subst, sym, ◌+◌, ◌∙◌, ◌≡◌}
 use Rattle.std.specs.Option.{option_map_or}
 use Rattle.std.specs.Prelude.{is_none, option_map}
 use Rattle.keyed_rows.proofs.Rows.{found_row}
@@ -25,7 +25,7 @@ use Rattle.year_laws.proofs.FoundAlike.{same_branch}
 use Rattle.year_laws.proofs.IsYearForm.{IsYearForm}
 use Rattle.year_laws.proofs.ReleasesAlike.{release_stays}
 use Rattle.year_laws.proofs.RowsAlike.{carried}
-use Rattle.year_laws.proofs.TestParts.{AreTestsAlike, anew}
+use Rattle.year_laws.proofs.TestParts.{AreTestsAlike, anew, either}
 
 -- it is of the same branch at both banks
 at_branch : (t : Turn) (o : Releasable) → branch_of (releasable_at_old t o) ≡ branch_of o
@@ -45,7 +45,7 @@ module _ (t : Turn) (old new : WorldLists) (on : GoesOn t old new) where
       → AreTestsAlike (release_tests (release_rows old (record r { operation = releasable_at_old t r.operation })) (record r { operation = releasable_at_old t r.operation }) by) (release_tests (release_rows new r) r by)
   release_alike r by = (
     refl,
-    (λ z. ap₂ (λ p q. p || q) (ap (λ u. is_none (option_map (λ x. x.releases) u)) (on.users r.beneficiary)) (todays r.operation)),
+    (λ z. either (ap (λ u. is_none (option_map (λ x. x.releases) u)) (on.users r.beneficiary)) (todays r.operation)),
     (
       refl,
       (λ z. refl),

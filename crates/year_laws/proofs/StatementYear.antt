@@ -11,7 +11,7 @@ use Rattle.year_laws.proofs.TestParts.{AreTestsAlike, no_account}
 
 module _ (t : Turn) (old new : WorldLists) (on : GoesOn t old new) where
   statement_alike : (key : ℕ) → AreTestsAlike (statement_tests (account_record old key)) (statement_tests (account_record new key))
-  statement_alike key = (refl, (λ z. no_account t old new on key), tt)
+  statement_alike key = (refl, (λ z. no_account on key), tt)
 
 pub statement_in_years : (form : Statement) → IsYearForm (op.Statement form)
 statement_in_years form = record {

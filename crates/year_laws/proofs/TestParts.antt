@@ -1,5 +1,5 @@
 -- Rules that deny at both banks or at neither, and what the forms have in common to show it.
-use Rattle.std.proofs.Common.{◌≡◌, ◌==◌, ◌||◌, ◌∙◌, ℕ, ℤ, Bool, true, false, List, [], ◌∷◌, refl, ap, ap₂}
+use Rattle.std.proofs.Common.{◌≡◌, ◌==◌, ◌||◌, ◌&&◌, ◌∙◌, ℕ, ℤ, Bool, true, false, List, [], ◌∷◌, refl, ap, ap₂}
 use Rattle.std.specs.Prelude.{if◌then◌else◌, is_none, option_map, ⊤}
 use Rattle.std.proofs.lemmas.Bool.{eqb-true}
 use Rattle.bank_terms.specs.Rule.{number_of}
@@ -34,11 +34,17 @@ same_denial r not_anew ((s, a) ∷ olds) ((u, b) ∷ news) same =
 same_denial r not_anew [] (b ∷ news) same = absurd same
 same_denial r not_anew (a ∷ olds) [] same = absurd same
 
--- what is said of a rule that begins anew
+-- nothing is said of a rule that begins anew
 pub anew : (a b : Bool) → true ≡ false → a ≡ b
 anew a b z = cc
 
-module _ (t : Turn) (old new : WorldLists) (on : GoesOn t old new) where
+pub either : {a b c d : Bool} → a ≡ b → c ≡ d → (a || c) ≡ (b || d)
+either first second = ap₂ (λ p q. p || q) first second
+
+pub both : {a b c d : Bool} → a ≡ b → c ≡ d → (a && c) ≡ (b && d)
+both first second = ap₂ (λ p q. p && q) first second
+
+module _ {t : Turn} {old new : WorldLists} (on : GoesOn t old new) where
   pub no_ledger : (key : ℕ) → is_none (option_map ledger_of (branch_record old key)) ≡ is_none (option_map ledger_of (branch_record new key))
   no_ledger key = none_mapped (IsSameBranch (t.entries key)) ledger_of (branch_record old key) (branch_record new key) (on.branches key)
 
@@ -67,4 +73,4 @@ module _ (t : Turn) (old new : WorldLists) (on : GoesOn t old new) where
   pub no_drawer : (teller branch : ℕ)
       → (is_none (teller_record old teller) || is_none (option_map cash_book_of (branch_record old branch)) || is_none (option_map (λ b. b.vault) (branch_record old branch)))
       ≡ (is_none (teller_record new teller) || is_none (option_map cash_book_of (branch_record new branch)) || is_none (option_map (λ b. b.vault) (branch_record new branch)))
-  no_drawer teller branch = ap₂ (λ p q. p || q) (ap₂ (λ p q. p || q) (no_teller teller) (no_book branch)) (ap is_none (vaults branch))
+  no_drawer teller branch = either (either (no_teller teller) (no_book branch)) (ap is_none (vaults branch))

@@ -1,5 +1,5 @@
 -- A transfer at the bank that goes on and at the next year's.
-use Rattle.std.proofs.Common.{None, Option, Some, [], ap, ap₂, not, refl, ℕ, ◌&&◌, ◌+ℤ◌, ◌||◌, ◌≡◌}
+use Rattle.std.proofs.Common.{None, Option, Some, [], ap, not, refl, ℕ, ◌+ℤ◌, ◌≡◌}
 use Rattle.std.specs.Option.{option_map_or}
 use Rattle.std.specs.Prelude.{option_and_then, option_map}
 use Rattle.bank_books.specs.Records.{account_record, branch_record}
@@ -18,7 +18,7 @@ use Rattle.year_laws.specs.GoesOn.{AreBoth, GoesOn, IsSameAccount, IsSameBranch,
 use Rattle.year_laws.specs.RepliedAlike.{IsRepliedAlike, transferred_at_old}
 use Rattle.year_laws.proofs.IsYearForm.{IsYearForm}
 use Rattle.year_laws.proofs.NextNumbers.{next, second}
-use Rattle.year_laws.proofs.TestParts.{AreTestsAlike, anew, floors, held_by, no_account, no_ledger, no_teller, of_branch}
+use Rattle.year_laws.proofs.TestParts.{AreTestsAlike, anew, both, either, floors, held_by, no_account, no_ledger, no_teller, of_branch}
 use Rattle.year_laws.proofs.TransfersAlike.{transfer_stays}
 
 module _ (t : Turn) (n m : ℕ) where
@@ -46,16 +46,16 @@ module _ (t : Turn) (old new : WorldLists) (on : GoesOn t old new) where
   transfer_alike : (transfer : Transfer) (by : Signature) → AreTestsAlike (transfer_tests (transfer_rows old transfer) transfer by) (transfer_tests (transfer_rows new transfer) transfer by)
   transfer_alike transfer by = (
     refl,
-    (λ z. ap₂ (λ p q. p || q) (ap₂ (λ p q. p || q) (ap₂ (λ p q. p || q) (no_account t old new on transfer.source) (no_account t old new on transfer.target)) (no_teller t old new on transfer.teller)) (no_ledger t old new on transfer.branch)),
+    (λ z. either (either (either (no_account on transfer.source) (no_account on transfer.target)) (no_teller on transfer.teller)) (no_ledger on transfer.branch)),
     (
       refl,
-      (λ z. ap not (of_branch t old new on transfer.teller transfer.branch)),
+      (λ z. ap not (of_branch on transfer.teller transfer.branch)),
       (
         refl,
-        (λ z. ap not (held_by t old new on transfer.teller by.user)),
+        (λ z. ap not (held_by on transfer.teller by.user)),
         (
           refl,
-          (λ z. ap not (ap₂ (λ p q. p && q) (floors t old new on transfer.source (taken transfer)) (floors t old new on transfer.target (given transfer)))),
+          (λ z. ap not (both (floors on transfer.source (taken transfer)) (floors on transfer.target (given transfer)))),
           (
             refl,
             (λ z. anew _ _ z),
@@ -73,7 +73,8 @@ module _ (t : Turn) (old new : WorldLists) (on : GoesOn t old new) where
   transfer_replied : (f : Transfer) (by : Signature) → IsRepliedAlike t (op.Transfer f) (meaning_of (op_at_old t (op.Transfer f)) by old).reply (meaning_of (op.Transfer f) by new).reply
   transfer_replied f by = (
     transferred_of (transfer_rows new f) f,
-    ap (λ o. json (option_map_or transferred_text o [])) (transfer_left t (t.turns f.source) (t.turns f.target) f (account_record old f.source) (account_record new f.source) (account_record old f.target) (account_record new f.target)
+    ap (λ o. json (option_map_or transferred_text o [])) (transfer_left t (t.turns f.source) (t.turns f.target) f
+        (account_record old f.source) (account_record new f.source) (account_record old f.target) (account_record new f.target)
         (branch_record old f.branch) (branch_record new f.branch) (on.accounts f.source) (on.accounts f.target) (on.branches f.branch)),
     refl,
   )
