@@ -47,6 +47,7 @@ pub of_its_branch : (w : WorldLists) (teller branch : ℕ) → AreDistinct (map 
 of_its_branch w teller branch distinct is t there named =
     eqb-true t.branch branch (subst (λ o. teller_is_of (option_map (teller_record_of w) o) branch ≡ true) (find_of_key teller_key teller w.tellers t distinct there named) is)
 
+-- the teller that an operation names is so, if no rule denies it
 pub passed_teller : (w : WorldLists) (m : Meaning) (teller branch : ℕ) → AreDistinct (map teller_key w.tellers) → m.denies rule.Branch ≡ not (teller_is_of (teller_record w teller) branch) → (by_books m).first ≡ None
     → IsOfBranch w.tellers teller branch
 passed_teller w m teller branch distinct is none = of_its_branch w teller branch distinct (not-false (teller_is_of (teller_record w teller) branch) (sym is ∙ branch_passes m none))
