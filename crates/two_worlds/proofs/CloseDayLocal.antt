@@ -19,6 +19,8 @@ use Rattle.two_worlds.proofs.SameRows.{same_ledger, same_vault}
 use Rattle.two_worlds.proofs.Seen.{held_seen}
 use Rattle.two_worlds.proofs.Within.{AreAlike}
 
+-- ---- what it looks at
+
 module _ (w v : WorldLists) (books : Books w) (books' : Books v) where
   same_held : (key : ℕ) → view_of w (branch_item key) ≡ view_of v (branch_item key) → list_any (λ t. is_some t.holder) (roster w key) ≡ list_any (λ t. is_some t.holder) (roster v key)
   same_held key same = held_seen w key ∙ ap (λ s. list_any (λ r. is_some r.holder) s.roster) same ∙ sym (held_seen v key)
@@ -30,6 +32,8 @@ module _ (w v : WorldLists) (books : Books w) (books' : Books v) where
       let vault = same_vault w v books books' form.branch (same (vault_item form.branch) (2, omega arith, refl)) in
       let held = same_held form.branch branch in
       λ i. record { ledger = ledger i; vault = vault i; holds_a_drawer = held i }
+
+-- ---- what it changes
 
 closes : (tellers : List Teller) (other : ℕ → ℕ → Type 0) (rows : ClosingRows) (form : CloseDay) → IsCarried (touched_by_books form.branch) tellers other (close_day_changes rows form)
 closes tellers other rows form =

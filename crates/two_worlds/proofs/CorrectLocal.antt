@@ -27,6 +27,8 @@ use Rattle.two_worlds.proofs.SameRows.{same_account, same_book, same_ledger, sam
 use Rattle.two_worlds.proofs.Seen.{entry_seen, undone_seen}
 use Rattle.two_worlds.proofs.Within.{AreAlike, IsOfBranch}
 
+-- ---- what it looks at
+
 module _ (w v : WorldLists) (books : Books w) (books' : Books v) where
   same_entry : (key number : ℕ) → view_of w (history_item key) ≡ view_of v (history_item key) → entry w key number ≡ entry v key number
   same_entry key number same = entry_seen w key number ∙ ap (λ s. find (is_entry key number) s.entries) same ∙ sym (entry_seen v key number)
@@ -42,6 +44,7 @@ module _ (w v : WorldLists) (books : Books w) (books' : Books v) where
       go true is = refl
       go false is = same_account w v books books' c.other (same (account_item c.other) (other_there c is))
 
+  -- the entry that is named, and the other of its transfer, are of one branch
   partner_same : (c : Correct) → view_of w (history_item c.branch) ≡ view_of v (history_item c.branch) → option_and_then (partner_of w) (entry_named w c) ≡ option_and_then (partner_of v) (entry_named v c)
   partner_same c same = go (entry_named w c) refl ∙ ap (option_and_then (partner_of v)) (same_entry c.branch c.entry same)
     where
@@ -66,6 +69,8 @@ module _ (w v : WorldLists) (books : Books w) (books' : Books v) where
       let partner = partner_same c history in
       let undone = same_undone c.branch c.entry history in
       λ i. record { account = account i; other = other i; teller = teller i; ledger = ledger i; cash_book = book i; entry = named i; partner = partner i; is_undone = undone i }
+
+-- ---- what it changes
 
 corrects : (tellers : List Teller) (other : ℕ → ℕ → Type 0) (rows : CorrectRows) (c : Correct) (by : Signature) → c.teller ≢ 0 → IsOfBranch tellers c.teller c.branch
     → IsCarried (touched_by_correct c) tellers other (correct_changes rows c by)

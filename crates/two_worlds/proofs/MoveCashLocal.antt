@@ -23,6 +23,8 @@ use Rattle.two_worlds.proofs.PlanParts.{IsCarried, branch_passes, by_row, of_its
 use Rattle.two_worlds.proofs.SameRows.{same_book, same_teller, same_vault}
 use Rattle.two_worlds.proofs.Within.{AreAlike, IsOfBranch}
 
+-- ---- what it looks at
+
 module _ (w v : WorldLists) (books : Books w) (books' : Books v) where
   place_same : (place : ℕ) (items : List Cdi) → AreAlike items w v → ((place == 0) ≡ false → Contains items (teller_item place) × Contains items (drawer_item place)) → teller_at w place ≡ teller_at v place
   place_same place items same there = go (place == 0) refl
@@ -46,6 +48,8 @@ module _ (w v : WorldLists) (books : Books w) (books' : Books v) where
       go : (b : Bool) → (m.source == 0 || m.target == 0) ≡ b → (if b then option_map (λ b. b.vault) (branch_record w m.branch) else None) ≡ (if b then option_map (λ b. b.vault) (branch_record v m.branch) else None)
       go true is = same_vault w v books books' m.branch (same (vault_item m.branch) (vault_there m is))
       go false is = refl
+
+-- ---- what it changes
 
 -- a place of moved cash
 abbrev IsPlace : MoveCash → List Teller → ℕ → Type 0

@@ -16,6 +16,8 @@ use Rattle.two_worlds.proofs.PlanParts.{IsCarried, by_row, not_nothing, passed_t
 use Rattle.two_worlds.proofs.SameRows.{same_account, same_book, same_ledger, same_teller}
 use Rattle.two_worlds.proofs.Within.{AreAlike, IsOfBranch}
 
+-- ---- what it looks at
+
 module _ (w v : WorldLists) (books : Books w) (books' : Books v) where
   rows_same : (post : Post) → AreAlike (touched_by_post post) w v → post_rows w post ≡ post_rows v post
   rows_same post same =
@@ -25,6 +27,8 @@ module _ (w v : WorldLists) (books : Books w) (books' : Books v) where
       let ledger = same_ledger w v books books' post.branch branch (same (history_item post.branch) (3, omega arith, refl)) in
       let book = same_book w v books books' post.branch branch in
       λ i. record { account = account i; teller = teller i; ledger = ledger i; cash_book = book i }
+
+-- ---- what it changes
 
 posts : (tellers : List Teller) (other : ℕ → ℕ → Type 0) (rows : PostRows) (post : Post) (by : Signature) → post.teller ≢ 0 → IsOfBranch tellers post.teller post.branch
     → IsCarried (touched_by_post post) tellers other (post_changes rows post by)

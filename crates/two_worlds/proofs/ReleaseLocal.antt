@@ -21,11 +21,15 @@ use Rattle.two_worlds.proofs.PlanParts.{IsCarried, nothing_carried}
 use Rattle.two_worlds.proofs.SameRows.{same_day}
 use Rattle.two_worlds.proofs.Within.{AreAlike}
 
+-- ---- what it looks at
+
 module _ (w v : WorldLists) (books : Books w) (books' : Books v) where
   rows_same : (form : Release) → AreAlike (touched_by_releasable form.operation) w v → (release_rows w form).given ≡ (release_rows v form).given → release_rows w form ≡ release_rows v form
   rows_same form same given =
       let today = same_day w v books books' (branch_of form.operation) (same (branch_item (branch_of form.operation)) (branch_touched form.operation)) in
       λ i. record { given = given i; today = today i }
+
+-- ---- what it changes
 
 -- the release that is given is the next of its user
 gives : (items : List Cdi) (w : WorldLists) (form : Release) (by : Signature) → IsCarried items w.tellers (IsNotGiven w (op.Release form)) (release_changes (release_rows w form) form by)

@@ -16,6 +16,8 @@ use Rattle.two_worlds.proofs.PlanParts.{IsCarried, by_row, passed_teller}
 use Rattle.two_worlds.proofs.SameRows.{same_account, same_ledger, same_teller}
 use Rattle.two_worlds.proofs.Within.{AreAlike, IsOfBranch}
 
+-- ---- what it looks at
+
 module _ (w v : WorldLists) (books : Books w) (books' : Books v) where
   rows_same : (transfer : Transfer) → AreAlike (touched_by_transfer transfer) w v → transfer_rows w transfer ≡ transfer_rows v transfer
   rows_same transfer same =
@@ -24,6 +26,8 @@ module _ (w v : WorldLists) (books : Books w) (books' : Books v) where
       let teller = same_teller w v books books' transfer.teller (same (teller_item transfer.teller) (2, omega arith, refl)) (same (drawer_item transfer.teller) (5, omega arith, refl)) in
       let ledger = same_ledger w v books books' transfer.branch (same (branch_item transfer.branch) (3, omega arith, refl)) (same (history_item transfer.branch) (4, omega arith, refl)) in
       λ i. record { source = source i; target = target i; teller = teller i; ledger = ledger i }
+
+-- ---- what it changes
 
 transfers : (tellers : List Teller) (other : ℕ → ℕ → Type 0) (rows : TransferRows) (transfer : Transfer) (by : Signature) → IsOfBranch tellers transfer.teller transfer.branch
     → IsCarried (touched_by_transfer transfer) tellers other (transfer_changes rows transfer by)

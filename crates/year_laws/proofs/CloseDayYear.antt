@@ -25,6 +25,8 @@ use Rattle.year_laws.proofs.IsYearForm.{IsYearForm}
 use Rattle.year_laws.proofs.RowsAlike.{carried}
 use Rattle.year_laws.proofs.TestParts.{AreTestsAlike, anew, either, no_ledger, vaults}
 
+-- ---- what is replied, by the records that it is made of
+
 module _ (t : Turn) (branch : ℕ) where
   closing_left : (a b : Option BranchRecord) → AreBoth (IsSameBranch (t.entries branch)) a b
       → option_and_then (λ ledger. option_map (λ vault. closed ledger vault) (option_map (λ x. x.vault) a)) (option_map ledger_of a)
@@ -38,6 +40,8 @@ module _ (t : Turn) (branch : ℕ) where
       λ i. Some (record { balance = balance i; cash = cash i; closed = day i; entries = entries i })
   closing_left None (Some b) same = absurd same
   closing_left (Some a) None same = absurd same
+
+-- ---- at both banks
 
 module _ (t : Turn) (old new : WorldLists) (on : GoesOn t old new) where
   closing_alike : (c : CloseDay) → AreTestsAlike (close_day_tests (closing_rows old c)) (close_day_tests (closing_rows new c))

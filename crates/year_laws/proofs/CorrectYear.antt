@@ -28,6 +28,8 @@ use Rattle.year_laws.proofs.IsYearForm.{IsYearForm}
 use Rattle.year_laws.proofs.NextNumbers.{next, second}
 use Rattle.year_laws.proofs.TestParts.{AreTestsAlike, anew, both, either, floors, held_by, no_account, no_book, no_ledger, no_teller, of_branch}
 
+-- ---- what is replied, by the records that it is made of
+
 module _ (t : Turn) (n m : ℕ) where
   -- by whether it is of a post
   correct_left : (k : Correct) (of_post : Bool) (a b x y : Option AccountRecord) (c d : Option BranchRecord) → AreBoth (IsSameAccount n) a b → AreBoth (IsSameAccount m) x y
@@ -51,6 +53,8 @@ module _ (t : Turn) (n m : ℕ) where
   correct_left k of_post (Some a) (Some b) x y (Some c) None same too also = absurd also
   correct_left k false (Some a) (Some b) None (Some y) (Some c) (Some d) same too also = absurd too
   correct_left k false (Some a) (Some b) (Some x) None (Some c) (Some d) same too also = absurd too
+
+-- ---- at both banks
 
 module _ (t : Turn) (old new : WorldLists) (on : GoesOn t old new) where
   number_of_none : (branch number : ℕ) → number ≢ 0 → number_at_old t branch number ≡ number + t.entries branch

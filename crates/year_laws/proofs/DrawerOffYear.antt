@@ -19,6 +19,7 @@ use Rattle.year_laws.proofs.DrawersAlike.{drawer_off_stays}
 use Rattle.year_laws.proofs.IsYearForm.{IsYearForm}
 use Rattle.year_laws.proofs.TestParts.{AreTestsAlike, anew, held_by, no_drawer, of_branch, vaults}
 
+-- what is replied, by the drawer and the vault
 put_off_same : (form : DrawerOff) (a b : Option TellerRecord) (v u : Option ℤ) → AreBoth IsSameTeller a b → v ≡ u
     → option_and_then (λ x. option_map (λ vault. put_off form x vault) v) a ≡ option_and_then (λ x. option_map (λ vault. put_off form x vault) u) b
 put_off_same form None None v u same is = refl

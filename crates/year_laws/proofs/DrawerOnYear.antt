@@ -21,6 +21,7 @@ use Rattle.year_laws.proofs.DrawersAlike.{drawer_on_stays}
 use Rattle.year_laws.proofs.IsYearForm.{IsYearForm}
 use Rattle.year_laws.proofs.TestParts.{AreTestsAlike, anew, no_drawer, of_branch, vaults}
 
+-- what is replied, by the drawer and the vault
 put_on_same : (form : DrawerOn) (a b : Option TellerRecord) (v u : Option ℤ) → AreBoth IsSameTeller a b → v ≡ u
     → option_and_then (λ x. option_map (λ vault. put_on form x vault) v) a ≡ option_and_then (λ x. option_map (λ vault. put_on form x vault) u) b
 put_on_same form None None v u same is = refl

@@ -20,6 +20,7 @@ use Rattle.year_laws.proofs.IsYearForm.{IsYearForm}
 use Rattle.year_laws.proofs.MovesAlike.{move_stays}
 use Rattle.year_laws.proofs.TestParts.{AreTestsAlike, anew, both, either, no_book, vaults}
 
+-- the cash of a place: of the vault, or of a drawer
 place_same : (place : ℕ) (c : Bool) (a b : Option TellerRecord) (v u : Option ℤ) → AreBoth IsSameTeller a b → v ≡ u
     → (if c then v else option_map (λ x. x.cash) a) ≡ (if c then u else option_map (λ x. x.cash) b)
 place_same place true a b v u same is = is

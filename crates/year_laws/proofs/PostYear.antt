@@ -22,6 +22,8 @@ use Rattle.year_laws.proofs.NextNumbers.{next}
 use Rattle.year_laws.proofs.PostsAlike.{post_stays}
 use Rattle.year_laws.proofs.TestParts.{AreTestsAlike, anew, either, floors, held_by, no_account, no_book, no_ledger, no_teller, of_branch}
 
+-- ---- what is replied, by the records that it is made of
+
 module _ (t : Turn) (n : ℕ) where
   post_left : (post : Post) (a b : Option AccountRecord) (c d : Option BranchRecord) → AreBoth (IsSameAccount n) a b → AreBoth (IsSameBranch (t.entries post.branch)) c d
       → option_and_then (λ account. option_map (λ ledger. posted post account ledger) (option_map ledger_of c)) a
@@ -34,6 +36,8 @@ module _ (t : Turn) (n : ℕ) where
   post_left post (Some a) None c d same also = absurd same
   post_left post (Some a) (Some b) None (Some d) same also = absurd also
   post_left post (Some a) (Some b) (Some c) None same also = absurd also
+
+-- ---- at both banks
 
 module _ (t : Turn) (old new : WorldLists) (on : GoesOn t old new) where
   post_alike : (post : Post) (by : Signature) → AreTestsAlike (post_tests (post_rows old post) post by) (post_tests (post_rows new post) post by)

@@ -21,6 +21,8 @@ use Rattle.year_laws.proofs.NextNumbers.{next, second}
 use Rattle.year_laws.proofs.TestParts.{AreTestsAlike, anew, both, either, floors, held_by, no_account, no_ledger, no_teller, of_branch}
 use Rattle.year_laws.proofs.TransfersAlike.{transfer_stays}
 
+-- ---- what is replied, by the records that it is made of
+
 module _ (t : Turn) (n m : ℕ) where
   transfer_left : (transfer : Transfer) (a b x y : Option AccountRecord) (c d : Option BranchRecord) → AreBoth (IsSameAccount n) a b → AreBoth (IsSameAccount m) x y
       → AreBoth (IsSameBranch (t.entries transfer.branch)) c d
@@ -41,6 +43,8 @@ module _ (t : Turn) (n m : ℕ) where
   transfer_left transfer (Some a) (Some b) (Some x) None c d same too also = absurd too
   transfer_left transfer (Some a) (Some b) (Some x) (Some y) None (Some d) same too also = absurd also
   transfer_left transfer (Some a) (Some b) (Some x) (Some y) (Some c) None same too also = absurd also
+
+-- ---- at both banks
 
 module _ (t : Turn) (old new : WorldLists) (on : GoesOn t old new) where
   transfer_alike : (transfer : Transfer) (by : Signature) → AreTestsAlike (transfer_tests (transfer_rows old transfer) transfer by) (transfer_tests (transfer_rows new transfer) transfer by)
