@@ -19,6 +19,7 @@ accounts_is_form form = record {
   no_commands = λ rows by. refl;
   steps = λ by w checks proper signed none. stands w checks;
   judged = λ w who moment none. tt;
+  denies_no_more = λ by w checks proper judged books. refl;
   moves = none_within 0;
   cash = λ is by w branch place. no_amount 0;
 }

@@ -2,8 +2,8 @@
 use Rattle.bank_books.specs.Balances.{account_balance, branch_balance, entry_count, teller_balance}
 use Rattle.bank_books.specs.Books.{Books}
 use Rattle.bank_books.specs.Cash.{cash_entry_total, holder_of, place_cash, vault_opening}
-use Rattle.bank_books.specs.Keys.{proof_key}
-use Rattle.bank_books.specs.Records.{branch_record, teller_record_of}
+use Rattle.bank_books.specs.Keys.{proof_key, branch_key}
+use Rattle.bank_books.specs.Records.{branch_record, teller_record_of, branch_record_of}
 use Rattle.bank_books.specs.WorldLists.{WorldLists}
 use Rattle.bank_books.specs.declared.row_write.RowWrite.TheVariants as write
 use Rattle.bank_books.specs.declared.rows.Proof.{Proof}
@@ -18,25 +18,33 @@ use Rattle.bank_meaning.specs.CloseDay.{IsCloseDayJudged}
 use Rattle.bank_meaning.specs.Moves.{moves_nothing}
 use Rattle.bank_meaning.specs.Sums.{PassesChecks}
 use Rattle.bank_meaning.specs.declared.who.Who.{Who}
-use Rattle.bank_policy.proofs.RowsTell.{in_filter}
+use Rattle.bank_policy.proofs.RowsTell.{in_filter, from_filter}
 use Rattle.bank_terms.specs.declared.rule.Rule.TheVariants as rule
 use Rattle.book_laws.proofs.DayProved.{branch_still, proof_and_day_move_nothing}
 use Rattle.book_laws.proofs.Kept.{kept_beside, kept_same}
 use Rattle.book_laws.specs.Moves.{with_proof}
-use Rattle.certify.proofs.SomeRows.{none_passes}
+use Rattle.certify.proofs.SomeRows.{none_passes, all_of}
 use Rattle.counter_ops.specs.declared.close_day.CloseDay.{CloseDay}
 use Rattle.counter_ops.specs.declared.op.Op.TheVariants as op
 use Rattle.drawers.proofs.AllowedClose as close_allowed
 use Rattle.drawers.specs.CloseDay.{close_day_changes, close_day_effect, closing_rows, first_against_close_day}
-use Rattle.keyed_rows.proofs.Rows.{Contains-map}
+use Rattle.keyed_rows.proofs.Rows.{Contains-map, Contains-map_source, found_row}
 use Rattle.rule_tests.specs.BranchParts.{ledger_of}
 use Rattle.rule_tests.specs.declared.ledger.Ledger.{Ledger}
-use Rattle.std.proofs.Common.{Bool, None, Option, Some, [], arith, false, refl, subst, sym, true, ℕ, ℤ, ◌+ℤ◌, ◌+◌, ◌∙◌, ◌∷◌, ◌≡◌, ◌≢◌, ◌≤◌}
-use Rattle.std.proofs.lemmas.Bool.{eq-eqb, or_parts}
+use Rattle.std.proofs.Common.{Bool, None, Option, Some, [], arith, false, refl, subst, sym, true, ℕ, ℤ, ◌+ℤ◌, ◌+◌, ◌∙◌, ◌∷◌, ◌≡◌, ◌≢◌, ◌≤◌, ap, int_lt, not, pos, ◌==◌}
+use Rattle.std.proofs.lemmas.Bool.{eq-eqb, or_parts, and_from, eqb-true, le-leb, not_from_true}
 use Rattle.std.proofs.lemmas.Int.{ints}
-use Rattle.std.specs.List.{filter}
-use Rattle.std.specs.Prelude.{is_none, is_some, option_map, unsigned_abs}
+use Rattle.std.specs.List.{filter, list_any}
+use Rattle.std.specs.Prelude.{is_none, is_some, option_map, unsigned_abs, if◌then◌else◌, nat_le}
 use Rattle.world_reads.specs.BookReads.{is_teller_of, roster}
+use Rattle.bank_books.specs.declared.rows.Branch.{Branch}
+use Rattle.bank_books.specs.Range.{IsDay}
+use Rattle.book_laws.proofs.BooksSplit.{books_parts}
+use Rattle.money.specs.Range.{is_cents}
+use Rattle.bank_meaning.proofs.PassingParts.{is_money, limits_of, money_of_cash, none_by, is_at_least, room_is_left}
+use Rattle.std.proofs.lemmas.List.Folds.{list_any_none}
+use Rattle.bank_terms.specs.Limits.{max_day, max_key}
+use Rattle.bank_books.specs.Effects.{on_day}
 
 same_opening : (before after rest : ℤ) → after +ℤ rest ≡ before +ℤ rest → after ≡ before
 same_opening before after rest same = omega (arith, ints)
@@ -89,6 +97,35 @@ close_day_judged w who moment form none =
           (Contains-map (teller_record_of w) (filter (is_teller_of form.branch) w.tellers) t (in_filter (is_teller_of form.branch) w.tellers t there (eq-eqb t.branch form.branch of)))));
     }
 
+-- nobody holds a drawer of the branch
+none_held : (w : WorldLists) (form : CloseDay) → IsCloseDayJudged w form → list_any (λ t. is_some t.holder) (roster w form.branch) ≡ false
+none_held w form judged =
+    list_any_none (λ t. is_some t.holder) (roster w form.branch) (all_of (λ t. is_some t.holder ≡ false) (roster w form.branch) (λ t there.
+    let teller = Contains-map_source (teller_record_of w) (filter (is_teller_of form.branch) w.tellers) t there in
+    let kept = from_filter (is_teller_of form.branch) w.tellers teller.0 teller.1.0 in
+    subst (λ t. is_some t.holder ≡ false) teller.1.1 (ap is_some (judged.drawers teller.0 kept.0 (eqb-true teller.0.branch form.branch kept.1)))))
+
+-- the branch has a next day
+has_next_day : (w : WorldLists) (form : CloseDay) (there : close_allowed.IsThere w form) → Books (close_day_effect w form) → there.branch.day + 1 ≤ max_day
+has_next_day w form there books =
+    let row = there.branch in
+    let next = λ (b : Branch). if b.branch == form.branch then on_day (row.day + 1) b else b in
+    let found = found_row branch_key form.branch w.branches row there.branch_is in
+    let after = ((books_parts (with_proof (close_allowed.proof_of w form there) w)).0 (subst Books (close_allowed.effect_is w form there) books)).0.rows.branches in
+    let day = (after.each (next row) (Contains-map next w.branches row found.0)).day in
+    (subst (λ b. IsDay (if b then on_day (row.day + 1) row else row).day) (eq-eqb row.branch form.branch found.1) day).1
+
+close_day_passes : (w : WorldLists) (form : CloseDay) → PassesChecks w → IsCloseDayJudged w form → Books (close_day_effect w form) → first_against_close_day (closing_rows w form) ≡ None
+close_day_passes w form checks judged books =
+    let there : close_allowed.IsThere w form = record { branch = judged.branch.0; branch_is = judged.branch.1 } in
+    let b = branch_record_of w there.branch in
+    let within = (limits_of w checks.books).branches there.branch (found_row branch_key form.branch w.branches there.branch there.branch_is).0 in
+    let ledger = and_from (is_cents b.balance) (nat_le b.entries max_key) (is_money b.balance within.history.balance_within) (le-leb b.entries max_key within.history.entries_within) in
+    let vault = and_from (is_cents b.vault) (not (int_lt b.vault (pos 0))) (is_money b.vault (money_of_cash b.vault within.cash.vault_within)) (is_at_least b.vault (pos 0) within.cash.vault_within.0) in
+    subst (λ o. first_against_close_day (close_allowed.rows_of w form o) ≡ None) (sym there.branch_is)
+    (none_by _ rule.Range _ (not_from_true _ (and_from _ _ ledger vault))
+    (none_by _ rule.Day _ (none_held w form judged) (none_by (nat_le max_day there.branch.day) rule.Full None (room_is_left max_day there.branch.day (has_next_day w form there books)) refl)))
+
 pub close_day_is_form : (form : CloseDay) → IsForm (op.CloseDay form)
 close_day_is_form form = record {
   said = λ by w. refl;
@@ -100,6 +137,7 @@ close_day_is_form form = record {
   no_commands = λ rows by. refl;
   steps = λ by w checks proper signed none. closes w form checks none;
   judged = λ w who moment none. close_day_judged w who moment form none;
+  denies_no_more = λ by w checks proper judged books. close_day_passes w form checks judged books;
   moves = none_within _;
   cash = λ is by w branch place. close_day_lines w form branch place;
 }

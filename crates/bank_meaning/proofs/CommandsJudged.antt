@@ -1,9 +1,10 @@
--- Who asks for a command that no rule denies, or has the policy listed, is who may.
-use Rattle.std.proofs.Common.{◌≡◌, ℕ, ◌==◌, ◌&&◌, true, false, not, Option, Some, None, Ok, refl, ap, sym, subst}
-use Rattle.std.specs.Prelude.{option_map}
+-- Who asks for a command that no rule denies, or has the policy listed, is who may; and what the command speaks of is there or is not, as it has to be.
+use Rattle.std.proofs.Common.{◌≡◌, ℕ, ◌==◌, ◌&&◌, Bool, true, false, not, Option, Some, None, Ok, refl, ap, sym, subst}
+use Rattle.std.specs.Prelude.{is_none, is_some, option_map}
 use Rattle.std.specs.Option.{option_map_or}
-use Rattle.std.proofs.lemmas.Bool.{and_parts, eqb-true, not-false}
-use Rattle.bank_policy.specs.HeldRows.{standing_of, user_row}
+use Rattle.std.proofs.lemmas.Bool.{and_from, and_parts, eq-eqb, eqb-false, eqb-true, leb-false, not-false, or_parts}
+use Rattle.bank_policy.specs.HeldRows.{is_relation_of, is_triple_of, standing, standing_of, user_row}
+use Rattle.bank_policy.specs.declared.rows.Standing.{Standing}
 use Rattle.bank_policy.specs.Policy.{PolicyLists}
 use Rattle.bank_policy.specs.PolicyKeys.{user_key}
 use Rattle.bank_policy.specs.declared.rows.User.{User}
@@ -13,13 +14,15 @@ use Rattle.bank_terms.specs.declared.rule.Rule.{Rule}
 use Rattle.bank_terms.specs.declared.rule.Rule.TheVariants as rule
 use Rattle.bank_books.specs.WorldLists.{WorldLists}
 use Rattle.bank_terms.proofs.Procedures.{one_procedure}
-use Rattle.certify.proofs.SomeRows.{any_of, some_passes}
-use Rattle.certify.specs.CommandRows.{certifies_any, is_certifier, is_officer}
+use Rattle.certify.proofs.CommandRules.{user_missing, user_there}
+use Rattle.certify.proofs.SomeRows.{any_of, none_passes, some_of, some_passes}
+use Rattle.certify.specs.CommandRows.{certifies_any, has_relation, has_set, has_triple, is_certifier, is_officer}
 use Rattle.keyed_rows.proofs.Rows.{find-found}
 use Rattle.policy_check.specs.Separation.{IsCertifier, IsOfficer}
+use Rattle.policy_check.specs.Soundness.{IsRelated, IsSet, IsUser}
 use Rattle.policy_commands.specs.declared.policy_op.PolicyOp.{PolicyOp}
 use Rattle.policy_commands.specs.declared.policy_op.PolicyOp.TheVariants as command
-use Rattle.bank_meaning.specs.CommandsJudged.{CommandsAreJudged, IsCertifierOfAny, IsCommandJudged, IsListingJudged, MayCommand}
+use Rattle.bank_meaning.specs.CommandsJudged.{CommandsAreJudged, HasTriple, IsCertifierOfAny, IsCommandJudged, IsInPlace, IsListingJudged, IsSuspended, MayCommand}
 use Rattle.bank_meaning.specs.Laws.{IsIdentified}
 use Rattle.bank_meaning.specs.Listing.{is_officer_row}
 use Rattle.bank_meaning.specs.Meaning.{ReplyText}
@@ -78,8 +81,104 @@ may_command w (command.Enrol e) who none = by_officer w who (none rule.Officer)
 may_command w (command.Suspend k) who none = by_officer w who (none rule.Officer)
 may_command w (command.Restore k) who none = by_officer w who (none rule.Officer)
 
+-- ---- what is there, and what is not
+
+is_of_key : (a b : ℕ) (p q : Procedure) → (a == b && number_of p == number_of q) ≡ true → (a ≡ b) × (p ≡ q)
+is_of_key a b p q is =
+    let tests = and_parts (a == b) (number_of p == number_of q) is in
+    (eqb-true a b tests.0, one_procedure p q (eqb-true _ _ tests.1))
+
+of_key : (a b : ℕ) (p q : Procedure) → a ≡ b → p ≡ q → (a == b && number_of p == number_of q) ≡ true
+of_key a b p q same alike = and_from (a == b) (number_of p == number_of q) (eq-eqb a b same) (eq-eqb _ _ (ap number_of alike))
+
+set_there : (p : PolicyLists) (set : ℕ) → has_set p set ≡ true → IsSet p set
+unfolding IsSet
+set_there p set is =
+    let row = some_passes (λ r. r.set == set) p.sets is in
+    (row.0, (row.1.0, eqb-true _ _ row.1.1))
+
+no_set : (p : PolicyLists) (set : ℕ) → has_set p set ≡ false → ¬ IsSet p set
+unfolding IsSet
+no_set p set is there = none_passes (λ r. r.set == set) p.sets is there.0 there.1.0 (eq-eqb _ _ there.1.1)
+
+related : (p : PolicyLists) (procedure : Procedure) (set : ℕ) → has_relation p procedure set ≡ true → IsRelated p procedure set
+unfolding IsRelated
+related p procedure set is =
+    let row = some_passes (λ r. is_relation_of procedure r && r.set == set) p.relations is in
+    let tests = and_parts (is_relation_of procedure row.0) (row.0.set == set) row.1.1 in
+    any_of (λ r. (r.procedure ≡ procedure) × (r.set ≡ set)) p.relations row.0 row.1.0 (one_procedure row.0.procedure procedure (eqb-true _ _ tests.0), eqb-true _ _ tests.1)
+
+not_related : (p : PolicyLists) (procedure : Procedure) (set : ℕ) → has_relation p procedure set ≡ false → ¬ IsRelated p procedure set
+unfolding IsRelated
+not_related p procedure set is there =
+    let row = some_of (λ r. (r.procedure ≡ procedure) × (r.set ≡ set)) p.relations there in
+    none_passes (λ r. is_relation_of procedure r && r.set == set) p.relations is row.0 row.1.0
+    (and_from (is_relation_of procedure row.0) (row.0.set == set) (eq-eqb _ _ (ap number_of row.1.1.0)) (eq-eqb _ _ row.1.1.1))
+
+triple_there : (p : PolicyLists) (user : ℕ) (procedure : Procedure) (set : ℕ) → has_triple p user procedure set ≡ true → HasTriple p user procedure set
+triple_there p user procedure set is =
+    let row = some_passes (λ r. is_triple_of user procedure r && r.set == set) p.triples is in
+    let tests = and_parts (is_triple_of user procedure row.0) (row.0.set == set) row.1.1 in
+    let named = is_of_key row.0.user user row.0.procedure procedure tests.0 in
+    any_of (λ r. (r.user ≡ user) × (r.procedure ≡ procedure) × (r.set ≡ set)) p.triples row.0 row.1.0 (named.0, named.1, eqb-true _ _ tests.1)
+
+no_triple : (p : PolicyLists) (user : ℕ) (procedure : Procedure) (set : ℕ) → has_triple p user procedure set ≡ false → ¬ HasTriple p user procedure set
+no_triple p user procedure set is there =
+    let row = some_of (λ r. (r.user ≡ user) × (r.procedure ≡ procedure) × (r.set ≡ set)) p.triples there in
+    none_passes (λ r. is_triple_of user procedure r && r.set == set) p.triples is row.0 row.1.0
+    (and_from (is_triple_of user procedure row.0) (row.0.set == set) (of_key row.0.user user row.0.procedure procedure row.1.1.0 row.1.1.1) (eq-eqb _ _ row.1.1.2))
+
+no_certifier : (p : PolicyLists) (user : ℕ) (procedure : Procedure) → is_certifier p user procedure ≡ false → ¬ IsCertifier p user procedure
+no_certifier p user procedure is there =
+    let row = some_of (λ r. (r.user ≡ user) × (r.procedure ≡ procedure)) p.certifiers there in
+    none_passes (λ r. r.user == user && number_of r.procedure == number_of procedure) p.certifiers is row.0 row.1.0
+    (of_key row.0.user user row.0.procedure procedure row.1.1.0 row.1.1.1)
+
+a_user : (p : PolicyLists) (user : ℕ) → is_none (standing p user) ≡ false → IsUser p user
+unfolding IsUser
+a_user p user is = user_there p user is
+
+no_user : (p : PolicyLists) (user : ℕ) → is_some (standing p user) ≡ false → ¬ IsUser p user
+unfolding IsUser
+no_user p user is there = user_missing p user is there.0 there.1.0 there.1.1
+
+stands : (p : PolicyLists) (user : ℕ) (suspended : Bool) → is_none (standing p user) ≡ false → option_map_or (λ s. s.suspended) (standing p user) false ≡ suspended
+    → IsSuspended p user suspended
+stands p user suspended some is = go (standing p user) refl some is
+  where
+    go : (o : Option Standing) → standing p user ≡ o → is_none o ≡ false → option_map_or (λ s. s.suspended) o false ≡ suspended → IsSuspended p user suspended
+    go None at some is = absurd cc
+    go (Some row) at some is = (row, at, is)
+
+in_place : (w : WorldLists) (c : PolicyOp) (who : Who) → ((r : Rule) → denies r w (commands c who) ≡ false) → IsInPlace w.policy (asker who) c
+in_place w (command.DefineSet s) who none =
+    let state = or_parts (has_set w.policy s.set) _ (none rule.PolicyState) in
+    (no_set w.policy s.set state.0, leb-false _ _ state.1)
+in_place w (command.Certify k) who none =
+    let state = or_parts (has_relation w.policy k.procedure k.set) _ (none rule.PolicyState) in
+    (set_there w.policy k.set (not-false _ (none rule.PolicyUnknown)), not_related w.policy k.procedure k.set state.0, leb-false _ _ state.1)
+in_place w (command.Withdraw k) who none = related w.policy k.procedure k.set (not-false _ (none rule.PolicyUnknown))
+in_place w (command.Grant t) who none =
+    let known = or_parts (is_none (standing w.policy t.user)) _ (none rule.PolicyUnknown) in
+    let state = or_parts (has_triple w.policy t.user t.procedure t.set) _ (none rule.PolicyState) in (
+      a_user w.policy t.user known.0,
+      related w.policy t.procedure t.set (not-false _ known.1),
+      no_triple w.policy t.user t.procedure t.set state.0,
+      leb-false _ _ state.1,
+    )
+in_place w (command.Revoke k) who none = triple_there w.policy k.user k.procedure k.set (not-false _ (none rule.PolicyUnknown))
+in_place w (command.Appoint c) who none = (a_user w.policy c.user (none rule.PolicyUnknown), no_certifier w.policy c.user c.procedure (none rule.PolicyState))
+in_place w (command.Dismiss c) who none = certifier_told w.policy c.user c.procedure (not-false _ (none rule.PolicyUnknown))
+in_place w (command.Enrol e) who none = no_user w.policy e.user (none rule.PolicyState)
+in_place w (command.Suspend k) who none =
+    let state = or_parts (option_map_or (λ s. s.suspended) (standing w.policy k.user) false) (k.user == asker who) (none rule.PolicyState) in
+    (stands w.policy k.user false (none rule.PolicyUnknown) state.0, eqb-false _ _ state.1)
+in_place w (command.Restore k) who none = stands w.policy k.user true (none rule.PolicyUnknown) (not-false _ (none rule.PolicyState))
+
 command_judged : (w : WorldLists) (c : PolicyOp) (who : Who) → first w (commands c who) ≡ None → IsCommandJudged w who c
-command_judged w c who is = record { identified = identified w c who is; may = may_command w c who (λ r. none_denies w (commands c who) r is) }
+command_judged w c who is =
+    let none : (r : Rule) → denies r w (commands c who) ≡ false = λ r. none_denies w (commands c who) r is in
+    record { identified = identified w c who is; may = may_command w c who none; placed = in_place w c who none }
 
 -- ---- the listing
 

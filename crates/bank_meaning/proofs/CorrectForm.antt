@@ -1,11 +1,10 @@
 -- The laws of a correction.
 use Rattle.bank_books.specs.Books.{Books}
-use Rattle.bank_books.specs.Effects.{applied}
-use Rattle.bank_books.specs.Records.{account_record, account_record_of, branch_record, branch_record_of}
+use Rattle.bank_books.specs.Effects.{applied, written}
+use Rattle.bank_books.specs.Records.{account_record, account_record_of, branch_record, branch_record_of, entry_record_of}
 use Rattle.bank_books.specs.WorldLists.{WorldLists}
 use Rattle.bank_books.specs.declared.records.AccountRecord.{AccountRecord}
 use Rattle.bank_books.specs.declared.row_write.RowWrite.TheVariants as write
-use Rattle.bank_books.specs.declared.rows.Branch.{Branch}
 use Rattle.bank_books.specs.declared.rows.Entry.{Entry}
 use Rattle.bank_books.specs.declared.rows.EntryForm.TheVariants as entry_form
 use Rattle.bank_books.specs.declared.rows.EntryForm.{EntryForm}
@@ -13,41 +12,45 @@ use Rattle.bank_books.specs.declared.signature.Signature.{Signature}
 use Rattle.bank_meaning.proofs.AmountParts.{abs_of_neg, if_added, no_amount, one_line, out_in, placed}
 use Rattle.bank_meaning.proofs.BookChanges.{AreOfBooks, by_row}
 use Rattle.bank_meaning.proofs.IsForm.{IsForm}
-use Rattle.bank_meaning.proofs.JudgedParts.{NoneDenies, branch_of_ledger, branch_there, drawer_covered, holds_drawer, keeps_floor}
+use Rattle.bank_meaning.proofs.JudgedParts.{NoneDenies, branch_of_ledger, drawer_covered, holds_drawer, keeps_floor}
 use Rattle.bank_meaning.proofs.Shares.{cash_alone, legs_cancel, legs_count, one_alone, one_counts, two_alone}
 use Rattle.bank_meaning.proofs.Steps.{IsStep, IsSumOf, passes, plan_step}
-use Rattle.bank_meaning.specs.Correct.{IsCorrectJudged, IsNamed}
+use Rattle.bank_meaning.specs.Correct.{IsCorrectJudged, IsNamed, IsNotUndone}
 use Rattle.bank_meaning.specs.JudgedRows.{KeepsFloor}
 use Rattle.bank_meaning.specs.Operations.{moves_of}
 use Rattle.bank_meaning.specs.PolicyRules.{asker}
 use Rattle.bank_meaning.specs.Sums.{PassesChecks}
 use Rattle.bank_meaning.specs.declared.who.Who.{Who}
 use Rattle.bank_terms.specs.declared.rule.Rule.TheVariants as rule
-use Rattle.certify.proofs.SomeRows.{none_passes}
+use Rattle.certify.proofs.SomeRows.{none_passes, all_of}
 use Rattle.counter_ops.specs.Correct.{IsCorrect}
 use Rattle.counter_ops.specs.declared.correct.Correct.{Correct}
 use Rattle.counter_ops.specs.declared.op.Op.TheVariants as op
-use Rattle.counter_ops.specs.declared.post.Post.{Post}
-use Rattle.drawers.proofs.DrawerThere.{are_there}
-use Rattle.keyed_rows.proofs.Rows.{find-found}
+use Rattle.keyed_rows.proofs.Rows.{find-found, Contains-map, found_row}
 use Rattle.postings.proofs.AllowedCorrect as correct_allowed
 use Rattle.postings.proofs.CorrectBooks.{correct_keeps_books}
-use Rattle.postings.specs.Correct.{correct_changes, correct_effect, correct_rows, first_against_correct, is_correctable, is_of_post, other_is_as_named, partner_of, undoing, undoing_entry, undoing_leg, undoing_legs, undoing_line, undoing_other, undoing_post}
+use Rattle.postings.specs.Correct.{correct_changes, correct_effect, correct_rows, first_against_correct, is_correctable, is_of_post, other_is_as_named, partner_of, undoing, undoing_entry, undoing_leg, undoing_legs, undoing_line, undoing_other, undoing_post, entry_named, has_entry}
 use Rattle.postings.specs.declared.correct.CorrectRows.{CorrectRows}
 use Rattle.rule_tests.specs.BranchParts.{cash_book_of, ledger_of}
-use Rattle.rule_tests.specs.Rules.{account_keeps_floor, drawer_covers}
+use Rattle.rule_tests.specs.Rules.{account_keeps_floor, drawer_covers, cash_book_is_full, ledger_is_full}
 use Rattle.rule_tests.specs.Signed.{IsSigned}
 use Rattle.rule_tests.specs.declared.cash_book.CashBook.{CashBook}
 use Rattle.rule_tests.specs.declared.ledger.Ledger.{Ledger}
-use Rattle.std.proofs.Common.{Bool, Contains, None, Option, Some, [], ap, arith, false, inl, inr, neg_ℤ, not, pos, refl, subst, sym, true, ℕ, ℤ, ◌&&◌, ◌+ℤ◌, ◌+◌, ◌==◌, ◌||◌, ◌∙◌, ◌∷◌, ◌≡◌, ◌≢◌, ◌≤◌}
+use Rattle.std.proofs.Common.{Bool, Contains, None, Option, Some, [], ap, arith, false, inl, inr, neg_ℤ, not, pos, refl, subst, sym, true, ℕ, ℤ, ◌&&◌, ◌+ℤ◌, ◌==◌, ◌||◌, ◌∙◌, ◌∷◌, ◌≡◌, ◌≢◌, ◌≤◌}
 use Rattle.std.proofs.lemmas.Bool.Decides.{Decides-int_eq}
-use Rattle.std.proofs.lemmas.Bool.{and_parts, cases_Bool, eq-eqb, eqb-false, eqb-true, false≢true, ne_eqb, not-false, not-true, or_parts}
+use Rattle.std.proofs.lemmas.Bool.{and_parts, cases_Bool, eq-eqb, eqb-false, eqb-true, false≢true, ne_eqb, not-false, not-true, or_parts, and_from, and_left, and_right, false_from_ne_true, not_from_true, or_from, or_left, or_right}
 use Rattle.std.proofs.lemmas.Int.{ints}
 use Rattle.std.specs.List.{list_any}
 use Rattle.std.specs.Option.{option_map_or}
 use Rattle.std.specs.Ordering.{int_eq}
 use Rattle.std.specs.Prelude.{if◌then◌else◌, is_none, neg_ℤ, option_and_then, option_map, unsigned_abs}
 use Rattle.world_reads.specs.BookReads.{entry, is_entry, undoes_entry, undone}
+use Rattle.counter_ops.specs.Ranges.{IsKey}
+use Rattle.bank_meaning.proofs.PassingParts.{account_has_room, account_with_entry, counter_has_room, covers_it, holds_it, is_above_floor, is_no_vault, is_of_branch, key_of_drawer, legs_have_room, none_by}
+use Rattle.bank_books.specs.Keys.{account_key, branch_key}
+use Rattle.postings.proofs.CashedEntry.{cash_of_entry}
+use Rattle.book_laws.specs.Next.{lined}
+use Rattle.std.proofs.lemmas.List.Folds.{list_any_none}
 
 if_of_post : (o b : Bool) (z : ℤ) → o ≡ true → (if b then z else pos 0) ≡ (if o && b then z else pos 0)
 if_of_post o b z is = ap (λ p. if p && b then z else pos 0) (sym is)
@@ -281,6 +284,132 @@ alone : (rows : CorrectRows) (form : Correct) (by : Signature) (b : Bool) → Ar
 alone rows form by true = by_row _ rows.account (λ account. by_row _ rows.ledger (λ ledger. by_row _ rows.cash_book (λ cash_book. record { each = (refl, (refl, tt)) })))
 alone rows form by false = by_row _ rows.account (λ account. by_row _ rows.other (λ other. by_row _ rows.ledger (λ ledger. by_row _ rows.entry (λ entry. record { each = (refl, (refl, tt)) }))))
 
+-- ---- where it is as the rules ask, they let it pass
+
+not_undone : (w : WorldLists) (branch number : ℕ) (e : Entry) → number ≢ 0 → IsNotUndone w branch number e → undone w branch number ≡ false
+not_undone w branch number e some judged =
+    and_right _ _ (list_any_none (undoes_entry branch number) w.entries (all_of (λ x. undoes_entry branch number x ≡ false) w.entries (λ x there.
+    false_from_ne_true (undoes_entry branch number x) (λ is.
+    let parts = and_parts (x.branch == branch) (x.undoes == number) is in
+    judged.once some x there (eqb-true x.branch branch parts.0) (eqb-true x.undoes number parts.1)))))
+
+-- an entry that is found is of the branch
+branch_of_entry : (w : WorldLists) (branch number : ℕ) (e : Entry) → entry w branch number ≡ Some e → e.branch ≡ branch
+branch_of_entry w branch number e is = eqb-true e.branch branch (and_parts (e.branch == branch) (e.number == number) (find-found (is_entry branch number) w.entries e is).1).0
+
+-- and of books that hold each bears a number
+number_of_entry : (w : WorldLists) (branch number : ℕ) (e : Entry) → Books w → entry w branch number ≡ Some e → number ≢ 0
+number_of_entry w branch number e books is none =
+    let found = find-found (is_entry branch number) w.entries e is in
+    let key : IsKey e.number = (books.in_range.entries (entry_record_of w e) (Contains-map (entry_record_of w) w.entries e found.0)).number in
+    not_zero e.number key (eqb-true e.number number (and_parts (e.branch == branch) (e.number == number) found.1).1 ∙ none)
+  where
+    not_zero : (n : ℕ) → IsKey n → n ≢ 0
+    not_zero n key none = omega (arith, key.0)
+
+-- the other leg is the partner
+partner_found : (w : WorldLists) (c : Correct) (e leg : Entry) → Books w → entry_named w c ≡ Some e → entry w c.branch e.partner ≡ Some leg → partner_of w e ≡ Some leg
+partner_found w c e leg books named is =
+    ap (λ b. if b then None else entry w e.branch e.partner) (ne_eqb e.partner 0 (number_of_entry w c.branch e.partner leg books is))
+    ∙ ap (λ k. entry w k e.partner) (branch_of_entry w c.branch c.entry e named)
+    ∙ is
+
+other_named : (w : WorldLists) (c : Correct) (e : Entry) → Books w → entry_named w c ≡ Some e → IsNamed w c e → other_is_as_named e.form (partner_of w e) c ≡ true
+other_named w c e books found named = elim (cases_Bool (is_of_post c)) [
+  | inl post ↦ ap (λ f. other_is_as_named f (partner_of w e) c) (named.of_post (eqb-true c.other 0 post)) ∙ post
+  | inr legs ↦
+      let some = eqb-false c.other 0 legs in
+      let leg = named.other_leg some in
+      ap (λ f. other_is_as_named f (partner_of w e) c) (named.of_transfer some)
+      ∙ and_from _ _ (ap not legs)
+      (ap (λ o. option_map_or (λ p. p.account == c.other) o false) (partner_found w c e leg.0 books found leg.1.0) ∙ eq-eqb leg.0.account c.other leg.1.1)
+]
+
+abbrev there_of : (w : WorldLists) (user : ℕ) (c : Correct) → IsCorrectJudged w user c → correct_allowed.AreThere w c
+there_of w user c judged = record {
+  account = judged.floor.row;
+  account_is = judged.floor.there;
+  teller = judged.drawer.row;
+  teller_is = judged.drawer.there;
+  branch = judged.branch;
+  branch_is = judged.branch_there;
+  entry = judged.row;
+  entry_is = judged.there;
+}
+
+entry_passes : (w : WorldLists) (user : ℕ) (c : Correct) (rows : CorrectRows) (judged : IsCorrectJudged w user c) → Books w → IsCorrect c → rows.is_undone ≡ undone w c.branch c.entry → rows.entry ≡ Some judged.row
+    → rows.partner ≡ partner_of w judged.row → option_map_or (λ l. judged.row.day == l.day) rows.ledger true ≡ true → has_entry rows c ≡ true
+entry_passes w user c rows judged books proper undone_is entry_is partner_is today =
+    let e = judged.row in
+    let named = and_from (e.account == c.account) (int_eq e.delta c.delta) (eq-eqb e.account c.account judged.named.account) ((Decides-int_eq e.delta c.delta).1 judged.named.delta) in
+    let other = ap (λ p. other_is_as_named e.form p c) partner_is ∙ other_named w c e books judged.there judged.named in
+    let once = ap not (undone_is ∙ not_undone w c.branch c.entry e (some_entry c.entry proper.entry) judged.not_undone) in
+    and_from _ _ once (ap (λ o. option_map_or (λ e. is_correctable e rows c) o false) entry_is ∙ and_from _ _ (and_from _ _ named other) today)
+  where
+    some_entry : (n : ℕ) → IsKey n → n ≢ 0
+    some_entry n key none = omega (arith, key.0)
+
+post_undone_passes : (w : WorldLists) (c : Correct) (by : Signature) → PassesChecks w → IsCorrect c → IsCorrectJudged w by.user c → Books (correct_effect w c by) → is_of_post c ≡ true
+    → first_against_correct (correct_rows w c) c by ≡ None
+post_undone_passes w c by checks proper judged books post =
+    let d = judged.drawer in
+    let there = there_of w by.user c judged in
+    let zero = eqb-true c.other 0 post in
+    let e = correct_allowed.entry_of w c there by in
+    let book = cash_book_of (branch_record_of w judged.branch) in
+    let after : Books (lined (cash_of_entry book e ∷ []) (written (write.Entry e) w)) = subst Books (ap (λ changes. applied changes w) (correct_allowed.changes_of_post w c there by post)) books in
+    let of_home = found_row branch_key c.branch w.branches judged.branch judged.branch_there in
+    let of_drawer = key_of_drawer w c.teller c.branch (Some by.user) d in
+    let of_account = found_row account_key c.account w.accounts judged.floor.row judged.floor.there in
+    let counter = counter_has_room w e book judged.branch d.row of_home.0 of_drawer.0 (sym of_home.1) (sym d.of_branch) (sym of_drawer.1)
+    (is_no_vault w c.teller c.branch (Some by.user) checks.books d) (covers_it w c.teller c.branch (Some by.user) (undoing c) d (judged.cash zero)) after in
+    let account = account_has_room w (lined (cash_of_entry book e ∷ []) (written (write.Entry e) w)) judged.floor.row (undoing c) after of_account.0 (account_with_entry w e judged.floor.row (sym of_account.1)) in
+    let range = and_from _ _ (and_from _ _ (and_from _ _ (and_from _ _ counter.teller counter.ledger) counter.drawer) counter.drawers) counter.cash_entries in
+    let numbers = λ (rows : CorrectRows). ap (λ b. if b then (ledger_is_full rows.ledger 1 || cash_book_is_full rows.cash_book 1) else ledger_is_full rows.ledger 2) post in
+    subst (λ rows. first_against_correct rows c by ≡ None) (sym (correct_allowed.rows_are_of_post w c there post))
+    (none_by _ rule.Unknown _ (or_from _ _ (or_from _ _ (or_from _ _ (and_left (not (is_of_post c)) true (ap not post)) refl) refl) refl)
+    (none_by _ rule.Branch _ (not_from_true _ (is_of_branch w c.teller c.branch (Some by.user) d))
+    (none_by _ rule.Drawer _ (not_from_true _ (holds_it w by.user c.teller c.branch d))
+    (none_by _ rule.SecondPerson _ (ne_eqb judged.row.user by.user judged.by_another)
+    (none_by _ rule.Entry _ (not_from_true _ (entry_passes w by.user c (correct_allowed.rows_of_post w c there) judged checks.books proper refl refl refl (eq-eqb judged.row.day judged.branch.day judged.today)))
+    (none_by _ rule.Floor _ (not_from_true _ (and_from _ _ (is_above_floor w c.account (undoing c) judged.floor) refl))
+    (none_by _ rule.Cash _ (not_from_true _ (or_right (not (is_of_post c)) _ counter.covered))
+    (none_by _ rule.Range _ (not_from_true _ (and_from _ _ (and_from _ _ account.0 refl) (or_right (not (is_of_post c)) _ range)))
+    (none_by _ rule.Full None (or_from _ _ (or_from _ _ account.1 refl) (numbers (correct_allowed.rows_of_post w c there) ∙ or_from _ _ counter.entries counter.lines)) refl)))))))))
+
+legs_undone_pass : (w : WorldLists) (c : Correct) (by : Signature) → PassesChecks w → IsCorrect c → IsCorrectJudged w by.user c → Books (correct_effect w c by) → is_of_post c ≡ false
+    → first_against_correct (correct_rows w c) c by ≡ None
+legs_undone_pass w c by checks proper judged books legs =
+    let d = judged.drawer in
+    let there = there_of w by.user c judged in
+    let other = judged.other_floor (eqb-false c.other 0 legs) in
+    let also : correct_allowed.OtherIsThere w c = record { other = other.row; other_is = other.there } in
+    let first = correct_allowed.first_of w c there by in
+    let second = correct_allowed.second_of w c there also by in
+    let after : Books (written (write.Entry second) (written (write.Entry first) w)) = subst Books (ap (λ changes. applied changes w) (correct_allowed.changes_of_legs w c there also by legs)) books in
+    let of_home = found_row branch_key c.branch w.branches judged.branch judged.branch_there in
+    let of_account = found_row account_key c.account w.accounts judged.floor.row judged.floor.there in
+    let of_other = found_row account_key c.other w.accounts other.row other.there in
+    let room = legs_have_room w first second judged.branch judged.floor.row other.row of_home.0 of_account.0 of_other.0 (sym of_home.1) (sym of_home.1) (sym of_account.1) (sym of_other.1) proper.two_accounts after in
+    let numbers = λ (rows : CorrectRows). ap (λ b. if b then (ledger_is_full rows.ledger 1 || cash_book_is_full rows.cash_book 1) else ledger_is_full rows.ledger 2) legs in
+    subst (λ rows. first_against_correct rows c by ≡ None) (sym (correct_allowed.rows_are_of_legs w c there also legs))
+    (none_by _ rule.Unknown _ (or_from _ _ (or_from _ _ (or_from _ _ (and_right (not (is_of_post c)) false refl) refl) refl) refl)
+    (none_by _ rule.Branch _ (not_from_true _ (is_of_branch w c.teller c.branch (Some by.user) d))
+    (none_by _ rule.Drawer _ (not_from_true _ (holds_it w by.user c.teller c.branch d))
+    (none_by _ rule.SecondPerson _ (ne_eqb judged.row.user by.user judged.by_another)
+    (none_by _ rule.Entry _ (not_from_true _ (entry_passes w by.user c (correct_allowed.rows_of_legs w c there also) judged checks.books proper refl refl refl (eq-eqb judged.row.day judged.branch.day judged.today)))
+    (none_by _ rule.Floor _ (not_from_true _ (and_from _ _ (is_above_floor w c.account (undoing c) judged.floor) (is_above_floor w c.other c.delta other)))
+    (none_by _ rule.Cash _ (not_from_true _ (or_left (not (is_of_post c)) _ (ap not legs)))
+    (none_by _ rule.Range _ (not_from_true _ (and_from _ _ (and_from _ _ room.source_in_range room.target_in_range) (or_left (not (is_of_post c)) _ (ap not legs))))
+    (none_by _ rule.Full None (or_from _ _ (or_from _ _ room.source_turns room.target_turns) (numbers (correct_allowed.rows_of_legs w c there also) ∙ room.entries)) refl)))))))))
+
+correct_passes : (w : WorldLists) (c : Correct) (by : Signature) → PassesChecks w → IsCorrect c → IsCorrectJudged w by.user c → Books (correct_effect w c by)
+    → first_against_correct (correct_rows w c) c by ≡ None
+correct_passes w c by checks proper judged books = elim (cases_Bool (is_of_post c)) [
+  | inl post ↦ post_undone_passes w c by checks proper judged books post
+  | inr legs ↦ legs_undone_pass w c by checks proper judged books legs
+]
+
 pub correct_is_form : (form : Correct) → IsForm (op.Correct form)
 correct_is_form form = record {
   said = λ by w. refl;
@@ -292,6 +421,7 @@ correct_is_form form = record {
   no_commands = λ rows by. refl;
   steps = λ by w checks proper signed none. corrects w form by checks proper signed none;
   judged = λ w who moment none. correct_judged w who moment form none;
+  denies_no_more = λ by w checks proper judged books. correct_passes w form by checks proper judged books;
   moves = record {
     branches = λ key. if_added (is_of_post form && form.branch == key) (undoing form) (unsigned_abs form.delta) (abs_of_neg form.delta);
     tellers = λ key. if_added (is_of_post form && form.teller == key) (undoing form) (unsigned_abs form.delta) (abs_of_neg form.delta);

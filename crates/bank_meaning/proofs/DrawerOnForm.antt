@@ -4,7 +4,7 @@ use Rattle.bank_books.specs.Books.{Books}
 use Rattle.bank_books.specs.Cash.{holder_of}
 use Rattle.bank_books.specs.Effects.{applied}
 use Rattle.bank_books.specs.Range.{IsUserNumber}
-use Rattle.bank_books.specs.Records.{branch_record, teller_record, teller_record_of}
+use Rattle.bank_books.specs.Records.{branch_record, teller_record, teller_record_of, branch_record_of}
 use Rattle.bank_books.specs.WorldLists.{WorldLists}
 use Rattle.bank_books.specs.declared.row_write.RowWrite.TheVariants as write
 use Rattle.bank_books.specs.declared.rows.Branch.{Branch}
@@ -26,8 +26,8 @@ use Rattle.counter_ops.specs.DrawerOn.{IsDrawerOn}
 use Rattle.counter_ops.specs.declared.drawer_on.DrawerOn.{DrawerOn}
 use Rattle.counter_ops.specs.declared.op.Op.TheVariants as op
 use Rattle.drawers.proofs.AllowedOn as on_allowed
-use Rattle.drawers.proofs.DrawerThere.{are_there, book_of}
-use Rattle.drawers.specs.DrawerOn.{drawer_on_changes, drawer_on_effect, first_against_drawer_on, given_line, taken_line}
+use Rattle.drawers.proofs.DrawerThere.{are_there, book_of, rows_are}
+use Rattle.drawers.specs.DrawerOn.{drawer_on_changes, drawer_on_effect, first_against_drawer_on, given_line, taken_line, from_vault, into_drawer}
 use Rattle.drawers.specs.DrawerRows.{drawer_rows}
 use Rattle.drawers.specs.declared.drawer_rows.DrawerRows.{DrawerRows}
 use Rattle.policy_check.specs.Soundness.{IsUserSound}
@@ -35,10 +35,16 @@ use Rattle.rule_tests.specs.BranchParts.{cash_book_of}
 use Rattle.rule_tests.specs.Rules.{drawer_is_held, teller_is_of}
 use Rattle.rule_tests.specs.Signed.{IsSigned}
 use Rattle.rule_tests.specs.declared.cash_book.CashBook.{CashBook}
-use Rattle.std.proofs.Common.{None, Option, Some, [], ap, false, neg_ℤ, not, pos, refl, subst, sym, ℕ, ◌&&◌, ◌==◌, ◌||◌, ◌∷◌, ◌≡◌, ◌≤◌}
-use Rattle.std.proofs.lemmas.Bool.{not-false, or_parts}
+use Rattle.std.proofs.Common.{None, Option, Some, [], ap, false, neg_ℤ, not, pos, refl, subst, sym, ℕ, ◌&&◌, ◌==◌, ◌||◌, ◌∷◌, ◌≡◌, ◌≤◌, true, ◌+ℤ◌, ◌∙◌, arith}
+use Rattle.std.proofs.lemmas.Bool.{not-false, or_parts, and_from, eq-eqb, ne_eqb, not_from_true}
 use Rattle.std.proofs.lemmas.List.Elements.{All-contains}
-use Rattle.std.specs.Prelude.{is_none, neg_ℤ, option_map, unsigned_abs}
+use Rattle.std.specs.Prelude.{is_none, neg_ℤ, option_map, unsigned_abs, is_some}
+use Rattle.book_laws.specs.Limits.{IsBranchWithin}
+use Rattle.counter_ops.specs.Ranges.{IsCash}
+use Rattle.bank_books.specs.Keys.{branch_key}
+use Rattle.bank_meaning.proofs.PassingParts.{branch_with_lines, cash_as, first_alone, holder_is, is_of_branch, key_of_drawer, limits_of, money_as, none_by, number_is_left, place_with_lines, second_alone, vault_covers_it, is_no_vault}
+use Rattle.keyed_rows.proofs.Rows.{found_row}
+use Rattle.book_laws.specs.Next.{lined}
 
 put_on_sums : (book : CashBook) (form : DrawerOn) (by : Signature)
     → IsSumOf (write.Line (given_line book form by) ∷ write.Line (taken_line book form by) ∷ []) moves_nothing
@@ -95,6 +101,35 @@ drawer_on_judged w who moment form none =
       cash = vault_covered w form.branch (neg_ℤ (pos form.cash)) branch (not-false _ (none rule.Cash));
     }
 
+drawer_on_passes : (w : WorldLists) (form : DrawerOn) (by : Signature) → PassesChecks w → IsDrawerOnJudged w form → Books (drawer_on_effect w form by)
+    → first_against_drawer_on (drawer_rows w form.teller form.branch) form ≡ None
+drawer_on_passes w form by checks judged books =
+    let d = judged.drawer in
+    let there : on_allowed.IsThere w form = record { holder = d.row; holder_is = d.there; home = judged.branch.0; home_is = judged.branch.1 } in
+    let home : Branch = judged.branch.0 in
+    let first = on_allowed.given w form there by in
+    let second = on_allowed.taken w form there by in
+    let after : Books (lined (first ∷ second ∷ []) w) = subst Books (on_allowed.effect_is w form there by) books in
+    let b = branch_record_of w home in
+    let t = teller_record_of w d.row in
+    let of_home = found_row branch_key form.branch w.branches home judged.branch.1 in
+    let of_drawer = key_of_drawer w form.teller form.branch None d in
+    let at_drawer = is_no_vault w form.teller form.branch None checks.books d in
+    let limits = limits_of (lined (first ∷ second ∷ []) w) after in
+    let within = (subst IsBranchWithin (branch_with_lines w (first ∷ second ∷ []) home (sym of_home.1, (sym of_home.1, tt))) (limits.branches home of_home.0)).cash in
+    let cash = subst IsCash (place_with_lines w (first ∷ second ∷ []) d.row.branch d.row.teller (sym d.of_branch, (sym d.of_branch, tt))) (limits.tellers d.row of_drawer.0).cash in
+    let is_drawer = ne_eqb form.teller 0 at_drawer in
+    let vault = cash_as _ (b.vault +ℤ from_vault form) within.vault_within (first_alone b.vault (from_vault form) (into_drawer form) true (form.teller == 0) refl is_drawer) in
+    let drawer = cash_as _ (t.cash +ℤ into_drawer form) cash
+    (second_alone t.cash (from_vault form) (into_drawer form) (0 == d.row.teller) (form.teller == d.row.teller) (ne_eqb 0 d.row.teller (λ zero. at_drawer (sym of_drawer.1 ∙ sym zero)))
+    (eq-eqb form.teller d.row.teller (sym of_drawer.1))) in
+    let drawers = money_as _ (b.drawers +ℤ into_drawer form) within.drawers_within (second_alone b.drawers (from_vault form) (into_drawer form) false (not (form.teller == 0)) refl (ap not is_drawer)) in
+    subst (λ rows. first_against_drawer_on rows form ≡ None) (sym (rows_are w form.teller form.branch there))
+    (none_by _ rule.Branch _ (not_from_true _ (is_of_branch w form.teller form.branch None d))
+    (none_by _ rule.Drawer _ (ap is_some (holder_is w form.teller form.branch None d))
+    (none_by _ rule.Cash _ (not_from_true _ (vault_covers_it w form.branch home (from_vault form) judged.branch.1 judged.cash))
+    (none_by _ rule.Range _ (not_from_true _ (and_from _ _ (and_from _ _ vault drawer) drawers)) (none_by _ rule.Full None (number_is_left b.lines 2 (omega (arith, within.lines_within))) refl)))))
+
 pub drawer_on_is_form : (form : DrawerOn) → IsForm (op.DrawerOn form)
 drawer_on_is_form form = record {
   said = λ by w. refl;
@@ -106,6 +141,7 @@ drawer_on_is_form form = record {
   no_commands = λ rows by. refl;
   steps = λ by w checks proper signed none. puts_on w form by checks proper signed none;
   judged = λ w who moment none. drawer_on_judged w who moment form none;
+  denies_no_more = λ by w checks proper judged books. drawer_on_passes w form by checks judged books;
   moves = none_within _;
   cash = λ is by w branch place. drawer_on_lines w form by branch place;
 }

@@ -5,6 +5,7 @@ use Rattle.std.specs.List.{find}
 use Rattle.bank_terms.specs.Procedure.{takes_slip}
 use Rattle.bank_terms.specs.declared.rule.Rule.{Rule}
 use Rattle.bank_terms.specs.declared.rule.Rule.TheVariants as rule
+use Rattle.bank_books.specs.Books.{Books}
 use Rattle.bank_books.specs.SlipRow.{SlipRow}
 use Rattle.bank_books.specs.WorldLists.{WorldLists}
 use Rattle.bank_books.specs.declared.signature.Signature.{Signature}
@@ -59,6 +60,8 @@ pub record IsForm (o : Op) : Type 0 where
   -- where no rule denies it, it keeps the books, and moves what it is said to
   pub steps : (by : Signature) (w : WorldLists) → PassesChecks w → IsOp o → IsSigned w by → (by_books (meaning_of o by w)).first ≡ None → IsStep w (meaning_of o by w).effect (moves_of o)
   pub judged : (w : WorldLists) (who : Who) (moment : ℕ) → NoneDenies w who moment o → (form_of o).IsJudged w (asker who)
+  -- and where that is so, and the books hold after it, none of the rules of the books does
+  pub denies_no_more : (by : Signature) (w : WorldLists) → PassesChecks w → IsOp o → (form_of o).IsJudged w by.user → Books (meaning_of o by w).effect → (by_books (meaning_of o by w)).first ≡ None
   -- its amount bounds what it moves, and the cash of each place
   pub moves : AreWithin (amount o) (moves_of o)
   pub cash : is_drawer_off o ≡ false → (by : Signature) (w : WorldLists) (branch place : ℕ) → unsigned_abs (placed branch place (changed_by (form_of o) by w)) ≤ amount o

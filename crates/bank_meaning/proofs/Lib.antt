@@ -35,6 +35,7 @@ pub mod NewAccountForm
 pub mod NoMoves
 pub mod OpenedAccount
 pub mod OperationSteps
+pub mod PassingParts
 pub mod PolicyFirst
 pub mod PolicyLemmas
 pub mod PostForm

@@ -1,7 +1,7 @@
 -- The laws of an account that is opened.
-use Rattle.bank_books.specs.Balances.{account_balance, account_row, branch_balance, entry_count, teller_balance}
+use Rattle.bank_books.specs.Balances.{account_balance, account_row, branch_balance, entry_count, teller_balance, account_count, branch_row}
 use Rattle.bank_books.specs.Cash.{cash_entry_total}
-use Rattle.bank_books.specs.Records.{account_record_of, branch_record}
+use Rattle.bank_books.specs.Records.{account_record_of, branch_record, branch_record_of}
 use Rattle.bank_books.specs.WorldLists.{WorldLists}
 use Rattle.bank_books.specs.declared.row_write.RowWrite.TheVariants as write
 use Rattle.bank_books.specs.declared.rows.Account.{Account}
@@ -25,8 +25,16 @@ use Rattle.counter_ops.specs.Operations.{IsOp}
 use Rattle.counter_ops.specs.declared.new_account.NewAccount.{NewAccount}
 use Rattle.counter_ops.specs.declared.op.Op.TheVariants as op
 use Rattle.rule_tests.proofs.RuleTests.{source_of}
-use Rattle.std.proofs.Common.{None, Option, Some, ap, false, refl, ℕ, ◌∙◌, ◌≡◌}
-use Rattle.std.specs.Prelude.{is_none, is_some, option_map}
+use Rattle.std.proofs.Common.{None, Option, Some, ap, false, refl, ℕ, ◌∙◌, ◌≡◌, subst, sym, ◌==◌, ◌≤◌}
+use Rattle.std.specs.Prelude.{is_none, is_some, option_map, nat_le}
+use Rattle.bank_books.specs.Books.{Books}
+use Rattle.bank_books.specs.declared.rows.Branch.{Branch}
+use Rattle.bank_meaning.specs.declared.opening_rows.OpeningRows.{OpeningRows}
+use Rattle.bank_books.specs.Keys.{account_key, branch_key}
+use Rattle.keyed_rows.proofs.Rows.{count_named, found_row}
+use Rattle.std.proofs.lemmas.Bool.{eq-eqb}
+use Rattle.bank_meaning.proofs.PassingParts.{limits_of, none_by, room_is_left}
+use Rattle.bank_terms.specs.Limits.{max_accounts}
 
 opens : (w : WorldLists) (form : NewAccount) → PassesChecks w → IsOp (op.NewAccount form) → first_against_new_account (opening_rows w form) ≡ None
     → IsStep w (new_account_effect w form) moves_nothing
@@ -56,6 +64,20 @@ new_account_judged w who moment form none =
       new = none_there (account_record_of w) (account_row form.account w.accounts) (none rule.Taken);
     }
 
+abbrev rows_found : WorldLists → Option Account → Option Branch → OpeningRows
+rows_found w account branch = record { account = option_map (account_record_of w) account; homed = option_map (λ b. b.accounts) (option_map (branch_record_of w) branch) }
+
+new_account_passes : (w : WorldLists) (form : NewAccount) → IsNewAccountJudged w form → Books (new_account_effect w form) → first_against_new_account (opening_rows w form) ≡ None
+new_account_passes w form judged books =
+    let row : Branch = judged.branch.0 in
+    let found = found_row branch_key form.branch w.branches row judged.branch.1 in
+    let homed = count_named account_key (λ a. a.home == row.branch) (opened form) w.accounts (eq-eqb form.branch row.branch (sym found.1)) in
+    let few = ((limits_of (new_account_effect w form) books).branches row found.0).accounts in
+    let room = room_is_left max_accounts (account_count row.branch w.accounts) (subst (λ n. n ≤ max_accounts) homed few) in
+    subst (λ o. first_against_new_account (rows_found w o (branch_row form.branch w.branches)) ≡ None) (sym judged.new)
+    (subst (λ o. first_against_new_account (rows_found w None o) ≡ None) (sym judged.branch.1)
+    (none_by (nat_le max_accounts (account_count row.branch w.accounts)) rule.Full None room refl))
+
 pub new_account_is_form : (form : NewAccount) → IsForm (op.NewAccount form)
 new_account_is_form form = record {
   said = λ by w. refl;
@@ -67,6 +89,7 @@ new_account_is_form form = record {
   no_commands = λ rows by. refl;
   steps = λ by w checks proper signed none. opens w form checks proper none;
   judged = λ w who moment none. new_account_judged w who moment form none;
+  denies_no_more = λ by w checks proper judged books. new_account_passes w form judged books;
   moves = none_within _;
   cash = λ is by w branch place. no_amount _;
 }

@@ -1,6 +1,6 @@
 -- The laws of a post.
 use Rattle.bank_books.specs.Books.{Books}
-use Rattle.bank_books.specs.Effects.{applied}
+use Rattle.bank_books.specs.Effects.{applied, written}
 use Rattle.bank_books.specs.Records.{account_record, account_record_of, branch_record, branch_record_of, teller_record}
 use Rattle.bank_books.specs.WorldLists.{WorldLists}
 use Rattle.bank_books.specs.declared.records.AccountRecord.{AccountRecord}
@@ -27,8 +27,14 @@ use Rattle.rule_tests.specs.Signed.{IsSigned}
 use Rattle.rule_tests.specs.declared.cash_book.CashBook.{CashBook}
 use Rattle.rule_tests.specs.declared.ledger.Ledger.{Ledger}
 use Rattle.std.proofs.Common.{None, Option, Some, [], ap, pos, refl, subst, sym, ℕ, ◌&&◌, ◌==◌, ◌||◌, ◌∷◌, ◌≡◌, ◌≤◌}
-use Rattle.std.proofs.lemmas.Bool.{not-false, or_parts}
+use Rattle.std.proofs.lemmas.Bool.{not-false, or_parts, and_from, not_from_true, or_from}
 use Rattle.std.specs.Prelude.{if◌then◌else◌, is_none, option_map, unsigned_abs}
+use Rattle.bank_books.specs.declared.rows.Branch.{Branch}
+use Rattle.bank_meaning.proofs.PassingParts.{account_has_room, account_with_entry, counter_has_room, covers_it, holds_it, is_above_floor, is_no_vault, is_of_branch, key_of_drawer, none_by}
+use Rattle.bank_books.specs.Keys.{account_key, branch_key}
+use Rattle.postings.proofs.CashedEntry.{cash_of_entry}
+use Rattle.keyed_rows.proofs.Rows.{found_row}
+use Rattle.book_laws.specs.Next.{lined}
 
 post_sums : (account : AccountRecord) (ledger : Ledger) (book : CashBook) (post : Post) (by : Signature)
     → IsSumOf (write.Entry (post_entry account ledger post by) ∷ write.Line (post_line book post by) ∷ []) (moves_of (op.Post post))
@@ -77,6 +83,37 @@ post_judged w who moment post none =
       cash = drawer_covered w (asker who) post.teller post.branch post.delta drawer (not-false _ (none rule.Cash));
     }
 
+post_passes : (w : WorldLists) (post : Post) (by : Signature) → PassesChecks w → IsPostJudged w by.user post → Books (post_effect w post by) → first_against_post (post_rows w post) post by ≡ None
+post_passes w post by checks judged books =
+    let d = judged.drawer in
+    let floor = judged.floor in
+    let home : Branch = judged.branch.0 in
+    let there : allowed.AreThere w post = record {
+      account = floor.row;
+      account_is = floor.there;
+      teller = d.row;
+      teller_is = d.there;
+      branch = home;
+      branch_is = judged.branch.1;
+    } in
+    let e = allowed.entry_of w post there by in
+    let book = cash_book_of (branch_record_of w home) in
+    let after : Books (lined (cash_of_entry book e ∷ []) (written (write.Entry e) w)) = subst Books (ap (λ changes. applied changes w) (allowed.changes_are w post there by)) books in
+    let of_home = found_row branch_key post.branch w.branches home judged.branch.1 in
+    let of_drawer = key_of_drawer w post.teller post.branch (Some by.user) d in
+    let of_account = found_row account_key post.account w.accounts floor.row floor.there in
+    let counter = counter_has_room w e book home d.row of_home.0 of_drawer.0 (sym of_home.1) (sym d.of_branch) (sym of_drawer.1)
+    (is_no_vault w post.teller post.branch (Some by.user) checks.books d) (covers_it w post.teller post.branch (Some by.user) post.delta d judged.cash) after in
+    let account = account_has_room w (lined (cash_of_entry book e ∷ []) (written (write.Entry e) w)) floor.row post.delta after of_account.0 (account_with_entry w e floor.row (sym of_account.1)) in
+    subst (λ rows. first_against_post rows post by ≡ None) (sym (allowed.rows_are w post there))
+    (none_by _ rule.Branch _ (not_from_true _ (is_of_branch w post.teller post.branch (Some by.user) d))
+    (none_by _ rule.Drawer _ (not_from_true _ (holds_it w by.user post.teller post.branch d))
+    (none_by _ rule.Floor _ (not_from_true _ (is_above_floor w post.account post.delta floor))
+    (none_by _ rule.Cash _ (not_from_true _ counter.covered)
+    (none_by _ rule.Range _
+    (not_from_true _ (and_from _ _ (and_from _ _ (and_from _ _ (and_from _ _ (and_from _ _ account.0 counter.teller) counter.ledger) counter.drawer) counter.drawers) counter.cash_entries))
+    (none_by _ rule.Full None (or_from _ _ (or_from _ _ counter.entries account.1) counter.lines) refl))))))
+
 pub post_is_form : (post : Post) → IsForm (op.Post post)
 post_is_form post = record {
   said = λ by w. refl;
@@ -88,6 +125,7 @@ post_is_form post = record {
   no_commands = λ rows by. refl;
   steps = λ by w checks proper signed none. posts w post by checks signed none;
   judged = λ w who moment none. post_judged w who moment post none;
+  denies_no_more = λ by w checks proper judged books. post_passes w post by checks judged books;
   moves = record {
     branches = λ key. if_added (post.branch == key) post.delta (unsigned_abs post.delta) (abs_itself post.delta);
     tellers = λ key. if_added (post.teller == key) post.delta (unsigned_abs post.delta) (abs_itself post.delta);

@@ -1,9 +1,9 @@
 -- The laws of a release that is given.
-use Rattle.bank_books.specs.Balances.{account_balance, branch_balance, entry_count, teller_balance}
+use Rattle.bank_books.specs.Balances.{account_balance, branch_balance, entry_count, teller_balance, branch_row}
 use Rattle.bank_books.specs.Books.{Books}
 use Rattle.bank_books.specs.Cash.{cash_entry_total}
 use Rattle.bank_books.specs.Effects.{written}
-use Rattle.bank_books.specs.Records.{branch_record, release_count}
+use Rattle.bank_books.specs.Records.{branch_record, release_count, branch_record_of}
 use Rattle.bank_books.specs.WorldLists.{WorldLists}
 use Rattle.bank_books.specs.declared.row_write.RowWrite.TheVariants as write
 use Rattle.bank_books.specs.declared.rows.Release.{Release as ReleaseRow}
@@ -31,13 +31,19 @@ use Rattle.counter_ops.specs.Release.{IsRelease}
 use Rattle.counter_ops.specs.Touched.{amount_of_releasable}
 use Rattle.counter_ops.specs.declared.op.Op.TheVariants as op
 use Rattle.counter_ops.specs.declared.release.Release.{Release}
-use Rattle.drawers.proofs.DrawerThere.{are_there}
 use Rattle.rule_tests.proofs.RuleTests.{source_of}
 use Rattle.rule_tests.specs.Signed.{IsSigned}
-use Rattle.std.proofs.Common.{None, Option, Some, ap, refl, subst, sym, ℕ, ◌∙◌, ◌≡◌, ◌≤◌}
-use Rattle.std.proofs.lemmas.Bool.{eqb-false, or_parts}
-use Rattle.std.specs.Prelude.{is_none, option_map, unsigned_abs}
+use Rattle.std.proofs.Common.{None, Option, Some, ap, refl, subst, sym, ℕ, ◌∙◌, ◌≡◌, ◌≤◌, ◌==◌}
+use Rattle.std.proofs.lemmas.Bool.{eqb-false, or_parts, ne_eqb}
+use Rattle.std.specs.Prelude.{is_none, option_map, unsigned_abs, nat_le}
 use Rattle.world_reads.specs.PolicyReads.{user_record, user_record_of}
+use Rattle.bank_books.specs.declared.rows.Branch.{Branch}
+use Rattle.keyed_rows.proofs.Rows.{Contains-add_row_new}
+use Rattle.bank_meaning.specs.declared.release_rows.ReleaseRows.{ReleaseRows}
+use Rattle.bank_policy.specs.declared.rows.User.{User}
+use Rattle.bank_terms.specs.Limits.{max_releases}
+use Rattle.bank_meaning.proofs.PassingParts.{none_by, room_is_left}
+use Rattle.bank_books.specs.Keys.{release_key}
 
 gives : (w : WorldLists) (form : Release) (by : Signature) → PassesChecks w → IsRelease form → IsSigned w by → first_against_release (release_rows w form) form by ≡ None
     → IsStep w (release_effect w form by) moves_nothing
@@ -81,6 +87,22 @@ release_judged w who moment form none =
       other = eqb-false form.beneficiary (asker who) (none rule.SecondPerson);
     }
 
+abbrev rows_found : WorldLists → Option User → Option Branch → ReleaseRows
+rows_found w user branch = record { given = option_map (λ u. u.releases) (option_map (user_record_of w) user); today = option_map (λ b. b.row.day) (option_map (branch_record_of w) branch) }
+
+release_passes : (w : WorldLists) (form : Release) (by : Signature) → IsReleaseJudged w by.user form → Books (release_effect w form by) → first_against_release (release_rows w form) form by ≡ None
+release_passes w form by judged books =
+    let branch : Branch = judged.branch.0 in
+    let given = release_count judged.row.user w.releases in
+    let row : ReleaseRow = given_release given branch.day form by in
+    let effect = release_given.effect_is w form by (record { user = judged.row; user_there = judged.there; branch = branch; branch_there = judged.branch.1 }) in
+    let after : Books (written (write.Release row) w) = subst Books effect books in
+    let number = (after.in_range.releases row (Contains-add_row_new release_key row w.releases)).number in
+    subst (λ o. first_against_release (rows_found w o (branch_row (branch_of form.operation) w.branches)) form by ≡ None) (sym judged.there)
+    (subst (λ o. first_against_release (rows_found w (Some judged.row) o) form by ≡ None) (sym judged.branch.1)
+    (none_by (form.beneficiary == by.user) rule.SecondPerson _ (ne_eqb form.beneficiary by.user judged.other)
+    (none_by (nat_le max_releases given) rule.Full None (room_is_left max_releases given number.1) refl)))
+
 pub release_is_form : (form : Release) → IsForm (op.Release form)
 release_is_form form = record {
   said = λ by w. refl;
@@ -92,6 +114,7 @@ release_is_form form = record {
   no_commands = λ rows by. refl;
   steps = λ by w checks proper signed none. gives w form by checks proper signed none;
   judged = λ w who moment none. release_judged w who moment form none;
+  denies_no_more = λ by w checks proper judged books. release_passes w form by judged books;
   moves = none_within _;
   cash = λ is by w branch place. release_lines w form by branch place;
 }

@@ -1,5 +1,5 @@
 -- The laws of a question for a statement: it changes nothing.
-use Rattle.std.proofs.Common.{refl, ap}
+use Rattle.std.proofs.Common.{refl, None, subst, sym, ◌≡◌}
 use Rattle.bank_terms.specs.declared.rule.Rule.TheVariants as rule
 use Rattle.bank_meaning.proofs.JudgedParts.{account_there}
 use Rattle.counter_ops.specs.declared.op.Op.TheVariants as op
@@ -9,6 +9,14 @@ use Rattle.bank_meaning.proofs.BookChanges.{none_at_all}
 use Rattle.bank_meaning.proofs.IsForm.{IsForm}
 use Rattle.bank_meaning.proofs.NoMoves.{none_within}
 use Rattle.bank_meaning.proofs.Steps.{stands}
+use Rattle.bank_meaning.specs.JudgedRows.{HasAccount}
+use Rattle.bank_books.specs.WorldLists.{WorldLists}
+use Rattle.bank_books.specs.Records.{account_record, account_record_of}
+use Rattle.bank_meaning.specs.Statement.{first_against_statement}
+use Rattle.std.specs.Prelude.{option_map}
+
+statement_passes : (w : WorldLists) (form : Statement) → HasAccount w form.account → first_against_statement (account_record w form.account) ≡ None
+statement_passes w form (row, there) = subst (λ o. first_against_statement (option_map (account_record_of w) o) ≡ None) (sym there) refl
 
 pub statement_is_form : (form : Statement) → IsForm (op.Statement form)
 statement_is_form form = record {
@@ -21,6 +29,7 @@ statement_is_form form = record {
   no_commands = λ rows by. refl;
   steps = λ by w checks proper signed none. stands w checks;
   judged = λ w who moment none. account_there w form.account (none rule.Unknown);
+  denies_no_more = λ by w checks proper judged books. statement_passes w form judged;
   moves = none_within 0;
   cash = λ is by w branch place. no_amount 0;
 }

@@ -1,12 +1,11 @@
 -- The laws of a transfer.
 use Rattle.bank_books.specs.Books.{Books}
-use Rattle.bank_books.specs.Effects.{applied}
+use Rattle.bank_books.specs.Effects.{applied, written}
 use Rattle.bank_books.specs.Records.{account_record, account_record_of, branch_record, branch_record_of, teller_record}
 use Rattle.bank_books.specs.WorldLists.{WorldLists}
 use Rattle.bank_books.specs.declared.records.AccountRecord.{AccountRecord}
 use Rattle.bank_books.specs.declared.row_write.RowWrite.TheVariants as write
 use Rattle.bank_books.specs.declared.rows.Branch.{Branch}
-use Rattle.bank_books.specs.declared.rows.Entry.{Entry}
 use Rattle.bank_books.specs.declared.signature.Signature.{Signature}
 use Rattle.bank_meaning.proofs.AmountParts.{no_amount, out_in, placed}
 use Rattle.bank_meaning.proofs.BookChanges.{by_row}
@@ -20,20 +19,21 @@ use Rattle.bank_meaning.specs.PolicyRules.{asker}
 use Rattle.bank_meaning.specs.Sums.{PassesChecks}
 use Rattle.bank_meaning.specs.declared.who.Who.{Who}
 use Rattle.bank_terms.specs.declared.rule.Rule.TheVariants as rule
-use Rattle.counter_ops.specs.Touched.{amount}
 use Rattle.counter_ops.specs.Transfer.{IsTransfer}
 use Rattle.counter_ops.specs.declared.op.Op.TheVariants as op
 use Rattle.counter_ops.specs.declared.transfer.Transfer.{Transfer}
-use Rattle.drawers.proofs.DrawerThere.{are_there}
 use Rattle.postings.proofs.AllowedTransfer as transfer_allowed
-use Rattle.postings.specs.Transfer.{first_against_transfer, first_leg, second_leg, taken, transfer_changes, transfer_effect, transfer_rows}
+use Rattle.postings.specs.Transfer.{given, first_against_transfer, first_leg, second_leg, taken, transfer_changes, transfer_effect, transfer_rows}
 use Rattle.rule_tests.specs.BranchParts.{ledger_of}
 use Rattle.rule_tests.specs.Rules.{account_keeps_floor}
 use Rattle.rule_tests.specs.Signed.{IsSigned}
 use Rattle.rule_tests.specs.declared.ledger.Ledger.{Ledger}
 use Rattle.std.proofs.Common.{None, Option, Some, [], ap, neg_ℤ, pos, refl, subst, sym, ℕ, ◌==◌, ◌||◌, ◌∷◌, ◌≡◌, ◌≤◌}
-use Rattle.std.proofs.lemmas.Bool.{and_parts, not-false, or_parts}
+use Rattle.std.proofs.lemmas.Bool.{and_parts, not-false, or_parts, and_from, not_from_true, or_from}
 use Rattle.std.specs.Prelude.{if◌then◌else◌, is_none, neg_ℤ, option_map, unsigned_abs}
+use Rattle.bank_books.specs.Keys.{account_key, branch_key}
+use Rattle.keyed_rows.proofs.Rows.{found_row}
+use Rattle.bank_meaning.proofs.PassingParts.{holds_it, is_above_floor, is_of_branch, legs_have_room, none_by}
 
 transfer_sums : (source target : AccountRecord) (ledger : Ledger) (transfer : Transfer) (by : Signature)
     → IsSumOf (write.Entry (first_leg source ledger transfer by) ∷ write.Entry (second_leg target ledger transfer by) ∷ []) (moves_of (op.Transfer transfer))
@@ -81,6 +81,35 @@ transfer_judged w who moment transfer none =
       target = keeps_floor w transfer.target (pos transfer.amount) third.1 floors.1;
     }
 
+transfer_passes : (w : WorldLists) (transfer : Transfer) (by : Signature) → PassesChecks w → IsTransfer transfer → IsTransferJudged w by.user transfer → Books (transfer_effect w transfer by)
+    → first_against_transfer (transfer_rows w transfer) transfer by ≡ None
+transfer_passes w transfer by checks proper judged books =
+    let d = judged.drawer in
+    let home : Branch = judged.branch.0 in
+    let there : transfer_allowed.AreThere w transfer = record {
+      source = judged.source.row;
+      source_is = judged.source.there;
+      target = judged.target.row;
+      target_is = judged.target.there;
+      teller = d.row;
+      teller_is = d.there;
+      branch = home;
+      branch_is = judged.branch.1;
+    } in
+    let first = transfer_allowed.first_of w transfer there by in
+    let second = transfer_allowed.second_of w transfer there by in
+    let after : Books (written (write.Entry second) (written (write.Entry first) w)) = subst Books (ap (λ changes. applied changes w) (transfer_allowed.changes_are w transfer there by)) books in
+    let of_home = found_row branch_key transfer.branch w.branches home judged.branch.1 in
+    let of_source = found_row account_key transfer.source w.accounts judged.source.row judged.source.there in
+    let of_target = found_row account_key transfer.target w.accounts judged.target.row judged.target.there in
+    let room = legs_have_room w first second home judged.source.row judged.target.row of_home.0 of_source.0 of_target.0 (sym of_home.1) (sym of_home.1) (sym of_source.1) (sym of_target.1) proper.two_accounts after in
+    subst (λ rows. first_against_transfer rows transfer by ≡ None) (sym (transfer_allowed.rows_are w transfer there))
+    (none_by _ rule.Branch _ (not_from_true _ (is_of_branch w transfer.teller transfer.branch (Some by.user) d))
+    (none_by _ rule.Drawer _ (not_from_true _ (holds_it w by.user transfer.teller transfer.branch d))
+    (none_by _ rule.Floor _ (not_from_true _ (and_from _ _ (is_above_floor w transfer.source (taken transfer) judged.source) (is_above_floor w transfer.target (given transfer) judged.target)))
+    (none_by _ rule.Range _ (not_from_true _ (and_from _ _ room.source_in_range room.target_in_range))
+    (none_by _ rule.Full None (or_from _ _ (or_from _ _ room.entries room.source_turns) room.target_turns) refl)))))
+
 pub transfer_is_form : (form : Transfer) → IsForm (op.Transfer form)
 transfer_is_form form = record {
   said = λ by w. refl;
@@ -92,6 +121,7 @@ transfer_is_form form = record {
   no_commands = λ rows by. refl;
   steps = λ by w checks proper signed none. transfers w form by checks proper signed none;
   judged = λ w who moment none. transfer_judged w who moment form none;
+  denies_no_more = λ by w checks proper judged books. transfer_passes w form by checks proper judged books;
   moves = record {
     branches = λ key. no_amount form.amount;
     tellers = λ key. no_amount form.amount;

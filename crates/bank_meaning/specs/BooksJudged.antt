@@ -1,9 +1,13 @@
 -- What the rules of the books ask of an operation, over the rows of the World: who holds the drawer, who made the entry, what is left in accounts, drawers and vaults.
 use Rattle.std.specs.Prelude.{◌≡◌, None}
+use Rattle.bank_books.specs.Books.{Books}
 use Rattle.bank_books.specs.WorldLists.{WorldLists}
+use Rattle.bank_meaning.specs.Executions.{books_meaning}
+use Rattle.bank_meaning.specs.Meaning.{by_books}
 use Rattle.bank_meaning.specs.Operations.{form_of}
 use Rattle.bank_meaning.specs.PolicyRules.{asker}
 use Rattle.bank_meaning.specs.Requests.{executes, first}
+use Rattle.bank_meaning.specs.Sums.{IsProper, PassesChecks}
 use Rattle.bank_meaning.specs.declared.execution.Execution.{Execution}
 
 abbrev pub IsBooksJudged : WorldLists → Execution → Type 0
@@ -12,3 +16,9 @@ IsBooksJudged w x = (form_of x.op).IsJudged w (asker x.who)
 -- of every World, and every operation that no rule denies
 abbrev pub BooksAreJudged : Type 0
 BooksAreJudged = (w : WorldLists) (x : Execution) → first w (executes x) ≡ None → IsBooksJudged w x
+
+-- And they deny no more: of every World that passes both checks, and every proper operation, if that is so of it, and the books hold after it, no rule of the
+-- books denies it. What the rules on the range of money and on full numbers ask is that the books hold: each sum is within its range, and each number is one.
+abbrev pub BooksDenyNoMore : Type 0
+BooksDenyNoMore = (w : WorldLists) (x : Execution) → PassesChecks w → IsProper (executes x) → IsBooksJudged w x → Books (books_meaning w x).effect
+    → (by_books (books_meaning w x)).first ≡ None

@@ -35,7 +35,6 @@ pub record IsCloseDayJudged (w : WorldLists) (form : CloseDay) : Type 0 where
   pub branch : HasBranch w form.branch
   pub drawers : (t : Teller) → Contains w.tellers t → t.branch ≡ form.branch → holder_of w.lines t.teller ≡ None
 
-
 -- all that it is
 abbrev pub close_day_form : CloseDay → Form
 close_day_form form = record {

@@ -1,9 +1,13 @@
--- What the rules on commands ask of who asks for one, over the rows of the policy: officers say who belongs to the bank and who certifies, certifiers say who executes.
-use Rattle.std.specs.Prelude.{ℕ, ◌≡◌, None, Ok}
+-- What the rules on commands ask, over the rows of the policy: officers say who belongs to the bank and who certifies, certifiers say who executes; and of what a command speaks.
+use Rattle.std.specs.Prelude.{ℕ, ◌≡◌, ◌≢◌, ◌<◌, ◌==◌, true, false, Bool, Any, count_by, length, None, Ok, Some}
+use Rattle.bank_policy.specs.HeldRows.{is_relation_of, standing}
 use Rattle.bank_policy.specs.Policy.{PolicyLists}
+use Rattle.bank_policy.specs.declared.rows.Standing.{Standing}
+use Rattle.bank_terms.specs.Limits.{max_relations, max_sets, max_triples}
 use Rattle.bank_terms.specs.declared.procedure.Procedure.{Procedure}
 use Rattle.bank_books.specs.WorldLists.{WorldLists}
 use Rattle.policy_check.specs.Separation.{IsCertifier, IsOfficer}
+use Rattle.policy_check.specs.Soundness.{IsRelated, IsSet, IsUser}
 use Rattle.policy_commands.specs.declared.policy_op.PolicyOp.{PolicyOp}
 use Rattle.policy_commands.specs.declared.policy_op.PolicyOp.TheVariants as command
 use Rattle.bank_meaning.specs.Laws.{IsIdentified}
@@ -31,10 +35,38 @@ MayCommand policy user (command.Enrol e) = IsOfficer policy user
 MayCommand policy user (command.Suspend k) = IsOfficer policy user
 MayCommand policy user (command.Restore k) = IsOfficer policy user
 
--- the user is known, so not suspended, and may
+-- the user has a triple for the procedure with this set
+abbrev pub HasTriple : PolicyLists → ℕ → Procedure → ℕ → Type 0
+HasTriple policy user procedure set = Any (λ row. (row.user ≡ user) × (row.procedure ≡ procedure) × (row.set ≡ set)) policy.triples
+
+-- the user is there, and is suspended or is not
+abbrev pub IsSuspended : PolicyLists → ℕ → Bool → Type 0
+IsSuspended policy user suspended = (row : Standing) × (standing policy user ≡ Some row) × (row.suspended ≡ suspended)
+
+-- What is there before a command, and what is not (the primary and foreign keys of Codd's relational model): what it adds is new, there is room for it, and what
+-- that names is there; what it takes away is there. A user who is suspended was not, and is not who asks for it; one who is restored was.
+abbrev pub IsInPlace : PolicyLists → ℕ → PolicyOp → Type 0
+IsInPlace policy by (command.DefineSet s) = (¬ IsSet policy s.set) × (length policy.sets < max_sets)
+IsInPlace policy by (command.Certify k) =
+    IsSet policy k.set × (¬ IsRelated policy k.procedure k.set) × (count_by (is_relation_of k.procedure) policy.relations < max_relations)
+IsInPlace policy by (command.Withdraw k) = IsRelated policy k.procedure k.set
+IsInPlace policy by (command.Grant t) =
+    IsUser policy t.user
+    × IsRelated policy t.procedure t.set
+    × (¬ HasTriple policy t.user t.procedure t.set)
+    × (count_by (λ row. row.user == t.user) policy.triples < max_triples)
+IsInPlace policy by (command.Revoke k) = HasTriple policy k.user k.procedure k.set
+IsInPlace policy by (command.Appoint c) = IsUser policy c.user × (¬ IsCertifier policy c.user c.procedure)
+IsInPlace policy by (command.Dismiss c) = IsCertifier policy c.user c.procedure
+IsInPlace policy by (command.Enrol e) = ¬ IsUser policy e.user
+IsInPlace policy by (command.Suspend k) = IsSuspended policy k.user false × (k.user ≢ by)
+IsInPlace policy by (command.Restore k) = IsSuspended policy k.user true
+
+-- the user is known, so not suspended, and may, and what the command speaks of is there or is not
 pub record IsCommandJudged (w : WorldLists) (who : Who) (c : PolicyOp) : Type 0 where
   pub identified : IsIdentified w who
   pub may : MayCommand w.policy (asker who) c
+  pub placed : IsInPlace w.policy (asker who) c
 
 -- an officer who is known
 pub record IsListingJudged (w : WorldLists) (who : Who) : Type 0 where

@@ -1,7 +1,7 @@
 //! What holds of every World, of every decision, of the rows that it goes by, of amounts, of releases, of a new account, of sessions, and along every list of requests. The functions change nothing; their contracts are the laws.
 
 ghost use Rattle.bank_meaning.specs.Amounts.{AmountsBound};
-ghost use Rattle.bank_meaning.specs.BooksJudged.{BooksAreJudged};
+ghost use Rattle.bank_meaning.specs.BooksJudged.{BooksAreJudged, BooksDenyNoMore};
 ghost use Rattle.bank_meaning.specs.CommandsJudged.{CommandsAreJudged};
 ghost use Rattle.bank_meaning.specs.Headline.{Headline};
 ghost use Rattle.bank_meaning.specs.LastWord.{LastWord};
@@ -68,6 +68,13 @@ pub fn books_are_judged()
     ensures { BooksAreJudged }
 {}
 
+/// And the rules of the books deny no more than that. Of every World that passes both checks, a proper operation that is asked for by
+/// whom and where it has to be, and after which the books hold, is denied by none of them. That the books hold after it says that
+/// each sum stays in the range of money, and that a number was left for each row.
+pub fn books_deny_no_more()
+    ensures { BooksDenyNoMore }
+{}
+
 /// Of every World that passes both checks, and of every proper operation: its amount, in cents, is the most by which it moves the
 /// balance of a branch, a teller or an account, and the cash of a drawer or a vault, but for a drawer that is put off; the most
 /// that a release lets another move; and the most that a new account may go below zero.
@@ -81,8 +88,8 @@ pub fn questions_change_nothing()
 {}
 
 /// A command that no rule denies is asked for by a user who is known and not suspended: by an officer to appoint, dismiss, enrol,
-/// suspend or restore; by a certifier of the procedure to certify, withdraw, grant or revoke; by any certifier to define a set. The
-/// policy is listed to officers alone.
+/// suspend or restore; by a certifier of the procedure to certify, withdraw, grant or revoke; by any certifier to define a set. What
+/// it adds was not there, what it takes away was, and nobody suspends themselves. The policy is listed to officers alone.
 pub fn commands_are_judged()
     ensures { CommandsAreJudged }
 {}
