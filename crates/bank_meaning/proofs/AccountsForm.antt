@@ -21,4 +21,5 @@ accounts_is_form form = record {
   judged = λ w who moment none. tt;
   moves = none_within 0;
   cash = λ is by w branch place. no_amount 0;
+  asked = λ by w judged. tt;
 }

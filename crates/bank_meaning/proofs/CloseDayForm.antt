@@ -37,6 +37,15 @@ use Rattle.std.proofs.lemmas.Int.{ints}
 use Rattle.std.specs.List.{filter}
 use Rattle.std.specs.Prelude.{is_none, is_some, option_map, unsigned_abs}
 use Rattle.world_reads.specs.BookReads.{is_teller_of, roster}
+use Rattle.std.specs.List.{AllByRecursion}
+use Rattle.bank_meaning.specs.AskedRows.{Bears}
+use Rattle.bank_meaning.proofs.AskedRows.{is_home}
+use Rattle.bank_books.specs.declared.rows.Branch.{Branch}
+use Rattle.bank_books.specs.declared.signature.Signature.{Signature}
+use Rattle.bank_meaning.specs.CloseDay.{IsCloseDayAsked}
+use Rattle.bank_books.specs.Balances.{branch_deltas}
+use Rattle.std.specs.Option.{option_map_or}
+use Rattle.std.proofs.Common.{pos, ap}
 
 same_opening : (before after rest : ℤ) → after +ℤ rest ≡ before +ℤ rest → after ≡ before
 same_opening before after rest same = omega (arith, ints)
@@ -89,6 +98,29 @@ close_day_judged w who moment form none =
           (Contains-map (teller_record_of w) (filter (is_teller_of form.branch) w.tellers) t (in_filter (is_teller_of form.branch) w.tellers t there (eq-eqb t.branch form.branch of)))));
     }
 
+close_day_asked : (by : Signature) (w : WorldLists) (form : CloseDay) → IsCloseDayJudged w form
+    → AllByRecursion (λ row. Bears w by.user by.moment row × IsCloseDayAsked w form row) (close_day_changes (closing_rows w form) form)
+close_day_asked by w form judged =
+    let branch : Branch = judged.branch.0 in
+    let home = is_home w form.branch branch judged.branch.1 in
+    let found = sym judged.branch.1 in
+    subst (AllByRecursion (λ row. Bears w by.user by.moment row × IsCloseDayAsked w form row)) (sym (close_allowed.changes_are w form (record { branch = branch; branch_is = judged.branch.1 }))) (
+      (
+        home.day,
+        record {
+          branch = refl;
+          entries = ap (λ key. entry_count key w.entries) home.key;
+          balance =
+              ap (λ key. branch.opening +ℤ branch_deltas key w.entries) home.key
+              ∙ ap (λ (o : Option Branch). option_map_or (λ r. r.opening) o (pos 0) +ℤ branch_deltas form.branch w.entries) found;
+          cash =
+              ap (λ key. branch.cash +ℤ place_cash key 0 w.lines) home.key
+              ∙ ap (λ (o : Option Branch). option_map_or (λ r. r.cash) o (pos 0) +ℤ place_cash form.branch 0 w.lines) found;
+        },
+      ),
+      ((tt, (refl, ap (option_map (λ day. day + 1)) home.day)), tt),
+    )
+
 pub close_day_is_form : (form : CloseDay) → IsForm (op.CloseDay form)
 close_day_is_form form = record {
   said = λ by w. refl;
@@ -102,4 +134,5 @@ close_day_is_form form = record {
   judged = λ w who moment none. close_day_judged w who moment form none;
   moves = none_within _;
   cash = λ is by w branch place. close_day_lines w form branch place;
+  asked = λ by w judged. close_day_asked by w form judged;
 }

@@ -48,6 +48,13 @@ use Rattle.std.specs.Option.{option_map_or}
 use Rattle.std.specs.Ordering.{int_eq}
 use Rattle.std.specs.Prelude.{if◌then◌else◌, is_none, neg_ℤ, option_and_then, option_map, unsigned_abs}
 use Rattle.world_reads.specs.BookReads.{entry, is_entry, undoes_entry, undone}
+use Rattle.std.specs.List.{AllByRecursion}
+use Rattle.bank_meaning.specs.AskedRows.{Bears, entry_says, line_says}
+use Rattle.bank_meaning.proofs.AskedRows.{is_home, numbered, partnered}
+use Rattle.bank_meaning.specs.Correct.{IsCorrectAsked, IsUndoing, undoing_says}
+use Rattle.bank_books.specs.Balances.{entry_count}
+use Rattle.bank_books.specs.declared.rows.CashLine.{CashLine}
+use Rattle.std.proofs.Common.{ap₂}
 
 if_of_post : (o b : Bool) (z : ℤ) → o ≡ true → (if b then z else pos 0) ≡ (if o && b then z else pos 0)
 if_of_post o b z is = ap (λ p. if p && b then z else pos 0) (sym is)
@@ -281,6 +288,91 @@ alone : (rows : CorrectRows) (form : Correct) (by : Signature) (b : Bool) → Ar
 alone rows form by true = by_row _ rows.account (λ account. by_row _ rows.ledger (λ ledger. by_row _ rows.cash_book (λ cash_book. record { each = (refl, (refl, tt)) })))
 alone rows form by false = by_row _ rows.account (λ account. by_row _ rows.other (λ other. by_row _ rows.ledger (λ ledger. by_row _ rows.entry (λ entry. record { each = (refl, (refl, tt)) }))))
 
+correct_asked : (by : Signature) (w : WorldLists) (c : Correct) → IsCorrectJudged w by.user c
+    → AllByRecursion (λ row. Bears w by.user by.moment row × IsCorrectAsked w c row) (correct_changes (correct_rows w c) c by)
+correct_asked by w c judged =
+    let named = judged.named in
+    let home = is_home w c.branch judged.branch judged.branch_there in
+    let account : AccountRecord = account_record_of w judged.floor.row in
+    let ledger : Ledger = ledger_of (branch_record_of w judged.branch) in
+    let there : correct_allowed.AreThere w c = record {
+      account = judged.floor.row;
+      account_is = judged.floor.there;
+      teller = judged.drawer.row;
+      teller_is = judged.drawer.there;
+      branch = judged.branch;
+      branch_is = judged.branch_there;
+      entry = judged.row;
+      entry_is = judged.there;
+    } in
+    elim (cases_Bool (is_of_post c)) [
+      | inl post ↦
+          let is_post = sym (named.of_post (eqb-true c.other 0 post)) in
+          let e : Entry = undoing_entry account ledger c by in
+          let l : CashLine = undoing_line (cash_book_of (branch_record_of w judged.branch)) c by in
+          subst (AllByRecursion (λ row. Bears w by.user by.moment row × IsCorrectAsked w c row)) (sym (correct_allowed.changes_of_post w c there by post)) (
+            (
+              (refl, refl, home.day),
+              (
+                judged.row,
+                judged.there,
+                subst (λ f. IsUndoing w c judged.row f (write.Entry e)) is_post
+                    (numbered w (entry_says e) 1 judged.branch.branch c.branch home.key
+                    ∙ ap₂ (λ a d. undoing_says c a (neg_ℤ d) (entry_count c.branch w.entries + 1) 0 c.entry) (sym named.account) (sym named.delta)),
+              ),
+            ),
+            (
+              (
+                (refl, refl, home.day),
+                (
+                  judged.row,
+                  judged.there,
+                  subst (λ f. IsUndoing w c judged.row f (write.Line l)) is_post (ap (λ d. record (line_says l) { amount = neg_ℤ d }) (sym named.delta)),
+                ),
+              ),
+              tt,
+            ),
+          )
+      | inr legs ↦
+          let some = eqb-false c.other 0 legs in
+          let is_leg = sym (named.of_transfer some) in
+          let other = judged.other_floor some in
+          let also : correct_allowed.OtherIsThere w c = record { other = other.row; other_is = other.there } in
+          let leg = named.other_leg some in
+          let first : Entry = undoing_leg account ledger c by in
+          let second : Entry = undoing_other (account_record_of w other.row) ledger judged.row.partner c by in
+          let n = entry_count c.branch w.entries in
+          subst (AllByRecursion (λ row. Bears w by.user by.moment row × IsCorrectAsked w c row)) (sym (correct_allowed.changes_of_legs w c there also by legs)) (
+            (
+              (refl, refl, home.day),
+              (
+                judged.row,
+                judged.there,
+                subst (λ f. IsUndoing w c judged.row f (write.Entry first)) is_leg
+                    (inl (partnered w (entry_says first) 1 2 judged.branch.branch c.branch home.key
+                    ∙ ap₂ (λ a d. undoing_says c a (neg_ℤ d) (n + 1) (n + 2) c.entry) (sym named.account) (sym named.delta))),
+              ),
+            ),
+            (
+              (
+                (refl, refl, home.day),
+                (
+                  judged.row,
+                  judged.there,
+                  subst (λ f. IsUndoing w c judged.row f (write.Entry second)) is_leg
+                      (inr (
+                        leg.0,
+                        leg.1.0,
+                        partnered w (entry_says second) 2 1 judged.branch.branch c.branch home.key
+                            ∙ ap₂ (λ a d. undoing_says c a d (n + 2) (n + 1) judged.row.partner) (sym leg.1.1) (sym named.delta),
+                      )),
+                ),
+              ),
+              tt,
+            ),
+          )
+    ]
+
 pub correct_is_form : (form : Correct) → IsForm (op.Correct form)
 correct_is_form form = record {
   said = λ by w. refl;
@@ -298,4 +390,5 @@ correct_is_form form = record {
     accounts = λ key. out_in (form.account == key) (not (is_of_post form) && form.other == key) form.delta;
   };
   cash = λ is by w branch place. correct_lines w form by branch place;
+  asked = λ by w judged. correct_asked by w form judged;
 }

@@ -33,6 +33,18 @@ use Rattle.rule_tests.specs.declared.cash_book.CashBook.{CashBook}
 use Rattle.std.proofs.Common.{Bool, None, [], ap, false, neg_ℤ, pos, refl, subst, sym, ℕ, ℤ, ◌&&◌, ◌+ℤ◌, ◌+◌, ◌==◌, ◌||◌, ◌∙◌, ◌∷◌, ◌≡◌}
 use Rattle.std.proofs.lemmas.Bool.{or_parts}
 use Rattle.std.specs.Prelude.{if◌then◌else◌, is_none, neg_ℤ, option_map}
+use Rattle.std.specs.List.{AllByRecursion}
+use Rattle.bank_meaning.specs.AskedRows.{Bears}
+use Rattle.bank_meaning.proofs.AskedRows.{is_home}
+use Rattle.bank_meaning.specs.DrawerOff.{IsDrawerOffAsked, off_says}
+use Rattle.bank_books.specs.Cash.{place_cash}
+use Rattle.bank_books.specs.Keys.{teller_key}
+use Rattle.bank_books.specs.declared.rows.LineForm.TheVariants as line_form
+use Rattle.bank_books.specs.declared.rows.Teller.{Teller}
+use Rattle.drawers.proofs.DrawerThere.{AreThere}
+use Rattle.drawers.specs.DrawerOff.{drawer_off_changes}
+use Rattle.keyed_rows.proofs.Rows.{found_row}
+use Rattle.std.proofs.Common.{ap₂, inl, inr}
 
 three_none : (a b c : Bool) (x y z : ℤ) → (if a && false then x else pos 0) +ℤ ((if b && false then y else pos 0) +ℤ ((if c && false then z else pos 0) +ℤ pos 0)) ≡ pos 0
 three_none a b c x y z =
@@ -71,6 +83,21 @@ drawer_off_judged w who moment form none =
       drawer = holds_drawer w (asker who) form.teller form.branch second.0 (none rule.Branch) (none rule.Drawer);
     }
 
+drawer_off_asked : (by : Signature) (w : WorldLists) (form : DrawerOff) → IsDrawerOffJudged w by.user form
+    → AllByRecursion (λ row. Bears w by.user by.moment row × IsDrawerOffAsked w form row) (drawer_off_changes (drawer_rows w form.teller form.branch) form by)
+drawer_off_asked by w form judged =
+    let home = is_home w form.branch judged.branch.0 judged.branch.1 in
+    let row : Teller = judged.drawer.row in
+    let there : AreThere w form.teller form.branch =
+    record { holder = row; holder_is = judged.drawer.there; home = judged.branch.0; home_is = judged.branch.1 } in
+    subst (AllByRecursion (λ row. Bears w by.user by.moment row × IsDrawerOffAsked w form row)) (sym (off_allowed.changes_are w form there by)) (
+      (
+        (refl, refl, home.day),
+        inl (ap₂ (λ b t. off_says form form.teller (form.counted +ℤ neg_ℤ (place_cash b t w.lines)) line_form.Difference) judged.drawer.of_branch (found_row teller_key form.teller w.tellers row judged.drawer.there).1),
+      ),
+      (((refl, refl, home.day), inr (inl refl)), (((refl, refl, home.day), inr (inr refl)), tt)),
+    )
+
 pub drawer_off_is_form : (form : DrawerOff) → IsForm (op.DrawerOff form)
 drawer_off_is_form form = record {
   said = λ by w. refl;
@@ -84,4 +111,5 @@ drawer_off_is_form form = record {
   judged = λ w who moment none. drawer_off_judged w who moment form none;
   moves = none_within _;
   cash = λ is by w branch place. absurd cc;
+  asked = λ by w judged. drawer_off_asked by w form judged;
 }

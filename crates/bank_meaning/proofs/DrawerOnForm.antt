@@ -39,6 +39,12 @@ use Rattle.std.proofs.Common.{None, Option, Some, [], ap, false, neg_ℤ, not, p
 use Rattle.std.proofs.lemmas.Bool.{not-false, or_parts}
 use Rattle.std.proofs.lemmas.List.Elements.{All-contains}
 use Rattle.std.specs.Prelude.{is_none, neg_ℤ, option_map, unsigned_abs}
+use Rattle.std.specs.List.{AllByRecursion}
+use Rattle.bank_meaning.specs.AskedRows.{Bears}
+use Rattle.bank_meaning.proofs.AskedRows.{is_home}
+use Rattle.bank_meaning.specs.DrawerOn.{IsDrawerOnAsked}
+use Rattle.drawers.proofs.DrawerThere.{AreThere}
+use Rattle.std.proofs.Common.{inl, inr}
 
 put_on_sums : (book : CashBook) (form : DrawerOn) (by : Signature)
     → IsSumOf (write.Line (given_line book form by) ∷ write.Line (taken_line book form by) ∷ []) moves_nothing
@@ -95,6 +101,15 @@ drawer_on_judged w who moment form none =
       cash = vault_covered w form.branch (neg_ℤ (pos form.cash)) branch (not-false _ (none rule.Cash));
     }
 
+drawer_on_asked : (by : Signature) (w : WorldLists) (form : DrawerOn) → IsDrawerOnJudged w form
+    → AllByRecursion (λ row. Bears w by.user by.moment row × IsDrawerOnAsked form row) (drawer_on_changes (drawer_rows w form.teller form.branch) form by)
+drawer_on_asked by w form judged =
+    let home = is_home w form.branch judged.branch.0 judged.branch.1 in
+    let there : AreThere w form.teller form.branch =
+    record { holder = judged.drawer.row; holder_is = judged.drawer.there; home = judged.branch.0; home_is = judged.branch.1 } in
+    subst (AllByRecursion (λ row. Bears w by.user by.moment row × IsDrawerOnAsked form row)) (sym (on_allowed.changes_are w form there by))
+    (((refl, refl, home.day), inl refl), (((refl, refl, home.day), inr refl), tt))
+
 pub drawer_on_is_form : (form : DrawerOn) → IsForm (op.DrawerOn form)
 drawer_on_is_form form = record {
   said = λ by w. refl;
@@ -108,4 +123,5 @@ drawer_on_is_form form = record {
   judged = λ w who moment none. drawer_on_judged w who moment form none;
   moves = none_within _;
   cash = λ is by w branch place. drawer_on_lines w form by branch place;
+  asked = λ by w judged. drawer_on_asked by w form judged;
 }

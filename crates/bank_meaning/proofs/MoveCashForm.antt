@@ -38,6 +38,11 @@ use Rattle.std.proofs.Common.{Bool, None, Option, Some, [], ap, arith, false, ne
 use Rattle.std.proofs.lemmas.Bool.{and_parts, eq-eqb, eqb-false, eqb-true, ne_eqb, not-false, not-true, or_parts}
 use Rattle.std.proofs.lemmas.Int.{ints}
 use Rattle.std.specs.Prelude.{if◌then◌else◌, is_none, neg_ℤ, option_map, unsigned_abs, ◌≤ℤ◌}
+use Rattle.std.specs.List.{AllByRecursion}
+use Rattle.bank_meaning.specs.AskedRows.{Bears}
+use Rattle.bank_meaning.proofs.AskedRows.{is_home}
+use Rattle.bank_meaning.specs.MoveCash.{IsMoveAsked}
+use Rattle.std.proofs.Common.{inl, inr}
 
 moved_sums : (book : CashBook) (move : MoveCash) (by : Signature)
     → IsSumOf (write.Line (source_line book move by) ∷ write.Line (target_line book move by) ∷ []) moves_nothing
@@ -164,6 +169,13 @@ move_judged w who moment m none =
       cash = place_covered w m passed.branch (λ some. source_covered w (asker who) m passed some (source_held w (asker who) m passed some)) passed.covers;
     }
 
+move_asked : (by : Signature) (w : WorldLists) (m : MoveCash) → IsMoveJudged w by.user m
+    → AllByRecursion (λ row. Bears w by.user by.moment row × IsMoveAsked m row) (move_changes (move_rows w m) m by)
+move_asked by w m judged =
+    let home = is_home w m.branch judged.branch.0 judged.branch.1 in
+    subst (AllByRecursion (λ row. Bears w by.user by.moment row × IsMoveAsked m row)) (sym (move_allowed.changes_are w m (record { home = judged.branch.0; home_is = judged.branch.1 }) by))
+    (((refl, refl, home.day), inl refl), (((refl, refl, home.day), inr refl), tt))
+
 pub move_cash_is_form : (form : MoveCash) → IsForm (op.MoveCash form)
 move_cash_is_form form = record {
   said = λ by w. refl;
@@ -177,4 +189,5 @@ move_cash_is_form form = record {
   judged = λ w who moment none. move_judged w who moment form none;
   moves = none_within _;
   cash = λ is by w branch place. move_lines w form by branch place;
+  asked = λ by w judged. move_asked by w form judged;
 }

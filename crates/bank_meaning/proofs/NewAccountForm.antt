@@ -69,4 +69,5 @@ new_account_is_form form = record {
   judged = λ w who moment none. new_account_judged w who moment form none;
   moves = none_within _;
   cash = λ is by w branch place. no_amount _;
+  asked = λ by w judged. ((tt, refl), tt);
 }

@@ -29,6 +29,12 @@ use Rattle.rule_tests.specs.declared.ledger.Ledger.{Ledger}
 use Rattle.std.proofs.Common.{None, Option, Some, [], ap, pos, refl, subst, sym, ℕ, ◌&&◌, ◌==◌, ◌||◌, ◌∷◌, ◌≡◌, ◌≤◌}
 use Rattle.std.proofs.lemmas.Bool.{not-false, or_parts}
 use Rattle.std.specs.Prelude.{if◌then◌else◌, is_none, option_map, unsigned_abs}
+use Rattle.std.specs.List.{AllByRecursion}
+use Rattle.bank_meaning.specs.AskedRows.{Bears, entry_says}
+use Rattle.bank_meaning.proofs.AskedRows.{is_home, numbered}
+use Rattle.bank_books.specs.declared.rows.Branch.{Branch}
+use Rattle.bank_books.specs.declared.rows.Entry.{Entry}
+use Rattle.bank_meaning.specs.Post.{IsPostAsked}
 
 post_sums : (account : AccountRecord) (ledger : Ledger) (book : CashBook) (post : Post) (by : Signature)
     → IsSumOf (write.Entry (post_entry account ledger post by) ∷ write.Line (post_line book post by) ∷ []) (moves_of (op.Post post))
@@ -77,6 +83,23 @@ post_judged w who moment post none =
       cash = drawer_covered w (asker who) post.teller post.branch post.delta drawer (not-false _ (none rule.Cash));
     }
 
+post_asked : (by : Signature) (w : WorldLists) (post : Post) → IsPostJudged w by.user post
+    → AllByRecursion (λ row. Bears w by.user by.moment row × IsPostAsked w post row) (post_changes (post_rows w post) post by)
+post_asked by w post judged =
+    let branch : Branch = judged.branch.0 in
+    let home = is_home w post.branch branch judged.branch.1 in
+    let there : allowed.AreThere w post = record {
+      account = judged.floor.row;
+      account_is = judged.floor.there;
+      teller = judged.drawer.row;
+      teller_is = judged.drawer.there;
+      branch = branch;
+      branch_is = judged.branch.1;
+    } in
+    let e : Entry = post_entry (account_record_of w judged.floor.row) (ledger_of (branch_record_of w branch)) post by in
+    subst (AllByRecursion (λ row. Bears w by.user by.moment row × IsPostAsked w post row)) (sym (allowed.changes_are w post there by))
+    (((refl, refl, home.day), numbered w (entry_says e) 1 branch.branch post.branch home.key), (((refl, refl, home.day), refl), tt))
+
 pub post_is_form : (post : Post) → IsForm (op.Post post)
 post_is_form post = record {
   said = λ by w. refl;
@@ -94,4 +117,5 @@ post_is_form post = record {
     accounts = λ key. if_added (post.account == key) post.delta (unsigned_abs post.delta) (abs_itself post.delta);
   };
   cash = λ is by w branch place. post_lines w post by branch place;
+  asked = λ by w judged. post_asked by w post judged;
 }

@@ -23,4 +23,5 @@ proof_is_form form = record {
   judged = λ w who moment none. branch_there w form.branch (none rule.Unknown);
   moves = none_within 0;
   cash = λ is by w branch place. no_amount 0;
+  asked = λ by w judged. tt;
 }

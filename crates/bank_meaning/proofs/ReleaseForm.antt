@@ -38,6 +38,14 @@ use Rattle.std.proofs.Common.{None, Option, Some, ap, refl, subst, sym, ℕ, ◌
 use Rattle.std.proofs.lemmas.Bool.{eqb-false, or_parts}
 use Rattle.std.specs.Prelude.{is_none, option_map, unsigned_abs}
 use Rattle.world_reads.specs.PolicyReads.{user_record, user_record_of}
+use Rattle.std.specs.List.{AllByRecursion}
+use Rattle.bank_meaning.specs.AskedRows.{Bears}
+use Rattle.bank_meaning.proofs.AskedRows.{is_home}
+use Rattle.bank_books.specs.declared.rows.Branch.{Branch}
+use Rattle.bank_meaning.specs.Release.{IsReleaseAsked}
+use Rattle.bank_books.specs.Records.{branch_record_of}
+use Rattle.bank_policy.specs.declared.rows.User.{User}
+use Rattle.std.proofs.Common.{ap₂}
 
 gives : (w : WorldLists) (form : Release) (by : Signature) → PassesChecks w → IsRelease form → IsSigned w by → first_against_release (release_rows w form) form by ≡ None
     → IsStep w (release_effect w form by) moves_nothing
@@ -81,6 +89,15 @@ release_judged w who moment form none =
       other = eqb-false form.beneficiary (asker who) (none rule.SecondPerson);
     }
 
+release_asked : (by : Signature) (w : WorldLists) (form : Release) → IsReleaseJudged w by.user form
+    → AllByRecursion (λ row. Bears w by.user by.moment row × IsReleaseAsked form row) (release_changes (release_rows w form) form by)
+release_asked by w form judged =
+    let home = is_home w (branch_of form.operation) judged.branch.0 judged.branch.1 in
+    let changes = ap₂ (λ (user : Option User) (branch : Option Branch).
+    release_changes (record { given = option_map (λ u. u.releases) (option_map (user_record_of w) user); today = option_map (λ b. b.row.day) (option_map (branch_record_of w) branch) }) form by) judged.there judged.branch.1 in
+    subst (AllByRecursion (λ row. Bears w by.user by.moment row × IsReleaseAsked form row)) (sym changes)
+    (((refl, judged.other, home.day), record { user = refl; branch = refl; operation = refl; unused = refl }), tt)
+
 pub release_is_form : (form : Release) → IsForm (op.Release form)
 release_is_form form = record {
   said = λ by w. refl;
@@ -94,4 +111,5 @@ release_is_form form = record {
   judged = λ w who moment none. release_judged w who moment form none;
   moves = none_within _;
   cash = λ is by w branch place. release_lines w form by branch place;
+  asked = λ by w judged. release_asked by w form judged;
 }

@@ -34,6 +34,11 @@ use Rattle.rule_tests.specs.declared.ledger.Ledger.{Ledger}
 use Rattle.std.proofs.Common.{None, Option, Some, [], ap, neg_ℤ, pos, refl, subst, sym, ℕ, ◌==◌, ◌||◌, ◌∷◌, ◌≡◌, ◌≤◌}
 use Rattle.std.proofs.lemmas.Bool.{and_parts, not-false, or_parts}
 use Rattle.std.specs.Prelude.{if◌then◌else◌, is_none, neg_ℤ, option_map, unsigned_abs}
+use Rattle.std.specs.List.{AllByRecursion}
+use Rattle.bank_meaning.specs.AskedRows.{Bears, entry_says}
+use Rattle.bank_meaning.proofs.AskedRows.{is_home, partnered}
+use Rattle.bank_meaning.specs.Transfer.{IsTransferAsked}
+use Rattle.std.proofs.Common.{inl, inr}
 
 transfer_sums : (source target : AccountRecord) (ledger : Ledger) (transfer : Transfer) (by : Signature)
     → IsSumOf (write.Entry (first_leg source ledger transfer by) ∷ write.Entry (second_leg target ledger transfer by) ∷ []) (moves_of (op.Transfer transfer))
@@ -81,6 +86,29 @@ transfer_judged w who moment transfer none =
       target = keeps_floor w transfer.target (pos transfer.amount) third.1 floors.1;
     }
 
+transfer_asked : (by : Signature) (w : WorldLists) (transfer : Transfer) → IsTransferJudged w by.user transfer
+    → AllByRecursion (λ row. Bears w by.user by.moment row × IsTransferAsked w transfer row) (transfer_changes (transfer_rows w transfer) transfer by)
+transfer_asked by w transfer judged =
+    let branch : Branch = judged.branch.0 in
+    let home = is_home w transfer.branch branch judged.branch.1 in
+    let there : transfer_allowed.AreThere w transfer = record {
+      source = judged.source.row;
+      source_is = judged.source.there;
+      target = judged.target.row;
+      target_is = judged.target.there;
+      teller = judged.drawer.row;
+      teller_is = judged.drawer.there;
+      branch = branch;
+      branch_is = judged.branch.1;
+    } in
+    let ledger : Ledger = ledger_of (branch_record_of w branch) in
+    let first : Entry = first_leg (account_record_of w judged.source.row) ledger transfer by in
+    let second : Entry = second_leg (account_record_of w judged.target.row) ledger transfer by in
+    subst (AllByRecursion (λ row. Bears w by.user by.moment row × IsTransferAsked w transfer row)) (sym (transfer_allowed.changes_are w transfer there by)) (
+      ((refl, refl, home.day), inl (partnered w (entry_says first) 1 2 branch.branch transfer.branch home.key)),
+      (((refl, refl, home.day), inr (partnered w (entry_says second) 2 1 branch.branch transfer.branch home.key)), tt),
+    )
+
 pub transfer_is_form : (form : Transfer) → IsForm (op.Transfer form)
 transfer_is_form form = record {
   said = λ by w. refl;
@@ -98,4 +126,5 @@ transfer_is_form form = record {
     accounts = λ key. out_in (form.source == key) (form.target == key) (pos form.amount);
   };
   cash = λ is by w branch place. transfer_lines w form by branch place;
+  asked = λ by w judged. transfer_asked by w form judged;
 }

@@ -19,6 +19,13 @@ use Rattle.bank_books.specs.Cash.{holder_of}
 use Rattle.bank_books.specs.declared.rows.Teller.{Teller}
 use Rattle.bank_meaning.specs.JudgedRows.{HasBranch}
 use Rattle.std.specs.Prelude.{◌≡◌, Contains, None}
+use Rattle.bank_books.specs.declared.row_write.RowWrite.{RowWrite}
+use Rattle.bank_books.specs.declared.row_write.RowWrite.TheVariants as write
+use Rattle.bank_books.specs.Balances.{branch_balance, entry_count}
+use Rattle.bank_books.specs.Cash.{cash_of}
+use Rattle.bank_books.specs.declared.rows.Proof.{Proof}
+use Rattle.bank_meaning.specs.AskedRows.{today}
+use Rattle.std.specs.Prelude.{◌+◌, Some, option_map}
 
 -- what the proof of the day holds
 unfoldable pub closed_text : Closed → List ℕ
@@ -35,6 +42,18 @@ pub record IsCloseDayJudged (w : WorldLists) (form : CloseDay) : Type 0 where
   pub branch : HasBranch w form.branch
   pub drawers : (t : Teller) → Contains w.tellers t → t.branch ≡ form.branch → holder_of w.lines t.teller ≡ None
 
+-- the entries of the branch, its balance and the cash of its vault, as they are where its day is closed
+pub record IsProofOf (w : WorldLists) (form : CloseDay) (p : Proof) : Type 0 where
+  pub branch : p.branch ≡ form.branch
+  pub entries : p.entries ≡ entry_count form.branch w.entries
+  pub balance : p.balance ≡ branch_balance w form.branch
+  pub cash : p.cash ≡ cash_of w form.branch 0
+
+-- the proof of the day, and the branch on its next day
+abbrev pub IsCloseDayAsked : WorldLists → CloseDay → RowWrite → Type 0
+IsCloseDayAsked w form (write.Proof p) = IsProofOf w form p
+IsCloseDayAsked w form (write.Day d) = (d.branch ≡ form.branch) × (option_map (λ day. day + 1) (today w form.branch) ≡ Some d.day)
+IsCloseDayAsked w form _ = ⊥
 
 -- all that it is
 abbrev pub close_day_form : CloseDay → Form
@@ -47,6 +66,7 @@ close_day_form form = record {
   is_report = false;
   moves = moves_nothing;
   IsJudged = λ w user. IsCloseDayJudged w form;
+  IsAsked = λ w row. IsCloseDayAsked w form row;
 }
 
 abbrev pub close_day_meaning : CloseDay → WorldLists → Meaning

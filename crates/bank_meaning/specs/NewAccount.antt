@@ -21,6 +21,7 @@ use Rattle.bank_meaning.specs.declared.opening_rows.OpeningRows.{OpeningRows}
 use Rattle.bank_books.specs.Balances.{account_row}
 use Rattle.bank_meaning.specs.JudgedRows.{HasBranch}
 use Rattle.std.specs.Prelude.{◌≡◌, None}
+use Rattle.bank_books.specs.declared.row_write.RowWrite.{RowWrite}
 
 -- the account that is there already, and how many accounts its home has
 abbrev pub opening_rows : WorldLists → NewAccount → OpeningRows
@@ -57,6 +58,11 @@ pub record IsNewAccountJudged (w : WorldLists) (form : NewAccount) : Type 0 wher
   pub branch : HasBranch w form.branch
   pub new : account_row form.account w.accounts ≡ None
 
+-- the account, with its home and its floor and with nothing in it
+abbrev pub IsNewAccountAsked : NewAccount → RowWrite → Type 0
+IsNewAccountAsked form (write.Account a) = a ≡ record { account = form.account; home = form.branch; opening = pos 0; floor = form.floor }
+IsNewAccountAsked form _ = ⊥
+
 -- all that it is
 abbrev pub new_account_form : NewAccount → Form
 new_account_form form = record {
@@ -68,6 +74,7 @@ new_account_form form = record {
   is_report = false;
   moves = moves_nothing;
   IsJudged = λ w user. IsNewAccountJudged w form;
+  IsAsked = λ w row. IsNewAccountAsked form row;
 }
 
 abbrev pub new_account_meaning : NewAccount → WorldLists → Meaning
