@@ -307,70 +307,34 @@ correct_asked by w c judged =
     } in
     elim (cases_Bool (is_of_post c)) [
       | inl post ↦
-          let is_post = sym (named.of_post (eqb-true c.other 0 post)) in
+          let of_form = sym (named.of_post (eqb-true c.other 0 post)) in
           let e : Entry = undoing_entry account ledger c by in
           let l : CashLine = undoing_line (cash_book_of (branch_record_of w judged.branch)) c by in
-          subst (AllByRecursion (λ row. Bears w by.user by.moment row × IsCorrectAsked w c row)) (sym (correct_allowed.changes_of_post w c there by post)) (
-            (
-              (refl, refl, home.day),
-              (
-                judged.row,
-                judged.there,
-                subst (λ f. IsUndoing w c judged.row f (write.Entry e)) is_post
-                    (numbered w (entry_says e) 1 judged.branch.branch c.branch home.key
-                    ∙ ap₂ (λ a d. undoing_says c a (neg_ℤ d) (entry_count c.branch w.entries + 1) 0 c.entry) (sym named.account) (sym named.delta)),
-              ),
-            ),
-            (
-              (
-                (refl, refl, home.day),
-                (
-                  judged.row,
-                  judged.there,
-                  subst (λ f. IsUndoing w c judged.row f (write.Line l)) is_post (ap (λ d. record (line_says l) { amount = neg_ℤ d }) (sym named.delta)),
-                ),
-              ),
-              tt,
-            ),
-          )
+          let entered = numbered w (entry_says e) 1 judged.branch.branch c.branch home.key
+          ∙ ap₂ (λ a d. undoing_says c a (neg_ℤ d) (entry_count c.branch w.entries + 1) 0 c.entry) (sym named.account) (sym named.delta) in
+          let entry : IsCorrectAsked w c (write.Entry e) = (judged.row, judged.there, subst (λ f. IsUndoing w c judged.row f (write.Entry e)) of_form entered) in
+          let paid = ap (λ d. record (line_says l) { amount = neg_ℤ d }) (sym named.delta) in
+          let line : IsCorrectAsked w c (write.Line l) = (judged.row, judged.there, subst (λ f. IsUndoing w c judged.row f (write.Line l)) of_form paid) in
+          subst (AllByRecursion (λ row. Bears w by.user by.moment row × IsCorrectAsked w c row)) (sym (correct_allowed.changes_of_post w c there by post))
+          (((refl, refl, home.day), entry), (((refl, refl, home.day), line), tt))
       | inr legs ↦
           let some = eqb-false c.other 0 legs in
-          let is_leg = sym (named.of_transfer some) in
+          let of_form = sym (named.of_transfer some) in
           let other = judged.other_floor some in
           let also : correct_allowed.OtherIsThere w c = record { other = other.row; other_is = other.there } in
           let leg = named.other_leg some in
-          let first : Entry = undoing_leg account ledger c by in
-          let second : Entry = undoing_other (account_record_of w other.row) ledger judged.row.partner c by in
+          let e : Entry = undoing_leg account ledger c by in
+          let o : Entry = undoing_other (account_record_of w other.row) ledger judged.row.partner c by in
           let n = entry_count c.branch w.entries in
-          subst (AllByRecursion (λ row. Bears w by.user by.moment row × IsCorrectAsked w c row)) (sym (correct_allowed.changes_of_legs w c there also by legs)) (
-            (
-              (refl, refl, home.day),
-              (
-                judged.row,
-                judged.there,
-                subst (λ f. IsUndoing w c judged.row f (write.Entry first)) is_leg
-                    (inl (partnered w (entry_says first) 1 2 judged.branch.branch c.branch home.key
-                    ∙ ap₂ (λ a d. undoing_says c a (neg_ℤ d) (n + 1) (n + 2) c.entry) (sym named.account) (sym named.delta))),
-              ),
-            ),
-            (
-              (
-                (refl, refl, home.day),
-                (
-                  judged.row,
-                  judged.there,
-                  subst (λ f. IsUndoing w c judged.row f (write.Entry second)) is_leg
-                      (inr (
-                        leg.0,
-                        leg.1.0,
-                        partnered w (entry_says second) 2 1 judged.branch.branch c.branch home.key
-                            ∙ ap₂ (λ a d. undoing_says c a d (n + 2) (n + 1) judged.row.partner) (sym leg.1.1) (sym named.delta),
-                      )),
-                ),
-              ),
-              tt,
-            ),
-          )
+          let entered = partnered w (entry_says e) 1 2 judged.branch.branch c.branch home.key
+          ∙ ap₂ (λ a d. undoing_says c a (neg_ℤ d) (n + 1) (n + 2) c.entry) (sym named.account) (sym named.delta) in
+          let first : IsCorrectAsked w c (write.Entry e) = (judged.row, judged.there, subst (λ f. IsUndoing w c judged.row f (write.Entry e)) of_form (inl entered)) in
+          let also_entered = partnered w (entry_says o) 2 1 judged.branch.branch c.branch home.key
+          ∙ ap₂ (λ a d. undoing_says c a d (n + 2) (n + 1) judged.row.partner) (sym leg.1.1) (sym named.delta) in
+          let second : IsCorrectAsked w c (write.Entry o) =
+          (judged.row, judged.there, subst (λ f. IsUndoing w c judged.row f (write.Entry o)) of_form (inr (leg.0, leg.1.0, also_entered))) in
+          subst (AllByRecursion (λ row. Bears w by.user by.moment row × IsCorrectAsked w c row)) (sym (correct_allowed.changes_of_legs w c there also by legs))
+          (((refl, refl, home.day), first), (((refl, refl, home.day), second), tt))
     ]
 
 pub correct_is_form : (form : Correct) → IsForm (op.Correct form)
