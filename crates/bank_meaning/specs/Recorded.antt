@@ -1,6 +1,5 @@
 -- That the rows which an operation adds say what was asked, and that it adds no others.
-use Rattle.std.specs.Prelude.{◌≡◌, ◌⊎◌, Contains}
-use Rattle.bank_books.specs.Effects.{on_day, used_up}
+use Rattle.std.specs.Prelude.{◌≡◌, ◌⊎◌, true, Contains}
 use Rattle.bank_books.specs.SlipRow.{SlipRow}
 use Rattle.bank_books.specs.WorldLists.{WorldLists}
 use Rattle.bank_books.specs.declared.row_write.RowWrite.{RowWrite}
@@ -28,7 +27,7 @@ IsAsked w x row = Bears w (asker x.who) x.moment row × (form_of x.op).IsAsked w
 pub record IsOnAnotherDay (w : WorldLists) (x : Execution) (b : Branch) : Type 0 where
   pub before : Branch
   pub there : Contains w.branches before
-  pub same : b ≡ on_day b.day before
+  pub same : b ≡ record before { day = b.day }
   pub asked : IsAsked w x (write.Day (record { branch = b.branch; day = b.day }))
 
 -- the release that who asks names, used up and else as it was
@@ -37,7 +36,7 @@ pub record IsUsedUp (w : WorldLists) (x : Execution) (r : Release) : Type 0 wher
   pub there : Contains w.releases before
   pub user : before.user ≡ asker x.who
   pub number : before.number ≡ x.who.release
-  pub same : r ≡ used_up before
+  pub same : r ≡ record before { used = true }
 
 -- the slip that was named, with the operation and its reply
 pub record IsTaken (w : WorldLists) (x : Execution) (s : SlipRow) : Type 0 where
