@@ -1,4 +1,4 @@
--- What the rows that an operation adds say, where they are made of the rows that are found.
+-- What the rows that an operation adds say, by the rows that it finds.
 use Rattle.std.proofs.Common.{◌≡◌, ℕ, ◌+◌, Some, ap}
 use Rattle.bank_books.specs.Balances.{branch_row, entry_count}
 use Rattle.bank_books.specs.Keys.{branch_key}
@@ -8,7 +8,7 @@ use Rattle.keyed_rows.proofs.Rows.{found_row}
 use Rattle.std.specs.Prelude.{option_map}
 use Rattle.bank_meaning.specs.AskedRows.{EntrySays, today}
 
--- the row of a branch, where it is found, and its number
+-- the row of a branch that is found: its number and its day
 pub record IsHome (w : WorldLists) (branch : ℕ) (row : Branch) : Type 0 where
   pub key : row.branch ≡ branch
   pub day : today w branch ≡ Some row.day

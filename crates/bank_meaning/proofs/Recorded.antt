@@ -65,7 +65,7 @@ by_books w x checks proper is =
 small : (n : ℕ) → n ≤ max_releases → n < 2 ^ 32
 small n is = omega arith
 
--- a release of the books after it has a number in its range
+-- each release of books that hold has a number in its range
 in_range : (after : WorldLists) → PassesChecks after → (r : Release) → Contains after.releases r → r.number < 2 ^ 32
 in_range after checks r there = small r.number (checks.books.in_range.releases r there).number.1
 
@@ -95,15 +95,12 @@ left : (w after : WorldLists) (x : Execution) → PassesChecks w → PassesCheck
     → RowsAreAsked w (used_by (leave_of (grounds w x)) (asker x.who) after) x
 left w after x checks also is asked = by_leave ((allowed_exactly_when_held w x).0 is).2
   where
-    within : Bool → WorldLists
-    within b = used_by (if b then leave.Triple else leave.Release x.who.release) (asker x.who) after
-
     either : (b : Bool) → x.who.release < 2 ^ 32 → RowsAreAsked w (used_by (if b then leave.Triple else leave.Release x.who.release) (asker x.who) after) x
     either true named = asked
     either false named = used w after x also named asked
 
     by_leave : InLimitOrReleased w x → RowsAreAsked w (used_by (leave_of (grounds w x)) (asker x.who) after) x
-    by_leave (inl within) = subst (λ l. RowsAreAsked w (used_by l (asker x.who) after) x) (sym (leave_in_limit w x within)) asked
+    by_leave (inl in_limit) = subst (λ l. RowsAreAsked w (used_by l (asker x.who) after) x) (sym (leave_in_limit w x in_limit)) asked
     by_leave (inr released) =
         let row : Release = released.1.counts.row in
         let found = find-found (is_release (asker x.who) x.who.release) w.releases row released.1.counts.there in

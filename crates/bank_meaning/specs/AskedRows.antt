@@ -9,7 +9,7 @@ use Rattle.bank_books.specs.declared.rows.Entry.{Entry}
 use Rattle.bank_books.specs.declared.rows.EntryForm.{EntryForm}
 use Rattle.bank_books.specs.declared.rows.LineForm.{LineForm}
 
--- the present day of a branch, where it is there
+-- the present day of a branch, none if it is not there
 abbrev pub today : WorldLists → ℕ → Option ℕ
 today w branch = option_map (λ row. row.day) (branch_row branch w.branches)
 

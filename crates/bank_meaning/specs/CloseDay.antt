@@ -42,7 +42,7 @@ pub record IsCloseDayJudged (w : WorldLists) (form : CloseDay) : Type 0 where
   pub branch : HasBranch w form.branch
   pub drawers : (t : Teller) → Contains w.tellers t → t.branch ≡ form.branch → holder_of w.lines t.teller ≡ None
 
--- the entries of the branch, its balance and the cash of its vault, as they are where its day is closed
+-- the entries of the branch, its balance and the cash of its vault, as its day ends
 pub record IsProofOf (w : WorldLists) (form : CloseDay) (p : Proof) : Type 0 where
   pub branch : p.branch ≡ form.branch
   pub entries : p.entries ≡ entry_count form.branch w.entries

@@ -30,7 +30,7 @@ pub record IsOnAnotherDay (w : WorldLists) (x : Execution) (b : Branch) : Type 0
   pub same : b ≡ record before { day = b.day }
   pub asked : IsAsked w x (write.Day (record { branch = b.branch; day = b.day }))
 
--- the release that who asks names, used up and else as it was
+-- the release that is named, of the user who asks: used up, and else as it was
 pub record IsUsedUp (w : WorldLists) (x : Execution) (r : Release) : Type 0 where
   pub before : Release
   pub there : Contains w.releases before
