@@ -30,7 +30,7 @@ use Rattle.bank_meaning.proofs.Steps.{IsStep}
 use Rattle.std.specs.List.{AllByRecursion}
 use Rattle.bank_meaning.specs.AskedRows.{Bears}
 
--- the rules on commands, which stand behind those of the books
+-- the rules on commands, which follow those of the books
 abbrev pub on_commands : List Rule
 on_commands = rule.Officer ∷ rule.Certifier ∷ rule.Separation ∷ rule.PolicyUnknown ∷ rule.PolicyState ∷ []
 

@@ -1,5 +1,4 @@
 -- The question for a list of accounts: its reply and its meaning. No rule of the books denies it, and it changes nothing.
-use Rattle.std.specs.Prelude.{false}
 use Rattle.bank_books.specs.WorldLists.{WorldLists}
 use Rattle.bank_books.specs.declared.signature.Signature.{Signature}
 use Rattle.counter_ops.specs.declared.accounts.Accounts.{Accounts}
@@ -7,7 +6,7 @@ use Rattle.reports.specs.Listing.{report_text}
 use Rattle.reports.specs.declared.listing.Listing.{Listing}
 use Rattle.reports.specs.declared.listing.Listing.TheVariants as listing
 use Rattle.std.specs.Prelude.{ℕ, List, [], true, ⊤}
-use Rattle.bank_meaning.specs.Form.{Form}
+use Rattle.bank_meaning.specs.Form.{Form, said_by}
 use Rattle.bank_meaning.specs.Moves.{moves_nothing}
 use Rattle.bank_meaning.specs.Meaning.{Meaning, plain}
 
@@ -30,8 +29,4 @@ accounts_form form = record {
 }
 
 abbrev pub accounts_meaning : Accounts → Signature → WorldLists → Meaning
-accounts_meaning form by w = record {
-  denies = λ r. false;
-  effect = w;
-  reply = plain (report_text w (accounts_of form by) form.count);
-}
+accounts_meaning form by w = said_by (accounts_form form) by w

@@ -4,14 +4,13 @@ use Rattle.std.specs.Option.{option_map_or}
 use Rattle.bank_books.specs.WorldLists.{WorldLists}
 use Rattle.bank_books.specs.declared.signature.Signature.{Signature}
 use Rattle.counter_ops.specs.declared.correct.Correct.{Correct}
-use Rattle.rule_tests.specs.Denial.{is_denial}
-use Rattle.postings.specs.Correct.{correct_tests, correct_effect, correct_rows, corrected_of}
+use Rattle.postings.specs.Correct.{correct_tests, correct_rows, corrected_of}
 use Rattle.postings.specs.declared.correct.Corrected.{Corrected}
 use Rattle.postings.specs.declared.correct.Corrected.TheVariants as corrected
 use Rattle.std.specs.Prelude.{ℤ, pos, ◌==◌, ◌+ℤ◌, ◌&&◌, not, false, if◌then◌else◌}
 use Rattle.postings.specs.Correct.{correct_changes, is_of_post, undoing}
 use Rattle.postings.specs.declared.correct.CorrectRows.{CorrectRows}
-use Rattle.bank_meaning.specs.Form.{Form}
+use Rattle.bank_meaning.specs.Form.{Form, said_by}
 use Rattle.bank_meaning.specs.Moves.{Moves}
 use Rattle.bank_meaning.specs.Meaning.{Meaning, json}
 use Rattle.bank_meaning.specs.Post.{posted_text}
@@ -117,8 +116,4 @@ correct_form correct = record {
 }
 
 abbrev pub correct_meaning : Correct → Signature → WorldLists → Meaning
-correct_meaning correct by w = record {
-  denies = λ r. is_denial r (correct_tests (correct_rows w correct) correct by);
-  effect = correct_effect w correct by;
-  reply = json (option_map_or corrected_text (corrected_of (correct_rows w correct) correct) []);
-}
+correct_meaning correct by w = said_by (correct_form correct) by w

@@ -6,14 +6,13 @@ use Rattle.serde_json.specs.Data.{Data, object, member, no_members}
 use Rattle.bank_books.specs.WorldLists.{WorldLists}
 use Rattle.bank_books.specs.declared.signature.Signature.{Signature}
 use Rattle.counter_ops.specs.declared.drawer_off.DrawerOff.{DrawerOff}
-use Rattle.rule_tests.specs.Denial.{is_denial}
-use Rattle.drawers.specs.DrawerOff.{drawer_off_tests, drawer_off_effect, put_off_of}
+use Rattle.drawers.specs.DrawerOff.{drawer_off_tests, put_off_of}
 use Rattle.drawers.specs.DrawerRows.{drawer_rows}
 use Rattle.drawers.specs.declared.drawer_off.PutOff.{PutOff}
 use Rattle.std.specs.Prelude.{false}
 use Rattle.drawers.specs.DrawerOff.{drawer_off_changes}
 use Rattle.drawers.specs.declared.drawer_rows.DrawerRows.{DrawerRows}
-use Rattle.bank_meaning.specs.Form.{Form}
+use Rattle.bank_meaning.specs.Form.{Form, said_by}
 use Rattle.bank_meaning.specs.Moves.{moves_nothing}
 use Rattle.bank_meaning.specs.Denial.{cents, natural}
 use Rattle.bank_meaning.specs.Meaning.{Meaning, json}
@@ -66,8 +65,4 @@ drawer_off_form form = record {
 }
 
 abbrev pub drawer_off_meaning : DrawerOff → Signature → WorldLists → Meaning
-drawer_off_meaning form by w = record {
-  denies = λ r. is_denial r (drawer_off_tests (drawer_rows w form.teller form.branch) form by);
-  effect = drawer_off_effect w form by;
-  reply = json (option_map_or put_off_text (put_off_of (drawer_rows w form.teller form.branch) form) []);
-}
+drawer_off_meaning form by w = said_by (drawer_off_form form) by w

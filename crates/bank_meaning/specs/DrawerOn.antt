@@ -6,14 +6,13 @@ use Rattle.serde_json.specs.Data.{Data, object, member, no_members}
 use Rattle.bank_books.specs.WorldLists.{WorldLists}
 use Rattle.bank_books.specs.declared.signature.Signature.{Signature}
 use Rattle.counter_ops.specs.declared.drawer_on.DrawerOn.{DrawerOn}
-use Rattle.rule_tests.specs.Denial.{is_denial}
-use Rattle.drawers.specs.DrawerOn.{drawer_on_tests, drawer_on_effect, put_on_of}
+use Rattle.drawers.specs.DrawerOn.{drawer_on_tests, put_on_of}
 use Rattle.drawers.specs.DrawerRows.{drawer_rows}
 use Rattle.drawers.specs.declared.drawer_on.PutOn.{PutOn}
 use Rattle.std.specs.Prelude.{false}
 use Rattle.drawers.specs.DrawerOn.{drawer_on_changes}
 use Rattle.drawers.specs.declared.drawer_rows.DrawerRows.{DrawerRows}
-use Rattle.bank_meaning.specs.Form.{Form}
+use Rattle.bank_meaning.specs.Form.{Form, said_by}
 use Rattle.bank_meaning.specs.Moves.{moves_nothing}
 use Rattle.bank_meaning.specs.Denial.{cents, natural}
 use Rattle.bank_meaning.specs.Meaning.{Meaning, json}
@@ -65,8 +64,4 @@ drawer_on_form form = record {
 }
 
 abbrev pub drawer_on_meaning : DrawerOn → Signature → WorldLists → Meaning
-drawer_on_meaning form by w = record {
-  denies = λ r. is_denial r (drawer_on_tests (drawer_rows w form.teller form.branch) form);
-  effect = drawer_on_effect w form by;
-  reply = json (option_map_or put_on_text (put_on_of (drawer_rows w form.teller form.branch) form) []);
-}
+drawer_on_meaning form by w = said_by (drawer_on_form form) by w

@@ -6,13 +6,12 @@ use Rattle.serde_json.specs.Data.{Data, object, member, no_members}
 use Rattle.bank_books.specs.WorldLists.{WorldLists}
 use Rattle.bank_books.specs.declared.signature.Signature.{Signature}
 use Rattle.counter_ops.specs.declared.move_cash.MoveCash.{MoveCash}
-use Rattle.rule_tests.specs.Denial.{is_denial}
-use Rattle.drawers.specs.MoveCash.{move_tests, move_effect, move_rows, moved_of}
+use Rattle.drawers.specs.MoveCash.{move_tests, move_rows, moved_of}
 use Rattle.drawers.specs.declared.move_cash.Moved.{Moved}
 use Rattle.std.specs.Prelude.{false}
 use Rattle.drawers.specs.MoveCash.{move_changes}
 use Rattle.drawers.specs.declared.move_cash.MoveRows.{MoveRows}
-use Rattle.bank_meaning.specs.Form.{Form}
+use Rattle.bank_meaning.specs.Form.{Form, said_by}
 use Rattle.bank_meaning.specs.Moves.{moves_nothing}
 use Rattle.bank_meaning.specs.Denial.{cents, natural}
 use Rattle.bank_meaning.specs.Meaning.{Meaning, json}
@@ -66,8 +65,4 @@ move_form move = record {
 }
 
 abbrev pub move_meaning : MoveCash → Signature → WorldLists → Meaning
-move_meaning move by w = record {
-  denies = λ r. is_denial r (move_tests (move_rows w move) move by);
-  effect = move_effect w move by;
-  reply = json (option_map_or moved_text (moved_of (move_rows w move) move) []);
-}
+move_meaning move by w = said_by (move_form move) by w

@@ -12,7 +12,7 @@ use Rattle.postings.specs.declared.post.Posted.{Posted}
 use Rattle.std.specs.Prelude.{pos, ◌==◌, false, if◌then◌else◌}
 use Rattle.postings.specs.Post.{post_changes}
 use Rattle.postings.specs.declared.post.PostRows.{PostRows}
-use Rattle.bank_meaning.specs.Form.{Form}
+use Rattle.bank_meaning.specs.Form.{Form, said_by}
 use Rattle.bank_meaning.specs.Moves.{Moves}
 use Rattle.bank_meaning.specs.Denial.{cents, natural}
 use Rattle.bank_meaning.specs.Meaning.{Meaning, json}
@@ -78,8 +78,4 @@ post_form post = record {
 }
 
 abbrev pub post_meaning : Post → Signature → WorldLists → Meaning
-post_meaning post by w = record {
-  denies = λ r. is_denial r (post_tests (post_rows w post) post by);
-  effect = post_effect w post by;
-  reply = json (option_map_or posted_text (posted_of (post_rows w post) post) []);
-}
+post_meaning post by w = said_by (post_form post) by w

@@ -17,7 +17,7 @@ use Rattle.bank_books.specs.declared.row_write.RowWrite.TheVariants as write
 use Rattle.bank_books.specs.declared.signature.Signature.{Signature}
 use Rattle.rule_tests.specs.Denial.{first_denial, is_denial}
 use Rattle.world_reads.specs.PolicyReads.{user_record}
-use Rattle.bank_meaning.specs.Form.{Form}
+use Rattle.bank_meaning.specs.Form.{Form, said_by}
 use Rattle.bank_meaning.specs.Moves.{moves_nothing}
 use Rattle.bank_meaning.specs.Denial.{natural}
 use Rattle.bank_meaning.specs.Meaning.{Meaning, json}
@@ -107,8 +107,4 @@ release_form form = record {
 }
 
 abbrev pub release_meaning : Release → Signature → WorldLists → Meaning
-release_meaning form by w = record {
-  denies = λ r. is_denial r (release_tests (release_rows w form) form by);
-  effect = release_effect w form by;
-  reply = json (option_map_or (λ given. release_text form.beneficiary (given + 1)) (release_rows w form).given []);
-}
+release_meaning form by w = said_by (release_form form) by w

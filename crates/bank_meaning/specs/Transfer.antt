@@ -12,7 +12,7 @@ use Rattle.postings.specs.declared.transfer.Transferred.{Transferred}
 use Rattle.std.specs.Prelude.{ℤ, pos, ◌==◌, ◌+ℤ◌, false, if◌then◌else◌}
 use Rattle.postings.specs.Transfer.{given, taken, transfer_changes}
 use Rattle.postings.specs.declared.transfer.TransferRows.{TransferRows}
-use Rattle.bank_meaning.specs.Form.{Form}
+use Rattle.bank_meaning.specs.Form.{Form, said_by}
 use Rattle.bank_meaning.specs.Moves.{Moves}
 use Rattle.bank_meaning.specs.Denial.{cents, natural}
 use Rattle.bank_meaning.specs.Meaning.{Meaning, json}
@@ -86,8 +86,4 @@ transfer_form transfer = record {
 }
 
 abbrev pub transfer_meaning : Transfer → Signature → WorldLists → Meaning
-transfer_meaning transfer by w = record {
-  denies = λ r. is_denial r (transfer_tests (transfer_rows w transfer) transfer by);
-  effect = transfer_effect w transfer by;
-  reply = json (option_map_or transferred_text (transferred_of (transfer_rows w transfer) transfer) []);
-}
+transfer_meaning transfer by w = said_by (transfer_form transfer) by w

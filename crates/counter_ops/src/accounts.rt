@@ -1,12 +1,12 @@
-//! A list of accounts asked for: its members, and how they are written to a row and read back.
+//! A list of accounts asked for: its members, its row, its items and its amount.
 
-ghost use Rattle.std.specs.Prelude.{◌≡◌, IfSome};
-ghost use Rattle.counter_ops.specs.Accounts.{IsAccounts, accounts_numbers};
-ghost use Rattle.counter_ops.specs.Rows.{StandsIn, IsOnlyIn, places};
+ghost use Rattle.counter_ops.specs.declared.op.Op.TheVariants as op;
 
+use crate::item_list::ItemList;
+use crate::operation::{Form, Operation};
 use crate::row_numbers::{key_or_zero, number};
-use crate::row_places::two;
-use bank_terms::MAX_LISTED;
+use crate::row_places::{in_places, two};
+use bank_terms::{MAX_LISTED, Procedure};
 
 /// The accounts that the user may see, asked for.
 #[derive(Clone, Copy, Debug, PartialEq, Eq)]
@@ -17,30 +17,32 @@ pub struct Accounts {
     pub count: u32,
 }
 
-/// Its numbers, in the places of a row.
-pub fn places_of_accounts(accounts: &Accounts) -> [i64; 8]
-    ensures { result ≡ places (accounts_numbers accounts.now) }
-{
-    [
-        i64::from(accounts.after),
-        i64::from(accounts.count),
-        0,
-        0,
-        0,
-        0,
-        0,
-        0,
-    ]
+impl Operation for Accounts {
+    ghost op = { λ form. op.Accounts form };
+
+    fn procedure(&self) -> Procedure {
+        Procedure::Accounts
+    }
+
+    fn places(&self) -> [i64; 8] {
+        in_places(&[i64::from(self.after), i64::from(self.count)])
+    }
+
+    fn touches(&self) -> ItemList {
+        ItemList::new()
+    }
+
+    fn amount(&self) -> u32 {
+        0
+    }
 }
 
-/// The accounts asked for whose numbers stand in the places.
-pub fn accounts_from_places(members: &[i64; 8]) -> Option<Accounts>
-    ensures some { IfSome result (StandsIn IsAccounts accounts_numbers members.now) }
-    ensures only { IsOnlyIn IsAccounts accounts_numbers members.now result }
-{
-    let (after, count) = two(members)?;
-    Some(Accounts {
-        after: key_or_zero(after)?,
-        count: number(count, 1, MAX_LISTED)?,
-    })
+impl Form for Accounts {
+    fn from_places(members: &[i64; 8]) -> Option<Accounts> {
+        let (after, count) = two(members)?;
+        Some(Accounts {
+            after: key_or_zero(after)?,
+            count: number(count, 1, MAX_LISTED)?,
+        })
+    }
 }

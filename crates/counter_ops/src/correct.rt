@@ -1,11 +1,13 @@
-//! A correction: its members, and how they are written to a row and read back.
+//! A correction: its members, its row, its items and its amount.
 
-ghost use Rattle.std.specs.Prelude.{◌≡◌, IfSome};
-ghost use Rattle.counter_ops.specs.Correct.{IsCorrect, correct_numbers};
-ghost use Rattle.counter_ops.specs.Rows.{StandsIn, IsOnlyIn, places};
+ghost use Rattle.counter_ops.specs.declared.op.Op.TheVariants as op;
 
+use crate::item_list::ItemList;
+use crate::items::{account, entry_items, size};
+use crate::operation::{Form, Operation};
 use crate::row_numbers::{delta, key, key_or_zero};
-use crate::row_places::six;
+use crate::row_places::{in_places, six};
+use bank_terms::Procedure;
 use money::Delta;
 
 /// An entry undone by another, which is what it was with the opposite sign.
@@ -25,37 +27,51 @@ pub struct Correct {
     pub delta: Delta,
 }
 
-/// Its numbers, in the places of a row.
-pub fn places_of_correct(correct: &Correct) -> [i64; 8]
-    ensures { result ≡ places (correct_numbers correct.now) }
-{
-    [
-        i64::from(correct.branch),
-        i64::from(correct.entry),
-        i64::from(correct.account),
-        i64::from(correct.other),
-        i64::from(correct.teller),
-        correct.delta.get(),
-        0,
-        0,
-    ]
+impl Operation for Correct {
+    ghost op = { λ form. op.Correct form };
+
+    fn procedure(&self) -> Procedure {
+        Procedure::Correct
+    }
+
+    fn places(&self) -> [i64; 8] {
+        in_places(&[
+            i64::from(self.branch),
+            i64::from(self.entry),
+            i64::from(self.account),
+            i64::from(self.other),
+            i64::from(self.teller),
+            self.delta.get(),
+        ])
+    }
+
+    fn touches(&self) -> ItemList {
+        let mut items = ItemList::of(&[account(self.account)]);
+        if self.other != 0 {
+            items.extend(&[account(self.other)]);
+        }
+        items.extend(&entry_items(self.teller, self.branch));
+        items
+    }
+
+    fn amount(&self) -> u32 {
+        size(self.delta)
+    }
 }
 
-/// The correction whose numbers stand in the places.
-pub fn correct_from_places(members: &[i64; 8]) -> Option<Correct>
-    ensures some { IfSome result (StandsIn IsCorrect correct_numbers members.now) }
-    ensures only { IsOnlyIn IsCorrect correct_numbers members.now result }
-{
-    let (branch, entry, account, other, teller, added) = six(members)?;
-    if account == other {
-        return None;
+impl Form for Correct {
+    fn from_places(members: &[i64; 8]) -> Option<Correct> {
+        let (branch, entry, account, other, teller, added) = six(members)?;
+        if account == other {
+            return None;
+        }
+        Some(Correct {
+            branch: key(branch)?,
+            entry: key(entry)?,
+            account: key(account)?,
+            other: key_or_zero(other)?,
+            teller: key(teller)?,
+            delta: delta(added)?,
+        })
     }
-    Some(Correct {
-        branch: key(branch)?,
-        entry: key(entry)?,
-        account: key(account)?,
-        other: key_or_zero(other)?,
-        teller: key(teller)?,
-        delta: delta(added)?,
-    })
 }

@@ -1,11 +1,13 @@
-//! A drawer put off: its members, and how they are written to a row and read back.
+//! A drawer put off: its members, its row, its items and its amount.
 
-ghost use Rattle.std.specs.Prelude.{◌≡◌, IfSome};
-ghost use Rattle.counter_ops.specs.DrawerOff.{IsDrawerOff, drawer_off_numbers};
-ghost use Rattle.counter_ops.specs.Rows.{StandsIn, IsOnlyIn, places};
+ghost use Rattle.counter_ops.specs.declared.op.Op.TheVariants as op;
 
+use crate::item_list::ItemList;
+use crate::items::items_of_drawer;
+use crate::operation::{Form, Operation};
 use crate::row_numbers::{cash, key};
-use crate::row_places::three;
+use crate::row_places::{in_places, three};
+use bank_terms::Procedure;
 use money::Cents;
 
 /// A drawer counted and put off, its cash back in the vault.
@@ -19,31 +21,37 @@ pub struct DrawerOff {
     pub counted: Cents,
 }
 
-/// Its numbers, in the places of a row.
-pub fn places_of_drawer_off(drawer_off: &DrawerOff) -> [i64; 8]
-    ensures { result ≡ places (drawer_off_numbers drawer_off.now) }
-{
-    [
-        i64::from(drawer_off.teller),
-        i64::from(drawer_off.branch),
-        drawer_off.counted.get(),
-        0,
-        0,
-        0,
-        0,
-        0,
-    ]
+impl Operation for DrawerOff {
+    ghost op = { λ form. op.DrawerOff form };
+
+    fn procedure(&self) -> Procedure {
+        Procedure::DrawerOff
+    }
+
+    fn places(&self) -> [i64; 8] {
+        in_places(&[
+            i64::from(self.teller),
+            i64::from(self.branch),
+            self.counted.get(),
+        ])
+    }
+
+    fn touches(&self) -> ItemList {
+        items_of_drawer(self.teller, self.branch)
+    }
+
+    fn amount(&self) -> u32 {
+        0
+    }
 }
 
-/// The drawer put off whose numbers stand in the places.
-pub fn drawer_off_from_places(members: &[i64; 8]) -> Option<DrawerOff>
-    ensures some { IfSome result (StandsIn IsDrawerOff drawer_off_numbers members.now) }
-    ensures only { IsOnlyIn IsDrawerOff drawer_off_numbers members.now result }
-{
-    let (teller, branch, counted) = three(members)?;
-    Some(DrawerOff {
-        teller: key(teller)?,
-        branch: key(branch)?,
-        counted: cash(counted)?,
-    })
+impl Form for DrawerOff {
+    fn from_places(members: &[i64; 8]) -> Option<DrawerOff> {
+        let (teller, branch, counted) = three(members)?;
+        Some(DrawerOff {
+            teller: key(teller)?,
+            branch: key(branch)?,
+            counted: cash(counted)?,
+        })
+    }
 }

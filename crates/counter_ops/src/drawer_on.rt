@@ -1,12 +1,13 @@
-//! A drawer put on: its members, and how they are written to a row and read back.
+//! A drawer put on: its members, its row, its items and its amount.
 
-ghost use Rattle.std.specs.Prelude.{◌≡◌, IfSome};
-ghost use Rattle.counter_ops.specs.DrawerOn.{IsDrawerOn, drawer_on_numbers};
-ghost use Rattle.counter_ops.specs.Rows.{StandsIn, IsOnlyIn, places};
+ghost use Rattle.counter_ops.specs.declared.op.Op.TheVariants as op;
 
+use crate::item_list::ItemList;
+use crate::items::items_of_drawer;
+use crate::operation::{Form, Operation};
 use crate::row_numbers::{key, number};
-use crate::row_places::three;
-use bank_terms::MAX_LIMIT;
+use crate::row_places::{in_places, three};
+use bank_terms::{MAX_LIMIT, Procedure};
 
 /// A drawer given to the user, with cash from the vault.
 #[derive(Clone, Copy, Debug, PartialEq, Eq)]
@@ -19,31 +20,37 @@ pub struct DrawerOn {
     pub cash: u32,
 }
 
-/// Its numbers, in the places of a row.
-pub fn places_of_drawer_on(drawer_on: &DrawerOn) -> [i64; 8]
-    ensures { result ≡ places (drawer_on_numbers drawer_on.now) }
-{
-    [
-        i64::from(drawer_on.teller),
-        i64::from(drawer_on.branch),
-        i64::from(drawer_on.cash),
-        0,
-        0,
-        0,
-        0,
-        0,
-    ]
+impl Operation for DrawerOn {
+    ghost op = { λ form. op.DrawerOn form };
+
+    fn procedure(&self) -> Procedure {
+        Procedure::DrawerOn
+    }
+
+    fn places(&self) -> [i64; 8] {
+        in_places(&[
+            i64::from(self.teller),
+            i64::from(self.branch),
+            i64::from(self.cash),
+        ])
+    }
+
+    fn touches(&self) -> ItemList {
+        items_of_drawer(self.teller, self.branch)
+    }
+
+    fn amount(&self) -> u32 {
+        self.cash
+    }
 }
 
-/// The drawer put on whose numbers stand in the places.
-pub fn drawer_on_from_places(members: &[i64; 8]) -> Option<DrawerOn>
-    ensures some { IfSome result (StandsIn IsDrawerOn drawer_on_numbers members.now) }
-    ensures only { IsOnlyIn IsDrawerOn drawer_on_numbers members.now result }
-{
-    let (teller, branch, cash) = three(members)?;
-    Some(DrawerOn {
-        teller: key(teller)?,
-        branch: key(branch)?,
-        cash: number(cash, 0, MAX_LIMIT)?,
-    })
+impl Form for DrawerOn {
+    fn from_places(members: &[i64; 8]) -> Option<DrawerOn> {
+        let (teller, branch, cash) = three(members)?;
+        Some(DrawerOn {
+            teller: key(teller)?,
+            branch: key(branch)?,
+            cash: number(cash, 0, MAX_LIMIT)?,
+        })
+    }
 }

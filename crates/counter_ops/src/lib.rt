@@ -1,8 +1,8 @@
 //! The operations that a counter asks of the bank, as data: `Op` with its thirteen forms, `Releasable` with
-//! the five that a release may be for, and the `Procedure` of each. `Op::to_row` and `Op::from_row` are an
-//! operation as a row of numbers and back. `touches` lists exactly its items, and `amount` is what the limit
-//! of a triple is compared with, in cents: both of the operation alone, whatever the books hold. What an
-//! operation means is in `bank_meaning`.
+//! the five that a release may be for, and the `Procedure` of each. What each form says of itself is an
+//! `Operation`. `Op::to_row` and `Op::from_row` are an operation as a row of numbers and back. `touches` lists
+//! exactly its items, and `amount` is what the limit of a triple is compared with, in cents: both of the
+//! operation alone, whatever the books hold. What an operation means is in `bank_meaning`.
 #![tactic(auto)]
 
 mod accounts;
@@ -11,11 +11,12 @@ mod close_day;
 mod correct;
 mod drawer_off;
 mod drawer_on;
-mod from_row;
 mod item_list;
+mod items;
 mod move_cash;
 mod new_account;
 mod op;
+mod operation;
 mod post;
 mod proof;
 mod releasable;
@@ -24,8 +25,6 @@ mod row_key;
 mod row_numbers;
 mod row_places;
 mod statement;
-mod to_row;
-mod touched;
 mod transfer;
 
 pub use accounts::Accounts;
@@ -37,11 +36,11 @@ pub use drawer_on::DrawerOn;
 pub use item_list::ItemList;
 pub use move_cash::MoveCash;
 pub use new_account::NewAccount;
-pub use op::Op;
+pub use op::{Op, amount, touches};
+pub use operation::Operation;
 pub use post::Post;
 pub use proof::Proof;
 pub use releasable::Releasable;
 pub use release::Release;
 pub use statement::Statement;
-pub use touched::{amount, touches};
 pub use transfer::Transfer;

@@ -1,12 +1,15 @@
-//! A move of cash: its members, and how they are written to a row and read back.
+//! A move of cash: its members, its row, its items and its amount.
 
-ghost use Rattle.std.specs.Prelude.{◌≡◌, IfSome};
-ghost use Rattle.counter_ops.specs.MoveCash.{IsMoveCash, move_cash_numbers};
-ghost use Rattle.counter_ops.specs.Rows.{StandsIn, IsOnlyIn, places};
+ghost use Rattle.std.specs.Prelude.{◌≡◌, ◌≤◌, ◌++◌, length};
+ghost use Rattle.counter_ops.specs.Touched.{touched_place};
+ghost use Rattle.counter_ops.specs.declared.op.Op.TheVariants as op;
 
+use crate::item_list::ItemList;
+use crate::items::{branch, drawer, teller, vault};
+use crate::operation::{Form, Operation};
 use crate::row_numbers::{key, key_or_zero, number};
-use crate::row_places::four;
-use bank_terms::MAX_LIMIT;
+use crate::row_places::{four, in_places};
+use bank_terms::{MAX_LIMIT, Procedure};
 
 /// Cash moved from one place of a branch to another.
 #[derive(Clone, Copy, Debug, PartialEq, Eq)]
@@ -21,35 +24,58 @@ pub struct MoveCash {
     pub amount: u32,
 }
 
-/// Its numbers, in the places of a row.
-pub fn places_of_move_cash(move_cash: &MoveCash) -> [i64; 8]
-    ensures { result ≡ places (move_cash_numbers move_cash.now) }
-{
-    [
-        i64::from(move_cash.source),
-        i64::from(move_cash.target),
-        i64::from(move_cash.branch),
-        i64::from(move_cash.amount),
-        0,
-        0,
-        0,
-        0,
-    ]
+impl Operation for MoveCash {
+    ghost op = { λ form. op.MoveCash form };
+
+    fn procedure(&self) -> Procedure {
+        Procedure::MoveCash
+    }
+
+    fn places(&self) -> [i64; 8] {
+        in_places(&[
+            i64::from(self.source),
+            i64::from(self.target),
+            i64::from(self.branch),
+            i64::from(self.amount),
+        ])
+    }
+
+    fn touches(&self) -> ItemList {
+        let mut items = ItemList::of(&[branch(self.branch)]);
+        add_place(&mut items, self.source);
+        add_place(&mut items, self.target);
+        if self.source == 0 || self.target == 0 {
+            items.extend(&[vault(self.branch)]);
+        }
+        items
+    }
+
+    fn amount(&self) -> u32 {
+        self.amount
+    }
 }
 
-/// The move of cash whose numbers stand in the places.
-pub fn move_cash_from_places(members: &[i64; 8]) -> Option<MoveCash>
-    ensures some { IfSome result (StandsIn IsMoveCash move_cash_numbers members.now) }
-    ensures only { IsOnlyIn IsMoveCash move_cash_numbers members.now result }
-{
-    let (from, to, branch, amount) = four(members)?;
-    if from == to {
-        return None;
+impl Form for MoveCash {
+    fn from_places(members: &[i64; 8]) -> Option<MoveCash> {
+        let (from, to, branch, amount) = four(members)?;
+        if from == to {
+            return None;
+        }
+        Some(MoveCash {
+            source: key_or_zero(from)?,
+            target: key_or_zero(to)?,
+            branch: key(branch)?,
+            amount: number(amount, 1, MAX_LIMIT)?,
+        })
     }
-    Some(MoveCash {
-        source: key_or_zero(from)?,
-        target: key_or_zero(to)?,
-        branch: key(branch)?,
-        amount: number(amount, 1, MAX_LIMIT)?,
-    })
+}
+
+/// Appends the teller and their drawer to the items, if the place is not the vault.
+fn add_place(items: &mut ItemList, place: u32)
+    requires { length items.old ≤ 4 }
+    ensures { items.new ≡ items.old ++ touched_place place }
+{
+    if place != 0 {
+        items.extend(&[teller(place), drawer(place)]);
+    }
 }

@@ -1,11 +1,13 @@
-//! A new account: its members, and how they are written to a row and read back.
+//! A new account: its members, its row, its items and its amount.
 
-ghost use Rattle.std.specs.Prelude.{◌≡◌, IfSome};
-ghost use Rattle.counter_ops.specs.NewAccount.{IsNewAccount, new_account_numbers};
-ghost use Rattle.counter_ops.specs.Rows.{StandsIn, IsOnlyIn, places};
+ghost use Rattle.counter_ops.specs.declared.op.Op.TheVariants as op;
 
+use crate::item_list::ItemList;
+use crate::items::{account, branch};
+use crate::operation::{Form, Operation};
 use crate::row_numbers::{floor, key};
-use crate::row_places::three;
+use crate::row_places::{in_places, three};
+use bank_terms::Procedure;
 
 /// A new account, with nothing in it.
 #[derive(Clone, Copy, Debug, PartialEq, Eq)]
@@ -18,31 +20,37 @@ pub struct NewAccount {
     pub floor: i32,
 }
 
-/// Its numbers, in the places of a row.
-pub fn places_of_new_account(new_account: &NewAccount) -> [i64; 8]
-    ensures { result ≡ places (new_account_numbers new_account.now) }
-{
-    [
-        i64::from(new_account.account),
-        i64::from(new_account.branch),
-        i64::from(new_account.floor),
-        0,
-        0,
-        0,
-        0,
-        0,
-    ]
+impl Operation for NewAccount {
+    ghost op = { λ form. op.NewAccount form };
+
+    fn procedure(&self) -> Procedure {
+        Procedure::NewAccount
+    }
+
+    fn places(&self) -> [i64; 8] {
+        in_places(&[
+            i64::from(self.account),
+            i64::from(self.branch),
+            i64::from(self.floor),
+        ])
+    }
+
+    fn touches(&self) -> ItemList {
+        ItemList::of(&[account(self.account), branch(self.branch)])
+    }
+
+    fn amount(&self) -> u32 {
+        self.floor.unsigned_abs()
+    }
 }
 
-/// The new account whose numbers stand in the places.
-pub fn new_account_from_places(members: &[i64; 8]) -> Option<NewAccount>
-    ensures some { IfSome result (StandsIn IsNewAccount new_account_numbers members.now) }
-    ensures only { IsOnlyIn IsNewAccount new_account_numbers members.now result }
-{
-    let (account, branch, least) = three(members)?;
-    Some(NewAccount {
-        account: key(account)?,
-        branch: key(branch)?,
-        floor: floor(least)?,
-    })
+impl Form for NewAccount {
+    fn from_places(members: &[i64; 8]) -> Option<NewAccount> {
+        let (account, branch, least) = three(members)?;
+        Some(NewAccount {
+            account: key(account)?,
+            branch: key(branch)?,
+            floor: floor(least)?,
+        })
+    }
 }

@@ -1,11 +1,13 @@
-//! A post: its members, and how they are written to a row and read back.
+//! A post: its members, its row, its items and its amount.
 
-ghost use Rattle.std.specs.Prelude.{◌≡◌, IfSome};
-ghost use Rattle.counter_ops.specs.Post.{IsPost, post_numbers};
-ghost use Rattle.counter_ops.specs.Rows.{StandsIn, IsOnlyIn, places};
+ghost use Rattle.counter_ops.specs.declared.op.Op.TheVariants as op;
 
+use crate::item_list::ItemList;
+use crate::items::{account, entry_items, size};
+use crate::operation::{Form, Operation};
 use crate::row_numbers::{delta, key};
-use crate::row_places::four;
+use crate::row_places::{four, in_places};
+use bank_terms::Procedure;
 use money::Delta;
 
 /// An amount added to an account at a teller: the benchmark's debit-credit transaction.
@@ -21,32 +23,41 @@ pub struct Post {
     pub teller: u32,
 }
 
-/// Its numbers, in the places of a row.
-pub fn places_of_post(post: &Post) -> [i64; 8]
-    ensures { result ≡ places (post_numbers post.now) }
-{
-    [
-        i64::from(post.account),
-        i64::from(post.teller),
-        i64::from(post.branch),
-        post.delta.get(),
-        0,
-        0,
-        0,
-        0,
-    ]
+impl Operation for Post {
+    ghost op = { λ form. op.Post form };
+
+    fn procedure(&self) -> Procedure {
+        Procedure::Post
+    }
+
+    fn places(&self) -> [i64; 8] {
+        in_places(&[
+            i64::from(self.account),
+            i64::from(self.teller),
+            i64::from(self.branch),
+            self.delta.get(),
+        ])
+    }
+
+    fn touches(&self) -> ItemList {
+        let mut items = ItemList::of(&[account(self.account)]);
+        items.extend(&entry_items(self.teller, self.branch));
+        items
+    }
+
+    fn amount(&self) -> u32 {
+        size(self.delta)
+    }
 }
 
-/// The post whose numbers stand in the places.
-pub fn post_from_places(members: &[i64; 8]) -> Option<Post>
-    ensures some { IfSome result (StandsIn IsPost post_numbers members.now) }
-    ensures only { IsOnlyIn IsPost post_numbers members.now result }
-{
-    let (account, teller, branch, added) = four(members)?;
-    Some(Post {
-        account: key(account)?,
-        branch: key(branch)?,
-        delta: delta(added)?,
-        teller: key(teller)?,
-    })
+impl Form for Post {
+    fn from_places(members: &[i64; 8]) -> Option<Post> {
+        let (account, teller, branch, added) = four(members)?;
+        Some(Post {
+            account: key(account)?,
+            branch: key(branch)?,
+            delta: delta(added)?,
+            teller: key(teller)?,
+        })
+    }
 }

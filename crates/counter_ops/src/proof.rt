@@ -1,8 +1,44 @@
 //! The request for the books of a branch, which names the branch alone.
 
+ghost use Rattle.counter_ops.specs.declared.op.Op.TheVariants as op;
+
+use crate::item_list::ItemList;
+use crate::items::items_of_books;
+use crate::operation::{Form, Operation};
+use crate::row_key::{key_alone, places_of_key};
+use bank_terms::Procedure;
+
 /// The books of a branch, asked for.
 #[derive(Clone, Copy, Debug, PartialEq, Eq)]
 pub struct Proof {
     /// The branch, 1 to 999,999,999.
     pub branch: u32,
+}
+
+impl Operation for Proof {
+    ghost op = { λ form. op.Proof form };
+
+    fn procedure(&self) -> Procedure {
+        Procedure::Proof
+    }
+
+    fn places(&self) -> [i64; 8] {
+        places_of_key(self.branch)
+    }
+
+    fn touches(&self) -> ItemList {
+        items_of_books(self.branch)
+    }
+
+    fn amount(&self) -> u32 {
+        0
+    }
+}
+
+impl Form for Proof {
+    fn from_places(members: &[i64; 8]) -> Option<Proof> {
+        Some(Proof {
+            branch: key_alone(members)?,
+        })
+    }
 }

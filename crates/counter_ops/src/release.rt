@@ -3,11 +3,12 @@
 ghost use Rattle.std.specs.Prelude.{◌≡◌, pos, Some, IfSome};
 ghost use Rattle.bank_terms.specs.Procedure.{number_of};
 ghost use Rattle.counter_ops.specs.Op.{procedure_of};
-ghost use Rattle.counter_ops.specs.Release.{IsRelease, release_numbers};
-ghost use Rattle.counter_ops.specs.Rows.{StandsIn, IsOnlyIn, places};
 ghost use Rattle.counter_ops.specs.Releasable.{op_of};
 ghost use Rattle.counter_ops.specs.declared.releasable.Releasable.{Releasable as AReleasable};
+ghost use Rattle.counter_ops.specs.declared.op.Op.TheVariants as op;
 
+use crate::item_list::ItemList;
+use crate::operation::{Form, Operation};
 use crate::releasable::Releasable;
 use crate::row_numbers::number;
 use bank_terms::{MAX_USER, OperationRow, Procedure};
@@ -21,48 +22,59 @@ pub struct Release {
     pub operation: Releasable,
 }
 
-/// Whom the release is for, the number of the procedure, and that operation's own numbers.
-pub fn places_of_release(release: &Release) -> [i64; 8]
-    ensures { result ≡ places (release_numbers release.now) }
-{
-    let row = release.operation.to_row();
-    let [first, second, third, fourth, fifth, sixth, _, _] = row.members;
-    [
-        i64::from(release.beneficiary),
-        i64::from(row.form.number()),
-        first,
-        second,
-        third,
-        fourth,
-        fifth,
-        sixth,
-    ]
+impl Operation for Release {
+    ghost op = { λ form. op.Release form };
+
+    fn procedure(&self) -> Procedure {
+        Procedure::Release
+    }
+
+    fn places(&self) -> [i64; 8] {
+        let row = self.operation.to_row();
+        let [first, second, third, fourth, fifth, sixth, _, _] = row.members;
+        [
+            i64::from(self.beneficiary),
+            i64::from(row.form.number()),
+            first,
+            second,
+            third,
+            fourth,
+            fifth,
+            sixth,
+        ]
+    }
+
+    fn touches(&self) -> ItemList {
+        self.operation.touches()
+    }
+
+    fn amount(&self) -> u32 {
+        self.operation.amount()
+    }
 }
 
-/// The release whose numbers stand in the places.
-pub fn release_from_places(members: &[i64; 8]) -> Option<Release>
-    ensures some { IfSome result (StandsIn IsRelease release_numbers members.now) }
-    ensures only { IsOnlyIn IsRelease release_numbers members.now result }
-{
-    let [
-        beneficiary,
-        form,
-        first,
-        second,
-        third,
-        fourth,
-        fifth,
-        sixth,
-    ] = *members;
-    let beneficiary = number(beneficiary, 1, MAX_USER)?;
-    let row = OperationRow {
-        form: releasable_form(form)?,
-        members: [first, second, third, fourth, fifth, sixth, 0, 0],
-    };
-    Some(Release {
-        beneficiary,
-        operation: Releasable::from_row(&row)?,
-    })
+impl Form for Release {
+    fn from_places(members: &[i64; 8]) -> Option<Release> {
+        let [
+            beneficiary,
+            form,
+            first,
+            second,
+            third,
+            fourth,
+            fifth,
+            sixth,
+        ] = *members;
+        let beneficiary = number(beneficiary, 1, MAX_USER)?;
+        let row = OperationRow {
+            form: releasable_form(form)?,
+            members: [first, second, third, fourth, fifth, sixth, 0, 0],
+        };
+        Some(Release {
+            beneficiary,
+            operation: Releasable::from_row(&row)?,
+        })
+    }
 }
 
 /// The procedure of this number, where a release may be for one of its operations.

@@ -5,13 +5,13 @@ ghost use Rattle.counter_ops.specs.Ranges.{IsKey};
 ghost use Rattle.counter_ops.specs.Rows.{StandsIn, IsOnlyIn, key_numbers, places};
 
 use crate::row_numbers::key;
-use crate::row_places::one;
+use crate::row_places::{in_places, one};
 
 /// The key of a form with one member, in the places of a row.
 pub fn places_of_key(key: u32) -> [i64; 8]
     ensures { result ≡ places (key_numbers key) }
 {
-    [i64::from(key), 0, 0, 0, 0, 0, 0, 0]
+    in_places(&[i64::from(key)])
 }
 
 /// The key that stands alone in the places.

@@ -1,7 +1,17 @@
-//! The numbers of a row whose other places are 0, for forms of one to six members.
+//! Numbers in the places of a row, with 0 after the last, and those of one to six members read back.
 
-ghost use Rattle.std.specs.Prelude.{◌≡◌, ℤ, [], ◌∷◌, IfSome, IfNone};
+ghost use Rattle.std.specs.Prelude.{◌≡◌, ◌≤◌, ℤ, [], ◌∷◌, length, IfSome, IfNone};
 ghost use Rattle.counter_ops.specs.Rows.{places};
+
+/// The numbers in the places of a row, with 0 after the last.
+pub fn in_places(numbers: &[i64]) -> [i64; 8]
+    requires { length numbers.now ≤ 8 }
+    ensures { result ≡ places numbers.now }
+{
+    let mut members = [0; 8];
+    members[..numbers.len()].copy_from_slice(numbers);
+    members
+}
 
 /// The one number of a row that has no more, or none where another place is not 0.
 pub fn one(members: &[i64; 8]) -> Option<i64>

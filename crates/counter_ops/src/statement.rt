@@ -1,12 +1,13 @@
-//! A statement asked for: its members, and how they are written to a row and read back.
+//! A statement asked for: its members, its row, its items and its amount.
 
-ghost use Rattle.std.specs.Prelude.{◌≡◌, IfSome};
-ghost use Rattle.counter_ops.specs.Statement.{IsStatement, statement_numbers};
-ghost use Rattle.counter_ops.specs.Rows.{StandsIn, IsOnlyIn, places};
+ghost use Rattle.counter_ops.specs.declared.op.Op.TheVariants as op;
 
+use crate::item_list::ItemList;
+use crate::items::account;
+use crate::operation::{Form, Operation};
 use crate::row_numbers::{key, number};
-use crate::row_places::three;
-use bank_terms::MAX_LISTED;
+use crate::row_places::{in_places, three};
+use bank_terms::{MAX_LISTED, Procedure};
 
 /// The entries of an account, asked for.
 #[derive(Clone, Copy, Debug, PartialEq, Eq)]
@@ -19,31 +20,37 @@ pub struct Statement {
     pub count: u32,
 }
 
-/// Its numbers, in the places of a row.
-pub fn places_of_statement(statement: &Statement) -> [i64; 8]
-    ensures { result ≡ places (statement_numbers statement.now) }
-{
-    [
-        i64::from(statement.account),
-        i64::from(statement.start),
-        i64::from(statement.count),
-        0,
-        0,
-        0,
-        0,
-        0,
-    ]
+impl Operation for Statement {
+    ghost op = { λ form. op.Statement form };
+
+    fn procedure(&self) -> Procedure {
+        Procedure::Statement
+    }
+
+    fn places(&self) -> [i64; 8] {
+        in_places(&[
+            i64::from(self.account),
+            i64::from(self.start),
+            i64::from(self.count),
+        ])
+    }
+
+    fn touches(&self) -> ItemList {
+        ItemList::of(&[account(self.account)])
+    }
+
+    fn amount(&self) -> u32 {
+        0
+    }
 }
 
-/// The entries asked for whose numbers stand in the places.
-pub fn statement_from_places(members: &[i64; 8]) -> Option<Statement>
-    ensures some { IfSome result (StandsIn IsStatement statement_numbers members.now) }
-    ensures only { IsOnlyIn IsStatement statement_numbers members.now result }
-{
-    let (account, start, count) = three(members)?;
-    Some(Statement {
-        account: key(account)?,
-        start: key(start)?,
-        count: number(count, 1, MAX_LISTED)?,
-    })
+impl Form for Statement {
+    fn from_places(members: &[i64; 8]) -> Option<Statement> {
+        let (account, start, count) = three(members)?;
+        Some(Statement {
+            account: key(account)?,
+            start: key(start)?,
+            count: number(count, 1, MAX_LISTED)?,
+        })
+    }
 }

@@ -1,12 +1,13 @@
-//! A transfer: its members, and how they are written to a row and read back.
+//! A transfer: its members, its row, its items and its amount.
 
-ghost use Rattle.std.specs.Prelude.{◌≡◌, IfSome};
-ghost use Rattle.counter_ops.specs.Transfer.{IsTransfer, transfer_numbers};
-ghost use Rattle.counter_ops.specs.Rows.{StandsIn, IsOnlyIn, places};
+ghost use Rattle.counter_ops.specs.declared.op.Op.TheVariants as op;
 
+use crate::item_list::ItemList;
+use crate::items::{account, entry_items};
+use crate::operation::{Form, Operation};
 use crate::row_numbers::{key, number};
-use crate::row_places::five;
-use bank_terms::MAX_TRANSFER;
+use crate::row_places::{five, in_places};
+use bank_terms::{MAX_TRANSFER, Procedure};
 
 /// An amount moved from one account to another.
 #[derive(Clone, Copy, Debug, PartialEq, Eq)]
@@ -23,36 +24,46 @@ pub struct Transfer {
     pub amount: u32,
 }
 
-/// Its numbers, in the places of a row.
-pub fn places_of_transfer(transfer: &Transfer) -> [i64; 8]
-    ensures { result ≡ places (transfer_numbers transfer.now) }
-{
-    [
-        i64::from(transfer.source),
-        i64::from(transfer.target),
-        i64::from(transfer.teller),
-        i64::from(transfer.branch),
-        i64::from(transfer.amount),
-        0,
-        0,
-        0,
-    ]
+impl Operation for Transfer {
+    ghost op = { λ form. op.Transfer form };
+
+    fn procedure(&self) -> Procedure {
+        Procedure::Transfer
+    }
+
+    fn places(&self) -> [i64; 8] {
+        in_places(&[
+            i64::from(self.source),
+            i64::from(self.target),
+            i64::from(self.teller),
+            i64::from(self.branch),
+            i64::from(self.amount),
+        ])
+    }
+
+    fn touches(&self) -> ItemList {
+        let mut items = ItemList::of(&[account(self.source), account(self.target)]);
+        items.extend(&entry_items(self.teller, self.branch));
+        items
+    }
+
+    fn amount(&self) -> u32 {
+        self.amount
+    }
 }
 
-/// The transfer whose numbers stand in the places.
-pub fn transfer_from_places(members: &[i64; 8]) -> Option<Transfer>
-    ensures some { IfSome result (StandsIn IsTransfer transfer_numbers members.now) }
-    ensures only { IsOnlyIn IsTransfer transfer_numbers members.now result }
-{
-    let (source, target, teller, branch, amount) = five(members)?;
-    if source == target {
-        return None;
+impl Form for Transfer {
+    fn from_places(members: &[i64; 8]) -> Option<Transfer> {
+        let (source, target, teller, branch, amount) = five(members)?;
+        if source == target {
+            return None;
+        }
+        Some(Transfer {
+            source: key(source)?,
+            target: key(target)?,
+            teller: key(teller)?,
+            branch: key(branch)?,
+            amount: number(amount, 1, MAX_TRANSFER)?,
+        })
     }
-    Some(Transfer {
-        source: key(source)?,
-        target: key(target)?,
-        teller: key(teller)?,
-        branch: key(branch)?,
-        amount: number(amount, 1, MAX_TRANSFER)?,
-    })
 }

@@ -1,11 +1,11 @@
 -- A question for a balance: what it looks at in two Worlds, and what it changes.
-use Rattle.std.proofs.Common.{◌+◌, ◌<◌, ◌++◌, length, refl, ap, ap₂, arith}
+use Rattle.std.proofs.Common.{arith, refl}
 use Rattle.counter_ops.specs.Touched.{account_item}
-use Rattle.two_worlds.proofs.FormRows.{same_account}
-use Rattle.two_worlds.proofs.PlanParts.{nothing_carried}
-use Rattle.counter_ops.specs.declared.op.Op.TheVariants as op
 use Rattle.counter_ops.specs.declared.balance.Balance.{Balance}
+use Rattle.counter_ops.specs.declared.op.Op.TheVariants as op
 use Rattle.two_worlds.proofs.IsLocalForm.{IsLocalForm}
+use Rattle.two_worlds.proofs.PlanParts.{nothing_carried}
+use Rattle.two_worlds.proofs.SameRows.{same_account}
 
 pub balance_is_local : (form : Balance) → IsLocalForm (op.Balance form)
 balance_is_local form = record {

@@ -1,20 +1,19 @@
 -- A drawer that is put off: what it looks at in two Worlds, and what it changes.
+use Rattle.std.proofs.Common.{List, arith, inl, inr, refl, ℕ, ◌≢◌}
 use Rattle.bank_books.specs.declared.rows.Teller.{Teller}
 use Rattle.bank_books.specs.declared.signature.Signature.{Signature}
-use Rattle.bank_meaning.specs.Operations.{meaning_of}
 use Rattle.counter_ops.specs.Touched.{touched_by_drawer}
 use Rattle.counter_ops.specs.declared.drawer_off.DrawerOff.{DrawerOff}
 use Rattle.counter_ops.specs.declared.op.Op.TheVariants as op
 use Rattle.drawers.specs.DrawerOff.{drawer_off_changes}
 use Rattle.drawers.specs.DrawerRows.{drawer_rows}
 use Rattle.drawers.specs.declared.drawer_rows.DrawerRows.{DrawerRows}
-use Rattle.std.proofs.Common.{List, arith, inl, inr, refl, ℕ, ◌≢◌}
-use Rattle.std.proofs.lemmas.Bool.{not-false}
-use Rattle.two_worlds.proofs.FormRows.{drawer_same}
-use Rattle.two_worlds.proofs.IsLocalForm.{IsLocalForm}
-use Rattle.two_worlds.proofs.PlanParts.{IsCarried, branch_passes, by_row, not_nothing, of_its_branch}
-use Rattle.two_worlds.proofs.Within.{IsOfBranch}
+use Rattle.bank_meaning.specs.Operations.{meaning_of}
 use Rattle.two_worlds.specs.Laws.{IsNotGiven}
+use Rattle.two_worlds.proofs.IsLocalForm.{IsLocalForm}
+use Rattle.two_worlds.proofs.PlanParts.{IsCarried, by_row, not_nothing, passed_teller}
+use Rattle.two_worlds.proofs.SameRows.{same_drawer}
+use Rattle.two_worlds.proofs.Within.{IsOfBranch}
 
 puts_off : (tellers : List Teller) (other : ℕ → ℕ → Type 0) (rows : DrawerRows) (d : DrawerOff) (by : Signature) → d.teller ≢ 0 → IsOfBranch tellers d.teller d.branch
     → IsCarried (touched_by_drawer d.teller d.branch) tellers other (drawer_off_changes rows d by)
@@ -33,6 +32,8 @@ puts_off tellers other rows d by drawer of =
 
 pub drawer_off_is_local : (form : DrawerOff) → IsLocalForm (op.DrawerOff form)
 drawer_off_is_local form = record {
-  rows_same = λ by w v bank bank' same held agree. drawer_same w v bank.books bank'.books form.teller form.branch same;
-  carried = λ by w distinct proper none. puts_off w.tellers (IsNotGiven w (op.DrawerOff form)) (drawer_rows w form.teller form.branch) form by (not_nothing form.teller proper.teller) (of_its_branch w form.teller form.branch distinct (not-false _ (branch_passes (meaning_of (op.DrawerOff form) by w) none)));
+  rows_same = λ by w v bank bank' same held agree. same_drawer w v bank.books bank'.books form.teller form.branch same;
+  carried = λ by w distinct proper none.
+      let of = passed_teller w (meaning_of (op.DrawerOff form) by w) form.teller form.branch distinct refl none in
+      puts_off w.tellers (IsNotGiven w (op.DrawerOff form)) (drawer_rows w form.teller form.branch) form by (not_nothing form.teller proper.teller) of;
 }

@@ -6,7 +6,6 @@ pub mod CorrectLocal
 pub mod DrawerOffLocal
 pub mod DrawerOnLocal
 pub mod DrawerSum
-pub mod FormRows
 pub mod Grown
 pub mod IsLocalForm
 pub mod Judged
@@ -23,6 +22,7 @@ pub mod ProofLocal
 pub mod ReleaseLocal
 pub mod Releases
 pub mod Reports
+pub mod SameRows
 pub mod Seen
 pub mod Slips
 pub mod StatementLocal

@@ -1,26 +1,55 @@
 -- Cash that is moved: what it looks at in two Worlds, and what it changes.
+use Rattle.std.proofs.Common.{Bool, Contains, List, None, false, inl, inr, map, refl, true, ℕ, ◌&&◌, ◌==◌, ◌||◌, ◌≡◌, ◌≢◌, ◌⊎◌}
+use Rattle.std.specs.Prelude.{if◌then◌else◌, option_map}
+use Rattle.std.proofs.lemmas.Bool.{and_parts, eqb-false, eqb-true, not-false}
+use Rattle.keyed_rows.specs.Ordered.{AreDistinct}
+use Rattle.bank_terms.specs.declared.item.Cdi.{Cdi}
+use Rattle.bank_books.specs.Books.{Books}
 use Rattle.bank_books.specs.Keys.{teller_key}
-use Rattle.bank_books.specs.Records.{teller_record}
+use Rattle.bank_books.specs.Records.{branch_record, teller_record}
 use Rattle.bank_books.specs.WorldLists.{WorldLists}
 use Rattle.bank_books.specs.declared.rows.Teller.{Teller}
 use Rattle.bank_books.specs.declared.signature.Signature.{Signature}
-use Rattle.bank_meaning.specs.Operations.{meaning_of}
-use Rattle.bank_terms.specs.declared.item.Cdi.{Cdi}
-use Rattle.counter_ops.specs.Touched.{drawer_item, touched_by_move_cash, touched_place, vault_item}
+use Rattle.counter_ops.specs.Touched.{branch_item, drawer_item, teller_item, touched_by_move_cash, touched_place, vault_item}
 use Rattle.counter_ops.specs.declared.move_cash.MoveCash.{MoveCash}
 use Rattle.counter_ops.specs.declared.op.Op.TheVariants as op
-use Rattle.drawers.specs.MoveCash.{move_changes, move_rows, teller_at}
-use Rattle.keyed_rows.specs.Ordered.{AreDistinct}
 use Rattle.rule_tests.specs.Rules.{teller_is_of}
-use Rattle.std.proofs.Common.{Bool, Contains, List, None, false, inl, inr, map, refl, true, ℕ, ◌&&◌, ◌==◌, ◌||◌, ◌≡◌, ◌≢◌, ◌⊎◌}
-use Rattle.std.proofs.lemmas.Bool.{and_parts, eqb-false, eqb-true, not-false}
-use Rattle.std.specs.Prelude.{if◌then◌else◌}
-use Rattle.two_worlds.proofs.FormRows.{move_same}
+use Rattle.drawers.specs.MoveCash.{move_changes, move_rows, teller_at}
+use Rattle.bank_meaning.specs.Operations.{meaning_of}
+use Rattle.two_worlds.specs.Laws.{IsNotGiven}
 use Rattle.two_worlds.proofs.IsLocalForm.{IsLocalForm}
 use Rattle.two_worlds.proofs.Places.{branch_there, place_there, source_there, target_there, vault_there}
 use Rattle.two_worlds.proofs.PlanParts.{IsCarried, branch_passes, by_row, of_its_branch}
-use Rattle.two_worlds.proofs.Within.{IsOfBranch}
-use Rattle.two_worlds.specs.Laws.{IsNotGiven}
+use Rattle.two_worlds.proofs.SameRows.{same_book, same_teller, same_vault}
+use Rattle.two_worlds.proofs.Within.{AreAlike, IsOfBranch}
+
+-- ---- what it looks at
+
+module _ (w v : WorldLists) (books : Books w) (books' : Books v) where
+  place_same : (place : ℕ) (items : List Cdi) → AreAlike items w v → ((place == 0) ≡ false → Contains items (teller_item place) × Contains items (drawer_item place)) → teller_at w place ≡ teller_at v place
+  place_same place items same there = go (place == 0) refl
+    where
+      go : (b : Bool) → (place == 0) ≡ b → (if b then None else teller_record w place) ≡ (if b then None else teller_record v place)
+      go true is = refl
+      go false is = same_teller w v books books' place (same (teller_item place) (there is).0) (same (drawer_item place) (there is).1)
+
+  rows_same : (m : MoveCash) → AreAlike (touched_by_move_cash m) w v → move_rows w m ≡ move_rows v m
+  rows_same m same =
+      let source = place_same m.source (touched_by_move_cash m) same (λ is.
+      let at = place_there m.source is in
+      (source_there m (teller_item m.source) at.0, source_there m (drawer_item m.source) at.1)) in
+      let target = place_same m.target (touched_by_move_cash m) same (λ is.
+      let at = place_there m.target is in
+      (target_there m (teller_item m.target) at.0, target_there m (drawer_item m.target) at.1)) in
+      let book = same_book w v books books' m.branch (same (branch_item m.branch) (branch_there m)) in
+      let vault = go (m.source == 0 || m.target == 0) refl in
+      λ i. record { source = source i; target = target i; cash_book = book i; vault = vault i }
+    where
+      go : (b : Bool) → (m.source == 0 || m.target == 0) ≡ b → (if b then option_map (λ b. b.vault) (branch_record w m.branch) else None) ≡ (if b then option_map (λ b. b.vault) (branch_record v m.branch) else None)
+      go true is = same_vault w v books books' m.branch (same (vault_item m.branch) (vault_there m is))
+      go false is = refl
+
+-- ---- what it changes
 
 -- a place of moved cash
 abbrev IsPlace : MoveCash → List Teller → ℕ → Type 0
@@ -58,6 +87,6 @@ moves w other m by distinct of =
 
 pub move_cash_is_local : (form : MoveCash) → IsLocalForm (op.MoveCash form)
 move_cash_is_local form = record {
-  rows_same = λ by w v bank bank' same held agree. move_same w v bank.books bank'.books form same;
+  rows_same = λ by w v bank bank' same held agree. rows_same w v bank.books bank'.books form same;
   carried = λ by w distinct proper none. moves w (IsNotGiven w (op.MoveCash form)) form by distinct (not-false _ (branch_passes (meaning_of (op.MoveCash form) by w) none));
 }

@@ -1,26 +1,26 @@
--- Form by form: all that an operation changes which no rule of the books denies is among what it touches.
+-- Changes that are all among the items that an operation touches, and what forms have in common to show it.
+use Rattle.std.proofs.Common.{List, None, Option, Some, [], arith, false, map, not, refl, subst, sym, true, ℕ, ◌∙◌, ◌≡◌, ◌≢◌}
+use Rattle.std.specs.Option.{option_map_or}
+use Rattle.std.specs.Prelude.{option_map}
+use Rattle.std.proofs.lemmas.Bool.{eqb-true, not-false}
+use Rattle.keyed_rows.specs.Ordered.{AreDistinct}
+use Rattle.keyed_rows.proofs.Rows.{find_of_key}
+use Rattle.bank_terms.specs.declared.item.Cdi.{Cdi}
+use Rattle.bank_terms.specs.declared.rule.Rule.TheVariants as rule
 use Rattle.bank_books.specs.Keys.{teller_key}
 use Rattle.bank_books.specs.Records.{teller_record, teller_record_of}
 use Rattle.bank_books.specs.WorldLists.{WorldLists}
 use Rattle.bank_books.specs.declared.row_write.RowWrite.{RowWrite}
 use Rattle.bank_books.specs.declared.rows.Release.{Release as ReleaseRow}
 use Rattle.bank_books.specs.declared.rows.Teller.{Teller}
-use Rattle.bank_meaning.specs.Meaning.{Meaning, by_books}
-use Rattle.bank_terms.specs.declared.item.Cdi.{Cdi}
-use Rattle.bank_terms.specs.declared.rule.Rule.TheVariants as rule
 use Rattle.counter_ops.specs.Ranges.{IsKey}
-use Rattle.keyed_rows.proofs.Rows.{find_of_key}
-use Rattle.keyed_rows.specs.Ordered.{AreDistinct}
-use Rattle.rule_tests.proofs.RuleTests.{passed_by}
 use Rattle.rule_tests.specs.Rules.{teller_is_of}
-use Rattle.std.proofs.Common.{List, None, Option, Some, [], arith, false, map, refl, subst, true, ℕ, ◌≡◌, ◌≢◌}
-use Rattle.std.proofs.lemmas.Bool.{eqb-true}
-use Rattle.std.specs.Option.{option_map_or}
-use Rattle.std.specs.Prelude.{option_map}
+use Rattle.rule_tests.proofs.RuleTests.{passed_by}
+use Rattle.bank_meaning.specs.Meaning.{Meaning, by_books}
 use Rattle.two_worlds.proofs.Releases.{releases_after}
 use Rattle.two_worlds.proofs.Within.{AreWithin, IsOfBranch}
 
--- the changes come to these items alone, and leave each other release
+-- the changes are among these items alone, and leave each other release
 pub record IsCarried (items : List Cdi) (tellers : List Teller) (other : ℕ → ℕ → Type 0) (changes : List RowWrite) : Type 0 where
   pub within : AreWithin items tellers changes
   pub releases : (user number : ℕ) → other user number → (o : Option ReleaseRow) → releases_after changes user number o ≡ o
@@ -47,4 +47,7 @@ pub of_its_branch : (w : WorldLists) (teller branch : ℕ) → AreDistinct (map 
 of_its_branch w teller branch distinct is t there named =
     eqb-true t.branch branch (subst (λ o. teller_is_of (option_map (teller_record_of w) o) branch ≡ true) (find_of_key teller_key teller w.tellers t distinct there named) is)
 
--- ---- each form
+-- the teller that an operation names is so, if no rule denies it
+pub passed_teller : (w : WorldLists) (m : Meaning) (teller branch : ℕ) → AreDistinct (map teller_key w.tellers) → m.denies rule.Branch ≡ not (teller_is_of (teller_record w teller) branch) → (by_books m).first ≡ None
+    → IsOfBranch w.tellers teller branch
+passed_teller w m teller branch distinct is none = of_its_branch w teller branch distinct (not-false (teller_is_of (teller_record w teller) branch) (sym is ∙ branch_passes m none))

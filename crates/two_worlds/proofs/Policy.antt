@@ -34,7 +34,7 @@ use Rattle.bank_meaning.specs.declared.execution.Execution.{Execution}
 use Rattle.bank_meaning.specs.declared.leave.Leave.TheVariants as leave
 use Rattle.two_worlds.specs.Agree.{AgreeOnGiver, AgreeOnPolicy, AgreeOnRelease}
 use Rattle.two_worlds.specs.Laws.{is_blind}
-use Rattle.two_worlds.proofs.FormRows.{same_day}
+use Rattle.two_worlds.proofs.SameRows.{same_day}
 use Rattle.two_worlds.proofs.Places.{at_counter, branch_there}
 use Rattle.two_worlds.proofs.Within.{AreAlike}
 

@@ -1,32 +1,37 @@
 -- A post: what it looks at in two Worlds, and what it changes.
-use Rattle.std.proofs.Common.{◌≡◌, ◌≢◌, ◌+◌, ◌<◌, ℕ, List, refl, arith, inr}
-use Rattle.bank_meaning.specs.Operations.{meaning_of}
-use Rattle.std.proofs.lemmas.Bool.{not-false}
-use Rattle.two_worlds.specs.Laws.{IsNotGiven}
+use Rattle.std.proofs.Common.{List, arith, inr, refl, ℕ, ◌≡◌, ◌≢◌}
 use Rattle.bank_books.specs.Books.{Books}
 use Rattle.bank_books.specs.WorldLists.{WorldLists}
 use Rattle.bank_books.specs.declared.rows.Teller.{Teller}
 use Rattle.bank_books.specs.declared.signature.Signature.{Signature}
 use Rattle.counter_ops.specs.Touched.{account_item, branch_item, drawer_item, history_item, teller_item, touched_by_post}
-use Rattle.postings.specs.Post.{post_changes, post_rows}
-use Rattle.postings.specs.declared.post.PostRows.{PostRows}
-use Rattle.two_worlds.proofs.FormRows.{same_account, same_book, same_ledger, same_teller}
-use Rattle.two_worlds.proofs.PlanParts.{IsCarried, branch_passes, by_row, not_nothing, of_its_branch}
-use Rattle.two_worlds.proofs.Within.{AreAlike, IsOfBranch}
 use Rattle.counter_ops.specs.declared.op.Op.TheVariants as op
 use Rattle.counter_ops.specs.declared.post.Post.{Post}
+use Rattle.postings.specs.Post.{post_changes, post_rows}
+use Rattle.postings.specs.declared.post.PostRows.{PostRows}
+use Rattle.bank_meaning.specs.Operations.{meaning_of}
+use Rattle.two_worlds.specs.Laws.{IsNotGiven}
 use Rattle.two_worlds.proofs.IsLocalForm.{IsLocalForm}
+use Rattle.two_worlds.proofs.PlanParts.{IsCarried, by_row, not_nothing, passed_teller}
+use Rattle.two_worlds.proofs.SameRows.{same_account, same_book, same_ledger, same_teller}
+use Rattle.two_worlds.proofs.Within.{AreAlike, IsOfBranch}
 
-rows_same : (w v : WorldLists) (books : Books w) (books' : Books v) (post : Post) → AreAlike (touched_by_post post) w v → post_rows w post ≡ post_rows v post
-rows_same w v books books' post same =
-    let branch = same (branch_item post.branch) (2, omega arith, refl) in
-    let account = same_account w v books books' post.account (same (account_item post.account) (0, omega arith, refl)) in
-    let teller = same_teller w v books books' post.teller (same (teller_item post.teller) (1, omega arith, refl)) (same (drawer_item post.teller) (4, omega arith, refl)) in
-    let ledger = same_ledger w v books books' post.branch branch (same (history_item post.branch) (3, omega arith, refl)) in
-    let book = same_book w v books books' post.branch branch in
-    λ i. record { account = account i; teller = teller i; ledger = ledger i; cash_book = book i }
+-- ---- what it looks at
 
-posts : (tellers : List Teller) (other : ℕ → ℕ → Type 0) (rows : PostRows) (post : Post) (by : Signature) → post.teller ≢ 0 → IsOfBranch tellers post.teller post.branch → IsCarried (touched_by_post post) tellers other (post_changes rows post by)
+module _ (w v : WorldLists) (books : Books w) (books' : Books v) where
+  rows_same : (post : Post) → AreAlike (touched_by_post post) w v → post_rows w post ≡ post_rows v post
+  rows_same post same =
+      let branch = same (branch_item post.branch) (2, omega arith, refl) in
+      let account = same_account w v books books' post.account (same (account_item post.account) (0, omega arith, refl)) in
+      let teller = same_teller w v books books' post.teller (same (teller_item post.teller) (1, omega arith, refl)) (same (drawer_item post.teller) (4, omega arith, refl)) in
+      let ledger = same_ledger w v books books' post.branch branch (same (history_item post.branch) (3, omega arith, refl)) in
+      let book = same_book w v books books' post.branch branch in
+      λ i. record { account = account i; teller = teller i; ledger = ledger i; cash_book = book i }
+
+-- ---- what it changes
+
+posts : (tellers : List Teller) (other : ℕ → ℕ → Type 0) (rows : PostRows) (post : Post) (by : Signature) → post.teller ≢ 0 → IsOfBranch tellers post.teller post.branch
+    → IsCarried (touched_by_post post) tellers other (post_changes rows post by)
 posts tellers other rows post by drawer of =
     let items = touched_by_post post in
     by_row items tellers other _ rows.account (λ account. by_row items tellers other _ rows.ledger (λ ledger. by_row items tellers other _ rows.cash_book (λ book. record {
@@ -40,5 +45,7 @@ posts tellers other rows post by drawer of =
 pub post_is_local : (form : Post) → IsLocalForm (op.Post form)
 post_is_local form = record {
   rows_same = λ by w v bank bank' same held agree. rows_same w v bank.books bank'.books form same;
-  carried = λ by w distinct proper none. posts w.tellers (IsNotGiven w (op.Post form)) (post_rows w form) form by (not_nothing form.teller proper.teller) (of_its_branch w form.teller form.branch distinct (not-false _ (branch_passes (meaning_of (op.Post form) by w) none)));
+  carried = λ by w distinct proper none.
+      let of = passed_teller w (meaning_of (op.Post form) by w) form.teller form.branch distinct refl none in
+      posts w.tellers (IsNotGiven w (op.Post form)) (post_rows w form) form by (not_nothing form.teller proper.teller) of;
 }

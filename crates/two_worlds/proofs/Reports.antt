@@ -1,6 +1,6 @@
 -- Views determine what reports list: that of an account its statement, those of all accounts in a user's sets the
 -- accounts that the user is shown, and those of a branch, its history and its vault the proof of that branch.
-use Rattle.std.proofs.Common.{◌≡◌, ℕ, pos, ◌+ℤ◌, ◌≤◌, List, [], ◌∷◌, ◌++◌, map, take, length, get_or, All, Bool, true, false, refl, ap, ap₂, arith, sym, ◌∙◌, ◌==◌, ◌&&◌, ◌+◌, Option, Some, None, Contains}
+use Rattle.std.proofs.Common.{◌≡◌, ℕ, pos, ◌+ℤ◌, ◌≤◌, List, [], ◌∷◌, ◌++◌, map, take, length, get_or, All, Bool, true, false, refl, ap, ap₂, arith, sym, ◌∙◌, ◌==◌, ◌&&◌, Option, Some, None, Contains}
 use Rattle.std.specs.Prelude.{if◌then◌else◌, nat_le, nat_lt, option_map}
 use Rattle.std.specs.List.{concat, filter, find, range_with_len}
 use Rattle.std.specs.Option.{option_map_or}
@@ -13,7 +13,6 @@ use Rattle.keyed_rows.specs.Totals.{total}
 use Rattle.bank_policy.proofs.RowsTell.{from_filter, in_filter}
 use Rattle.bank_policy.specs.HeldRows.{HeldTriple}
 use Rattle.bank_terms.specs.Limits.{max_key}
-use Rattle.bank_terms.specs.declared.procedure.Procedure.TheVariants as procedure
 use Rattle.bank_books.specs.Balances.{account_count, account_opening, account_row, branch_deltas, branch_row, deltas_up_to, entry_count}
 use Rattle.bank_books.specs.Cash.{cash_entry_total, difference_total, drawer_total, line_count, place_cash}
 use Rattle.bank_books.specs.Keys.{account_key, branch_key}
@@ -41,7 +40,7 @@ use Rattle.world_reads.specs.BookReads.{accounts_triples, entry_at, is_account_a
 use Rattle.counter_ops.specs.Touched.{account_item, branch_item, history_item, touched_by_books, vault_item}
 use Rattle.two_worlds.specs.View.{RosterLine, View, roster_line_of, roster_of, view_of}
 use Rattle.two_worlds.proofs.DrawerSum.{drawers_of}
-use Rattle.two_worlds.proofs.FormRows.{same_account}
+use Rattle.two_worlds.proofs.SameRows.{same_account}
 use Rattle.two_worlds.proofs.Grown.{find_passing, total_both, total_passing}
 use Rattle.two_worlds.proofs.Within.{AreAlike}
 

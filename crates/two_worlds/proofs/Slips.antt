@@ -1,5 +1,5 @@
 -- What an operation makes of the slips of a user: those before, or one more.
-use Rattle.std.proofs.Common.{◌≡◌, ◌≢◌, ℕ, ◌+◌, List, [], ◌∷◌, ◌++◌, Bool, true, false, cond, refl, ap, arith, sym, subst, ◌∙◌, ◌==◌, ◌&&◌, not, Option, Some, None, Result, Err}
+use Rattle.std.proofs.Common.{◌≡◌, ◌≢◌, ℕ, ◌+◌, List, [], ◌∷◌, ◌++◌, Bool, true, false, cond, refl, ap, arith, sym, ◌∙◌, ◌==◌, ◌&&◌, not, Option, Some, None, Err}
 use Rattle.std.specs.Prelude.{if◌then◌else◌, is_none, nat_le}
 use Rattle.std.specs.List.{find}
 use Rattle.std.specs.List.Sorted.{IsNonDecreasingBy}
@@ -7,7 +7,6 @@ use Rattle.std.proofs.lemmas.Bool.{and_parts, eqb-false, eqb-true, false≢true,
 use Rattle.keyed_rows.specs.Ordered.{add_row}
 use Rattle.bank_terms.specs.Limits.{max_slips}
 use Rattle.bank_terms.specs.declared.rule.Rule.{Rule}
-use Rattle.bank_policy.specs.HeldRows.{user_row}
 use Rattle.bank_books.specs.Effects.{all_written, written}
 use Rattle.bank_books.specs.Keys.{slip_key, slip_number}
 use Rattle.bank_books.specs.Records.{slip_count}
@@ -21,9 +20,9 @@ use Rattle.world_reads.specs.BookReads.{is_slip, slip}
 use Rattle.bank_meaning.specs.Executions.{execution_meaning}
 use Rattle.bank_meaning.specs.Meaning.{ReplyText}
 use Rattle.bank_meaning.specs.PolicyRules.{asker, grounds, is_identified, used_by}
-use Rattle.bank_meaning.specs.Requests.{effect, executes, first, repeated, reply_text}
+use Rattle.bank_meaning.specs.Requests.{executes, first, repeated, reply_text}
 use Rattle.bank_meaning.specs.Run.{if_allowed, step, told, told_again, unless_repeated}
-use Rattle.bank_meaning.specs.Slips.{SlipGrounds, has_no_room, is_of_another, kept_reply, slip_grounds, slip_named, slip_of, taken_by}
+use Rattle.bank_meaning.specs.Slips.{has_no_room, is_of_another, kept_reply, slip_grounds, slip_named, slip_of, taken_by}
 use Rattle.bank_meaning.specs.declared.execution.Execution.{Execution}
 use Rattle.bank_meaning.specs.declared.leave.Leave.{Leave}
 use Rattle.bank_meaning.specs.declared.leave.Leave.TheVariants as leave

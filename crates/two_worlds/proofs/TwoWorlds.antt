@@ -1,11 +1,11 @@
 -- The law of two Worlds.
-use Rattle.std.proofs.Common.{◌≡◌, ◌≢◌, ℕ, ◌<◌, ◌≤◌, ◌^◌, List, [], ◌∷◌, ◌++◌, Bool, true, false, not, cond, refl, ap, ap₂, arith, sym, subst, ◌∙◌, ◌==◌, ◌&&◌, ◌||◌, Option, Some, None, Err, Contains}
-use Rattle.std.specs.Prelude.{if◌then◌else◌, nat_lt, option_map, All}
+use Rattle.std.proofs.Common.{◌≡◌, ◌≢◌, ℕ, ◌<◌, ◌≤◌, ◌^◌, List, [], ◌∷◌, ◌++◌, Bool, true, false, not, cond, refl, ap, ap₂, arith, sym, subst, ◌∙◌, ◌==◌, ◌&&◌, ◌||◌, Option, Some, None, Contains}
+use Rattle.std.specs.Prelude.{if◌then◌else◌, option_map, All}
 use Rattle.std.specs.List.{find, list_any}
 use Rattle.std.specs.Option.{option_map_or}
 use Rattle.std.proofs.lemmas.Bool.{eqb-false, and_parts, eqb-true, false≢true, not-false, or_parts}
 use Rattle.std.proofs.lemmas.List.Elements.{All-contains, Contains-get_or}
-use Rattle.bank_terms.specs.Limits.{max_releases, max_version}
+use Rattle.bank_terms.specs.Limits.{max_releases}
 use Rattle.bank_terms.specs.declared.item.Cdi.{Cdi}
 use Rattle.bank_terms.specs.declared.item.Kind.{Kind}
 use Rattle.bank_terms.specs.declared.item.Kind.TheVariants as kind
@@ -18,8 +18,7 @@ use Rattle.bank_terms.specs.declared.procedure.Procedure.TheVariants as procedur
 use Rattle.counter_ops.specs.Op.{procedure_of}
 use Rattle.bank_books.specs.Books.{Books}
 use Rattle.bank_books.specs.Keys.{release_key, release_number}
-use Rattle.bank_books.specs.Effects.{used_up, all_written, applied}
-use Rattle.bank_books.specs.Version.{changes_policy, with_version}
+use Rattle.bank_books.specs.Effects.{used_up, all_written}
 use Rattle.bank_books.specs.SlipRow.{SlipRow}
 use Rattle.bank_books.specs.WorldLists.{WorldLists}
 use Rattle.bank_books.specs.declared.row_write.RowWrite.{RowWrite}
@@ -36,7 +35,7 @@ use Rattle.world_reads.specs.BookReads.{is_account_of, is_release, release}
 use Rattle.counter_ops.specs.Touched.{account_item, touched}
 use Rattle.bank_meaning.specs.Executions.{execution_meaning, is_of_policy, signature_of}
 use Rattle.bank_meaning.specs.LastWord as Said
-use Rattle.bank_meaning.specs.Meaning.{Meaning, ReplyText, rules_behind_policy, by_books}
+use Rattle.bank_meaning.specs.Meaning.{Meaning, rules_behind_policy, by_books}
 use Rattle.bank_meaning.specs.NamedRelease.{counts, release_grounds_of}
 use Rattle.bank_meaning.specs.Operations.{form_of, meaning_of}
 use Rattle.bank_meaning.specs.PolicyRules.{asker, grounds, is_identified, is_in_limit, is_released, leave_of, used_by}

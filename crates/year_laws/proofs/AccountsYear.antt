@@ -1,8 +1,6 @@
 -- A question for accounts at the bank that goes on and at the next year's.
-use Rattle.std.proofs.Common.{refl, ap}
-use Rattle.counter_ops.specs.declared.op.Op.TheVariants as op
 use Rattle.counter_ops.specs.declared.accounts.Accounts.{Accounts}
-use Rattle.bank_meaning.specs.Meaning.{ReplyText, json}
+use Rattle.counter_ops.specs.declared.op.Op.TheVariants as op
 use Rattle.year_laws.proofs.IsYearForm.{IsYearForm}
 
 pub accounts_in_years : (form : Accounts) → IsYearForm (op.Accounts form)

@@ -1,48 +1,25 @@
 -- Two banks of one turn are such as stay alike when the year turns, and stay so by each operation that no rule denies.
-use Rattle.std.proofs.Common.{◌≡◌, ◌≢◌, ◌+◌, ◌<◌, ◌≤◌, ◌∙◌, ℕ, false, Option, Some, None, refl, ap, arith, sym, subst, inl, inr}
-use Rattle.std.specs.Prelude.{is_some, option_map}
-use Rattle.keyed_rows.proofs.Rows.{Contains-map_source, find-found, find_of_key, found_row, none_there}
-use Rattle.bank_policy.specs.PolicyKeys.{user_key}
+use Rattle.std.proofs.Common.{◌≡◌, ◌≢◌, ◌<◌, ◌≤◌, ◌∙◌, ℕ, Option, Some, None, refl, ap, arith, sym, inl, inr}
+use Rattle.keyed_rows.proofs.Rows.{Contains-map_source, find-found, find_of_key, none_there}
 use Rattle.bank_terms.specs.Procedure.{number_of}
 use Rattle.bank_terms.specs.declared.operation_row.OperationRow.{OperationRow}
-use Rattle.bank_books.specs.Balances.{account_row, branch_row}
 use Rattle.bank_books.specs.Books.{Books}
 use Rattle.bank_books.specs.Keys.{account_key, teller_key}
-use Rattle.bank_books.specs.Records.{account_record_of, release_count}
 use Rattle.bank_books.specs.WorldLists.{WorldLists}
-use Rattle.bank_books.specs.declared.rows.Account.{Account}
 use Rattle.bank_books.specs.declared.rows.Release.{Release}
 use Rattle.bank_books.specs.declared.rows.Teller.{Teller}
-use Rattle.bank_books.specs.declared.signature.Signature.{Signature}
 use Rattle.book_laws.proofs.BooksSplit.{books_parts}
-use Rattle.counter_ops.specs.Releasable.{branch_of, op_of}
+use Rattle.counter_ops.specs.Releasable.{op_of}
 use Rattle.counter_ops.specs.Rows.{row_of}
-use Rattle.counter_ops.specs.declared.close_day.CloseDay.{CloseDay}
-use Rattle.counter_ops.specs.declared.new_account.NewAccount.{NewAccount}
-use Rattle.counter_ops.specs.declared.op.Op.{Op}
-use Rattle.counter_ops.specs.declared.op.Op.TheVariants as op
 use Rattle.counter_ops.specs.declared.releasable.Releasable.{Releasable}
 use Rattle.counter_ops.specs.declared.releasable.Releasable.TheVariants as form
-use Rattle.counter_ops.specs.declared.release.Release.{Release as ReleaseForm}
-use Rattle.rule_tests.proofs.RuleTests.{passed_by}
-use Rattle.drawers.specs.CloseDay.{close_day_effect, closing_rows, first_against_close_day}
-use Rattle.drawers.proofs.AllowedClose as close
 use Rattle.world_reads.specs.BookReads.{is_release, release}
-use Rattle.bank_meaning.specs.Meaning.{by_books}
-use Rattle.bank_meaning.specs.NewAccount.{first_against_new_account, new_account_effect, opened, opening_rows}
-use Rattle.bank_meaning.specs.Operations.{meaning_of}
 use Rattle.bank_meaning.specs.Order.{AreBooksInOrder}
-use Rattle.bank_meaning.specs.Release.{first_against_release, given_release, release_effect, release_rows}
-use Rattle.bank_meaning.proofs.GivenRelease as given
 use Rattle.year_forward.specs.Forward.{carried_teller, forward}
-use Rattle.year_laws.specs.GoesOn.{AreBoth, Turn, op_at_old, releasable_at_old, turn_of}
-use Rattle.year_laws.specs.JudgedAlike.{NamesAnEntry}
-use Rattle.year_laws.specs.StaysAlike.{AddsLast, BooksStayAlike, IsReleaseAlike, StayAlike, TurnsAlike}
-use Rattle.year_laws.proofs.AccountsAlike.{account_stays, no_turns}
+use Rattle.year_laws.specs.GoesOn.{AreBoth, turn_of}
+use Rattle.year_laws.specs.StaysAlike.{AddsLast, BooksStayAlike, IsReleaseAlike, TurnsAlike}
+use Rattle.year_laws.proofs.AccountsAlike.{no_turns}
 use Rattle.year_laws.proofs.AtTheTurn.{year_turns}
-use Rattle.year_laws.proofs.FoundAlike.{same_branch}
-use Rattle.year_laws.proofs.ReleasesAlike.{release_stays}
-use Rattle.year_laws.proofs.RowsAlike.{carried}
 use Rattle.year_laws.proofs.YearForms.{year_of}
 
 -- ---- when the year turns

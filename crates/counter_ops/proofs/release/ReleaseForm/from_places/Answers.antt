@@ -2,7 +2,7 @@ use Rattle.std.proofs.Common.{◌∙◌, ap, arith}
 use Rattle.std.proofs.lemmas.Int.{ints}
 use Rattle.counter_ops.proofs.Places.{eight_stand}
 use Rattle.counter_ops.proofs.Released.{release_stands}
-use Rattle.counter_ops.proofs.release.release_from_places.Goals as goal
+use Rattle.counter_ops.proofs.release.ReleaseForm.from_places.Goals as goal
 
 pub returns-clause-some : goal.returns-clause-some
 returns-clause-some c =
