@@ -1,4 +1,13 @@
 -- The laws of a day that is closed.
+use Rattle.std.specs.List.{AllByRecursion}
+use Rattle.bank_meaning.specs.AskedRows.{Bears}
+use Rattle.bank_meaning.proofs.AskedRows.{is_home}
+use Rattle.bank_books.specs.declared.rows.Branch.{Branch}
+use Rattle.bank_books.specs.declared.signature.Signature.{Signature}
+use Rattle.bank_meaning.specs.CloseDay.{IsCloseDayAsked}
+use Rattle.bank_books.specs.Balances.{branch_deltas}
+use Rattle.std.specs.Option.{option_map_or}
+use Rattle.std.proofs.Common.{pos, ap}
 use Rattle.bank_books.specs.Balances.{account_balance, branch_balance, entry_count, teller_balance}
 use Rattle.bank_books.specs.Books.{Books}
 use Rattle.bank_books.specs.Cash.{cash_entry_total, holder_of, place_cash, vault_opening}
@@ -37,15 +46,6 @@ use Rattle.std.proofs.lemmas.Int.{ints}
 use Rattle.std.specs.List.{filter}
 use Rattle.std.specs.Prelude.{is_none, is_some, option_map, unsigned_abs}
 use Rattle.world_reads.specs.BookReads.{is_teller_of, roster}
-use Rattle.std.specs.List.{AllByRecursion}
-use Rattle.bank_meaning.specs.AskedRows.{Bears}
-use Rattle.bank_meaning.proofs.AskedRows.{is_home}
-use Rattle.bank_books.specs.declared.rows.Branch.{Branch}
-use Rattle.bank_books.specs.declared.signature.Signature.{Signature}
-use Rattle.bank_meaning.specs.CloseDay.{IsCloseDayAsked}
-use Rattle.bank_books.specs.Balances.{branch_deltas}
-use Rattle.std.specs.Option.{option_map_or}
-use Rattle.std.proofs.Common.{pos, ap}
 
 same_opening : (before after rest : ℤ) → after +ℤ rest ≡ before +ℤ rest → after ≡ before
 same_opening before after rest same = omega (arith, ints)
@@ -84,20 +84,6 @@ is_false : (b : Bool) → b ≢ true → b ≡ false
 is_false false is = refl
 is_false true is = absurd (is refl)
 
-close_day_judged : (w : WorldLists) (who : Who) (moment : ℕ) (form : CloseDay) → NoneDenies w who moment (op.CloseDay form) → IsCloseDayJudged w form
-close_day_judged w who moment form none =
-    let ledger = option_map ledger_of (branch_record w form.branch) in
-    let vault = option_map (λ b. b.vault) (branch_record w form.branch) in
-    let known = or_parts (is_none ledger) (is_none vault) (none rule.Unknown) in
-    record {
-      branch = branch_of_ledger w form.branch known.0;
-      drawers = λ t there of.
-          no_holder (holder_of w.lines t.teller)
-          (is_false (is_some (holder_of w.lines t.teller))
-          (none_passes (λ r. is_some r.holder) (roster w form.branch) (none rule.Day) (teller_record_of w t)
-          (Contains-map (teller_record_of w) (filter (is_teller_of form.branch) w.tellers) t (in_filter (is_teller_of form.branch) w.tellers t there (eq-eqb t.branch form.branch of)))));
-    }
-
 close_day_asked : (by : Signature) (w : WorldLists) (form : CloseDay) → IsCloseDayJudged w form
     → AllByRecursion (λ row. Bears w by.user by.moment row × IsCloseDayAsked w form row) (close_day_changes (closing_rows w form) form)
 close_day_asked by w form judged =
@@ -120,6 +106,20 @@ close_day_asked by w form judged =
       ),
       ((tt, (refl, ap (option_map (λ day. day + 1)) home.day)), tt),
     )
+
+close_day_judged : (w : WorldLists) (who : Who) (moment : ℕ) (form : CloseDay) → NoneDenies w who moment (op.CloseDay form) → IsCloseDayJudged w form
+close_day_judged w who moment form none =
+    let ledger = option_map ledger_of (branch_record w form.branch) in
+    let vault = option_map (λ b. b.vault) (branch_record w form.branch) in
+    let known = or_parts (is_none ledger) (is_none vault) (none rule.Unknown) in
+    record {
+      branch = branch_of_ledger w form.branch known.0;
+      drawers = λ t there of.
+          no_holder (holder_of w.lines t.teller)
+          (is_false (is_some (holder_of w.lines t.teller))
+          (none_passes (λ r. is_some r.holder) (roster w form.branch) (none rule.Day) (teller_record_of w t)
+          (Contains-map (teller_record_of w) (filter (is_teller_of form.branch) w.tellers) t (in_filter (is_teller_of form.branch) w.tellers t there (eq-eqb t.branch form.branch of)))));
+    }
 
 pub close_day_is_form : (form : CloseDay) → IsForm (op.CloseDay form)
 close_day_is_form form = record {

@@ -1,4 +1,11 @@
 -- The laws of a correction.
+use Rattle.std.specs.List.{AllByRecursion}
+use Rattle.bank_meaning.specs.AskedRows.{Bears, entry_says, line_says}
+use Rattle.bank_meaning.proofs.AskedRows.{is_home, numbered, partnered}
+use Rattle.bank_meaning.specs.Correct.{IsCorrectAsked, IsUndoing, undoing_says}
+use Rattle.bank_books.specs.Balances.{entry_count}
+use Rattle.bank_books.specs.declared.rows.CashLine.{CashLine}
+use Rattle.std.proofs.Common.{ap₂}
 use Rattle.bank_books.specs.Books.{Books}
 use Rattle.bank_books.specs.Effects.{applied}
 use Rattle.bank_books.specs.Records.{account_record, account_record_of, branch_record, branch_record_of}
@@ -48,13 +55,6 @@ use Rattle.std.specs.Option.{option_map_or}
 use Rattle.std.specs.Ordering.{int_eq}
 use Rattle.std.specs.Prelude.{if◌then◌else◌, is_none, neg_ℤ, option_and_then, option_map, unsigned_abs}
 use Rattle.world_reads.specs.BookReads.{entry, is_entry, undoes_entry, undone}
-use Rattle.std.specs.List.{AllByRecursion}
-use Rattle.bank_meaning.specs.AskedRows.{Bears, entry_says, line_says}
-use Rattle.bank_meaning.proofs.AskedRows.{is_home, numbered, partnered}
-use Rattle.bank_meaning.specs.Correct.{IsCorrectAsked, IsUndoing, undoing_says}
-use Rattle.bank_books.specs.Balances.{entry_count}
-use Rattle.bank_books.specs.declared.rows.CashLine.{CashLine}
-use Rattle.std.proofs.Common.{ap₂}
 
 if_of_post : (o b : Bool) (z : ℤ) → o ≡ true → (if b then z else pos 0) ≡ (if o && b then z else pos 0)
 if_of_post o b z is = ap (λ p. if p && b then z else pos 0) (sym is)
@@ -248,46 +248,6 @@ other_floor_of w c known keeps some =
     (subst (λ b. (not b && is_none (if b then None else account_record w c.other)) ≡ false) of known)
     (subst (λ b. account_keeps_floor (if b then None else account_record w c.other) c.delta ≡ true) of keeps)
 
-correct_judged : (w : WorldLists) (who : Who) (moment : ℕ) (c : Correct) → NoneDenies w who moment (op.Correct c) → IsCorrectJudged w (asker who) c
-correct_judged w who moment c none =
-    let rows : CorrectRows = correct_rows w c in
-    let other_test : Bool = not (is_of_post c) && is_none rows.other in
-    let first = or_parts (is_none rows.account || other_test || is_none rows.teller || is_none rows.ledger) (is_none rows.cash_book) (none rule.Unknown) in
-    let second = or_parts (is_none rows.account || other_test || is_none rows.teller) (is_none rows.ledger) first.0 in
-    let third = or_parts (is_none rows.account || other_test) (is_none rows.teller) second.0 in
-    let accounts = or_parts (is_none rows.account) other_test third.0 in
-    let drawer = holds_drawer w (asker who) c.teller c.branch third.1 (none rule.Branch) (none rule.Drawer) in
-    let branch = branch_of_ledger w c.branch second.1 in
-    let found = correctable w c (not-false _ (none rule.Entry)) in
-    let e : Entry = found.0 in
-    let floors = and_parts (account_keeps_floor rows.account (neg_ℤ c.delta)) (account_keeps_floor rows.other c.delta) (not-false _ (none rule.Floor)) in
-    let maker : (e.user == asker who) ≡ false = subst (λ o. option_map_or (λ (r : Entry). r.user == asker who) o false ≡ false) found.1.there (none rule.SecondPerson) in
-    let day : (e.day == branch.0.day) ≡ true =
-    subst (λ o. option_map_or (λ ledger. e.day == ledger.day) (option_map ledger_of (option_map (branch_record_of w) o)) true ≡ true) branch.1 found.1.today in
-    record {
-      drawer = drawer;
-      row = e;
-      there = found.1.there;
-      by_another = eqb-false e.user (asker who) maker;
-      branch = branch.0;
-      branch_there = branch.1;
-      today = eqb-true e.day branch.0.day day;
-      not_undone = record {
-        form = is_no_correction e.form (partner_of w e) c found.1.form;
-        once = λ some other there of. not_undone_twice w c.branch c.entry other found.1.not_undone some there of;
-      };
-      named = is_named w c e found.1;
-      floor = keeps_floor w c.account (neg_ℤ c.delta) accounts.0 floors.0;
-      other_floor = other_floor_of w c accounts.1 floors.1;
-      cash = λ none_named.
-          drawer_covered w (asker who) c.teller c.branch (neg_ℤ c.delta) drawer
-          (subst (λ b. (not b || drawer_covers rows.teller (neg_ℤ c.delta)) ≡ true) (eq-eqb c.other 0 none_named) (not-false _ (none rule.Cash)));
-    }
-
-alone : (rows : CorrectRows) (form : Correct) (by : Signature) (b : Bool) → AreOfBooks (if b then undoing_post rows form by else undoing_legs rows form by)
-alone rows form by true = by_row _ rows.account (λ account. by_row _ rows.ledger (λ ledger. by_row _ rows.cash_book (λ cash_book. record { each = (refl, (refl, tt)) })))
-alone rows form by false = by_row _ rows.account (λ account. by_row _ rows.other (λ other. by_row _ rows.ledger (λ ledger. by_row _ rows.entry (λ entry. record { each = (refl, (refl, tt)) }))))
-
 correct_asked : (by : Signature) (w : WorldLists) (c : Correct) → IsCorrectJudged w by.user c
     → AllByRecursion (λ row. Bears w by.user by.moment row × IsCorrectAsked w c row) (correct_changes (correct_rows w c) c by)
 correct_asked by w c judged =
@@ -336,6 +296,46 @@ correct_asked by w c judged =
           subst (AllByRecursion (λ row. Bears w by.user by.moment row × IsCorrectAsked w c row)) (sym (correct_allowed.changes_of_legs w c there also by legs))
           (((refl, refl, home.day), first), (((refl, refl, home.day), second), tt))
     ]
+
+correct_judged : (w : WorldLists) (who : Who) (moment : ℕ) (c : Correct) → NoneDenies w who moment (op.Correct c) → IsCorrectJudged w (asker who) c
+correct_judged w who moment c none =
+    let rows : CorrectRows = correct_rows w c in
+    let other_test : Bool = not (is_of_post c) && is_none rows.other in
+    let first = or_parts (is_none rows.account || other_test || is_none rows.teller || is_none rows.ledger) (is_none rows.cash_book) (none rule.Unknown) in
+    let second = or_parts (is_none rows.account || other_test || is_none rows.teller) (is_none rows.ledger) first.0 in
+    let third = or_parts (is_none rows.account || other_test) (is_none rows.teller) second.0 in
+    let accounts = or_parts (is_none rows.account) other_test third.0 in
+    let drawer = holds_drawer w (asker who) c.teller c.branch third.1 (none rule.Branch) (none rule.Drawer) in
+    let branch = branch_of_ledger w c.branch second.1 in
+    let found = correctable w c (not-false _ (none rule.Entry)) in
+    let e : Entry = found.0 in
+    let floors = and_parts (account_keeps_floor rows.account (neg_ℤ c.delta)) (account_keeps_floor rows.other c.delta) (not-false _ (none rule.Floor)) in
+    let maker : (e.user == asker who) ≡ false = subst (λ o. option_map_or (λ (r : Entry). r.user == asker who) o false ≡ false) found.1.there (none rule.SecondPerson) in
+    let day : (e.day == branch.0.day) ≡ true =
+    subst (λ o. option_map_or (λ ledger. e.day == ledger.day) (option_map ledger_of (option_map (branch_record_of w) o)) true ≡ true) branch.1 found.1.today in
+    record {
+      drawer = drawer;
+      row = e;
+      there = found.1.there;
+      by_another = eqb-false e.user (asker who) maker;
+      branch = branch.0;
+      branch_there = branch.1;
+      today = eqb-true e.day branch.0.day day;
+      not_undone = record {
+        form = is_no_correction e.form (partner_of w e) c found.1.form;
+        once = λ some other there of. not_undone_twice w c.branch c.entry other found.1.not_undone some there of;
+      };
+      named = is_named w c e found.1;
+      floor = keeps_floor w c.account (neg_ℤ c.delta) accounts.0 floors.0;
+      other_floor = other_floor_of w c accounts.1 floors.1;
+      cash = λ none_named.
+          drawer_covered w (asker who) c.teller c.branch (neg_ℤ c.delta) drawer
+          (subst (λ b. (not b || drawer_covers rows.teller (neg_ℤ c.delta)) ≡ true) (eq-eqb c.other 0 none_named) (not-false _ (none rule.Cash)));
+    }
+
+alone : (rows : CorrectRows) (form : Correct) (by : Signature) (b : Bool) → AreOfBooks (if b then undoing_post rows form by else undoing_legs rows form by)
+alone rows form by true = by_row _ rows.account (λ account. by_row _ rows.ledger (λ ledger. by_row _ rows.cash_book (λ cash_book. record { each = (refl, (refl, tt)) })))
+alone rows form by false = by_row _ rows.account (λ account. by_row _ rows.other (λ other. by_row _ rows.ledger (λ ledger. by_row _ rows.entry (λ entry. record { each = (refl, (refl, tt)) }))))
 
 pub correct_is_form : (form : Correct) → IsForm (op.Correct form)
 correct_is_form form = record {

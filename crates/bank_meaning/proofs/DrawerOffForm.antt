@@ -1,4 +1,16 @@
 -- The laws of a drawer that is put off.
+use Rattle.std.specs.List.{AllByRecursion}
+use Rattle.bank_meaning.specs.AskedRows.{Bears}
+use Rattle.bank_meaning.proofs.AskedRows.{is_home}
+use Rattle.bank_meaning.specs.DrawerOff.{IsDrawerOffAsked, off_says}
+use Rattle.bank_books.specs.Cash.{place_cash}
+use Rattle.bank_books.specs.Keys.{teller_key}
+use Rattle.bank_books.specs.declared.rows.LineForm.TheVariants as line_form
+use Rattle.bank_books.specs.declared.rows.Teller.{Teller}
+use Rattle.drawers.proofs.DrawerThere.{AreThere}
+use Rattle.drawers.specs.DrawerOff.{drawer_off_changes}
+use Rattle.keyed_rows.proofs.Rows.{found_row}
+use Rattle.std.proofs.Common.{ap₂, inl, inr}
 use Rattle.bank_books.specs.Books.{Books}
 use Rattle.bank_books.specs.Effects.{applied}
 use Rattle.bank_books.specs.Records.{branch_record, teller_record, teller_record_of}
@@ -33,18 +45,6 @@ use Rattle.rule_tests.specs.declared.cash_book.CashBook.{CashBook}
 use Rattle.std.proofs.Common.{Bool, None, [], ap, false, neg_ℤ, pos, refl, subst, sym, ℕ, ℤ, ◌&&◌, ◌+ℤ◌, ◌+◌, ◌==◌, ◌||◌, ◌∙◌, ◌∷◌, ◌≡◌}
 use Rattle.std.proofs.lemmas.Bool.{or_parts}
 use Rattle.std.specs.Prelude.{if◌then◌else◌, is_none, neg_ℤ, option_map}
-use Rattle.std.specs.List.{AllByRecursion}
-use Rattle.bank_meaning.specs.AskedRows.{Bears}
-use Rattle.bank_meaning.proofs.AskedRows.{is_home}
-use Rattle.bank_meaning.specs.DrawerOff.{IsDrawerOffAsked, off_says}
-use Rattle.bank_books.specs.Cash.{place_cash}
-use Rattle.bank_books.specs.Keys.{teller_key}
-use Rattle.bank_books.specs.declared.rows.LineForm.TheVariants as line_form
-use Rattle.bank_books.specs.declared.rows.Teller.{Teller}
-use Rattle.drawers.proofs.DrawerThere.{AreThere}
-use Rattle.drawers.specs.DrawerOff.{drawer_off_changes}
-use Rattle.keyed_rows.proofs.Rows.{found_row}
-use Rattle.std.proofs.Common.{ap₂, inl, inr}
 
 three_none : (a b c : Bool) (x y z : ℤ) → (if a && false then x else pos 0) +ℤ ((if b && false then y else pos 0) +ℤ ((if c && false then z else pos 0) +ℤ pos 0)) ≡ pos 0
 three_none a b c x y z =
@@ -71,18 +71,6 @@ puts_off w form by checks proper signed is =
     (plan_step w _ moves_nothing checks (tt, (tt, (tt, tt))) (put_off_sums (book_of w form.teller form.branch there) (teller_record_of w there.holder) form by)
     (subst Books effect (off_allowed.drawer_off_keeps_books w form by checks.books signed proper is)))
 
-drawer_off_judged : (w : WorldLists) (who : Who) (moment : ℕ) (form : DrawerOff) → NoneDenies w who moment (op.DrawerOff form) → IsDrawerOffJudged w (asker who) form
-drawer_off_judged w who moment form none =
-    let teller = teller_record w form.teller in
-    let book = option_map cash_book_of (branch_record w form.branch) in
-    let vault = option_map (λ b. b.vault) (branch_record w form.branch) in
-    let first = or_parts (is_none teller || is_none book) (is_none vault) (none rule.Unknown) in
-    let second = or_parts (is_none teller) (is_none book) first.0 in
-    record {
-      branch = branch_of_book w form.branch second.1;
-      drawer = holds_drawer w (asker who) form.teller form.branch second.0 (none rule.Branch) (none rule.Drawer);
-    }
-
 drawer_off_asked : (by : Signature) (w : WorldLists) (form : DrawerOff) → IsDrawerOffJudged w by.user form
     → AllByRecursion (λ row. Bears w by.user by.moment row × IsDrawerOffAsked w form row) (drawer_off_changes (drawer_rows w form.teller form.branch) form by)
 drawer_off_asked by w form judged =
@@ -97,6 +85,18 @@ drawer_off_asked by w form judged =
       ),
       (((refl, refl, home.day), inr (inl refl)), (((refl, refl, home.day), inr (inr refl)), tt)),
     )
+
+drawer_off_judged : (w : WorldLists) (who : Who) (moment : ℕ) (form : DrawerOff) → NoneDenies w who moment (op.DrawerOff form) → IsDrawerOffJudged w (asker who) form
+drawer_off_judged w who moment form none =
+    let teller = teller_record w form.teller in
+    let book = option_map cash_book_of (branch_record w form.branch) in
+    let vault = option_map (λ b. b.vault) (branch_record w form.branch) in
+    let first = or_parts (is_none teller || is_none book) (is_none vault) (none rule.Unknown) in
+    let second = or_parts (is_none teller) (is_none book) first.0 in
+    record {
+      branch = branch_of_book w form.branch second.1;
+      drawer = holds_drawer w (asker who) form.teller form.branch second.0 (none rule.Branch) (none rule.Drawer);
+    }
 
 pub drawer_off_is_form : (form : DrawerOff) → IsForm (op.DrawerOff form)
 drawer_off_is_form form = record {

@@ -1,4 +1,9 @@
 -- The laws of cash that is moved.
+use Rattle.std.specs.List.{AllByRecursion}
+use Rattle.bank_meaning.specs.AskedRows.{Bears}
+use Rattle.bank_meaning.proofs.AskedRows.{is_home}
+use Rattle.bank_meaning.specs.MoveCash.{IsMoveAsked}
+use Rattle.std.proofs.Common.{inl, inr}
 use Rattle.bank_books.specs.Balances.{teller_row}
 use Rattle.bank_books.specs.Books.{Books}
 use Rattle.bank_books.specs.Cash.{holder_of, place_cash, vault_opening}
@@ -38,11 +43,6 @@ use Rattle.std.proofs.Common.{Bool, None, Option, Some, [], ap, arith, false, ne
 use Rattle.std.proofs.lemmas.Bool.{and_parts, eq-eqb, eqb-false, eqb-true, ne_eqb, not-false, not-true, or_parts}
 use Rattle.std.proofs.lemmas.Int.{ints}
 use Rattle.std.specs.Prelude.{if◌then◌else◌, is_none, neg_ℤ, option_map, unsigned_abs, ◌≤ℤ◌}
-use Rattle.std.specs.List.{AllByRecursion}
-use Rattle.bank_meaning.specs.AskedRows.{Bears}
-use Rattle.bank_meaning.proofs.AskedRows.{is_home}
-use Rattle.bank_meaning.specs.MoveCash.{IsMoveAsked}
-use Rattle.std.proofs.Common.{inl, inr}
 
 moved_sums : (book : CashBook) (move : MoveCash) (by : Signature)
     → IsSumOf (write.Line (source_line book move by) ∷ write.Line (target_line book move by) ∷ []) moves_nothing
@@ -152,6 +152,13 @@ source_held w user m passed some =
     drawer_at w user m.source m.branch is passed.source_known passed.source_of
     (subst (λ b. drawer_is_held_by (if b then teller_at w m.target else teller_at w m.source) user ≡ true) is passed.held)
 
+move_asked : (by : Signature) (w : WorldLists) (m : MoveCash) → IsMoveJudged w by.user m
+    → AllByRecursion (λ row. Bears w by.user by.moment row × IsMoveAsked m row) (move_changes (move_rows w m) m by)
+move_asked by w m judged =
+    let home = is_home w m.branch judged.branch.0 judged.branch.1 in
+    subst (AllByRecursion (λ row. Bears w by.user by.moment row × IsMoveAsked m row)) (sym (move_allowed.changes_are w m (record { home = judged.branch.0; home_is = judged.branch.1 }) by))
+    (((refl, refl, home.day), inl refl), (((refl, refl, home.day), inr refl), tt))
+
 move_judged : (w : WorldLists) (who : Who) (moment : ℕ) (m : MoveCash) → NoneDenies w who moment (op.MoveCash m) → IsMoveJudged w (asker who) m
 move_judged w who moment m none =
     let passed = move_passed w who moment m none in
@@ -168,13 +175,6 @@ move_judged w who moment m none =
           (subst (λ b. drawer_is_free (if b then None else teller_record w m.target) ≡ false) is passed.not_free);
       cash = place_covered w m passed.branch (λ some. source_covered w (asker who) m passed some (source_held w (asker who) m passed some)) passed.covers;
     }
-
-move_asked : (by : Signature) (w : WorldLists) (m : MoveCash) → IsMoveJudged w by.user m
-    → AllByRecursion (λ row. Bears w by.user by.moment row × IsMoveAsked m row) (move_changes (move_rows w m) m by)
-move_asked by w m judged =
-    let home = is_home w m.branch judged.branch.0 judged.branch.1 in
-    subst (AllByRecursion (λ row. Bears w by.user by.moment row × IsMoveAsked m row)) (sym (move_allowed.changes_are w m (record { home = judged.branch.0; home_is = judged.branch.1 }) by))
-    (((refl, refl, home.day), inl refl), (((refl, refl, home.day), inr refl), tt))
 
 pub move_cash_is_form : (form : MoveCash) → IsForm (op.MoveCash form)
 move_cash_is_form form = record {

@@ -1,4 +1,10 @@
 -- The laws of a post.
+use Rattle.std.specs.List.{AllByRecursion}
+use Rattle.bank_meaning.specs.AskedRows.{Bears, entry_says}
+use Rattle.bank_meaning.proofs.AskedRows.{is_home, numbered}
+use Rattle.bank_books.specs.declared.rows.Branch.{Branch}
+use Rattle.bank_books.specs.declared.rows.Entry.{Entry}
+use Rattle.bank_meaning.specs.Post.{IsPostAsked}
 use Rattle.bank_books.specs.Books.{Books}
 use Rattle.bank_books.specs.Effects.{applied}
 use Rattle.bank_books.specs.Records.{account_record, account_record_of, branch_record, branch_record_of, teller_record}
@@ -29,12 +35,6 @@ use Rattle.rule_tests.specs.declared.ledger.Ledger.{Ledger}
 use Rattle.std.proofs.Common.{None, Option, Some, [], ap, pos, refl, subst, sym, ℕ, ◌&&◌, ◌==◌, ◌||◌, ◌∷◌, ◌≡◌, ◌≤◌}
 use Rattle.std.proofs.lemmas.Bool.{not-false, or_parts}
 use Rattle.std.specs.Prelude.{if◌then◌else◌, is_none, option_map, unsigned_abs}
-use Rattle.std.specs.List.{AllByRecursion}
-use Rattle.bank_meaning.specs.AskedRows.{Bears, entry_says}
-use Rattle.bank_meaning.proofs.AskedRows.{is_home, numbered}
-use Rattle.bank_books.specs.declared.rows.Branch.{Branch}
-use Rattle.bank_books.specs.declared.rows.Entry.{Entry}
-use Rattle.bank_meaning.specs.Post.{IsPostAsked}
 
 post_sums : (account : AccountRecord) (ledger : Ledger) (book : CashBook) (post : Post) (by : Signature)
     → IsSumOf (write.Entry (post_entry account ledger post by) ∷ write.Line (post_line book post by) ∷ []) (moves_of (op.Post post))
@@ -66,23 +66,6 @@ post_lines w post by branch place = go (post_rows w post).account (post_rows w p
     go (Some a) None k = no_amount (unsigned_abs post.delta)
     go None l k = no_amount (unsigned_abs post.delta)
 
-post_judged : (w : WorldLists) (who : Who) (moment : ℕ) (post : Post) → NoneDenies w who moment (op.Post post) → IsPostJudged w (asker who) post
-post_judged w who moment post none =
-    let account = account_record w post.account in
-    let teller = teller_record w post.teller in
-    let ledger = option_map ledger_of (branch_record w post.branch) in
-    let book = option_map cash_book_of (branch_record w post.branch) in
-    let first = or_parts (is_none account || is_none teller || is_none ledger) (is_none book) (none rule.Unknown) in
-    let second = or_parts (is_none account || is_none teller) (is_none ledger) first.0 in
-    let third = or_parts (is_none account) (is_none teller) second.0 in
-    let drawer = holds_drawer w (asker who) post.teller post.branch third.1 (none rule.Branch) (none rule.Drawer) in
-    record {
-      branch = branch_of_ledger w post.branch second.1;
-      drawer = drawer;
-      floor = keeps_floor w post.account post.delta third.0 (not-false _ (none rule.Floor));
-      cash = drawer_covered w (asker who) post.teller post.branch post.delta drawer (not-false _ (none rule.Cash));
-    }
-
 post_asked : (by : Signature) (w : WorldLists) (post : Post) → IsPostJudged w by.user post
     → AllByRecursion (λ row. Bears w by.user by.moment row × IsPostAsked w post row) (post_changes (post_rows w post) post by)
 post_asked by w post judged =
@@ -99,6 +82,23 @@ post_asked by w post judged =
     let e : Entry = post_entry (account_record_of w judged.floor.row) (ledger_of (branch_record_of w branch)) post by in
     subst (AllByRecursion (λ row. Bears w by.user by.moment row × IsPostAsked w post row)) (sym (allowed.changes_are w post there by))
     (((refl, refl, home.day), numbered w (entry_says e) 1 branch.branch post.branch home.key), (((refl, refl, home.day), refl), tt))
+
+post_judged : (w : WorldLists) (who : Who) (moment : ℕ) (post : Post) → NoneDenies w who moment (op.Post post) → IsPostJudged w (asker who) post
+post_judged w who moment post none =
+    let account = account_record w post.account in
+    let teller = teller_record w post.teller in
+    let ledger = option_map ledger_of (branch_record w post.branch) in
+    let book = option_map cash_book_of (branch_record w post.branch) in
+    let first = or_parts (is_none account || is_none teller || is_none ledger) (is_none book) (none rule.Unknown) in
+    let second = or_parts (is_none account || is_none teller) (is_none ledger) first.0 in
+    let third = or_parts (is_none account) (is_none teller) second.0 in
+    let drawer = holds_drawer w (asker who) post.teller post.branch third.1 (none rule.Branch) (none rule.Drawer) in
+    record {
+      branch = branch_of_ledger w post.branch second.1;
+      drawer = drawer;
+      floor = keeps_floor w post.account post.delta third.0 (not-false _ (none rule.Floor));
+      cash = drawer_covered w (asker who) post.teller post.branch post.delta drawer (not-false _ (none rule.Cash));
+    }
 
 pub post_is_form : (post : Post) → IsForm (op.Post post)
 post_is_form post = record {

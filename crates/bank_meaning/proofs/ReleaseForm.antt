@@ -1,4 +1,12 @@
 -- The laws of a release that is given.
+use Rattle.std.specs.List.{AllByRecursion}
+use Rattle.bank_meaning.specs.AskedRows.{Bears}
+use Rattle.bank_meaning.proofs.AskedRows.{is_home}
+use Rattle.bank_books.specs.declared.rows.Branch.{Branch}
+use Rattle.bank_meaning.specs.Release.{IsReleaseAsked}
+use Rattle.bank_books.specs.Records.{branch_record_of}
+use Rattle.bank_policy.specs.declared.rows.User.{User}
+use Rattle.std.proofs.Common.{ap₂}
 use Rattle.bank_books.specs.Balances.{account_balance, branch_balance, entry_count, teller_balance}
 use Rattle.bank_books.specs.Books.{Books}
 use Rattle.bank_books.specs.Cash.{cash_entry_total}
@@ -38,14 +46,6 @@ use Rattle.std.proofs.Common.{None, Option, Some, ap, refl, subst, sym, ℕ, ◌
 use Rattle.std.proofs.lemmas.Bool.{eqb-false, or_parts}
 use Rattle.std.specs.Prelude.{is_none, option_map, unsigned_abs}
 use Rattle.world_reads.specs.PolicyReads.{user_record, user_record_of}
-use Rattle.std.specs.List.{AllByRecursion}
-use Rattle.bank_meaning.specs.AskedRows.{Bears}
-use Rattle.bank_meaning.proofs.AskedRows.{is_home}
-use Rattle.bank_books.specs.declared.rows.Branch.{Branch}
-use Rattle.bank_meaning.specs.Release.{IsReleaseAsked}
-use Rattle.bank_books.specs.Records.{branch_record_of}
-use Rattle.bank_policy.specs.declared.rows.User.{User}
-use Rattle.std.proofs.Common.{ap₂}
 
 gives : (w : WorldLists) (form : Release) (by : Signature) → PassesChecks w → IsRelease form → IsSigned w by → first_against_release (release_rows w form) form by ≡ None
     → IsStep w (release_effect w form by) moves_nothing
@@ -74,6 +74,15 @@ release_lines w form by branch place = go (release_rows w form).given (release_r
     go (Some given) None = no_amount (amount_of_releasable form.operation)
     go None today = no_amount (amount_of_releasable form.operation)
 
+release_asked : (by : Signature) (w : WorldLists) (form : Release) → IsReleaseJudged w by.user form
+    → AllByRecursion (λ row. Bears w by.user by.moment row × IsReleaseAsked form row) (release_changes (release_rows w form) form by)
+release_asked by w form judged =
+    let home = is_home w (branch_of form.operation) judged.branch.0 judged.branch.1 in
+    let changes = ap₂ (λ (user : Option User) (branch : Option Branch).
+    release_changes (record { given = option_map (λ u. u.releases) (option_map (user_record_of w) user); today = option_map (λ b. b.row.day) (option_map (branch_record_of w) branch) }) form by) judged.there judged.branch.1 in
+    subst (AllByRecursion (λ row. Bears w by.user by.moment row × IsReleaseAsked form row)) (sym changes)
+    (((refl, judged.other, home.day), record { user = refl; branch = refl; operation = refl; unused = refl }), tt)
+
 release_judged : (w : WorldLists) (who : Who) (moment : ℕ) (form : Release) → NoneDenies w who moment (op.Release form) → IsReleaseJudged w (asker who) form
 release_judged w who moment form none =
     let given = option_map (λ u. u.releases) (user_record w form.beneficiary) in
@@ -88,15 +97,6 @@ release_judged w who moment form none =
       there = user.1;
       other = eqb-false form.beneficiary (asker who) (none rule.SecondPerson);
     }
-
-release_asked : (by : Signature) (w : WorldLists) (form : Release) → IsReleaseJudged w by.user form
-    → AllByRecursion (λ row. Bears w by.user by.moment row × IsReleaseAsked form row) (release_changes (release_rows w form) form by)
-release_asked by w form judged =
-    let home = is_home w (branch_of form.operation) judged.branch.0 judged.branch.1 in
-    let changes = ap₂ (λ (user : Option User) (branch : Option Branch).
-    release_changes (record { given = option_map (λ u. u.releases) (option_map (user_record_of w) user); today = option_map (λ b. b.row.day) (option_map (branch_record_of w) branch) }) form by) judged.there judged.branch.1 in
-    subst (AllByRecursion (λ row. Bears w by.user by.moment row × IsReleaseAsked form row)) (sym changes)
-    (((refl, judged.other, home.day), record { user = refl; branch = refl; operation = refl; unused = refl }), tt)
 
 pub release_is_form : (form : Release) → IsForm (op.Release form)
 release_is_form form = record {

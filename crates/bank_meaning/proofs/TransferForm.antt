@@ -1,4 +1,9 @@
 -- The laws of a transfer.
+use Rattle.std.specs.List.{AllByRecursion}
+use Rattle.bank_meaning.specs.AskedRows.{Bears, entry_says}
+use Rattle.bank_meaning.proofs.AskedRows.{is_home, partnered}
+use Rattle.bank_meaning.specs.Transfer.{IsTransferAsked}
+use Rattle.std.proofs.Common.{inl, inr}
 use Rattle.bank_books.specs.Books.{Books}
 use Rattle.bank_books.specs.Effects.{applied}
 use Rattle.bank_books.specs.Records.{account_record, account_record_of, branch_record, branch_record_of, teller_record}
@@ -34,11 +39,6 @@ use Rattle.rule_tests.specs.declared.ledger.Ledger.{Ledger}
 use Rattle.std.proofs.Common.{None, Option, Some, [], ap, neg_ℤ, pos, refl, subst, sym, ℕ, ◌==◌, ◌||◌, ◌∷◌, ◌≡◌, ◌≤◌}
 use Rattle.std.proofs.lemmas.Bool.{and_parts, not-false, or_parts}
 use Rattle.std.specs.Prelude.{if◌then◌else◌, is_none, neg_ℤ, option_map, unsigned_abs}
-use Rattle.std.specs.List.{AllByRecursion}
-use Rattle.bank_meaning.specs.AskedRows.{Bears, entry_says}
-use Rattle.bank_meaning.proofs.AskedRows.{is_home, partnered}
-use Rattle.bank_meaning.specs.Transfer.{IsTransferAsked}
-use Rattle.std.proofs.Common.{inl, inr}
 
 transfer_sums : (source target : AccountRecord) (ledger : Ledger) (transfer : Transfer) (by : Signature)
     → IsSumOf (write.Entry (first_leg source ledger transfer by) ∷ write.Entry (second_leg target ledger transfer by) ∷ []) (moves_of (op.Transfer transfer))
@@ -69,23 +69,6 @@ transfer_lines w t by branch place = go (transfer_rows w t).source (transfer_row
     go (Some a) None l = no_amount t.amount
     go None o l = no_amount t.amount
 
-transfer_judged : (w : WorldLists) (who : Who) (moment : ℕ) (transfer : Transfer) → NoneDenies w who moment (op.Transfer transfer) → IsTransferJudged w (asker who) transfer
-transfer_judged w who moment transfer none =
-    let source = account_record w transfer.source in
-    let target = account_record w transfer.target in
-    let teller = teller_record w transfer.teller in
-    let ledger = option_map ledger_of (branch_record w transfer.branch) in
-    let first = or_parts (is_none source || is_none target || is_none teller) (is_none ledger) (none rule.Unknown) in
-    let second = or_parts (is_none source || is_none target) (is_none teller) first.0 in
-    let third = or_parts (is_none source) (is_none target) second.0 in
-    let floors = and_parts (account_keeps_floor source (neg_ℤ (pos transfer.amount))) (account_keeps_floor target (pos transfer.amount)) (not-false _ (none rule.Floor)) in
-    record {
-      branch = branch_of_ledger w transfer.branch first.1;
-      drawer = holds_drawer w (asker who) transfer.teller transfer.branch second.1 (none rule.Branch) (none rule.Drawer);
-      source = keeps_floor w transfer.source (neg_ℤ (pos transfer.amount)) third.0 floors.0;
-      target = keeps_floor w transfer.target (pos transfer.amount) third.1 floors.1;
-    }
-
 transfer_asked : (by : Signature) (w : WorldLists) (transfer : Transfer) → IsTransferJudged w by.user transfer
     → AllByRecursion (λ row. Bears w by.user by.moment row × IsTransferAsked w transfer row) (transfer_changes (transfer_rows w transfer) transfer by)
 transfer_asked by w transfer judged =
@@ -108,6 +91,23 @@ transfer_asked by w transfer judged =
       ((refl, refl, home.day), inl (partnered w (entry_says first) 1 2 branch.branch transfer.branch home.key)),
       (((refl, refl, home.day), inr (partnered w (entry_says second) 2 1 branch.branch transfer.branch home.key)), tt),
     )
+
+transfer_judged : (w : WorldLists) (who : Who) (moment : ℕ) (transfer : Transfer) → NoneDenies w who moment (op.Transfer transfer) → IsTransferJudged w (asker who) transfer
+transfer_judged w who moment transfer none =
+    let source = account_record w transfer.source in
+    let target = account_record w transfer.target in
+    let teller = teller_record w transfer.teller in
+    let ledger = option_map ledger_of (branch_record w transfer.branch) in
+    let first = or_parts (is_none source || is_none target || is_none teller) (is_none ledger) (none rule.Unknown) in
+    let second = or_parts (is_none source || is_none target) (is_none teller) first.0 in
+    let third = or_parts (is_none source) (is_none target) second.0 in
+    let floors = and_parts (account_keeps_floor source (neg_ℤ (pos transfer.amount))) (account_keeps_floor target (pos transfer.amount)) (not-false _ (none rule.Floor)) in
+    record {
+      branch = branch_of_ledger w transfer.branch first.1;
+      drawer = holds_drawer w (asker who) transfer.teller transfer.branch second.1 (none rule.Branch) (none rule.Drawer);
+      source = keeps_floor w transfer.source (neg_ℤ (pos transfer.amount)) third.0 floors.0;
+      target = keeps_floor w transfer.target (pos transfer.amount) third.1 floors.1;
+    }
 
 pub transfer_is_form : (form : Transfer) → IsForm (op.Transfer form)
 transfer_is_form form = record {

@@ -1,4 +1,11 @@
 -- The closing of a day as an operation: its reply and its meaning. The rest of it is that of its plan.
+use Rattle.bank_books.specs.declared.row_write.RowWrite.{RowWrite}
+use Rattle.bank_books.specs.declared.row_write.RowWrite.TheVariants as write
+use Rattle.bank_books.specs.Balances.{branch_balance, entry_count}
+use Rattle.bank_books.specs.Cash.{cash_of}
+use Rattle.bank_books.specs.declared.rows.Proof.{Proof}
+use Rattle.bank_meaning.specs.AskedRows.{today}
+use Rattle.std.specs.Prelude.{◌+◌, Some, option_map}
 use Rattle.std.specs.Prelude.{ℕ, List, [], ◌++◌, codes, decimal}
 use Rattle.std.specs.Option.{option_map_or}
 use Rattle.std.specs.Fmt.{signed_decimal}
@@ -19,13 +26,6 @@ use Rattle.bank_books.specs.Cash.{holder_of}
 use Rattle.bank_books.specs.declared.rows.Teller.{Teller}
 use Rattle.bank_meaning.specs.JudgedRows.{HasBranch}
 use Rattle.std.specs.Prelude.{◌≡◌, Contains, None}
-use Rattle.bank_books.specs.declared.row_write.RowWrite.{RowWrite}
-use Rattle.bank_books.specs.declared.row_write.RowWrite.TheVariants as write
-use Rattle.bank_books.specs.Balances.{branch_balance, entry_count}
-use Rattle.bank_books.specs.Cash.{cash_of}
-use Rattle.bank_books.specs.declared.rows.Proof.{Proof}
-use Rattle.bank_meaning.specs.AskedRows.{today}
-use Rattle.std.specs.Prelude.{◌+◌, Some, option_map}
 
 -- what the proof of the day holds
 unfoldable pub closed_text : Closed → List ℕ

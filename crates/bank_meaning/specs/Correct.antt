@@ -1,4 +1,11 @@
 -- A correction as an operation: its reply and its meaning. The rest of it is that of its plan.
+use Rattle.bank_meaning.specs.AskedRows.{EntrySays, entry_says, line_says}
+use Rattle.bank_books.specs.Balances.{entry_count}
+use Rattle.bank_books.specs.declared.row_write.RowWrite.{RowWrite}
+use Rattle.bank_books.specs.declared.row_write.RowWrite.TheVariants as write
+use Rattle.bank_books.specs.declared.rows.LineForm.TheVariants as line_form
+use Rattle.bank_books.specs.declared.rows.EntryForm.{EntryForm}
+use Rattle.std.specs.Prelude.{◌⊎◌, ◌+◌}
 use Rattle.std.specs.Prelude.{ℕ, List, []}
 use Rattle.std.specs.Option.{option_map_or}
 use Rattle.bank_books.specs.WorldLists.{WorldLists}
@@ -22,13 +29,6 @@ use Rattle.bank_books.specs.declared.rows.Entry.{Entry}
 use Rattle.bank_meaning.specs.JudgedRows.{KeepsFloor, HoldsDrawer, DrawerCovers}
 use Rattle.std.specs.Prelude.{neg_ℤ, ◌≡◌, ◌≢◌, Contains, Some}
 use Rattle.world_reads.specs.BookReads.{entry}
-use Rattle.bank_meaning.specs.AskedRows.{EntrySays, entry_says, line_says}
-use Rattle.bank_books.specs.Balances.{entry_count}
-use Rattle.bank_books.specs.declared.row_write.RowWrite.{RowWrite}
-use Rattle.bank_books.specs.declared.row_write.RowWrite.TheVariants as write
-use Rattle.bank_books.specs.declared.rows.LineForm.TheVariants as line_form
-use Rattle.bank_books.specs.declared.rows.EntryForm.{EntryForm}
-use Rattle.std.specs.Prelude.{◌⊎◌, ◌+◌}
 
 -- that of a post as a post, that of a transfer as a transfer
 abbrev pub corrected_text : Corrected → List ℕ

@@ -1,4 +1,11 @@
 -- A drawer that is put off, as an operation: its reply and its meaning. The rest of it is that of its plan.
+use Rattle.bank_meaning.specs.AskedRows.{LineSays, line_says}
+use Rattle.bank_books.specs.declared.row_write.RowWrite.{RowWrite}
+use Rattle.bank_books.specs.declared.row_write.RowWrite.TheVariants as write
+use Rattle.bank_books.specs.declared.rows.LineForm.TheVariants as line_form
+use Rattle.bank_books.specs.Cash.{place_cash}
+use Rattle.bank_books.specs.declared.rows.LineForm.{LineForm}
+use Rattle.std.specs.Prelude.{ℤ, neg_ℤ, ◌+ℤ◌, ◌≡◌, ◌⊎◌}
 use Rattle.std.specs.Prelude.{ℕ, List, [], ◌++◌, codes, decimal}
 use Rattle.std.specs.Option.{option_map_or}
 use Rattle.std.specs.Fmt.{signed_decimal}
@@ -17,13 +24,6 @@ use Rattle.bank_meaning.specs.Moves.{moves_nothing}
 use Rattle.bank_meaning.specs.Denial.{cents, natural}
 use Rattle.bank_meaning.specs.Meaning.{Meaning, json}
 use Rattle.bank_meaning.specs.JudgedRows.{HasBranch, HoldsDrawer}
-use Rattle.bank_meaning.specs.AskedRows.{LineSays, line_says}
-use Rattle.bank_books.specs.declared.row_write.RowWrite.{RowWrite}
-use Rattle.bank_books.specs.declared.row_write.RowWrite.TheVariants as write
-use Rattle.bank_books.specs.declared.rows.LineForm.TheVariants as line_form
-use Rattle.bank_books.specs.Cash.{place_cash}
-use Rattle.bank_books.specs.declared.rows.LineForm.{LineForm}
-use Rattle.std.specs.Prelude.{ℤ, neg_ℤ, ◌+ℤ◌, ◌≡◌, ◌⊎◌}
 
 -- what the count differed by, and the cash of the vault after it
 unfoldable pub put_off_text : PutOff → List ℕ

@@ -1,4 +1,9 @@
 -- A drawer that is put on, as an operation: its reply and its meaning. The rest of it is that of its plan.
+use Rattle.bank_meaning.specs.AskedRows.{LineSays, line_says}
+use Rattle.bank_books.specs.declared.row_write.RowWrite.{RowWrite}
+use Rattle.bank_books.specs.declared.row_write.RowWrite.TheVariants as write
+use Rattle.bank_books.specs.declared.rows.LineForm.TheVariants as line_form
+use Rattle.std.specs.Prelude.{ℤ, ◌≡◌, ◌⊎◌}
 use Rattle.std.specs.Prelude.{ℕ, List, [], ◌++◌, codes, decimal}
 use Rattle.std.specs.Option.{option_map_or}
 use Rattle.std.specs.Fmt.{signed_decimal}
@@ -18,11 +23,6 @@ use Rattle.bank_meaning.specs.Denial.{cents, natural}
 use Rattle.bank_meaning.specs.Meaning.{Meaning, json}
 use Rattle.bank_meaning.specs.JudgedRows.{HasBranch, HasDrawer, PlaceCovers}
 use Rattle.std.specs.Prelude.{pos, neg_ℤ, None}
-use Rattle.bank_meaning.specs.AskedRows.{LineSays, line_says}
-use Rattle.bank_books.specs.declared.row_write.RowWrite.{RowWrite}
-use Rattle.bank_books.specs.declared.row_write.RowWrite.TheVariants as write
-use Rattle.bank_books.specs.declared.rows.LineForm.TheVariants as line_form
-use Rattle.std.specs.Prelude.{ℤ, ◌≡◌, ◌⊎◌}
 
 -- the cash of the drawer and of the vault after it
 unfoldable pub put_on_text : PutOn → List ℕ

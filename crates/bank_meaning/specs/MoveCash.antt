@@ -1,4 +1,9 @@
 -- A move of cash as an operation: its reply and its meaning. The rest of it is that of its plan.
+use Rattle.bank_meaning.specs.AskedRows.{LineSays, line_says}
+use Rattle.bank_books.specs.declared.row_write.RowWrite.{RowWrite}
+use Rattle.bank_books.specs.declared.row_write.RowWrite.TheVariants as write
+use Rattle.bank_books.specs.declared.rows.LineForm.TheVariants as line_form
+use Rattle.std.specs.Prelude.{ℤ, ◌⊎◌}
 use Rattle.std.specs.Prelude.{ℕ, List, [], ◌++◌, codes, decimal}
 use Rattle.std.specs.Option.{option_map_or}
 use Rattle.std.specs.Fmt.{signed_decimal}
@@ -17,11 +22,6 @@ use Rattle.bank_meaning.specs.Denial.{cents, natural}
 use Rattle.bank_meaning.specs.Meaning.{Meaning, json}
 use Rattle.bank_meaning.specs.JudgedRows.{HasBranch, HoldsDrawer, PlaceCovers}
 use Rattle.std.specs.Prelude.{pos, neg_ℤ, ◌≡◌, ◌≢◌}
-use Rattle.bank_meaning.specs.AskedRows.{LineSays, line_says}
-use Rattle.bank_books.specs.declared.row_write.RowWrite.{RowWrite}
-use Rattle.bank_books.specs.declared.row_write.RowWrite.TheVariants as write
-use Rattle.bank_books.specs.declared.rows.LineForm.TheVariants as line_form
-use Rattle.std.specs.Prelude.{ℤ, ◌⊎◌}
 
 -- the cash of both places after it
 unfoldable pub moved_text : Moved → List ℕ

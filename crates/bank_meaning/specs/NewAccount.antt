@@ -1,4 +1,5 @@
 -- An account that is opened: the rows that it is judged on, the rules of the books against it, its effect, its reply and its meaning.
+use Rattle.bank_books.specs.declared.row_write.RowWrite.{RowWrite}
 use Rattle.std.specs.Prelude.{ℕ, pos, Bool, false, nat_le, is_none, is_some, List, [], ◌∷◌, ◌++◌, codes, decimal, Option, option_map}
 use Rattle.bank_terms.specs.Limits.{max_accounts}
 use Rattle.std.specs.Option.{option_map_or}
@@ -21,7 +22,6 @@ use Rattle.bank_meaning.specs.declared.opening_rows.OpeningRows.{OpeningRows}
 use Rattle.bank_books.specs.Balances.{account_row}
 use Rattle.bank_meaning.specs.JudgedRows.{HasBranch}
 use Rattle.std.specs.Prelude.{◌≡◌, None}
-use Rattle.bank_books.specs.declared.row_write.RowWrite.{RowWrite}
 
 -- the account that is there already, and how many accounts its home has
 abbrev pub opening_rows : WorldLists → NewAccount → OpeningRows

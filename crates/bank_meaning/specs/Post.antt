@@ -1,4 +1,11 @@
 -- A post as an operation: its reply and its meaning. The rows that it is judged on, the rules against it, its effect and what it leaves are those of its plan.
+use Rattle.bank_meaning.specs.AskedRows.{entry_says, line_says}
+use Rattle.bank_books.specs.Balances.{entry_count}
+use Rattle.bank_books.specs.declared.row_write.RowWrite.{RowWrite}
+use Rattle.bank_books.specs.declared.row_write.RowWrite.TheVariants as write
+use Rattle.bank_books.specs.declared.rows.EntryForm.TheVariants as entry_form
+use Rattle.bank_books.specs.declared.rows.LineForm.TheVariants as line_form
+use Rattle.std.specs.Prelude.{◌≡◌, ◌+◌}
 use Rattle.std.specs.Prelude.{ℕ, List, [], ◌++◌, codes, decimal}
 use Rattle.std.specs.Option.{option_map_or}
 use Rattle.std.specs.Fmt.{signed_decimal}
@@ -17,13 +24,6 @@ use Rattle.bank_meaning.specs.Moves.{Moves}
 use Rattle.bank_meaning.specs.Denial.{cents, natural}
 use Rattle.bank_meaning.specs.Meaning.{Meaning, json}
 use Rattle.bank_meaning.specs.JudgedRows.{HasBranch, KeepsFloor, HoldsDrawer, DrawerCovers}
-use Rattle.bank_meaning.specs.AskedRows.{entry_says, line_says}
-use Rattle.bank_books.specs.Balances.{entry_count}
-use Rattle.bank_books.specs.declared.row_write.RowWrite.{RowWrite}
-use Rattle.bank_books.specs.declared.row_write.RowWrite.TheVariants as write
-use Rattle.bank_books.specs.declared.rows.EntryForm.TheVariants as entry_form
-use Rattle.bank_books.specs.declared.rows.LineForm.TheVariants as line_form
-use Rattle.std.specs.Prelude.{◌≡◌, ◌+◌}
 
 -- the balance of the account after it, and the place of its entry
 unfoldable pub posted_text : Posted → List ℕ

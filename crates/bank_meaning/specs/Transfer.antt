@@ -1,4 +1,10 @@
 -- A transfer as an operation: its reply and its meaning. The rest of it is that of its plan.
+use Rattle.bank_meaning.specs.AskedRows.{entry_says, EntrySays}
+use Rattle.bank_books.specs.Balances.{entry_count}
+use Rattle.bank_books.specs.declared.row_write.RowWrite.{RowWrite}
+use Rattle.bank_books.specs.declared.row_write.RowWrite.TheVariants as write
+use Rattle.bank_books.specs.declared.rows.EntryForm.TheVariants as entry_form
+use Rattle.std.specs.Prelude.{◌≡◌, ◌⊎◌, ◌+◌}
 use Rattle.std.specs.Prelude.{ℕ, List, [], ◌++◌, codes, decimal}
 use Rattle.std.specs.Option.{option_map_or}
 use Rattle.std.specs.Fmt.{signed_decimal}
@@ -18,12 +24,6 @@ use Rattle.bank_meaning.specs.Denial.{cents, natural}
 use Rattle.bank_meaning.specs.Meaning.{Meaning, json}
 use Rattle.bank_meaning.specs.JudgedRows.{HasBranch, KeepsFloor, HoldsDrawer}
 use Rattle.std.specs.Prelude.{neg_ℤ}
-use Rattle.bank_meaning.specs.AskedRows.{entry_says, EntrySays}
-use Rattle.bank_books.specs.Balances.{entry_count}
-use Rattle.bank_books.specs.declared.row_write.RowWrite.{RowWrite}
-use Rattle.bank_books.specs.declared.row_write.RowWrite.TheVariants as write
-use Rattle.bank_books.specs.declared.rows.EntryForm.TheVariants as entry_form
-use Rattle.std.specs.Prelude.{◌≡◌, ◌⊎◌, ◌+◌}
 
 -- the places of its entries, and the balances of both accounts after it
 unfoldable pub transferred_text : Transferred → List ℕ
