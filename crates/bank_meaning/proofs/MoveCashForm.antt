@@ -1,15 +1,15 @@
 -- The laws of cash that is moved.
-use Rattle.std.specs.List.{AllByRecursion}
-use Rattle.bank_meaning.specs.AskedRows.{Bears}
-use Rattle.bank_meaning.proofs.AskedRows.{is_home}
-use Rattle.bank_meaning.specs.MoveCash.{IsMoveAsked}
-use Rattle.std.proofs.Common.{inl, inr}
 use Rattle.bank_books.specs.Balances.{teller_row}
 use Rattle.bank_books.specs.Books.{Books}
 use Rattle.bank_books.specs.Cash.{holder_of, place_cash, vault_opening}
 use Rattle.bank_books.specs.Effects.{applied}
 use Rattle.bank_books.specs.Records.{branch_record, teller_record, teller_record_of}
 use Rattle.bank_books.specs.WorldLists.{WorldLists}
+use Rattle.std.specs.List.{AllByRecursion}
+use Rattle.bank_meaning.specs.AskedRows.{Bears}
+use Rattle.bank_meaning.proofs.AskedRows.{is_home}
+use Rattle.bank_meaning.specs.MoveCash.{IsMoveAsked}
+use Rattle.std.proofs.Common.{inl, inr}
 use Rattle.bank_books.specs.declared.row_write.RowWrite.TheVariants as write
 use Rattle.bank_books.specs.declared.rows.Branch.{Branch}
 use Rattle.bank_books.specs.declared.signature.Signature.{Signature}

@@ -1,4 +1,10 @@
 -- The laws of a release that is given.
+use Rattle.bank_books.specs.Balances.{account_balance, branch_balance, entry_count, teller_balance}
+use Rattle.bank_books.specs.Books.{Books}
+use Rattle.bank_books.specs.Cash.{cash_entry_total}
+use Rattle.bank_books.specs.Effects.{written}
+use Rattle.bank_books.specs.Records.{branch_record, release_count}
+use Rattle.bank_books.specs.WorldLists.{WorldLists}
 use Rattle.std.specs.List.{AllByRecursion}
 use Rattle.bank_meaning.specs.AskedRows.{Bears}
 use Rattle.bank_meaning.proofs.AskedRows.{is_home}
@@ -7,12 +13,6 @@ use Rattle.bank_meaning.specs.Release.{IsReleaseAsked}
 use Rattle.bank_books.specs.Records.{branch_record_of}
 use Rattle.bank_policy.specs.declared.rows.User.{User}
 use Rattle.std.proofs.Common.{ap₂}
-use Rattle.bank_books.specs.Balances.{account_balance, branch_balance, entry_count, teller_balance}
-use Rattle.bank_books.specs.Books.{Books}
-use Rattle.bank_books.specs.Cash.{cash_entry_total}
-use Rattle.bank_books.specs.Effects.{written}
-use Rattle.bank_books.specs.Records.{branch_record, release_count}
-use Rattle.bank_books.specs.WorldLists.{WorldLists}
 use Rattle.bank_books.specs.declared.row_write.RowWrite.TheVariants as write
 use Rattle.bank_books.specs.declared.rows.Release.{Release as ReleaseRow}
 use Rattle.bank_books.specs.declared.signature.Signature.{Signature}

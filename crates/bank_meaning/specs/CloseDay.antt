@@ -37,11 +37,6 @@ abbrev pub closed_data : Closed → Data
 closed_data c =
     object (member (codes "balance") (cents c.balance) (member (codes "cash") (cents c.cash) (member (codes "closed") (natural c.closed) (member (codes "entries") (natural c.entries) no_members))))
 
--- nobody holds a drawer of the branch
-pub record IsCloseDayJudged (w : WorldLists) (form : CloseDay) : Type 0 where
-  pub branch : HasBranch w form.branch
-  pub drawers : (t : Teller) → Contains w.tellers t → t.branch ≡ form.branch → holder_of w.lines t.teller ≡ None
-
 -- the entries of the branch, its balance and the cash of its vault, as its day ends
 pub record IsProofOf (w : WorldLists) (form : CloseDay) (p : Proof) : Type 0 where
   pub branch : p.branch ≡ form.branch
@@ -54,6 +49,11 @@ abbrev pub IsCloseDayAsked : WorldLists → CloseDay → RowWrite → Type 0
 IsCloseDayAsked w form (write.Proof p) = IsProofOf w form p
 IsCloseDayAsked w form (write.Day d) = (d.branch ≡ form.branch) × (option_map (λ day. day + 1) (today w form.branch) ≡ Some d.day)
 IsCloseDayAsked w form _ = ⊥
+
+-- nobody holds a drawer of the branch
+pub record IsCloseDayJudged (w : WorldLists) (form : CloseDay) : Type 0 where
+  pub branch : HasBranch w form.branch
+  pub drawers : (t : Teller) → Contains w.tellers t → t.branch ≡ form.branch → holder_of w.lines t.teller ≡ None
 
 -- all that it is
 abbrev pub close_day_form : CloseDay → Form
