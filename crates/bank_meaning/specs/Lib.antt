@@ -1,5 +1,6 @@
 pub mod Accounts
 pub mod Amounts
+pub mod AskedRows
 pub mod Balance
 pub mod BooksJudged
 pub mod CloseDay
@@ -29,6 +30,7 @@ pub mod PolicyRules
 pub mod Post
 pub mod Proof
 pub mod Questions
+pub mod Recorded
 pub mod Release
 pub mod Repeats
 pub mod Requests
