@@ -38,6 +38,7 @@ pub mod OperationSteps
 pub mod PolicyFirst
 pub mod PolicyLemmas
 pub mod PostForm
+pub mod Premises
 pub mod ProofForm
 pub mod Questions
 pub mod ReleaseForm
