@@ -42,7 +42,7 @@ new_sums : SaysSums 1024 (record { log = []; db = page_of_new true })
 new_sums pages first recovers is whole =
     let none = replays_once 1024 [] recovers.frames 0 recovers.replays (inl (no_log, refl)) in
     let given : pages_after 1024 [] (page_of_new true) 0 1 ≡ Some first =
-        ap (λ k. pages_after 1024 [] (page_of_new true) k 1) (sym none) ∙ ap (λ (p : Pages). p 1) recovers.gives ∙ is in
+    ap (λ k. pages_after 1024 [] (page_of_new true) k 1) (sym none) ∙ ap (λ (p : Pages). p 1) recovers.gives ∙ is in
     ap (λ page. be32 page 20) (sym (page_from_pages 1024 [] (page_of_new true) 0 1 first given).0) ∙ reserves
 
 new_says : SaysItsSums 1024 (record { log = []; db = page_of_new true })
