@@ -41,6 +41,7 @@ pub mod PassingParts
 pub mod PolicyFirst
 pub mod PolicyLemmas
 pub mod PostForm
+pub mod Premises
 pub mod ProofForm
 pub mod Questions
 pub mod Recorded

@@ -28,6 +28,7 @@ pub mod Operations
 pub mod Order
 pub mod PolicyRules
 pub mod Post
+pub mod Premises
 pub mod Proof
 pub mod Questions
 pub mod Recorded

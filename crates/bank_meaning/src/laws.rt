@@ -8,6 +8,7 @@ ghost use Rattle.bank_meaning.specs.LastWord.{LastWord};
 ghost use Rattle.bank_meaning.specs.Laws.{AllowedExactlyWhenHeld, DeniedBeforeTheBooks, FirstByPlace, IdentityIsJudged, NewAccountKeepsBooks, PolicyIsJudged, ReleaseKeepsBooks, ReleasesAreUsedOnce, SessionsChangeNoMore};
 ghost use Rattle.bank_meaning.specs.Once.{EachActsOnce};
 ghost use Rattle.bank_meaning.specs.Order.{IsInOrder};
+ghost use Rattle.bank_meaning.specs.Premises.{PremisesAreMet};
 ghost use Rattle.bank_meaning.specs.Questions.{QuestionsChangeNothing};
 ghost use Rattle.bank_meaning.specs.Recorded.{RowsSayWhatWasAsked};
 ghost use Rattle.bank_meaning.specs.Repeats.{RepliesAreKept, RetriesActOnce, SentAgainBearsItsSlip, SlipsStay};
@@ -197,4 +198,12 @@ pub fn retries_act_once()
 /// The sums agree, the policy is that in force by last word, and what bears a slip acts once and gets its first reply.
 pub fn headline()
     ensures { Headline }
+{}
+
+/// What the laws above suppose is met by what it is named for. An operation with a slip that repeats none and that no rule denies is
+/// accepted at its place; the same user's same operation with the same slip is sent again; a crash may leave the World before it and
+/// the one after it. The rules before those of the books are the first six, and judge alike where the policy, the slips and, for the
+/// one on releases, the releases and branches are the same. No operation but a drawer that is put off may move more cash than its amount.
+pub fn premises_are_met()
+    ensures { PremisesAreMet }
 {}
