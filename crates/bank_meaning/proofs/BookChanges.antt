@@ -12,7 +12,7 @@ use Rattle.bank_books.specs.declared.row_write.RowWrite.{RowWrite}
 use Rattle.bank_books.specs.declared.row_write.RowWrite.TheVariants as write
 use Rattle.bank_meaning.specs.Once.{with_slips}
 
-abbrev is_of_books : RowWrite → Bool
+abbrev pub is_of_books : RowWrite → Bool
 is_of_books (write.Used k) = false
 is_of_books (write.Slip row) = false
 is_of_books (write.Session s) = false

@@ -1,4 +1,13 @@
 -- The laws of a day that is closed.
+use Rattle.std.specs.List.{AllByRecursion}
+use Rattle.bank_meaning.specs.AskedRows.{Bears}
+use Rattle.bank_meaning.proofs.AskedRows.{is_home}
+use Rattle.bank_books.specs.declared.rows.Branch.{Branch}
+use Rattle.bank_books.specs.declared.signature.Signature.{Signature}
+use Rattle.bank_meaning.specs.CloseDay.{IsCloseDayAsked}
+use Rattle.bank_books.specs.Balances.{branch_deltas}
+use Rattle.std.specs.Option.{option_map_or}
+use Rattle.std.proofs.Common.{pos, ap}
 use Rattle.bank_books.specs.Balances.{account_balance, branch_balance, entry_count, teller_balance}
 use Rattle.bank_books.specs.Books.{Books}
 use Rattle.bank_books.specs.Cash.{cash_entry_total, holder_of, place_cash, vault_opening}
@@ -83,6 +92,29 @@ is_false : (b : Bool) → b ≢ true → b ≡ false
 is_false false is = refl
 is_false true is = absurd (is refl)
 
+close_day_asked : (by : Signature) (w : WorldLists) (form : CloseDay) → IsCloseDayJudged w form
+    → AllByRecursion (λ row. Bears w by.user by.moment row × IsCloseDayAsked w form row) (close_day_changes (closing_rows w form) form)
+close_day_asked by w form judged =
+    let branch : Branch = judged.branch.0 in
+    let home = is_home w form.branch branch judged.branch.1 in
+    let found = sym judged.branch.1 in
+    subst (AllByRecursion (λ row. Bears w by.user by.moment row × IsCloseDayAsked w form row)) (sym (close_allowed.changes_are w form (record { branch = branch; branch_is = judged.branch.1 }))) (
+      (
+        home.day,
+        record {
+          branch = refl;
+          entries = ap (λ key. entry_count key w.entries) home.key;
+          balance =
+              ap (λ key. branch.opening +ℤ branch_deltas key w.entries) home.key
+              ∙ ap (λ (o : Option Branch). option_map_or (λ r. r.opening) o (pos 0) +ℤ branch_deltas form.branch w.entries) found;
+          cash =
+              ap (λ key. branch.cash +ℤ place_cash key 0 w.lines) home.key
+              ∙ ap (λ (o : Option Branch). option_map_or (λ r. r.cash) o (pos 0) +ℤ place_cash form.branch 0 w.lines) found;
+        },
+      ),
+      ((tt, (refl, ap (option_map (λ day. day + 1)) home.day)), tt),
+    )
+
 close_day_judged : (w : WorldLists) (who : Who) (moment : ℕ) (form : CloseDay) → NoneDenies w who moment (op.CloseDay form) → IsCloseDayJudged w form
 close_day_judged w who moment form none =
     let ledger = option_map ledger_of (branch_record w form.branch) in
@@ -140,4 +172,5 @@ close_day_is_form form = record {
   denies_no_more = λ by w checks proper judged books. close_day_passes w form checks judged books;
   moves = none_within _;
   cash = λ is by w branch place. close_day_lines w form branch place;
+  asked = λ by w judged. close_day_asked by w form judged;
 }

@@ -1,4 +1,11 @@
 -- The laws of a correction.
+use Rattle.std.specs.List.{AllByRecursion}
+use Rattle.bank_meaning.specs.AskedRows.{Bears, entry_says, line_says}
+use Rattle.bank_meaning.proofs.AskedRows.{is_home, numbered, partnered}
+use Rattle.bank_meaning.specs.Correct.{IsCorrectAsked, IsUndoing, undoing_says}
+use Rattle.bank_books.specs.Balances.{entry_count}
+use Rattle.bank_books.specs.declared.rows.CashLine.{CashLine}
+use Rattle.std.proofs.Common.{ap₂}
 use Rattle.bank_books.specs.Books.{Books}
 use Rattle.bank_books.specs.Effects.{applied, written}
 use Rattle.bank_books.specs.Records.{account_record, account_record_of, branch_record, branch_record_of, entry_record_of}
@@ -244,6 +251,55 @@ other_floor_of w c known keeps some =
     (subst (λ b. (not b && is_none (if b then None else account_record w c.other)) ≡ false) of known)
     (subst (λ b. account_keeps_floor (if b then None else account_record w c.other) c.delta ≡ true) of keeps)
 
+correct_asked : (by : Signature) (w : WorldLists) (c : Correct) → IsCorrectJudged w by.user c
+    → AllByRecursion (λ row. Bears w by.user by.moment row × IsCorrectAsked w c row) (correct_changes (correct_rows w c) c by)
+correct_asked by w c judged =
+    let named = judged.named in
+    let home = is_home w c.branch judged.branch judged.branch_there in
+    let account : AccountRecord = account_record_of w judged.floor.row in
+    let ledger : Ledger = ledger_of (branch_record_of w judged.branch) in
+    let there : correct_allowed.AreThere w c = record {
+      account = judged.floor.row;
+      account_is = judged.floor.there;
+      teller = judged.drawer.row;
+      teller_is = judged.drawer.there;
+      branch = judged.branch;
+      branch_is = judged.branch_there;
+      entry = judged.row;
+      entry_is = judged.there;
+    } in
+    elim (cases_Bool (is_of_post c)) [
+      | inl post ↦
+          let of_form = sym (named.of_post (eqb-true c.other 0 post)) in
+          let e : Entry = undoing_entry account ledger c by in
+          let l : CashLine = undoing_line (cash_book_of (branch_record_of w judged.branch)) c by in
+          let entered = numbered w (entry_says e) 1 judged.branch.branch c.branch home.key
+          ∙ ap₂ (λ a d. undoing_says c a (neg_ℤ d) (entry_count c.branch w.entries + 1) 0 c.entry) (sym named.account) (sym named.delta) in
+          let entry : IsCorrectAsked w c (write.Entry e) = (judged.row, judged.there, subst (λ f. IsUndoing w c judged.row f (write.Entry e)) of_form entered) in
+          let paid = ap (λ d. record (line_says l) { amount = neg_ℤ d }) (sym named.delta) in
+          let line : IsCorrectAsked w c (write.Line l) = (judged.row, judged.there, subst (λ f. IsUndoing w c judged.row f (write.Line l)) of_form paid) in
+          subst (AllByRecursion (λ row. Bears w by.user by.moment row × IsCorrectAsked w c row)) (sym (correct_allowed.changes_of_post w c there by post))
+          (((refl, refl, home.day), entry), (((refl, refl, home.day), line), tt))
+      | inr legs ↦
+          let some = eqb-false c.other 0 legs in
+          let of_form = sym (named.of_transfer some) in
+          let other = judged.other_floor some in
+          let also : correct_allowed.OtherIsThere w c = record { other = other.row; other_is = other.there } in
+          let leg = named.other_leg some in
+          let e : Entry = undoing_leg account ledger c by in
+          let o : Entry = undoing_other (account_record_of w other.row) ledger judged.row.partner c by in
+          let n = entry_count c.branch w.entries in
+          let entered = partnered w (entry_says e) 1 2 judged.branch.branch c.branch home.key
+          ∙ ap₂ (λ a d. undoing_says c a (neg_ℤ d) (n + 1) (n + 2) c.entry) (sym named.account) (sym named.delta) in
+          let first : IsCorrectAsked w c (write.Entry e) = (judged.row, judged.there, subst (λ f. IsUndoing w c judged.row f (write.Entry e)) of_form (inl entered)) in
+          let also_entered = partnered w (entry_says o) 2 1 judged.branch.branch c.branch home.key
+          ∙ ap₂ (λ a d. undoing_says c a d (n + 2) (n + 1) judged.row.partner) (sym leg.1.1) (sym named.delta) in
+          let second : IsCorrectAsked w c (write.Entry o) =
+          (judged.row, judged.there, subst (λ f. IsUndoing w c judged.row f (write.Entry o)) of_form (inr (leg.0, leg.1.0, also_entered))) in
+          subst (AllByRecursion (λ row. Bears w by.user by.moment row × IsCorrectAsked w c row)) (sym (correct_allowed.changes_of_legs w c there also by legs))
+          (((refl, refl, home.day), first), (((refl, refl, home.day), second), tt))
+    ]
+
 correct_judged : (w : WorldLists) (who : Who) (moment : ℕ) (c : Correct) → NoneDenies w who moment (op.Correct c) → IsCorrectJudged w (asker who) c
 correct_judged w who moment c none =
     let rows : CorrectRows = correct_rows w c in
@@ -428,4 +484,5 @@ correct_is_form form = record {
     accounts = λ key. out_in (form.account == key) (not (is_of_post form) && form.other == key) form.delta;
   };
   cash = λ is by w branch place. correct_lines w form by branch place;
+  asked = λ by w judged. correct_asked by w form judged;
 }

@@ -1,4 +1,16 @@
 -- The laws of a drawer that is put off.
+use Rattle.std.specs.List.{AllByRecursion}
+use Rattle.bank_meaning.specs.AskedRows.{Bears}
+use Rattle.bank_meaning.proofs.AskedRows.{is_home}
+use Rattle.bank_meaning.specs.DrawerOff.{IsDrawerOffAsked, off_says}
+use Rattle.bank_books.specs.Cash.{place_cash}
+use Rattle.bank_books.specs.Keys.{teller_key}
+use Rattle.bank_books.specs.declared.rows.LineForm.TheVariants as line_form
+use Rattle.bank_books.specs.declared.rows.Teller.{Teller}
+use Rattle.drawers.proofs.DrawerThere.{AreThere}
+use Rattle.drawers.specs.DrawerOff.{drawer_off_changes}
+use Rattle.keyed_rows.proofs.Rows.{found_row}
+use Rattle.std.proofs.Common.{ap₂, inl, inr}
 use Rattle.bank_books.specs.Books.{Books}
 use Rattle.bank_books.specs.Effects.{applied}
 use Rattle.bank_books.specs.Records.{branch_record, teller_record, teller_record_of, branch_record_of}
@@ -66,6 +78,21 @@ puts_off w form by checks proper signed is =
     subst (λ after. IsStep w after moves_nothing) (sym effect)
     (plan_step w _ moves_nothing checks (tt, (tt, (tt, tt))) (put_off_sums (book_of w form.teller form.branch there) (teller_record_of w there.holder) form by)
     (subst Books effect (off_allowed.drawer_off_keeps_books w form by checks.books signed proper is)))
+
+drawer_off_asked : (by : Signature) (w : WorldLists) (form : DrawerOff) → IsDrawerOffJudged w by.user form
+    → AllByRecursion (λ row. Bears w by.user by.moment row × IsDrawerOffAsked w form row) (drawer_off_changes (drawer_rows w form.teller form.branch) form by)
+drawer_off_asked by w form judged =
+    let home = is_home w form.branch judged.branch.0 judged.branch.1 in
+    let row : Teller = judged.drawer.row in
+    let there : AreThere w form.teller form.branch =
+    record { holder = row; holder_is = judged.drawer.there; home = judged.branch.0; home_is = judged.branch.1 } in
+    subst (AllByRecursion (λ row. Bears w by.user by.moment row × IsDrawerOffAsked w form row)) (sym (off_allowed.changes_are w form there by)) (
+      (
+        (refl, refl, home.day),
+        inl (ap₂ (λ b t. off_says form form.teller (form.counted +ℤ neg_ℤ (place_cash b t w.lines)) line_form.Difference) judged.drawer.of_branch (found_row teller_key form.teller w.tellers row judged.drawer.there).1),
+      ),
+      (((refl, refl, home.day), inr (inl refl)), (((refl, refl, home.day), inr (inr refl)), tt)),
+    )
 
 drawer_off_judged : (w : WorldLists) (who : Who) (moment : ℕ) (form : DrawerOff) → NoneDenies w who moment (op.DrawerOff form) → IsDrawerOffJudged w (asker who) form
 drawer_off_judged w who moment form none =
@@ -135,4 +162,5 @@ drawer_off_is_form form = record {
   denies_no_more = λ by w checks proper judged books. drawer_off_passes w form by checks proper judged books;
   moves = none_within _;
   cash = λ is by w branch place. absurd cc;
+  asked = λ by w judged. drawer_off_asked by w form judged;
 }

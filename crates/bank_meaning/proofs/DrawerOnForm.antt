@@ -1,4 +1,10 @@
 -- The laws of a drawer that is put on.
+use Rattle.std.specs.List.{AllByRecursion}
+use Rattle.bank_meaning.specs.AskedRows.{Bears}
+use Rattle.bank_meaning.proofs.AskedRows.{is_home}
+use Rattle.bank_meaning.specs.DrawerOn.{IsDrawerOnAsked}
+use Rattle.drawers.proofs.DrawerThere.{AreThere}
+use Rattle.std.proofs.Common.{inl, inr}
 use Rattle.bank_books.specs.Balances.{teller_row}
 use Rattle.bank_books.specs.Books.{Books}
 use Rattle.bank_books.specs.Cash.{holder_of}
@@ -87,6 +93,15 @@ free_drawer w teller branch known of free =
     let t = a_teller w teller branch known (not-false _ of) in
     has_drawer w teller branch None t (no_holder (holder_of w.lines t.row.teller) (at_row (teller_record_of w) drawer_is_held (teller_row teller w.tellers) t.row false t.there free))
 
+drawer_on_asked : (by : Signature) (w : WorldLists) (form : DrawerOn) → IsDrawerOnJudged w form
+    → AllByRecursion (λ row. Bears w by.user by.moment row × IsDrawerOnAsked form row) (drawer_on_changes (drawer_rows w form.teller form.branch) form by)
+drawer_on_asked by w form judged =
+    let home = is_home w form.branch judged.branch.0 judged.branch.1 in
+    let there : AreThere w form.teller form.branch =
+    record { holder = judged.drawer.row; holder_is = judged.drawer.there; home = judged.branch.0; home_is = judged.branch.1 } in
+    subst (AllByRecursion (λ row. Bears w by.user by.moment row × IsDrawerOnAsked form row)) (sym (on_allowed.changes_are w form there by))
+    (((refl, refl, home.day), inl refl), (((refl, refl, home.day), inr refl), tt))
+
 drawer_on_judged : (w : WorldLists) (who : Who) (moment : ℕ) (form : DrawerOn) → NoneDenies w who moment (op.DrawerOn form) → IsDrawerOnJudged w form
 drawer_on_judged w who moment form none =
     let teller = teller_record w form.teller in
@@ -144,4 +159,5 @@ drawer_on_is_form form = record {
   denies_no_more = λ by w checks proper judged books. drawer_on_passes w form by checks judged books;
   moves = none_within _;
   cash = λ is by w branch place. drawer_on_lines w form by branch place;
+  asked = λ by w judged. drawer_on_asked by w form judged;
 }

@@ -28,6 +28,8 @@ use Rattle.bank_meaning.proofs.AmountParts.{placed}
 use Rattle.bank_meaning.proofs.BookChanges.{AreOfBooks}
 use Rattle.bank_meaning.proofs.JudgedParts.{NoneDenies}
 use Rattle.bank_meaning.proofs.Steps.{IsStep}
+use Rattle.std.specs.List.{AllByRecursion}
+use Rattle.bank_meaning.specs.AskedRows.{Bears}
 
 -- the rules on commands, which follow those of the books
 abbrev pub on_commands : List Rule
@@ -65,3 +67,5 @@ pub record IsForm (o : Op) : Type 0 where
   -- its amount bounds what it moves, and the cash of each place
   pub moves : AreWithin (amount o) (moves_of o)
   pub cash : is_drawer_off o ≡ false → (by : Signature) (w : WorldLists) (branch place : ℕ) → unsigned_abs (placed branch place (changed_by (form_of o) by w)) ≤ amount o
+  -- each row that it writes bears who asks, when and on which day, and says what was asked
+  pub asked : (by : Signature) (w : WorldLists) → (form_of o).IsJudged w by.user → AllByRecursion (λ row. Bears w by.user by.moment row × (form_of o).IsAsked w row) (changed_by (form_of o) by w)

@@ -1,8 +1,10 @@
 pub mod AccountsForm
 pub mod ActsOnce
+pub mod AddedRows
 pub mod AllowedRequest
 pub mod AmountBounds
 pub mod AmountParts
+pub mod AskedRows
 pub mod BalanceForm
 pub mod BookChanges
 pub mod BooksJudged
@@ -39,8 +41,10 @@ pub mod PassingParts
 pub mod PolicyFirst
 pub mod PolicyLemmas
 pub mod PostForm
+pub mod Premises
 pub mod ProofForm
 pub mod Questions
+pub mod Recorded
 pub mod ReleaseForm
 pub mod Retries
 pub mod RunSums

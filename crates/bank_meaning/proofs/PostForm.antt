@@ -1,4 +1,10 @@
 -- The laws of a post.
+use Rattle.std.specs.List.{AllByRecursion}
+use Rattle.bank_meaning.specs.AskedRows.{Bears, entry_says}
+use Rattle.bank_meaning.proofs.AskedRows.{is_home, numbered}
+use Rattle.bank_books.specs.declared.rows.Branch.{Branch}
+use Rattle.bank_books.specs.declared.rows.Entry.{Entry}
+use Rattle.bank_meaning.specs.Post.{IsPostAsked}
 use Rattle.bank_books.specs.Books.{Books}
 use Rattle.bank_books.specs.Effects.{applied, written}
 use Rattle.bank_books.specs.Records.{account_record, account_record_of, branch_record, branch_record_of, teller_record}
@@ -66,6 +72,23 @@ post_lines w post by branch place = go (post_rows w post).account (post_rows w p
     go (Some a) None k = no_amount (unsigned_abs post.delta)
     go None l k = no_amount (unsigned_abs post.delta)
 
+post_asked : (by : Signature) (w : WorldLists) (post : Post) → IsPostJudged w by.user post
+    → AllByRecursion (λ row. Bears w by.user by.moment row × IsPostAsked w post row) (post_changes (post_rows w post) post by)
+post_asked by w post judged =
+    let branch : Branch = judged.branch.0 in
+    let home = is_home w post.branch branch judged.branch.1 in
+    let there : allowed.AreThere w post = record {
+      account = judged.floor.row;
+      account_is = judged.floor.there;
+      teller = judged.drawer.row;
+      teller_is = judged.drawer.there;
+      branch = branch;
+      branch_is = judged.branch.1;
+    } in
+    let e : Entry = post_entry (account_record_of w judged.floor.row) (ledger_of (branch_record_of w branch)) post by in
+    subst (AllByRecursion (λ row. Bears w by.user by.moment row × IsPostAsked w post row)) (sym (allowed.changes_are w post there by))
+    (((refl, refl, home.day), numbered w (entry_says e) 1 branch.branch post.branch home.key), (((refl, refl, home.day), refl), tt))
+
 post_judged : (w : WorldLists) (who : Who) (moment : ℕ) (post : Post) → NoneDenies w who moment (op.Post post) → IsPostJudged w (asker who) post
 post_judged w who moment post none =
     let account = account_record w post.account in
@@ -132,4 +155,5 @@ post_is_form post = record {
     accounts = λ key. if_added (post.account == key) post.delta (unsigned_abs post.delta) (abs_itself post.delta);
   };
   cash = λ is by w branch place. post_lines w post by branch place;
+  asked = λ by w judged. post_asked by w post judged;
 }

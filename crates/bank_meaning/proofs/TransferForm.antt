@@ -1,4 +1,9 @@
 -- The laws of a transfer.
+use Rattle.std.specs.List.{AllByRecursion}
+use Rattle.bank_meaning.specs.AskedRows.{Bears, entry_says}
+use Rattle.bank_meaning.proofs.AskedRows.{is_home, partnered}
+use Rattle.bank_meaning.specs.Transfer.{IsTransferAsked}
+use Rattle.std.proofs.Common.{inl, inr}
 use Rattle.bank_books.specs.Books.{Books}
 use Rattle.bank_books.specs.Effects.{applied, written}
 use Rattle.bank_books.specs.Records.{account_record, account_record_of, branch_record, branch_record_of, teller_record}
@@ -64,6 +69,29 @@ transfer_lines w t by branch place = go (transfer_rows w t).source (transfer_row
     go (Some a) None l = no_amount t.amount
     go None o l = no_amount t.amount
 
+transfer_asked : (by : Signature) (w : WorldLists) (transfer : Transfer) → IsTransferJudged w by.user transfer
+    → AllByRecursion (λ row. Bears w by.user by.moment row × IsTransferAsked w transfer row) (transfer_changes (transfer_rows w transfer) transfer by)
+transfer_asked by w transfer judged =
+    let branch : Branch = judged.branch.0 in
+    let home = is_home w transfer.branch branch judged.branch.1 in
+    let there : transfer_allowed.AreThere w transfer = record {
+      source = judged.source.row;
+      source_is = judged.source.there;
+      target = judged.target.row;
+      target_is = judged.target.there;
+      teller = judged.drawer.row;
+      teller_is = judged.drawer.there;
+      branch = branch;
+      branch_is = judged.branch.1;
+    } in
+    let ledger : Ledger = ledger_of (branch_record_of w branch) in
+    let first : Entry = first_leg (account_record_of w judged.source.row) ledger transfer by in
+    let second : Entry = second_leg (account_record_of w judged.target.row) ledger transfer by in
+    subst (AllByRecursion (λ row. Bears w by.user by.moment row × IsTransferAsked w transfer row)) (sym (transfer_allowed.changes_are w transfer there by)) (
+      ((refl, refl, home.day), inl (partnered w (entry_says first) 1 2 branch.branch transfer.branch home.key)),
+      (((refl, refl, home.day), inr (partnered w (entry_says second) 2 1 branch.branch transfer.branch home.key)), tt),
+    )
+
 transfer_judged : (w : WorldLists) (who : Who) (moment : ℕ) (transfer : Transfer) → NoneDenies w who moment (op.Transfer transfer) → IsTransferJudged w (asker who) transfer
 transfer_judged w who moment transfer none =
     let source = account_record w transfer.source in
@@ -128,4 +156,5 @@ transfer_is_form form = record {
     accounts = λ key. out_in (form.source == key) (form.target == key) (pos form.amount);
   };
   cash = λ is by w branch place. transfer_lines w form by branch place;
+  asked = λ by w judged. transfer_asked by w form judged;
 }

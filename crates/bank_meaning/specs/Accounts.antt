@@ -25,6 +25,7 @@ accounts_form form = record {
   is_report = true;
   moves = moves_nothing;
   IsJudged = λ w user. ⊤;
+  IsAsked = λ w row. ⊥;
 }
 
 abbrev pub accounts_meaning : Accounts → Signature → WorldLists → Meaning

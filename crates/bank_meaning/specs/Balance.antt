@@ -45,6 +45,7 @@ balance_form form = record {
   is_report = false;
   moves = moves_nothing;
   IsJudged = λ w user. HasAccount w form.account;
+  IsAsked = λ w row. ⊥;
 }
 
 abbrev pub balance_meaning : Balance → WorldLists → Meaning

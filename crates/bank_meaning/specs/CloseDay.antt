@@ -1,4 +1,11 @@
 -- The closing of a day as an operation: its reply and its meaning. The rest of it is that of its plan.
+use Rattle.bank_books.specs.declared.row_write.RowWrite.{RowWrite}
+use Rattle.bank_books.specs.declared.row_write.RowWrite.TheVariants as write
+use Rattle.bank_books.specs.Balances.{branch_balance, entry_count}
+use Rattle.bank_books.specs.Cash.{cash_of}
+use Rattle.bank_books.specs.declared.rows.Proof.{Proof}
+use Rattle.bank_meaning.specs.AskedRows.{today}
+use Rattle.std.specs.Prelude.{◌+◌, Some, option_map}
 use Rattle.std.specs.Prelude.{ℕ, List, [], ◌++◌, codes, decimal}
 use Rattle.std.specs.Option.{option_map_or}
 use Rattle.std.specs.Fmt.{signed_decimal}
@@ -30,6 +37,19 @@ abbrev pub closed_data : Closed → Data
 closed_data c =
     object (member (codes "balance") (cents c.balance) (member (codes "cash") (cents c.cash) (member (codes "closed") (natural c.closed) (member (codes "entries") (natural c.entries) no_members))))
 
+-- the entries of the branch, its balance and the cash of its vault, as its day ends
+pub record IsProofOf (w : WorldLists) (form : CloseDay) (p : Proof) : Type 0 where
+  pub branch : p.branch ≡ form.branch
+  pub entries : p.entries ≡ entry_count form.branch w.entries
+  pub balance : p.balance ≡ branch_balance w form.branch
+  pub cash : p.cash ≡ cash_of w form.branch 0
+
+-- the proof of the day, and the branch on its next day
+abbrev pub IsCloseDayAsked : WorldLists → CloseDay → RowWrite → Type 0
+IsCloseDayAsked w form (write.Proof p) = IsProofOf w form p
+IsCloseDayAsked w form (write.Day d) = (d.branch ≡ form.branch) × (option_map (λ day. day + 1) (today w form.branch) ≡ Some d.day)
+IsCloseDayAsked w form _ = ⊥
+
 -- nobody holds a drawer of the branch
 pub record IsCloseDayJudged (w : WorldLists) (form : CloseDay) : Type 0 where
   pub branch : HasBranch w form.branch
@@ -46,6 +66,7 @@ close_day_form form = record {
   is_report = false;
   moves = moves_nothing;
   IsJudged = λ w user. IsCloseDayJudged w form;
+  IsAsked = λ w row. IsCloseDayAsked w form row;
 }
 
 abbrev pub close_day_meaning : CloseDay → WorldLists → Meaning

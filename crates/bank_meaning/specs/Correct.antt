@@ -1,4 +1,11 @@
 -- A correction as an operation: its reply and its meaning. The rest of it is that of its plan.
+use Rattle.bank_meaning.specs.AskedRows.{EntrySays, entry_says, line_says}
+use Rattle.bank_books.specs.Balances.{entry_count}
+use Rattle.bank_books.specs.declared.row_write.RowWrite.{RowWrite}
+use Rattle.bank_books.specs.declared.row_write.RowWrite.TheVariants as write
+use Rattle.bank_books.specs.declared.rows.LineForm.TheVariants as line_form
+use Rattle.bank_books.specs.declared.rows.EntryForm.{EntryForm}
+use Rattle.std.specs.Prelude.{◌⊎◌, ◌+◌}
 use Rattle.std.specs.Prelude.{ℕ, List, []}
 use Rattle.std.specs.Option.{option_map_or}
 use Rattle.bank_books.specs.WorldLists.{WorldLists}
@@ -65,6 +72,35 @@ pub record IsCorrectJudged (w : WorldLists) (user : ℕ) (correct : Correct) : T
   pub other_floor : correct.other ≢ 0 → KeepsFloor w correct.other correct.delta
   pub cash : correct.other ≡ 0 → DrawerCovers w correct.teller correct.branch (neg_ℤ correct.delta)
 
+-- an entry that undoes the one of this number
+abbrev pub undoing_says : Correct → ℕ → ℤ → ℕ → ℕ → ℕ → EntrySays
+undoing_says correct account delta number partner undoes = record {
+  branch = correct.branch;
+  number = number;
+  teller = correct.teller;
+  account = account;
+  delta = delta;
+  form = entry_form.Correction;
+  partner = partner;
+  undoes = undoes;
+}
+
+-- An entry of this form is undone by minus its delta: a post with its cash, and the leg of a transfer with the other leg, by two that are each the other's partner.
+abbrev pub IsUndoing : WorldLists → Correct → Entry → EntryForm → RowWrite → Type 0
+IsUndoing w correct named entry_form.Post (write.Entry e) =
+    entry_says e ≡ undoing_says correct named.account (neg_ℤ named.delta) (entry_count correct.branch w.entries + 1) 0 correct.entry
+IsUndoing w correct named entry_form.Post (write.Line l) =
+    line_says l ≡ record { branch = correct.branch; place = correct.teller; amount = neg_ℤ named.delta; form = line_form.CashEntry }
+IsUndoing w correct named entry_form.TransferLeg (write.Entry e) =
+    let n = entry_count correct.branch w.entries in
+    (entry_says e ≡ undoing_says correct named.account (neg_ℤ named.delta) (n + 1) (n + 2) correct.entry)
+    ⊎ ((leg : Entry) × (entry w correct.branch named.partner ≡ Some leg) × (entry_says e ≡ undoing_says correct leg.account named.delta (n + 2) (n + 1) named.partner))
+IsUndoing w correct named _ _ = ⊥
+
+-- the entry that is named is undone
+abbrev pub IsCorrectAsked : WorldLists → Correct → RowWrite → Type 0
+IsCorrectAsked w correct row = (named : Entry) × (entry w correct.branch correct.entry ≡ Some named) × IsUndoing w correct named named.form row
+
 -- all that it is
 abbrev pub correct_form : Correct → Form
 correct_form correct = record {
@@ -76,6 +112,7 @@ correct_form correct = record {
   is_report = false;
   moves = correct_moves correct;
   IsJudged = λ w user. IsCorrectJudged w user correct;
+  IsAsked = λ w row. IsCorrectAsked w correct row;
 }
 
 abbrev pub correct_meaning : Correct → Signature → WorldLists → Meaning

@@ -1,4 +1,9 @@
 -- A drawer that is put on, as an operation: its reply and its meaning. The rest of it is that of its plan.
+use Rattle.bank_meaning.specs.AskedRows.{LineSays, line_says}
+use Rattle.bank_books.specs.declared.row_write.RowWrite.{RowWrite}
+use Rattle.bank_books.specs.declared.row_write.RowWrite.TheVariants as write
+use Rattle.bank_books.specs.declared.rows.LineForm.TheVariants as line_form
+use Rattle.std.specs.Prelude.{ℤ, ◌≡◌, ◌⊎◌}
 use Rattle.std.specs.Prelude.{ℕ, List, [], ◌++◌, codes, decimal}
 use Rattle.std.specs.Option.{option_map_or}
 use Rattle.std.specs.Fmt.{signed_decimal}
@@ -35,6 +40,15 @@ pub record IsDrawerOnJudged (w : WorldLists) (form : DrawerOn) : Type 0 where
   pub drawer : HasDrawer w form.teller form.branch None
   pub cash : PlaceCovers w 0 form.branch (neg_ℤ (pos form.cash))
 
+-- at a place of the branch
+abbrev pub on_says : DrawerOn → ℕ → ℤ → LineSays
+on_says form place amount = record { branch = form.branch; place = place; amount = amount; form = line_form.On }
+
+-- the cash out of the vault and into the drawer
+abbrev pub IsDrawerOnAsked : DrawerOn → RowWrite → Type 0
+IsDrawerOnAsked form (write.Line l) = (line_says l ≡ on_says form 0 (neg_ℤ (pos form.cash))) ⊎ (line_says l ≡ on_says form form.teller (pos form.cash))
+IsDrawerOnAsked form _ = ⊥
+
 -- all that it is
 abbrev pub drawer_on_form : DrawerOn → Form
 drawer_on_form form = record {
@@ -46,6 +60,7 @@ drawer_on_form form = record {
   is_report = false;
   moves = moves_nothing;
   IsJudged = λ w user. IsDrawerOnJudged w form;
+  IsAsked = λ w row. IsDrawerOnAsked form row;
 }
 
 abbrev pub drawer_on_meaning : DrawerOn → Signature → WorldLists → Meaning

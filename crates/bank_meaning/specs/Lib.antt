@@ -1,5 +1,6 @@
 pub mod Accounts
 pub mod Amounts
+pub mod AskedRows
 pub mod Balance
 pub mod BooksJudged
 pub mod CloseDay
@@ -27,8 +28,10 @@ pub mod Operations
 pub mod Order
 pub mod PolicyRules
 pub mod Post
+pub mod Premises
 pub mod Proof
 pub mod Questions
+pub mod Recorded
 pub mod Release
 pub mod Repeats
 pub mod Requests

@@ -1,4 +1,9 @@
 -- A move of cash as an operation: its reply and its meaning. The rest of it is that of its plan.
+use Rattle.bank_meaning.specs.AskedRows.{LineSays, line_says}
+use Rattle.bank_books.specs.declared.row_write.RowWrite.{RowWrite}
+use Rattle.bank_books.specs.declared.row_write.RowWrite.TheVariants as write
+use Rattle.bank_books.specs.declared.rows.LineForm.TheVariants as line_form
+use Rattle.std.specs.Prelude.{ℤ, ◌⊎◌}
 use Rattle.std.specs.Prelude.{ℕ, List, [], ◌++◌, codes, decimal}
 use Rattle.std.specs.Option.{option_map_or}
 use Rattle.std.specs.Fmt.{signed_decimal}
@@ -36,6 +41,15 @@ pub record IsMoveJudged (w : WorldLists) (user : ℕ) (move : MoveCash) : Type 0
   pub target : move.target ≢ 0 → (holder : ℕ) × HoldsDrawer w holder move.target move.branch
   pub cash : PlaceCovers w move.source move.branch (neg_ℤ (pos move.amount))
 
+-- at a place of the branch
+abbrev pub move_says : MoveCash → ℕ → ℤ → LineSays
+move_says move place amount = record { branch = move.branch; place = place; amount = amount; form = line_form.Move }
+
+-- the amount out of the source and into the target
+abbrev pub IsMoveAsked : MoveCash → RowWrite → Type 0
+IsMoveAsked move (write.Line l) = (line_says l ≡ move_says move move.source (neg_ℤ (pos move.amount))) ⊎ (line_says l ≡ move_says move move.target (pos move.amount))
+IsMoveAsked move _ = ⊥
+
 -- all that it is
 abbrev pub move_form : MoveCash → Form
 move_form move = record {
@@ -47,6 +61,7 @@ move_form move = record {
   is_report = false;
   moves = moves_nothing;
   IsJudged = λ w user. IsMoveJudged w user move;
+  IsAsked = λ w row. IsMoveAsked move row;
 }
 
 abbrev pub move_meaning : MoveCash → Signature → WorldLists → Meaning

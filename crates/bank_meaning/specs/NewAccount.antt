@@ -1,4 +1,5 @@
 -- An account that is opened: the rows that it is judged on, the rules of the books against it, its effect, its reply and its meaning.
+use Rattle.bank_books.specs.declared.row_write.RowWrite.{RowWrite}
 use Rattle.std.specs.Prelude.{ℕ, pos, Bool, false, nat_le, is_none, is_some, List, [], ◌∷◌, ◌++◌, codes, decimal, Option, option_map}
 use Rattle.bank_terms.specs.Limits.{max_accounts}
 use Rattle.std.specs.Option.{option_map_or}
@@ -57,6 +58,11 @@ pub record IsNewAccountJudged (w : WorldLists) (form : NewAccount) : Type 0 wher
   pub branch : HasBranch w form.branch
   pub new : account_row form.account w.accounts ≡ None
 
+-- the account, with its home and its floor and with nothing in it
+abbrev pub IsNewAccountAsked : NewAccount → RowWrite → Type 0
+IsNewAccountAsked form (write.Account a) = a ≡ record { account = form.account; home = form.branch; opening = pos 0; floor = form.floor }
+IsNewAccountAsked form _ = ⊥
+
 -- all that it is
 abbrev pub new_account_form : NewAccount → Form
 new_account_form form = record {
@@ -68,6 +74,7 @@ new_account_form form = record {
   is_report = false;
   moves = moves_nothing;
   IsJudged = λ w user. IsNewAccountJudged w form;
+  IsAsked = λ w row. IsNewAccountAsked form row;
 }
 
 abbrev pub new_account_meaning : NewAccount → WorldLists → Meaning

@@ -39,6 +39,7 @@ proof_form form = record {
   is_report = true;
   moves = moves_nothing;
   IsJudged = λ w user. HasBranch w form.branch;
+  IsAsked = λ w row. ⊥;
 }
 
 abbrev pub proof_meaning : Proof → WorldLists → Meaning

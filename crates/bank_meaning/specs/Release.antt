@@ -81,6 +81,17 @@ pub record IsReleaseJudged (w : WorldLists) (user : ℕ) (form : Release) : Type
   pub there : user_row w.policy form.beneficiary ≡ Some row
   pub other : form.beneficiary ≢ user
 
+-- for this user and of this operation, unused
+pub record IsReleaseOf (form : Release) (r : ReleaseRow) : Type 0 where
+  pub user : r.user ≡ form.beneficiary
+  pub branch : r.branch ≡ branch_of form.operation
+  pub operation : r.operation ≡ row_of (op_of form.operation)
+  pub unused : r.used ≡ false
+
+abbrev pub IsReleaseAsked : Release → RowWrite → Type 0
+IsReleaseAsked form (write.Release r) = IsReleaseOf form r
+IsReleaseAsked form _ = ⊥
+
 -- all that it is
 abbrev pub release_form : Release → Form
 release_form form = record {
@@ -92,6 +103,7 @@ release_form form = record {
   is_report = false;
   moves = moves_nothing;
   IsJudged = λ w user. IsReleaseJudged w user form;
+  IsAsked = λ w row. IsReleaseAsked form row;
 }
 
 abbrev pub release_meaning : Release → Signature → WorldLists → Meaning

@@ -40,6 +40,7 @@ statement_form form = record {
   is_report = true;
   moves = moves_nothing;
   IsJudged = λ w user. HasAccount w form.account;
+  IsAsked = λ w row. ⊥;
 }
 
 abbrev pub statement_meaning : Statement → WorldLists → Meaning

@@ -1,4 +1,10 @@
 -- A transfer as an operation: its reply and its meaning. The rest of it is that of its plan.
+use Rattle.bank_meaning.specs.AskedRows.{entry_says, EntrySays}
+use Rattle.bank_books.specs.Balances.{entry_count}
+use Rattle.bank_books.specs.declared.row_write.RowWrite.{RowWrite}
+use Rattle.bank_books.specs.declared.row_write.RowWrite.TheVariants as write
+use Rattle.bank_books.specs.declared.rows.EntryForm.TheVariants as entry_form
+use Rattle.std.specs.Prelude.{◌≡◌, ◌⊎◌, ◌+◌}
 use Rattle.std.specs.Prelude.{ℕ, List, [], ◌++◌, codes, decimal}
 use Rattle.std.specs.Option.{option_map_or}
 use Rattle.std.specs.Fmt.{signed_decimal}
@@ -44,6 +50,27 @@ pub record IsTransferJudged (w : WorldLists) (user : ℕ) (transfer : Transfer) 
   pub source : KeepsFloor w transfer.source (neg_ℤ (pos transfer.amount))
   pub target : KeepsFloor w transfer.target (pos transfer.amount)
 
+-- one of the two legs, with these numbers in the history
+abbrev pub leg_says : Transfer → ℕ → ℤ → ℕ → ℕ → EntrySays
+leg_says transfer account delta number partner = record {
+  branch = transfer.branch;
+  number = number;
+  teller = transfer.teller;
+  account = account;
+  delta = delta;
+  form = entry_form.TransferLeg;
+  partner = partner;
+  undoes = 0;
+}
+
+-- minus the amount at the source and plus the amount at the target, each the other's partner; and no cash
+abbrev pub IsTransferAsked : WorldLists → Transfer → RowWrite → Type 0
+IsTransferAsked w transfer (write.Entry e) =
+    let n = entry_count transfer.branch w.entries in
+    (entry_says e ≡ leg_says transfer transfer.source (neg_ℤ (pos transfer.amount)) (n + 1) (n + 2))
+    ⊎ (entry_says e ≡ leg_says transfer transfer.target (pos transfer.amount) (n + 2) (n + 1))
+IsTransferAsked w transfer _ = ⊥
+
 -- all that it is
 abbrev pub transfer_form : Transfer → Form
 transfer_form transfer = record {
@@ -55,6 +82,7 @@ transfer_form transfer = record {
   is_report = false;
   moves = transfer_moves transfer;
   IsJudged = λ w user. IsTransferJudged w user transfer;
+  IsAsked = λ w row. IsTransferAsked w transfer row;
 }
 
 abbrev pub transfer_meaning : Transfer → Signature → WorldLists → Meaning

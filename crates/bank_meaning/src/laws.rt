@@ -8,7 +8,9 @@ ghost use Rattle.bank_meaning.specs.LastWord.{LastWord};
 ghost use Rattle.bank_meaning.specs.Laws.{AllowedExactlyWhenHeld, DeniedBeforeTheBooks, FirstByPlace, IdentityIsJudged, NewAccountKeepsBooks, PolicyIsJudged, ReleaseKeepsBooks, ReleasesAreUsedOnce, SessionsChangeNoMore};
 ghost use Rattle.bank_meaning.specs.Once.{EachActsOnce};
 ghost use Rattle.bank_meaning.specs.Order.{IsInOrder};
+ghost use Rattle.bank_meaning.specs.Premises.{PremisesAreMet};
 ghost use Rattle.bank_meaning.specs.Questions.{QuestionsChangeNothing};
+ghost use Rattle.bank_meaning.specs.Recorded.{RowsSayWhatWasAsked};
 ghost use Rattle.bank_meaning.specs.Repeats.{RepliesAreKept, RetriesActOnce, SentAgainBearsItsSlip, SlipsStay};
 ghost use Rattle.bank_meaning.specs.Sums.{NoOneExecutesWhatHeCertifies, SumsAlwaysAgree};
 
@@ -80,6 +82,18 @@ pub fn books_deny_no_more()
 /// that a release lets another move; and the most that a new account may go below zero.
 pub fn amounts_bound()
     ensures { AmountsBound }
+{}
+
+/// Of every World that passes both checks, and of every proper operation, each row that is there after it and was not before says
+/// what was asked. An entry and a cash line bear the user who asked, the moment, and the day that their branch has, with branch,
+/// teller or place, account and amount as asked: a post has no partner and undoes nothing; a transfer takes from the one account and
+/// gives to the other, by legs that are each other's partners; a correction is minus what was brought, and undoes the entry that is
+/// named, and of a transfer the other leg, too. A new account has its home and its floor and nothing in it; the proof of a day that
+/// is closed has the entries of its branch, its balance and the cash of its vault, and the branch is on its next day; a release has
+/// its giver, its beneficiary, its operation and its day, and is unused, and one that is used up is changed in nothing else. No
+/// other row is added.
+pub fn rows_say_what_was_asked()
+    ensures { RowsSayWhatWasAsked }
 {}
 
 /// A balance, a statement, a list of accounts, a proof or the listing of the policy that is asked for leaves the World, whole.
@@ -184,4 +198,12 @@ pub fn retries_act_once()
 /// The sums agree, the policy is that in force by last word, and what bears a slip acts once and gets its first reply.
 pub fn headline()
     ensures { Headline }
+{}
+
+/// What the laws above suppose is met by what it is named for. An operation with a slip that repeats none and that no rule denies is
+/// accepted at its place; the same user's same operation with the same slip is sent again; a crash may leave the World before it and
+/// the one after it. The rules before those of the books are the first six, and judge alike where the policy, the slips and, for the
+/// one on releases, the releases and branches are the same. No operation but a drawer that is put off may move more cash than its amount.
+pub fn premises_are_met()
+    ensures { PremisesAreMet }
 {}

@@ -4,5 +4,6 @@ pub mod DayLemmas
 pub mod MomentLemmas
 pub mod OpenedLemmas
 mod PageLemmas
+mod Premises
 mod SumLemmas
 mod TextLemmas

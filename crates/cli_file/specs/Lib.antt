@@ -7,6 +7,7 @@ pub mod Laws
 pub mod Moments
 pub mod Opened
 pub mod Pages
+pub mod Premises
 pub mod Progress
 pub mod Sums
 pub mod Telling

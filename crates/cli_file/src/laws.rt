@@ -1,6 +1,7 @@
 //! What holds of every connection to a file that was opened. The functions do nothing; their contracts are the laws.
 
 ghost use Rattle.cli_file.specs.Laws.{OpensAgain, OpensAsItsBank, OpensUndamaged, OpensWithItsSums};
+ghost use Rattle.cli_file.specs.Premises.{PremisesAreMet};
 
 use crate::file::FileConnection;
 use sqlite_disk::Disk;
@@ -25,4 +26,10 @@ pub fn opens_with_its_sums<D: Disk + Drop>(_conn: &FileConnection<D>)
 /// sum.
 pub fn damaged_bank_is_the_same<D: Disk + Drop>(_conn: &FileConnection<D>)
     ensures { OpensUndamaged _conn.now }
+{}
+
+/// What the laws on sums suppose is met by what it is named for. A new file that was asked for with sums says so, and so does each
+/// that has a database whose pages each reserve eight bytes. No page collides where each that is damaged does not end in its sum.
+pub fn premises_are_met()
+    ensures { PremisesAreMet }
 {}

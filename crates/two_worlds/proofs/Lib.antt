@@ -18,6 +18,7 @@ pub mod Places
 pub mod PlanParts
 pub mod Policy
 pub mod PostLocal
+pub mod Premises
 pub mod ProofLocal
 pub mod ReleaseLocal
 pub mod Releases

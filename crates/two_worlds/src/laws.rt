@@ -4,6 +4,7 @@
 ghost use Rattle.two_worlds.specs.Along.{TwoWorldsAlong};
 ghost use Rattle.two_worlds.specs.Laws.{TwoWorlds, Undisturbed};
 ghost use Rattle.two_worlds.specs.Local.{AgreementIsLocal, DeniedIsOutside};
+ghost use Rattle.two_worlds.specs.Premises.{PremisesAreMet};
 ghost use Rattle.two_worlds.specs.Views.{MissingIsNothing, ViewsGoByTurn};
 
 /// Two banks that agree on the row of a user, on the user's triples and the relations of a procedure with their sets,
@@ -48,4 +49,12 @@ pub fn missing_is_nothing()
 /// The views of an account in two banks are the same exactly where its row and its entries by turn are.
 pub fn views_go_by_turn()
     ensures { ViewsGoByTurn }
+{}
+
+/// What the laws above suppose is met by what it is named for. Each release is another than those used and given that is of a user who
+/// neither asks nor is given one, or has another number. The rules that look at no item are the first five; sessions, commands and the
+/// listing are no operations. Accounts, users and triples that an operation does not name have no part in it. Two banks agree on a
+/// request where they agree for its operation, or it is outside; on a session where the row of its user is the same.
+pub fn premises_are_met()
+    ensures { PremisesAreMet }
 {}
