@@ -43,7 +43,7 @@ use Rattle.rule_tests.specs.Rules.{account_keeps_floor, drawer_covers, cash_book
 use Rattle.rule_tests.specs.Signed.{IsSigned}
 use Rattle.rule_tests.specs.declared.cash_book.CashBook.{CashBook}
 use Rattle.rule_tests.specs.declared.ledger.Ledger.{Ledger}
-use Rattle.std.proofs.Common.{Bool, Contains, None, Option, Some, [], ap, arith, false, inl, inr, neg_ℤ, not, pos, refl, subst, sym, true, ℕ, ℤ, ◌&&◌, ◌+ℤ◌, ◌==◌, ◌||◌, ◌∙◌, ◌∷◌, ◌≡◌, ◌≢◌, ◌≤◌}
+use Rattle.std.proofs.Common.{Bool, Contains, None, Option, Some, [], ap, arith, false, inl, inr, neg_ℤ, not, pos, refl, subst, sym, true, ℕ, ℤ, ◌&&◌, ◌+ℤ◌, ◌+◌, ◌==◌, ◌||◌, ◌∙◌, ◌∷◌, ◌≡◌, ◌≢◌, ◌≤◌}
 use Rattle.std.proofs.lemmas.Bool.Decides.{Decides-int_eq}
 use Rattle.std.proofs.lemmas.Bool.{and_parts, cases_Bool, eq-eqb, eqb-false, eqb-true, false≢true, ne_eqb, not-false, not-true, or_parts, and_from, and_left, and_right, false_from_ne_true, not_from_true, or_from, or_left, or_right}
 use Rattle.std.proofs.lemmas.Int.{ints}

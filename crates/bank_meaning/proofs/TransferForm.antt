@@ -11,6 +11,7 @@ use Rattle.bank_books.specs.WorldLists.{WorldLists}
 use Rattle.bank_books.specs.declared.records.AccountRecord.{AccountRecord}
 use Rattle.bank_books.specs.declared.row_write.RowWrite.TheVariants as write
 use Rattle.bank_books.specs.declared.rows.Branch.{Branch}
+use Rattle.bank_books.specs.declared.rows.Entry.{Entry}
 use Rattle.bank_books.specs.declared.signature.Signature.{Signature}
 use Rattle.bank_meaning.proofs.AmountParts.{no_amount, out_in, placed}
 use Rattle.bank_meaning.proofs.BookChanges.{by_row}
