@@ -84,18 +84,7 @@ first_rules_covered = record {
 
 drawers_off_are_excepted : DrawersOffAreExcepted
 drawers_off_are_excepted (op.DrawerOff form) is = refl
-drawers_off_are_excepted (op.Post form) is = cc
-drawers_off_are_excepted (op.Transfer form) is = cc
-drawers_off_are_excepted (op.Correct form) is = cc
-drawers_off_are_excepted (op.DrawerOn form) is = cc
-drawers_off_are_excepted (op.MoveCash form) is = cc
-drawers_off_are_excepted (op.CloseDay form) is = cc
-drawers_off_are_excepted (op.NewAccount form) is = cc
-drawers_off_are_excepted (op.Release form) is = cc
-drawers_off_are_excepted (op.Balance form) is = cc
-drawers_off_are_excepted (op.Statement form) is = cc
-drawers_off_are_excepted (op.Accounts form) is = cc
-drawers_off_are_excepted (op.Proof form) is = cc
+drawers_off_are_excepted _ is = cc
 
 pub premises_are_met : PremisesAreMet
 premises_are_met = (slips_covered, first_rules_covered, drawers_off_are_excepted)

@@ -19,18 +19,7 @@ use Rattle.two_worlds.specs.Premises.{AreItemsCovered, AreReleasesCovered, AreRe
 not_given : (w : WorldLists) (o : Op) (user number : ℕ)
     → ((form : Given) (given : ℕ) → o ≡ op.Release form → user ≡ form.beneficiary → releases_given w user ≡ Some given → number ≢ given + 1) → IsNotGiven w o user number
 not_given w (op.Release form) user number apart = λ same given is. apart form given refl same is
-not_given w (op.Post form) user number apart = tt
-not_given w (op.Transfer form) user number apart = tt
-not_given w (op.Correct form) user number apart = tt
-not_given w (op.DrawerOn form) user number apart = tt
-not_given w (op.DrawerOff form) user number apart = tt
-not_given w (op.MoveCash form) user number apart = tt
-not_given w (op.CloseDay form) user number apart = tt
-not_given w (op.NewAccount form) user number apart = tt
-not_given w (op.Balance form) user number apart = tt
-not_given w (op.Statement form) user number apart = tt
-not_given w (op.Accounts form) user number apart = tt
-not_given w (op.Proof form) user number apart = tt
+not_given w _ user number apart = tt
 
 -- the release that authorizes an operation is the one that is named
 named : (in_limit : Bool) (release number : ℕ) → (if in_limit then leave.Triple else leave.Release release) ≡ leave.Release number → number ≡ release

@@ -13,18 +13,7 @@ use Rattle.year_laws.specs.RequestsAlike.{AsksOfAnEntry}
 
 names_an_entry : (x : Op) → IsOp x → NamesAnEntry x
 names_an_entry (op.Correct form) proper = λ none. omega (arith, proper.entry.0, none)
-names_an_entry (op.Post form) proper = tt
-names_an_entry (op.Transfer form) proper = tt
-names_an_entry (op.DrawerOn form) proper = tt
-names_an_entry (op.DrawerOff form) proper = tt
-names_an_entry (op.MoveCash form) proper = tt
-names_an_entry (op.CloseDay form) proper = tt
-names_an_entry (op.NewAccount form) proper = tt
-names_an_entry (op.Release form) proper = tt
-names_an_entry (op.Balance form) proper = tt
-names_an_entry (op.Statement form) proper = tt
-names_an_entry (op.Accounts form) proper = tt
-names_an_entry (op.Proof form) proper = tt
+names_an_entry _ proper = tt
 
 asks_of_an_entry : (a : Asked) → IsAsked a → AsksOfAnEntry a
 asks_of_an_entry (asked.Operation x) proper = names_an_entry x proper
