@@ -1,11 +1,11 @@
 //! Reads of accounts, tellers, branches, entries and cash: each asks its question of the tables.
 
+use crate::book_questions::{
+    AccountRow, BranchRow, DrawerRow, EntryRow, IsUndone, Roster, TellerRow, VaultCash,
+};
 use crate::sql_store::SqlStore;
 use bank_books::{AccountRecord, BranchRecord, Entry, TellerRecord};
 use money::Fault;
-use sql_reads::{
-    AccountRow, BranchRow, DrawerRow, EntryRow, IsUndone, Roster, TellerRow, VaultCash,
-};
 use sqlite::Alter;
 use std::alloc::Global;
 use store_rows::BookReads;

@@ -1,14 +1,14 @@
 //! Reads of users, sets, relations, triples, certifiers and releases: each asks its question of the tables.
 
+use crate::policy_questions::{
+    HasSet, IsCertifier, PolicyVersion, RelationsOf, ReleaseRow, SetCount, TripleCount, TriplesFor,
+    UserRow,
+};
 use crate::sql_store::SqlStore;
 use bank_books::Release;
 use bank_policy::{CertifiedRow, HeldRow};
 use bank_terms::Procedure;
 use money::Fault;
-use sql_reads::{
-    HasSet, IsCertifier, PolicyVersion, RelationsOf, ReleaseRow, SetCount, TripleCount, TriplesFor,
-    UserRow,
-};
 use sqlite::Alter;
 use std::alloc::Global;
 use std::rc::RcSlice;

@@ -1,10 +1,10 @@
 //! Reads for reports, of many rows at once or one after another: each asks its question of the tables.
 
+use crate::report_questions::{EntriesOf, EntryAt, NextShown, NextTeller, Shown};
 use crate::sql_store::SqlStore;
 use bank_books::{AccountRecord, EntryRecord, TellerRecord};
 use money::Fault;
 use sql_listing::{NextPolicy, PolicyRows};
-use sql_reads::{EntriesOf, EntryAt, NextShown, NextTeller, Shown};
 use sqlite::Alter;
 use std::alloc::Global;
 use store_rows::ReportReads;

@@ -1,9 +1,9 @@
 //! Reads of a slip, and of how many slips a user has: each asks its question of the tables.
 
+use crate::slip_questions::{SlipOf, SlipsOf};
 use crate::sql_store::SqlStore;
 use bank_books::Slip;
 use money::Fault;
-use sql_reads::{SlipOf, SlipsOf};
 use sqlite::Alter;
 use std::alloc::Global;
 use store_rows::SlipReads;

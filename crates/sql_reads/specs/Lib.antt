@@ -1,2 +1,0 @@
-pub mod LeastShown
-pub mod Shown
