@@ -11,7 +11,7 @@ use Rattle.bank_books.specs.WorldLists.{WorldLists}
 use Rattle.store_rows.specs.Status.{Status}
 use Rattle.store_cached.specs.Standing.{cached_status}
 use Rattle.counter_api.specs.Day.{IsDay, answered}
-use Rattle.counter_api.specs.Exit.{IsServed, AreHandled, Place}
+use Rattle.counter_api.specs.Exit.{IsServed, Passes, Place}
 use Rattle.counter_api.specs.Run.{IsHandled, MarkedMessage}
 use Rattle.counter_api.proofs.DayLemmas.{day_kept, day_of_none, day_of_run}
 use Rattle.counter_api.proofs.RunLemmas.{none_ran, one_more}
@@ -40,20 +40,20 @@ module _ {S C : Type 0} (status : S → Status) (users : List ℕ → Option ℕ
       day_of_run any_bytes users (status old) (status new) (m ∷ []) []
       (one_more any_bytes users (status old) (status new) (status new) m [] (λ response. ⊤) [] [] (λ response replies said none. tt) here (none_ran any_bytes tt users (status new)))
 
-  by_days : (old : S) (ms : List MarkedMessage) (new : S) → AreHandled status users may_give old ms new → PassesBy status users old ms new
+  by_days : (old : S) (ms : List MarkedMessage) (new : S) → Passes status users may_give old ms new → PassesBy status users old ms new
   by_days old [] new same = subst (λ s. IsDay users (status old) (status s) []) (sym same) (day_of_none users (status old))
   by_days old (m ∷ ms) new (mid, here, rest) = (mid, one_day old mid m here, by_days mid ms new rest)
 
   -- one call of `serve`
   passes_of_serve : (most : ℕ) (old new : Place S C) (exit : Result Served ServeFault) (is : IsServed status users may_give most old new exit)
       → PassesBy status users old.store (answered status users may_give most old new exit is) new.store
-  passes_of_serve most old new (Ok s) is = by_days old.store is.2 new.store is.4.handled
-  passes_of_serve most old new (Err Read) is = by_days old.store is.2 new.store is.4.handled
-  passes_of_serve most old new (Err Cut) is = by_days old.store is.2 new.store is.4.handled
-  passes_of_serve most old new (Err Write) (inl is) = by_days old.store (is.3 ++ is.4 ∷ []) new.store is.7.handled
-  passes_of_serve most old new (Err Write) (inr is) = by_days old.store is.2 new.store is.5.handled
+  passes_of_serve most old new (Ok s) is = by_days old.store is.2 new.store is.4.passed
+  passes_of_serve most old new (Err Read) is = by_days old.store is.2 new.store is.4.passed
+  passes_of_serve most old new (Err Cut) is = by_days old.store is.2 new.store is.4.passed
+  passes_of_serve most old new (Err Write) (inl is) = by_days old.store (is.3 ++ is.4 ∷ []) new.store is.7.passed
+  passes_of_serve most old new (Err Write) (inr is) = by_days old.store is.2 new.store is.5.passed
   passes_of_serve most old new (Err Report) is =
-      passes_then status users old.store is.3 is.6.store new.store (by_days old.store is.3 is.6.store is.6.handled)
+      passes_then status users old.store is.3 is.6.store new.store (by_days old.store is.3 is.6.store is.6.passed)
       (day_kept users (status is.6.store) (status is.6.store) (status new.store) [] (Some is.6.broken.fault) (day_of_none users (status is.6.store)) is.6.broken.kept)
   passes_of_serve most old new (Err Memory) same = subst (λ (p : Place S C). IsDay users (status old.store) (status p.store) []) (sym same) (day_of_none users (status old.store))
 

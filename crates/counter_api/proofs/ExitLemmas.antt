@@ -10,7 +10,7 @@ use Rattle.http_messages.specs.declared.serving.Served.{Served}
 use Rattle.reports.specs.Report.{BeginsWith}
 use Rattle.store_rows.specs.Status.{Status, Tells}
 use Rattle.counter_api.specs.Answers.{IsBroken}
-use Rattle.counter_api.specs.Exit.{Gives, IsServed, AreHandled, Place, Serves}
+use Rattle.counter_api.specs.Exit.{Gives, IsServed, Passes, Place, Serves}
 use Rattle.counter_api.specs.Response.{ResponseParts}
 use Rattle.counter_api.specs.Run.{IsAnswered, IsHandled, IsRun, IsWhole, MarkedMessage, after_message, framed, replies_to, reply_to}
 use Rattle.counter_api.proofs.RunLemmas.{none_ran, one_more}
@@ -63,11 +63,11 @@ module _ {E S C : Type 0} (store : E → S) (clock : E → C) (status : S → St
     marked : map (λ m. m.message) run ≡ map message_parts ms
     given : Gives status users may_give (clock old) run (clock new)
     ran : IsRun IsWhole users (status (store old)) (status (store new)) run out
-    handled : AreHandled status users may_give (store old) run (store new)
+    passed : Passes status users may_give (store old) run (store new)
     one : IsOne new
 
   none_answered : (s : E) → IsOne s → HasRun s s [] []
-  none_answered s one = record { run = []; marked = refl; given = refl; ran = none_ran IsWhole refl users (status (store s)); handled = refl; one = one }
+  none_answered s one = record { run = []; marked = refl; given = refl; ran = none_ran IsWhole refl users (status (store s)); passed = refl; one = one }
 
   -- one message in front
   in_front : (old mid new : E) (m : WholeMessage) (ms : List WholeMessage) (reply later out : List ℕ) → IsAnswered IsWhole users may_give (status (store old)) (status (store mid)) (clock old) (clock mid) (message_parts m) reply
@@ -80,7 +80,7 @@ module _ {E S C : Type 0} (store : E → S) (clock : E → C) (status : S → St
         given = (clock mid, here.given, rest.given);
         ran = one_more IsWhole users (status (store old)) (status (store mid)) (status (store new)) first rest.run (λ response. IsWhole (framed (message_parts m) response) reply) later out
             (λ response replies h b. front_whole (framed (message_parts m) response) reply replies later out h b is) here.handled rest.ran;
-        handled = (store mid, unsaid users (status (store old)) (status (store mid)) first _ here.handled, rest.handled);
+        passed = (store mid, unsaid users (status (store old)) (status (store mid)) first _ here.handled, rest.passed);
         one = rest.one;
       }
 
@@ -98,7 +98,7 @@ module _ {E S C : Type 0} (store : E → S) (clock : E → C) (status : S → St
     marked : map (λ m. m.message) (run ++ at ∷ []) ≡ map message_parts (before ++ last ∷ [])
     given : Gives status users may_give (clock old) (run ++ at ∷ []) (clock new)
     ran : IsRun BeginsWith users (status (store old)) (status (store new)) (run ++ at ∷ []) (replies ++ sent)
-    handled : AreHandled status users may_give (store old) (run ++ at ∷ []) (store new)
+    passed : Passes status users may_give (store old) (run ++ at ∷ []) (store new)
     replied : Tells (status (store old)) (status (store new)) (λ w. replies ≡ replies_to users w run)
     one : IsOne new
 
@@ -114,7 +114,7 @@ module _ {E S C : Type 0} (store : E → S) (clock : E → C) (status : S → St
         given = (clock new, here.given, refl);
         ran = one_more BeginsWith users (status (store old)) (status (store new)) (status (store new)) first [] (λ response. BeginsWith (framed (message_parts last) response) sent) [] sent
             (λ response replies h b. joined_last (framed (message_parts last) response) replies sent h b) here.handled (none_ran BeginsWith ([], refl) users (status (store new)));
-        handled = (store new, unsaid users (status (store old)) (status (store new)) first _ here.handled, refl);
+        passed = (store new, unsaid users (status (store old)) (status (store new)) first _ here.handled, refl);
         replied = λ clean w held. refl;
         one = one;
       }
@@ -139,7 +139,7 @@ module _ {E S C : Type 0} (store : E → S) (clock : E → C) (status : S → St
         given = (clock next, told.1.given, rest.given);
         ran = one_more BeginsWith users (status (store old)) (status (store next)) (status (store new)) lead (rest.run ++ rest.at ∷ []) (λ response. IsWhole (framed (message_parts m) response) first) (later ++ sent) (replies ++ sent)
             (λ response after h b. front_begins (framed (message_parts m) response) first after (later ++ sent) (replies ++ sent) h b (ap (λ r. r ++ sent) is ∙ append_assoc first later sent)) told.1.handled rest.ran;
-        handled = (store next, unsaid users (status (store old)) (status (store next)) lead _ told.1.handled, rest.handled);
+        passed = (store next, unsaid users (status (store old)) (status (store next)) lead _ told.1.handled, rest.passed);
         replied = λ clean w held.
             let honest = rest.ran.honest clean in
             is ∙ ap (λ r. r ++ later) (told.1.handled.replied honest w held)
@@ -156,7 +156,7 @@ module _ {E S C : Type 0} (store : E → S) (clock : E → C) (status : S → St
       → ((run : List MarkedMessage) × Serves status users may_give IsWhole (place old) (place new) ms rest run out) × IsOne new.engine
   reads old new ms rest out one r =
       let run = all_ran old.engine new.engine ms out one r.answered in
-      ((run.run, record { bytes = r.bytes; taken = r.taken; splits = r.splits; marked = run.marked; given = run.given; ran = run.ran; handled = run.handled; bounded = r.bounded }), run.one)
+      ((run.run, record { bytes = r.bytes; taken = r.taken; splits = r.splits; marked = run.marked; given = run.given; ran = run.ran; passed = run.passed; bounded = r.bounded }), run.one)
 
   -- what was answered whole was answered by a beginning, too
   begun : (old new : E) (m : MessageParts) (out : List ℕ) (n : ℕ) → IsAnswered IsWhole users may_give (status (store old)) (status (store new)) (clock old) (clock new) m out
@@ -206,7 +206,7 @@ module _ {E S C : Type 0} (store : E → S) (clock : E → C) (status : S → St
   stopped way begins most old new one (before, last, rest, replies, reply, r, on, (n, fits, wrote)) =
       let run = last_ran old.engine r.mid new.engine before last replies (take n reply) one r.answered
       (λ start first same. begins start new.engine (message_parts last) reply n first (subst (λ s. way s (message_parts last) reply new.engine) same r.reached)) in
-      (inl (before, last, rest, run.run, run.at, replies, take n reply, record { bytes = r.bytes; taken = r.taken; splits = r.splits; marked = run.marked; given = run.given; ran = run.ran; handled = run.handled; bounded = r.bounded }, on, run.replied, wrote), run.one)
+      (inl (before, last, rest, run.run, run.at, replies, take n reply, record { bytes = r.bytes; taken = r.taken; splits = r.splits; marked = run.marked; given = run.given; ran = run.ran; passed = run.passed; bounded = r.bounded }, on, run.replied, wrote), run.one)
 
   pub exits : (most : ℕ) (old new : Point E) (r : Result Served ServeFault) → IsOne old.engine → IsExit answers stops breaks most old new r
       → IsServed status users may_give most (place old) (place new) r × IsOne new.engine
@@ -245,7 +245,7 @@ module _ {E S C : Type 0} (store : E → S) (clock : E → C) (status : S → St
             clock = clock r.mid;
             given = run.given;
             ran = run.ran;
-            handled = run.handled;
+            passed = run.passed;
             broken = told.1;
             bounded = r.bounded;
           },

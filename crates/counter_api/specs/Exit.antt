@@ -28,10 +28,10 @@ module _ {S C : Type 0} (status : S → Status) (users : List ℕ → Option ℕ
   Gives from [] to = to ≡ from
   Gives from (m ∷ ms) to = (mid : C) × may_give from m.moment mid × Gives mid ms to
 
-  -- each message was handled, one after another
-  abbrev pub AreHandled : S → List MarkedMessage → S → Type 0
-  AreHandled from [] to = to ≡ from
-  AreHandled from (m ∷ ms) to = (mid : S) × IsHandled users (status from) (status mid) m (λ response. ⊤) × AreHandled mid ms to
+  -- the store passed through a state after each of these messages
+  abbrev pub Passes : S → List MarkedMessage → S → Type 0
+  Passes from [] to = to ≡ from
+  Passes from (m ∷ ms) to = (mid : S) × IsHandled users (status from) (status mid) m (λ response. ⊤) × Passes mid ms to
 
   -- The bytes that were read are these messages, one after another, and a rest. Each message bore a moment of the clock, and a
   -- mark, and out stands so to the replies to them.
@@ -42,7 +42,7 @@ module _ {S C : Type 0} (status : S → Status) (users : List ℕ → Option ℕ
     pub marked : map (λ m. m.message) run ≡ map message_parts messages
     pub given : Gives old.clock run new.clock
     pub ran : IsRun how users (status old.store) (status new.store) run out
-    pub handled : AreHandled old.store run new.store
+    pub passed : Passes old.store run new.store
     pub bounded : length rest ≤ max_message_len
 
   -- the reply to the last of the messages stopped: all those before it were written, and a beginning of it
@@ -64,7 +64,7 @@ module _ {S C : Type 0} (status : S → Status) (users : List ℕ → Option ℕ
     pub clock : C
     pub given : Gives old.clock run clock
     pub ran : IsRun IsWhole users (status old.store) (status store) run replies
-    pub handled : AreHandled old.store run store
+    pub passed : Passes old.store run store
     pub broken : IsBroken users may_give (status store) (status new.store) clock new.clock (message_parts last) sent
     pub bounded : length rest ≤ max_message_len
 
