@@ -14,7 +14,10 @@ pub fn image_opens_as_its_bank<D: Disk + Drop>(_conn: &FileConnection<D>)
 
 /// A bank that was closed opens again as it was: the file with its log, the file alone, and whatever a crash leaves of either. The
 /// disk that it is opened on may be of another kind.
-pub fn closed_bank_opens_again<C: Disk + Drop, D: Disk + Drop>(_files: &Files<C>, _conn: &FileConnection<D>)
+pub fn closed_bank_opens_again<C: Disk + Drop, D: Disk + Drop>(
+    _files: &Files<C>,
+    _conn: &FileConnection<D>,
+)
     ensures { OpensAgain C.Disk _conn.now }
 {}
 
