@@ -1,5 +1,5 @@
 -- The moments of a day, from its turns.
-use Rattle.std.proofs.Common.{◌≡◌, ◌⊎◌, ℕ, zero, suc, inl, inr, List, [], ◌∷◌, ◌++◌, append-nil, append_assoc, drop, take, Option, Some, None, Result, refl, sym, ap, subst, ◌∙◌}
+use Rattle.std.proofs.Common.{◌≡◌, ℕ, zero, suc, inl, inr, List, [], ◌∷◌, ◌++◌, append-nil, append_assoc, drop, take, Option, Some, None, Result, refl, sym, ap, subst, ◌∙◌}
 use Rattle.std.specs.Prelude.{slice_get}
 use Rattle.sqlite_disk.specs.declared.Disk.{Ghosts}
 use Rattle.sqlite_wal.specs.Recovery.{Image}
@@ -8,11 +8,11 @@ use Rattle.sqlite.specs.Files.{file_state}
 use Rattle.sqlite.specs.Held.{Held}
 use Rattle.sqlite.specs.State.{HasCleanDisk}
 use Rattle.bank_books.specs.WorldLists.{WorldLists}
-use Rattle.store_rows.specs.Status.{Status, Tells}
+use Rattle.store_rows.specs.Status.{Status}
 use Rattle.store_cached.specs.Standing.{below, cached_status, known_version, remembered}
 use Rattle.store_cached.specs.declared.cached.Cached.{Cached}
 use Rattle.exit_lines.specs.Streams.{Stream}
-use Rattle.counter_api.specs.Run.{MarkedMessage, requests_of}
+use Rattle.counter_api.specs.Run.{requests_of}
 use Rattle.counter_loop.specs.Attended.{AreAnswered, AreAttended}
 use Rattle.counter_loop.specs.Turns.{AreTurns, At, Boxes, IsLast, Made, nothing, nothing_yet, one_list, with_turn, without}
 use Rattle.counter_loop.proofs.DueLemmas.{its_replies}
