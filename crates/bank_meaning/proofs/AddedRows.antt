@@ -65,7 +65,7 @@ one_release _ w row is there = inl there
 
 -- ---- the branches, which other days are written to
 
--- a branch of before, on a day that a change writes
+-- a branch that was there, on a day that a change writes
 pub record IsDayWritten (P : RowWrite → Type 0) (w : WorldLists) (b : Branch) : Type 0 where
   pub before : Branch
   pub there : Contains w.branches before

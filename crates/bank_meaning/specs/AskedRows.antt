@@ -1,4 +1,4 @@
--- What the rows that an operation adds say: who asked, when and on which day; and the words in which each form says what was asked.
+-- What the rows that an operation adds say: who asked, when and on which day; and the members by which each form says what was asked.
 use Rattle.std.specs.Prelude.{ℕ, ℤ, ◌≡◌, ◌≢◌, ⊤, Option, Some, option_map}
 use Rattle.bank_books.specs.Balances.{branch_row}
 use Rattle.bank_books.specs.WorldLists.{WorldLists}

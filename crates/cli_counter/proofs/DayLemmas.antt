@@ -1,5 +1,5 @@
 -- Connections served at once over the bank that was found in a file.
-use Rattle.std.proofs.Common.{◌≡◌, ℕ, List, [], Option, None, Result, inl, inr, sym, subst}
+use Rattle.std.proofs.Common.{◌≡◌, ℕ, List, [], Option, Some, None, Result, inl, inr, sym, subst}
 use Rattle.sqlite_disk.specs.declared.Disk.{Ghosts}
 use Rattle.sqlite_disk.specs.declared.Files.{Files}
 use Rattle.sqlite.specs.declared.FileStore.{FileStore}
@@ -11,12 +11,13 @@ use Rattle.counter_api.proofs.DayLemmas.{day_of_none}
 use Rattle.counter_loop.specs.Turns.{At}
 use Rattle.counter_places.specs.declared.place.Place.{Place}
 use Rattle.exit_lines.specs.Streams.{Stream}
-use Rattle.cli_file.specs.Files.{BankStore, IsClosed, IsFound, file_status}
+use Rattle.cli_file.specs.Files.{BankStore, IsClosed, IsFound, IsNotClosed, file_status}
 use Rattle.cli_file.specs.declared.fault.ActionFault.{ActionFault}
 use Rattle.cli_file.proofs.DayLemmas.{bank_day, day_uncovered, tells_below}
+use Rattle.cli_file.proofs.OpenedLemmas.{unclosed_leaves}
 use Rattle.cli_counter.specs.Attending.{AreReplied, AreRepliedAt, IsAttendedAt, IsAttendedBehindCache, messages_at, messages_had}
 use Rattle.cli_counter.proofs.MomentLemmas.{moments_had}
-use Rattle.cli_counter.specs.InFile.{IsAttendedAndClosed, IsAttendedOverFile, end_of_counter}
+use Rattle.cli_counter.specs.InFile.{IsAttendedAndClosed, IsAttendedAndUnclosed, IsAttendedOverFile, end_of_counter}
 
 module _ {S C : Type 0} (status : S → Status) (users : List ℕ → Option ℕ) (may_give : C → ℕ → C → Type 0) (place : Place) (output_old output_new : Stream) where
   day_at : (old new : At S C) (result : Result Unit ActionFault) (is : IsAttendedAt status users may_give place output_old output_new old new result)
@@ -67,10 +68,18 @@ module _ {D C : Type 0} (g : Ghosts D) (users : List ℕ → Option ℕ) (may_gi
     exit = exit;
     over = over;
     closed = closed;
-    bank = λ image w of opens works reads. closed.bank works _ (over.day image w of opens (closed.copied reads).was_clean).holds reads;
-    one = λ image w of opens reads.
-        let day = over.day image w of opens (closed.copied reads).was_clean in
-        let left = closed.one reads day.whole in
-        (left.0, day.leaves left.0 left.1, left.2);
+    bank = λ image w of opens reads. closed.bank _ (over.day image w of opens (closed.copied reads).was_clean).holds reads;
+    reported = reported;
+  }
+
+  pub and_unclosed : (rest : FileStore D g) (ended : BankStore D g) (exit result : Result Unit ActionFault) (told : ActionFault) → IsAttendedOverFile g users may_give opened place output_old output_new from to ended exit
+      → IsNotClosed ended told rest → result ≡ end_of_counter exit (Some told) → IsAttendedAndUnclosed g users may_give opened place output_old output_new from to rest result
+  and_unclosed rest ended exit result told over unclosed reported = record {
+    ended = ended;
+    exit = exit;
+    told = told;
+    over = over;
+    unclosed = unclosed;
+    bank = λ image w of opens. unclosed_leaves ended told rest _ unclosed (λ clean. let day = over.day image w of opens clean in (day.whole, day.leaves));
     reported = reported;
   }

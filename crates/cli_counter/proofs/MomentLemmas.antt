@@ -1,5 +1,5 @@
 -- The moments of a day, from its turns.
-use Rattle.std.proofs.Common.{◌≡◌, ◌⊎◌, ℕ, zero, suc, inl, inr, List, [], ◌∷◌, ◌++◌, append-nil, append_assoc, drop, take, Option, Some, None, Result, refl, sym, ap, subst, ◌∙◌}
+use Rattle.std.proofs.Common.{◌≡◌, ℕ, zero, suc, inl, inr, List, [], ◌∷◌, ◌++◌, append-nil, append_assoc, drop, take, Option, Some, None, Result, refl, sym, ap, subst, ◌∙◌}
 use Rattle.std.specs.Prelude.{slice_get}
 use Rattle.sqlite_disk.specs.declared.Disk.{Ghosts}
 use Rattle.sqlite_wal.specs.Recovery.{Image}
@@ -8,11 +8,11 @@ use Rattle.sqlite.specs.Files.{file_state}
 use Rattle.sqlite.specs.Held.{Held}
 use Rattle.sqlite.specs.State.{HasCleanDisk}
 use Rattle.bank_books.specs.WorldLists.{WorldLists}
-use Rattle.store_rows.specs.Status.{Status, Tells}
+use Rattle.store_rows.specs.Status.{Status}
 use Rattle.store_cached.specs.Standing.{below, cached_status, known_version, remembered}
 use Rattle.store_cached.specs.declared.cached.Cached.{Cached}
 use Rattle.exit_lines.specs.Streams.{Stream}
-use Rattle.counter_api.specs.Run.{MarkedMessage, requests_of}
+use Rattle.counter_api.specs.Run.{requests_of}
 use Rattle.counter_loop.specs.Attended.{AreAnswered, AreAttended}
 use Rattle.counter_loop.specs.Turns.{AreTurns, At, Boxes, IsLast, Made, nothing, nothing_yet, one_list, with_turn, without}
 use Rattle.counter_loop.proofs.DueLemmas.{its_replies}
@@ -29,13 +29,13 @@ use Rattle.cli_file.specs.declared.fault.ActionFault.{ActionFault}
 use Rattle.cli_file.proofs.DayLemmas.{bank_day, day_uncovered, tells_below}
 use Rattle.cli_file.proofs.MomentLemmas.{IsOneAtMost, under_way}
 use Rattle.cli_counter.specs.Attending.{IsAttendedAt, IsAttendedBehindCache}
-use Rattle.cli_counter.specs.Moments.{AreMoments, AreMomentsAt, IsMoment, behind}
+use Rattle.cli_counter.specs.Moments.{AreMoments, AreMomentsAt, IsMoment, state_after}
 
 module _ {S C : Type 0} (status : S → Status) (users : List ℕ → Option ℕ) (may_give : C → ℕ → C → Type 0) where
   -- the first turns, and those after them
   pub divided : (n : ℕ) (boxes : Boxes) (old : At S C) (turns : List Made) (after : Boxes) (new : At S C) (had : AreTurns status users may_give boxes old turns after new)
-      → (between : Boxes) × AreTurns status users may_give boxes old (take n turns) between (behind status users may_give n boxes old turns after new had)
-      × AreTurns status users may_give between (behind status users may_give n boxes old turns after new had) (drop n turns) after new
+      → (between : Boxes) × AreTurns status users may_give boxes old (take n turns) between (state_after status users may_give n boxes old turns after new had)
+      × AreTurns status users may_give between (state_after status users may_give n boxes old turns after new had) (drop n turns) after new
   divided zero boxes old [] after new had = (boxes, (refl, refl), had)
   divided zero boxes old (t ∷ ts) after new had = (boxes, (refl, refl), had)
   divided (suc n) boxes old [] after new had = (after, had, (refl, refl))
@@ -64,14 +64,14 @@ module _ {S C : Type 0} (status : S → Status) (users : List ℕ → Option ℕ
   one_at_most (suc n) boxes old (x ∷ ts) after new (before, there, left, waited, mid, inl (goes, rest)) t is = one_at_most n (with_turn boxes x left) mid ts after new rest t is
   one_at_most (suc n) boxes old (x ∷ ts) after new (before, there, left, waited, mid, inr (last, rest)) t is = one_at_most n (without boxes x) mid ts after new rest t is
 
-none_behind : (ts : List Made) (x : Made) → x.run ++ one_list (take zero ts) ≡ x.run
-none_behind [] x = append-nil x.run
-none_behind (y ∷ ys) x = append-nil x.run
+one_alone : (ts : List Made) (x : Made) → x.run ++ one_list (take zero ts) ≡ x.run
+one_alone [] x = append-nil x.run
+one_alone (y ∷ ys) x = append-nil x.run
 
 -- the messages of one turn more
 one_more_turn : (n : ℕ) (turns : List Made) (t : Made) → slice_get turns n ≡ Some t → one_list (take (suc n) turns) ≡ one_list (take n turns) ++ t.run
 one_more_turn n [] t is = absurd cc
-one_more_turn zero (x ∷ ts) t is = let same : x ≡ t = cc in none_behind ts x ∙ ap (λ (y : Made). y.run) same
+one_more_turn zero (x ∷ ts) t is = let same : x ≡ t = cc in one_alone ts x ∙ ap (λ (y : Made). y.run) same
 one_more_turn (suc n) (x ∷ ts) t is = ap (λ ms. x.run ++ ms) (one_more_turn n ts t is) ∙ sym (append_assoc x.run (one_list (take n ts)) t.run)
 
 module _ {D C : Type 0} {g : Ghosts D} (users : List ℕ → Option ℕ) (may_give : C → ℕ → C → Type 0) (opened : Held (FileStore D g)) (begun : BankStore D g) (found : IsFound opened begun)
@@ -91,23 +91,23 @@ module _ {D C : Type 0} {g : Ghosts D} (users : List ℕ → Option ℕ) (may_gi
 
   module _ (clock : C) (turns : List Made) (after : Boxes) (new : At (Cached (BankStore D g)) C) (had : AreTurns (cached_status file_status) users may_give nothing_yet (record { store = began; clock = clock }) turns after new)
       (clean : HasCleanDisk (file_state (below new.store).conn)) where
-    -- so many turns
-    day_behind : (n : ℕ) → IsBankDay users w (one_list (take n turns)) (AreAnswered users (take n turns))
-        (file_status (below (behind (cached_status file_status) users may_give n nothing_yet (record { store = began; clock = clock }) turns after new had).store))
-    day_behind n =
+    -- the first n turns
+    day_after : (n : ℕ) → IsBankDay users w (one_list (take n turns)) (AreAnswered users (take n turns))
+        (file_status (below (state_after (cached_status file_status) users may_give n nothing_yet (record { store = began; clock = clock }) turns after new had).store))
+    day_after n =
         let old : At (Cached (BankStore D g)) C = record { store = began; clock = clock } in
-        let now = behind (cached_status file_status) users may_give n nothing_yet old turns after new had in
+        let now = state_after (cached_status file_status) users may_give n nothing_yet old turns after new had in
         let parts = divided (cached_status file_status) users may_give n nothing_yet old turns after new had in
         let rest = all_on (cached_status file_status) users may_give now new (drop n turns) (as_steps (cached_status file_status) users may_give parts.0 now new after (drop n turns) parts.2) in
         day_so_far clock (take n turns) parts.0 now parts.1 (rest.day.honest clean)
 
     pub moment_of : (n : ℕ) → IsMoment g users may_give w turns n (record { store = began; clock = clock })
-        (behind (cached_status file_status) users may_give n nothing_yet (record { store = began; clock = clock }) turns after new had)
-        (behind (cached_status file_status) users may_give (suc n) nothing_yet (record { store = began; clock = clock }) turns after new had)
+        (state_after (cached_status file_status) users may_give n nothing_yet (record { store = began; clock = clock }) turns after new had)
+        (state_after (cached_status file_status) users may_give (suc n) nothing_yet (record { store = began; clock = clock }) turns after new had)
     moment_of n =
         let old : At (Cached (BankStore D g)) C = record { store = began; clock = clock } in
-        let now = behind (cached_status file_status) users may_give n nothing_yet old turns after new had in
-        let next = behind (cached_status file_status) users may_give (suc n) nothing_yet old turns after new had in
+        let now = state_after (cached_status file_status) users may_give n nothing_yet old turns after new had in
+        let next = state_after (cached_status file_status) users may_give (suc n) nothing_yet old turns after new had in
         let parts = divided (cached_status file_status) users may_give n nothing_yet old turns after new had in
         let so_far : AreAttended (cached_status file_status) users may_give old now = record {
           turns = take n turns;
@@ -121,10 +121,10 @@ module _ {D C : Type 0} {g : Ghosts D} (users : List ℕ → Option ℕ) (may_gi
         record {
           attended = so_far;
           first = refl;
-          day = day_behind n;
+          day = day_after n;
           under_way = λ t is. under_way users w (one_list (take n turns)) t.run (file_status (below next.store))
               (one_at_most (cached_status file_status) users may_give n nothing_yet old turns after new had t is)
-              (λ left may. subst (λ ms. IsLeftByCrash w (requests_of users ms) left) (one_more_turn n turns t is) ((day_behind (suc n)).leaves left may));
+              (λ left may. subst (λ ms. IsLeftByCrash w (requests_of users ms) left) (one_more_turn n turns t is) ((day_after (suc n)).leaves left may));
         }
 
   moments_at : (place : Place) (output_old output_new : Stream) (clock : C) (new : At (Cached (BankStore D g)) C) (result : Result Unit ActionFault)

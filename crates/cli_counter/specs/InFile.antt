@@ -1,12 +1,11 @@
 -- Connections served at once over the bank in an open file, from the file as it was opened to what is left of it.
-use Rattle.std.specs.Prelude.{◌≡◌, false, ℕ, List, Option, Some, None, Result, Ok, Err}
+use Rattle.std.specs.Prelude.{◌≡◌, ℕ, List, Option, Some, None, Result, Ok, Err}
 use Rattle.sqlite_disk.specs.declared.Disk.{Ghosts}
 use Rattle.sqlite_disk.specs.declared.Files.{Files}
 use Rattle.sqlite.specs.declared.FileStore.{FileStore}
 use Rattle.sqlite.specs.Held.{Held}
 use Rattle.sqlite.specs.Files.{file_state}
 use Rattle.sqlite.specs.State.{HasCleanDisk}
-use Rattle.sqlite_wal.specs.Reads.{AreClean}
 use Rattle.sqlite_wal.specs.Recovery.{Image}
 use Rattle.bank_books.specs.WorldLists.{WorldLists}
 use Rattle.bank_meaning.specs.Run.{world_after}
@@ -16,7 +15,7 @@ use Rattle.exit_lines.specs.Streams.{Stream}
 use Rattle.cli_file.specs.BankDay.{IsBankDay}
 use Rattle.cli_file.specs.Crash.{IsLeftByCrash}
 use Rattle.cli_file.specs.Opened.{HoldTheBank, IsBankImage, IsOpenedFrom}
-use Rattle.cli_file.specs.Files.{BankStore, IsClosed, IsFound, IsNotClosed, IsNotFound, file_status}
+use Rattle.cli_file.specs.Files.{BankStore, IsClosed, IsFound, IsNotClosed, IsNotFound, LeavesOnly, file_status}
 use Rattle.cli_file.specs.declared.fault.ActionFault.{ActionFault}
 use Rattle.cli_file.specs.declared.left.FileLeft.{FileLeft}
 use Rattle.cli_file.specs.declared.left.FileLeft.TheVariants as left
@@ -42,32 +41,38 @@ module _ {D C : Type 0} (g : Ghosts D) (users : List ℕ → Option ℕ) (may_gi
         (messages_had file_status users may_give place output_old output_new (record { store = begun; clock = from }) (record { store = ended; clock = to }) result attended)
         (AreReplied file_status users may_give place output_old output_new (record { store = begun; clock = from }) (record { store = ended; clock = to }) result attended)
         (file_status ended)
-    -- And so are the messages of its turns at each moment, whatever the next turn has begun: a crash at any moment of it leaves the World after
-    -- all requests whose turns are over, or with the request of the turn under way carried out.
+    -- And so are the first n turns, for each n: a crash at any moment leaves what it leaves after all turns that are over, or the World with the
+    -- request of the turn under way carried out.
     pub moments : (image : Image) (w : WorldLists) → IsBankImage image w → IsOpenedFrom image opened → HasCleanDisk (file_state ended.conn)
         → AreMoments g users may_give place output_old output_new (record { store = begun; clock = from }) (record { store = ended; clock = to }) result attended w
 
-  -- It was closed after that: over every image of a bank, the file alone is the bank of the World after the day, also after a crash, and the next
-  -- day begins with it; unless a fault of the disk had stopped the store.
+  -- It was closed after that: over every image of a bank, the file alone is the bank of the World after the day, also after a crash and where a
+  -- fault of the disk stopped the store, and the next day begins with it.
   pub record IsAttendedAndClosed (files : Files D) (result : Result Unit ActionFault) : Type 0 where
     pub ended : BankStore D g
     pub exit : Result Unit ActionFault
     pub over : IsAttendedOverFile ended exit
     pub closed : IsClosed g ended files
-    pub bank : (image : Image) (w : WorldLists) → IsBankImage image w → IsOpenedFrom image opened → ended.is_stopped ≡ false
+    pub bank : (image : Image) (w : WorldLists) → IsBankImage image w → IsOpenedFrom image opened
         → HoldTheBank g files (world_after w (requests_of users (messages_had file_status users may_give place output_old output_new
         (record { store = over.begun; clock = from }) (record { store = ended; clock = to }) exit over.attended)))
-    -- Also where one had, the file alone is the bank of a World that a crash could have left at the end of the day.
-    pub one : (image : Image) (w : WorldLists) → IsBankImage image w → IsOpenedFrom image opened → AreClean g files.log files.db
-        → (left : WorldLists) × IsLeftByCrash w (requests_of users (messages_had file_status users may_give place output_old output_new
-        (record { store = over.begun; clock = from }) (record { store = ended; clock = to }) exit over.attended)) left × HoldTheBank g files left
     pub reported : result ≡ end_of_counter exit None
+
+  -- It could not be closed after that: file and log together are the bank of a World that a crash at the end of the day leaves.
+  pub record IsAttendedAndUnclosed (rest : FileStore D g) (result : Result Unit ActionFault) : Type 0 where
+    pub ended : BankStore D g
+    pub exit : Result Unit ActionFault
+    pub told : ActionFault
+    pub over : IsAttendedOverFile ended exit
+    pub unclosed : IsNotClosed ended told rest
+    pub bank : (image : Image) (w : WorldLists) → IsBankImage image w → IsOpenedFrom image opened
+        → LeavesOnly rest (IsLeftByCrash w (requests_of users (messages_had file_status users may_give place output_old output_new
+        (record { store = over.begun; clock = from }) (record { store = ended; clock = to }) exit over.attended)))
+    pub reported : result ≡ end_of_counter exit (Some told)
 
   -- It was served and closed; or it could not be closed; or no bank was found, and nothing was listened to or written.
   abbrev pub IsAttendedIn : FileLeft D g → Result Unit ActionFault → Type 0
   IsAttendedIn (left.Open conn) result =
       (told : ActionFault) × IsNotFound opened told conn × (output_new ≡ output_old) × (to ≡ from) × (result ≡ Err told)
   IsAttendedIn (left.Closed files) result = IsAttendedAndClosed files result
-  IsAttendedIn (left.Unclosed rest) result =
-      (ended : BankStore D g) × (attended : Result Unit ActionFault) × (told : ActionFault) × IsAttendedOverFile ended attended
-      × IsNotClosed ended.conn told rest × (result ≡ end_of_counter attended (Some told))
+  IsAttendedIn (left.Unclosed rest) result = IsAttendedAndUnclosed rest result

@@ -17,30 +17,30 @@ use Rattle.cli_file.specs.declared.fault.ActionFault.{ActionFault}
 use Rattle.cli_counter.specs.Attending.{IsAttendedAt, IsAttendedBehindCache}
 
 module _ {S C : Type 0} (status : S → Status) (users : List ℕ → Option ℕ) (may_give : C → ℕ → C → Type 0) where
-  -- the store and the clock after so many of the turns
-  abbrev pub behind : (n : ℕ) (boxes : Boxes) (old : At S C) (turns : List Made) (after : Boxes) (new : At S C) → AreTurns status users may_give boxes old turns after new → At S C
-  behind zero boxes old turns after new had = old
-  behind (suc n) boxes old [] after new had = new
-  behind (suc n) boxes old (t ∷ ts) after new (before, there, left, waited, mid, inl (goes, rest)) = behind n (with_turn boxes t left) mid ts after new rest
-  behind (suc n) boxes old (t ∷ ts) after new (before, there, left, waited, mid, inr (last, rest)) = behind n (without boxes t) mid ts after new rest
+  -- the store and the clock after the first n turns
+  abbrev pub state_after : (n : ℕ) (boxes : Boxes) (old : At S C) (turns : List Made) (after : Boxes) (new : At S C) → AreTurns status users may_give boxes old turns after new → At S C
+  state_after zero boxes old turns after new had = old
+  state_after (suc n) boxes old [] after new had = new
+  state_after (suc n) boxes old (t ∷ ts) after new (before, there, left, waited, mid, inl (goes, rest)) = state_after n (with_turn boxes t left) mid ts after new rest
+  state_after (suc n) boxes old (t ∷ ts) after new (before, there, left, waited, mid, inr (last, rest)) = state_after n (without boxes t) mid ts after new rest
 
 module _ {D C : Type 0} (g : Ghosts D) (users : List ℕ → Option ℕ) (may_give : C → ℕ → C → Type 0) where
-  -- So many turns are over. All that is said of connections served at once is said of these turns alone: their messages are a day of the file,
-  -- what a crash leaves after them included; each outbox got the replies to its own; and what has gone out by the turn is a beginning of what
-  -- was put into it. While the next turn is under way, a crash leaves the same, or the World with the request of that turn carried out.
+  -- The first n turns are over. All that is said of connections served at once is said of these alone: their messages are a day of the file,
+  -- with what a crash leaves after them; and each outbox got the replies to its own, of which a beginning has gone out. While the next turn is
+  -- under way, a crash leaves the same, or the World with the request of that turn carried out.
   pub record IsMoment (w : WorldLists) (turns : List Made) (n : ℕ) (old now next : At (Cached (BankStore D g)) C) : Type 0 where
     pub attended : AreAttended (cached_status file_status) users may_give old now
     pub first : attended.turns ≡ take n turns
     pub day : IsBankDay users w (one_list (take n turns)) (AreAnswered users (take n turns)) (file_status (below now.store))
     pub under_way : (t : Made) → slice_get turns n ≡ Some t → IsUnderWay users w (one_list (take n turns)) t.run (file_status (below next.store))
 
-  -- each of them, from this World on
+  -- each moment, from this World on
   abbrev pub AreMomentsAt : (place : Place) (output_old output_new : Stream) (old new : At (Cached (BankStore D g)) C) (result : Result Unit ActionFault)
       → IsAttendedAt (cached_status file_status) users may_give place output_old output_new old new result → WorldLists → Type 0
   AreMomentsAt place output_old output_new old new result (inl is) w =
       (n : ℕ) → IsMoment w is.1.attended.turns n old
-      (behind (cached_status file_status) users may_give n nothing_yet old is.1.attended.turns is.1.attended.after new is.1.attended.had)
-      (behind (cached_status file_status) users may_give (suc n) nothing_yet old is.1.attended.turns is.1.attended.after new is.1.attended.had)
+      (state_after (cached_status file_status) users may_give n nothing_yet old is.1.attended.turns is.1.attended.after new is.1.attended.had)
+      (state_after (cached_status file_status) users may_give (suc n) nothing_yet old is.1.attended.turns is.1.attended.after new is.1.attended.had)
   AreMomentsAt place output_old output_new old new result (inr is) w = ⊤
 
   abbrev pub AreMoments : (place : Place) (output_old output_new : Stream) (old new : At (BankStore D g) C) (result : Result Unit ActionFault)

@@ -60,7 +60,7 @@ module _ {D : Type 0} {g : Ghosts D} (users : List ℕ → Option ℕ) (opened :
   bank_day image w of from clean =
       let began_clean : HasCleanDisk (file_state begun.conn) = day.honest clean in
       let bank = found.bank image w of from began_clean in
-      let holds : (file_status begun).holds w = λ works honest is_open. bank.holds is_open in
+      let holds : (file_status begun).holds w = λ honest is_open. bank.holds is_open in
       let leaves : (left : WorldLists) → (file_status ended).may_leave left → IsLeftByCrash w (requests_of users ms) left =
       λ left may. elim (day.leaves clean w holds left may) [
         | inl is ↦ inl is

@@ -66,10 +66,10 @@ once_within w over more left (inr (m, one, is)) = acts_once_within w over m.requ
 -- from what a crash leaves after the message that is under way
 pub under_way : (users : List ℕ → Option ℕ) (w : WorldLists) (over more : List MarkedMessage) (next : Status) → IsOneAtMost more
     → ((left : WorldLists) → next.may_leave left → IsLeftByCrash w (requests_of users (over ++ more)) left) → IsUnderWay users w over more next
-under_way users w over more next one behind =
+under_way users w over more next one after =
     let within : (left : WorldLists) → next.may_leave left → IsLeftWithin w (requests_of users over) (requests_of users more) left =
     λ left may. within_requests w (requests_of users over) (requests_of users more) left (one_request users more one)
-    (subst (λ rs. IsLeftByCrash w rs left) (requests_joined users over more) (behind left may)) in
+    (subst (λ rs. IsLeftByCrash w rs left) (requests_joined users over more) (after left may)) in
     record {
       leaves = within;
       sent_again = λ left may. once_within w (requests_of users over) (requests_of users more) left (within left may);
@@ -78,16 +78,16 @@ under_way users w over more next one behind =
 -- ---- messages one after another
 
 module _ {S : Type 0} (status : S → Status) (users : List ℕ → Option ℕ) where
-  -- the store went through a state after each of these messages, and each is a day of its own
+  -- a state of the store after each of these messages, each of which is a day of its own
   abbrev pub PassesBy : S → List MarkedMessage → S → Type 0
   PassesBy old [] new = IsDay users (status old) (status new) []
   PassesBy old (m ∷ ms) new = (mid : S) × IsDay users (status old) (status mid) (m ∷ []) × PassesBy mid ms new
 
-  -- that after so many of them
-  abbrev pub state_behind : (n : ℕ) (old : S) (ms : List MarkedMessage) (new : S) → PassesBy old ms new → S
-  state_behind zero old ms new is = old
-  state_behind (suc n) old [] new is = new
-  state_behind (suc n) old (m ∷ ms) new is = state_behind n is.0 ms new is.2
+  -- that after the first n of them
+  abbrev pub state_after : (n : ℕ) (old : S) (ms : List MarkedMessage) (new : S) → PassesBy old ms new → S
+  state_after zero old ms new is = old
+  state_after (suc n) old [] new is = new
+  state_after (suc n) old (m ∷ ms) new is = state_after n is.0 ms new is.2
 
   pub passes_then : (old : S) (ms : List MarkedMessage) (mid new : S) → PassesBy old ms mid → IsDay users (status mid) (status new) [] → PassesBy old ms new
   passes_then old [] mid new is kept = day_joined users (status old) (status mid) (status new) [] [] is kept
@@ -102,14 +102,14 @@ module _ {S : Type 0} (status : S → Status) (users : List ℕ → Option ℕ) 
   all_of_it old [] new is = is
   all_of_it old (m ∷ ms) new is = day_joined users (status old) (status is.0) (status new) (m ∷ []) ms is.1 (all_of_it is.0 ms new is.2)
 
-  first_of_it : (n : ℕ) (old : S) (ms : List MarkedMessage) (new : S) (is : PassesBy old ms new) → IsDay users (status old) (status (state_behind n old ms new is)) (take n ms)
+  first_of_it : (n : ℕ) (old : S) (ms : List MarkedMessage) (new : S) (is : PassesBy old ms new) → IsDay users (status old) (status (state_after n old ms new is)) (take n ms)
   first_of_it zero old [] new is = day_of_none users (status old)
   first_of_it zero old (m ∷ ms) new is = day_of_none users (status old)
   first_of_it (suc n) old [] new is = is
   first_of_it (suc n) old (m ∷ ms) new is =
-      day_joined users (status old) (status is.0) (status (state_behind n is.0 ms new is.2)) (m ∷ []) (take n ms) is.1 (first_of_it n is.0 ms new is.2)
+      day_joined users (status old) (status is.0) (status (state_after n is.0 ms new is.2)) (m ∷ []) (take n ms) is.1 (first_of_it n is.0 ms new is.2)
 
-  rest_of_it : (n : ℕ) (old : S) (ms : List MarkedMessage) (new : S) (is : PassesBy old ms new) → IsDay users (status (state_behind n old ms new is)) (status new) (drop n ms)
+  rest_of_it : (n : ℕ) (old : S) (ms : List MarkedMessage) (new : S) (is : PassesBy old ms new) → IsDay users (status (state_after n old ms new is)) (status new) (drop n ms)
   rest_of_it zero old [] new is = is
   rest_of_it zero old (m ∷ ms) new is = all_of_it old (m ∷ ms) new is
   rest_of_it (suc n) old [] new is = day_of_none users (status new)
@@ -129,9 +129,9 @@ module _ {D : Type 0} {g : Ghosts D} (users : List ℕ → Option ℕ) (opened :
     (from : IsOpenedFrom image opened) where
   module _ (began ended : Cached (BankStore D g)) (over : below began ≡ begun) (empty : remembered began ≡ []) (unread : known_version began ≡ None) (ms : List MarkedMessage)
       (is : PassesBy (cached_status file_status) users began ms ended) (clean : HasCleanDisk (file_state (below ended).conn)) where
-    day_behind : (n : ℕ) → IsBankDay users w (take n ms) (λ v. ⊤) (file_status (below (state_behind (cached_status file_status) users n began ms ended is)))
-    day_behind n =
-        let now = state_behind (cached_status file_status) users n began ms ended is in
+    day_after : (n : ℕ) → IsBankDay users w (take n ms) (λ v. ⊤) (file_status (below (state_after (cached_status file_status) users n began ms ended is)))
+    day_after n =
+        let now = state_after (cached_status file_status) users n began ms ended is in
         bank_day users opened begun (below now) (take n ms) found
         (day_uncovered file_status users began now begun (below now) (take n ms) over refl empty unread (first_of_it (cached_status file_status) users n began ms ended is))
         (λ v. ⊤) (λ h v held. tt) image w of from ((rest_of_it (cached_status file_status) users n began ms ended is).honest clean)
@@ -139,17 +139,17 @@ module _ {D : Type 0} {g : Ghosts D} (users : List ℕ → Option ℕ) (opened :
     -- the moments of messages that were answered over a cache that kept nothing as it began
     pub moments_through : AreMoments file_status users w ms begun
     moments_through = record {
-      behind = λ n. below (state_behind (cached_status file_status) users n began ms ended is);
+      after = λ n. below (state_after (cached_status file_status) users n began ms ended is);
       begins = over;
-      day = day_behind;
-      under_way = λ n m at. under_way users w (take n ms) (m ∷ []) (file_status (below (state_behind (cached_status file_status) users (suc n) began ms ended is))) (inr (m, refl))
-          (λ left may. subst (λ ns. IsLeftByCrash w (requests_of users ns) left) (one_more_message n ms m at) ((day_behind (suc n)).leaves left may));
+      day = day_after;
+      under_way = λ n m at. under_way users w (take n ms) (m ∷ []) (file_status (below (state_after (cached_status file_status) users (suc n) began ms ended is))) (inr (m, refl))
+          (λ left may. subst (λ ns. IsLeftByCrash w (requests_of users ns) left) (one_more_message n ms m at) ((day_after (suc n)).leaves left may));
     }
 
   -- there were none
   pub no_moments : HasCleanDisk (file_state begun.conn) → AreMoments file_status users w [] begun
   no_moments clean = record {
-    behind = λ n. begun;
+    after = λ n. begun;
     begins = refl;
     day = λ n. subst (λ ms. IsBankDay users w ms (λ v. ⊤) (file_status begun)) (sym (none_taken n))
         (bank_day users opened begun begun [] found (day_of_none users (file_status begun)) (λ v. ⊤) (λ h v held. tt) image w of from clean);

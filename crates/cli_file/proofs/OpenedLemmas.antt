@@ -1,16 +1,15 @@
 -- What a connection holds that was opened over an image.
-use Rattle.std.proofs.Common.{◌≡◌, ◌≢◌, ◌⊎◌, inl, inr, sym, subst, false, IsTrue, Ok}
+use Rattle.std.proofs.Common.{◌≡◌, ◌≢◌, ◌⊎◌, inl, inr, arith, sym, subst, IsTrue, Ok}
 use Rattle.std.proofs.Math.Logic.{∥∥₁_elim}
 use Rattle.sqlite_disk.specs.declared.Disk.{Ghosts}
 use Rattle.sqlite_disk.specs.declared.Files.{Files}
 use Rattle.sqlite.specs.declared.FileStore.{FileStore}
 use Rattle.sqlite.specs.Closing.{HoldsAlone, IsCopied}
 use Rattle.sqlite.specs.Effect.{Database}
-use Rattle.sqlite.specs.Files.{file_state}
+use Rattle.sqlite.specs.Files.{HoldsDatabase, IsClosed, file_state}
 use Rattle.sqlite.specs.Held.{Held}
 use Rattle.sqlite.specs.State.{HasCleanDisk, State, Survives}
 use Rattle.sqlite.specs.Tree.{Trees}
-use Rattle.sqlite_store.specs.Laws.{stays_at}
 use Rattle.sqlite_trees.specs.Props.{Trees-set}
 use Rattle.sqlite_wal.specs.Reads.{AreClean}
 use Rattle.sqlite_wal.specs.Recovery.{Image}
@@ -31,9 +30,10 @@ use Rattle.sql_adopt.specs.Refused.{HoldsSoundBank, IsNamedBy, IsOfOther, IsOfSt
 use Rattle.sql_adopt.specs.declared.adopt_fault.AdoptFault.{AdoptFault}
 use Rattle.sql_adopt.proofs.FileLemmas.{bank_is_file, older_bank_is_file, other_bank_is_file}
 use Rattle.sql_adopt.proofs.OpenedLemmas.{opened_bank, opened_in}
-use Rattle.cli_file.specs.Files.{BankStore, IsBankKept, IsBankOfOther, IsBankRefused, file_status}
+use Rattle.cli_file.specs.Files.{BankStore, IsBankKept, IsBankOfOther, IsBankRefused, IsNotClosed, LeavesOnly, file_status}
 use Rattle.cli_file.specs.Laws.{OpensAgain, OpensAsItsBank}
 use Rattle.cli_file.specs.Opened.{HoldTheBank, IsBankImage, IsBankImageIn, IsOpenedFrom}
+use Rattle.cli_file.specs.declared.fault.ActionFault.{ActionFault}
 
 -- ---- opened
 
@@ -49,8 +49,8 @@ opens_as_its_bank conn image w held from clean =
     let bank = opened_bank (file_state conn) w (from.opens clean).0 (from.opens clean).1 left in
     record { file = bank_is_file (file_state conn) w bank; holds = bank }
 
-pub opens_again : {D : Type 0} {g : Ghosts D} (conn : Held (FileStore D g)) → OpensAgain conn
-opens_again conn files w hold reads image which from clean = opens_as_its_bank conn image w (hold reads image which) from clean
+pub opens_again : {C D : Type 0} (f : Ghosts C) {g : Ghosts D} (conn : Held (FileStore D g)) → OpensAgain f conn
+opens_again f conn files w hold reads image found from clean = opens_as_its_bank conn image w (hold reads image found) from clean
 
 -- ---- found
 
@@ -147,36 +147,40 @@ found_older opened now other survives e image w older held from clean =
 
 pub closed_holds : {D : Type 0} (g : Ghosts D) (conn : Held (FileStore D g)) (files : Files D) → (AreClean g files.log files.db → IsCopied conn files)
     → (w : WorldLists) → (HasCleanDisk (file_state conn) → IsTrue (file_state conn).is_open → HoldsBank (file_state conn) w) → HoldTheBank g files w
-closed_holds g conn files copies w holds reads image which =
+closed_holds g conn files copies w holds reads image (both, which, found) =
     let copied = copies reads in
     let bank = holds copied.was_clean copied.was_open in
-    let alone : HoldsAlone image (file_state conn).committed.trees = elim which [
+    let alone : HoldsAlone both (file_state conn).committed.trees = elim which [
       | inl same ↦ subst (λ (i : Image). HoldsAlone i (file_state conn).committed.trees) (sym same) copied.seen
-      | inr left ↦ copied.left image left
+      | inr left ↦ copied.left both left
+    ] in
+    let held : ∥ HoldsDatabase image (file_state conn).committed.trees ∥₁ = elim found [
+      | inl same ↦ subst (λ (i : Image). ∥ HoldsDatabase i (file_state conn).committed.trees ∥₁) (sym same) alone.both
+      | inr same ↦ subst (λ (i : Image). ∥ HoldsDatabase i (file_state conn).committed.trees ∥₁) (sym same) alone.alone
     ] in
     record {
       trees = (file_state conn).committed.trees;
-      held = alone.both;
+      held = held;
       of_world = subst (λ (d : Database). AreOfWorld w d.trees) (sym bank.settled) bank.now.world;
     }
 
 pub closed_bank : {D : Type 0} (g : Ghosts D) (store : BankStore D g) (files : Files D) → (AreClean g files.log files.db → IsCopied store.conn files)
-    → store.is_stopped ≡ false → (w : WorldLists) → (file_status store).holds w → HoldTheBank g files w
-closed_bank g store files copies works w holds = closed_holds g store.conn files copies w (holds works)
+    → (w : WorldLists) → (file_status store).holds w → HoldTheBank g files w
+closed_bank g store files copies w holds = closed_holds g store.conn files copies w holds
 
--- what the files hold then is one of the outcomes that a crash had before
-pub closed_one : {D : Type 0} (g : Ghosts D) (store : BankStore D g) (files : Files D) → ((file : D) → g.may_leave file (g.seen file)) → (AreClean g files.log files.db → IsCopied store.conn files)
-    → AreClean g files.log files.db → (file_status store).leaves_a_world → (left : WorldLists) × (file_status store).may_leave left × HoldTheBank g files left
-closed_one g store files stays copies reads whole =
-    let copied = copies reads in
-    let may : (file_state store.conn).may_leave (file_state store.conn).committed.trees = stays_at store.conn.store stays copied.was_open in
-    let world = whole (file_state store.conn).committed.trees may in (
-      world.0,
-      ((file_state store.conn).committed.trees, may, world.1),
-      λ clean image which.
-          let alone : HoldsAlone image (file_state store.conn).committed.trees = elim which [
-            | inl same ↦ subst (λ (i : Image). HoldsAlone i (file_state store.conn).committed.trees) (sym same) copied.seen
-            | inr left ↦ copied.left image left
-          ] in
-          record { trees = (file_state store.conn).committed.trees; held = alone.both; of_world = world.1 },
-    )
+-- ---- not closed
+
+pub unclosed_bank : {D : Type 0} {g : Ghosts D} (store : BankStore D g) (left : FileStore D g) → IsClosed store.conn left
+    → (file_status store).leaves_a_world → LeavesOnly left (file_status store).may_leave
+unclosed_bank store left closed whole clean trees may =
+    let before : (file_state store.conn).may_leave trees = closed.quiet.outcomes trees may in
+    let world = whole trees before in
+    (world.0, world.1, (trees, before, world.1))
+
+-- what is said of each World that a crash could leave before is said of what it leaves now
+pub unclosed_leaves : {D : Type 0} {g : Ghosts D} (store : BankStore D g) (told : ActionFault) (left : FileStore D g) (P : WorldLists → Type 0) → IsNotClosed store told left
+    → (HasCleanDisk (file_state store.conn) → (file_status store).leaves_a_world × ((w : WorldLists) → (file_status store).may_leave w → P w)) → LeavesOnly left P
+unclosed_leaves store told left P closed says clean trees may =
+    let said = says (omega (arith, clean, closed.closed.quiet.clean)) in
+    let world = closed.bank said.0 clean trees may in
+    (world.0, world.1, said.1 world.0 world.2)

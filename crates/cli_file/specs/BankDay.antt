@@ -25,7 +25,7 @@ pub record IsBankDay (users : List ℕ → Option ℕ) (w : WorldLists) (ms : Li
   -- What went out on each connection (into its outbox, where connections are served at once) is the replies to its messages
   -- or a beginning of them, each in the World that the messages before it left.
   pub replied : AreReplied w
-  -- At the end the file represents the World after all of them, unless a fault of the disk had stopped the store,
+  -- At the end the file represents the World after all of them, also where a fault of the disk stopped the store,
   pub holds : ended.holds (world_after w (requests_of users ms))
   -- and a crash leaves that World; or that World and one request more, which a fault kept from being answered otherwise and since which none
   -- has changed the World. So nothing that was answered is undone.

@@ -4,6 +4,8 @@ use Rattle.sqlite_disk.specs.declared.Disk.{Ghosts}
 use Rattle.sqlite_disk.specs.declared.Files.{Files}
 use Rattle.sqlite_wal.specs.Reads.{AreClean}
 use Rattle.sqlite_wal.specs.Recovery.{Image}
+use Rattle.sqlite_store.specs.FileStore.{recovers, view}
+use Rattle.sqlite_trees.specs.View.{IsClean}
 use Rattle.sqlite.specs.declared.FileStore.{FileStore}
 use Rattle.sqlite.specs.Closing.{IsCopied}
 use Rattle.sqlite.specs.Files as closing
@@ -92,15 +94,18 @@ module _ {D : Type 0} {g : Ghosts D} where
     pub bank : (image : Image) (w : WorldLists) → IsBankImage image w → IsOpenedFrom image opened → HasCleanDisk (file_state left) → IsBankRefused newest w why left
     pub older : (e : Edition) (image : Image) (w : WorldLists) → e ≢ newest → IsBankImageIn e image w → IsOpenedFrom image opened → HasCleanDisk (file_state left) → IsBankOfOther e w why left
 
-  -- where it could not be closed, nothing is lost that stood in the file and its log
-  pub record IsNotClosed (conn : Held (FileStore D g)) (told : ActionFault) (left : FileStore D g) : Type 0 where
+  -- whatever a crash leaves of a file and its log that could not be closed is a World of which this is said
+  abbrev pub LeavesOnly : FileStore D g → (WorldLists → Type 0) → Type 0
+  LeavesOnly left P = IsClean (view left) → (trees : Trees) → recovers left trees → (w : WorldLists) × AreOfWorld w trees × P w
+
+  -- Where it could not be closed, nothing is lost that stood in the file and its log: together they are a World that a crash could leave before.
+  pub record IsNotClosed (store : BankStore D g) (told : ActionFault) (left : FileStore D g) : Type 0 where
     pub of_file : IsOfFile told
-    pub closed : closing.IsClosed conn left
+    pub closed : closing.IsClosed store.conn left
+    pub bank : (file_status store).leaves_a_world → LeavesOnly left (file_status store).may_leave
 
 -- The last commit is in the file itself, as it reads with its log and without, and as a crash leaves it.
 pub record IsClosed {D : Type 0} (g : Ghosts D) (store : BankStore D g) (files : Files D) : Type 0 where
   pub copied : AreClean g files.log files.db → IsCopied store.conn files
-  -- So the file alone is the bank of the World that the store represented, unless a fault of the disk had stopped it.
-  pub bank : store.is_stopped ≡ false → (w : WorldLists) → (file_status store).holds w → HoldTheBank g files w
-  -- Also where one had: the file alone is the bank of a World that a crash could have left before, where it could leave Worlds alone.
-  pub one : AreClean g files.log files.db → (file_status store).leaves_a_world → (left : WorldLists) × (file_status store).may_leave left × HoldTheBank g files left
+  -- So the file alone is the bank of the World that the store represented.
+  pub bank : (w : WorldLists) → (file_status store).holds w → HoldTheBank g files w

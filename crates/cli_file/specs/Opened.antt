@@ -1,5 +1,5 @@
 -- A file that was opened, by the image of what it and its log held.
-use Rattle.std.specs.Prelude.{◌≡◌, ◌⊎◌}
+use Rattle.std.specs.Prelude.{◌≡◌, ◌⊎◌, []}
 use Rattle.sqlite_disk.specs.declared.Disk.{Ghosts}
 use Rattle.sqlite_disk.specs.declared.Files.{Files}
 use Rattle.sqlite_wal.specs.Files.{outcomes}
@@ -31,6 +31,11 @@ pub record IsBankImageIn (e : Edition) (image : Image) (w : WorldLists) : Type 0
 abbrev pub IsBankImage : Image → WorldLists → Type 0
 IsBankImage = IsBankImageIn newest
 
--- The two files hold the bank of this World, and hold it whatever a crash leaves of them.
-abbrev pub HoldTheBank : {D : Type 0} (g : Ghosts D) → Files D → WorldLists → Type 0
-HoldTheBank g files w = AreClean g files.log files.db → (image : Image) → (image ≡ image_of g files) ⊎ outcomes g files.log files.db image → IsBankImage image w
+-- What may be found of a closed file and its log: what they hold, or what a crash leaves of them; or the file of either alone, with no log.
+abbrev pub MayBeFound : {D : Type 0} → Ghosts D → Files D → Image → Type 0
+MayBeFound g files image =
+    (both : Image) × ((both ≡ image_of g files) ⊎ outcomes g files.log files.db both) × ((image ≡ both) ⊎ (image ≡ record both { log = [] }))
+
+-- Whatever may be found of them holds the bank of this World: so the file alone is that bank.
+abbrev pub HoldTheBank : {D : Type 0} → Ghosts D → Files D → WorldLists → Type 0
+HoldTheBank g files w = AreClean g files.log files.db → (image : Image) → MayBeFound g files image → IsBankImage image w

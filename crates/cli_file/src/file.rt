@@ -31,12 +31,12 @@ pub fn find<D: Disk + Drop>(
     }
 }
 
-/// Copies the log into the file, and hands both back: the file alone is then the bank. Where that fails, file and log
-/// together are the bank, as before.
+/// Copies the log into the file, and hands both back: the file alone is then the bank, also after a fault of the disk. Where
+/// that fails, file and log together are the bank, as before.
 pub fn close<D: Disk + Drop>(
     store: BankFile<D>,
 ) -> Result<Files<D>, (ActionFault<'static>, FileStore<D>)>
-    ensures { MatchResult result (IsClosed D.Disk store) (λ e. IsNotClosed store.conn e.0 e.1) }
+    ensures { MatchResult result (IsClosed D.Disk store) (λ e. IsNotClosed store e.0 e.1) }
 {
     match store.into_connection().close_files() {
         Ok(files) => Ok(files),

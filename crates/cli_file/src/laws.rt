@@ -4,6 +4,7 @@ ghost use Rattle.cli_file.specs.Laws.{OpensAgain, OpensAsItsBank, OpensUndamaged
 ghost use Rattle.cli_file.specs.Premises.{PremisesAreMet};
 
 use crate::file::FileConnection;
+use sqlite::Files;
 use sqlite_disk::Disk;
 
 /// An image of a file and its log that holds the bank of a World opens as that bank: of which the clauses of every action
@@ -12,9 +13,13 @@ pub fn image_opens_as_its_bank<D: Disk + Drop>(_conn: &FileConnection<D>)
     ensures { OpensAsItsBank _conn.now }
 {}
 
-/// A bank that was closed opens again as it was: the two files that were handed back, and whatever a crash leaves of them.
-pub fn closed_bank_opens_again<D: Disk + Drop>(_conn: &FileConnection<D>)
-    ensures { OpensAgain _conn.now }
+/// A bank that was closed opens again as it was: the file with its log, the file alone, and whatever a crash leaves of either. The
+/// disk that it is opened on may be of another kind.
+pub fn closed_bank_opens_again<C: Disk + Drop, D: Disk + Drop>(
+    _files: &Files<C>,
+    _conn: &FileConnection<D>,
+)
+    ensures { OpensAgain C.Disk _conn.now }
 {}
 
 /// A file that says that its pages end in sums is opened only where each page does, but for pages that its log has.

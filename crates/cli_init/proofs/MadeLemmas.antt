@@ -9,4 +9,4 @@ use Rattle.cli_file.specs.Opened.{HoldTheBank}
 use Rattle.cli_init.specs.Making.{IsMade}
 
 pub made_bank : {D : Type 0} (g : Ghosts D) (opened : Held (FileStore D g)) (w : WorldLists) (store : BankStore D g) (files : Files D) → IsMade opened w store → IsClosed g store files → HoldTheBank g files w
-made_bank g opened w store files made closed = closed.bank made.begins.works w (λ works clean is_open. (made.kept clean).holds)
+made_bank g opened w store files made closed = closed.bank w (λ clean is_open. (made.kept clean).holds)

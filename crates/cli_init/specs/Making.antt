@@ -53,4 +53,4 @@ module _ {D : Type 0} (g : Ghosts D) (opened : Held (FileStore D g)) (w : WorldL
   IsMadeIn (left.Open conn) result = (told : ActionFault) × IsNotMade opened w told conn × (result ≡ Err told)
   IsMadeIn (left.Closed files) result = IsMadeAndClosed files × (result ≡ Ok tt)
   IsMadeIn (left.Unclosed rest) result =
-      (store : BankStore D g) × (told : ActionFault) × IsMade opened w store × IsNotClosed store.conn told rest × (result ≡ Err told)
+      (store : BankStore D g) × (told : ActionFault) × IsMade opened w store × IsNotClosed store told rest × (result ≡ Err told)

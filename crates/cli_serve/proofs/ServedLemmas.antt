@@ -1,5 +1,5 @@
 -- A stream, and a port, served over the bank that was found in a file.
-use Rattle.std.proofs.Common.{◌≡◌, ℕ, List, [], Option, None, Result, inl, inr, sym, subst}
+use Rattle.std.proofs.Common.{◌≡◌, ℕ, List, [], Option, Some, None, Result, inl, inr, sym, subst}
 use Rattle.sqlite_disk.specs.declared.Disk.{Ghosts}
 use Rattle.sqlite_disk.specs.declared.Files.{Files}
 use Rattle.sqlite.specs.declared.FileStore.{FileStore}
@@ -16,13 +16,14 @@ use Rattle.counter_connections.specs.declared.fault.PortFault.{PortFault}
 use Rattle.exit_lines.specs.Streams.{Stream, Streams}
 use Rattle.http_messages.specs.declared.serving.ServeFault.{ServeFault}
 use Rattle.http_messages.specs.declared.serving.Served.{Served}
-use Rattle.cli_file.specs.Files.{BankStore, IsClosed, IsFound, file_status}
+use Rattle.cli_file.specs.Files.{BankStore, IsClosed, IsFound, IsNotClosed, file_status}
 use Rattle.cli_file.specs.declared.fault.ActionFault.{ActionFault}
 use Rattle.cli_file.proofs.DayLemmas.{bank_day, day_uncovered, tells_below}
+use Rattle.cli_file.proofs.OpenedLemmas.{unclosed_leaves}
 use Rattle.cli_serve.proofs.MomentLemmas.{port_moments, stream_moments}
-use Rattle.cli_serve.specs.Listening.{IsListenedAndClosed, IsListenedOverFile, end_of_port}
+use Rattle.cli_serve.specs.Listening.{IsListenedAndClosed, IsListenedAndUnclosed, IsListenedOverFile, end_of_port}
 use Rattle.cli_serve.specs.Replied.{AreListenedReplied, IsPortReplied, IsStreamReplied, messages_at, messages_listened, messages_served}
-use Rattle.cli_serve.specs.Serving.{IsServedAndClosed, IsServedOverFile, end_of}
+use Rattle.cli_serve.specs.Serving.{IsServedAndClosed, IsServedAndUnclosed, IsServedOverFile, end_of}
 
 module _ {S : Type 0} (status : S → Status) where
   stream_day : (users : List ℕ → Option ℕ) (opened : S) (moment : ℕ) (old new : Streams) (left : S) (result : Result Served ServeFault) (served : IsServedBehindCache status users opened moment old new left result)
@@ -109,11 +110,7 @@ module _ {D : Type 0} (g : Ghosts D) (opened : Held (FileStore D g)) (files : Fi
     exit = exit;
     over = over;
     closed = closed;
-    bank = λ image w of from works reads. closed.bank works _ (over.day image w of from (closed.copied reads).was_clean).holds reads;
-    one = λ image w of opens reads.
-        let day = over.day image w of opens (closed.copied reads).was_clean in
-        let left = closed.one reads day.whole in
-        (left.0, day.leaves left.0 left.1, left.2);
+    bank = λ image w of opens reads. closed.bank _ (over.day image w of opens (closed.copied reads).was_clean).holds reads;
     reported = reported;
   }
 
@@ -125,10 +122,34 @@ module _ {D : Type 0} (g : Ghosts D) (opened : Held (FileStore D g)) (files : Fi
     exit = exit;
     over = over;
     closed = closed;
-    bank = λ image w of opens works reads. closed.bank works _ (over.day image w of opens (closed.copied reads).was_clean).holds reads;
-    one = λ image w of opens reads.
-        let day = over.day image w of opens (closed.copied reads).was_clean in
-        let left = closed.one reads day.whole in
-        (left.0, day.leaves left.0 left.1, left.2);
+    bank = λ image w of opens reads. closed.bank _ (over.day image w of opens (closed.copied reads).was_clean).holds reads;
+    reported = reported;
+  }
+
+-- ---- not closed
+
+module _ {D : Type 0} (g : Ghosts D) (opened : Held (FileStore D g)) (rest : FileStore D g) where
+  pub stream_unclosed : (users : List ℕ → Option ℕ) (moment : ℕ) (old new : Streams) (ended : BankStore D g) (exit : Result Served ServeFault) (result : Result Unit ActionFault) (told : ActionFault)
+      → IsServedOverFile g users opened moment old new ended exit → IsNotClosed ended told rest → result ≡ end_of exit (Some told) → IsServedAndUnclosed g users opened moment old new rest result
+  stream_unclosed users moment old new ended exit result told over unclosed reported = record {
+    ended = ended;
+    exit = exit;
+    told = told;
+    over = over;
+    unclosed = unclosed;
+    bank = λ image w of opens. unclosed_leaves ended told rest _ unclosed (λ clean. let day = over.day image w of opens clean in (day.whole, day.leaves));
+    reported = reported;
+  }
+
+  pub port_unclosed : {C : Type 0} (users : List ℕ → Option ℕ) (may_give : C → ℕ → C → Type 0) (port requests : ℕ) (output_old output_new : Stream) (from to : C) (ended : BankStore D g) (exit : Result Unit PortFault)
+      (result : Result Unit ActionFault) (told : ActionFault) → IsListenedOverFile g users may_give opened port requests output_old output_new from to ended exit → IsNotClosed ended told rest
+      → result ≡ end_of_port exit (Some told) → IsListenedAndUnclosed g users may_give opened port requests output_old output_new from to rest result
+  port_unclosed users may_give port requests output_old output_new from to ended exit result told over unclosed reported = record {
+    ended = ended;
+    exit = exit;
+    told = told;
+    over = over;
+    unclosed = unclosed;
+    bank = λ image w of opens. unclosed_leaves ended told rest _ unclosed (λ clean. let day = over.day image w of opens clean in (day.whole, day.leaves));
     reported = reported;
   }

@@ -1,12 +1,11 @@
 -- A port served over the bank in an open file, from the file as it was opened to what is left of it.
-use Rattle.std.specs.Prelude.{◌≡◌, false, ℕ, List, Option, Some, None, Result, Ok, Err}
+use Rattle.std.specs.Prelude.{◌≡◌, ℕ, List, Option, Some, None, Result, Ok, Err}
 use Rattle.sqlite_disk.specs.declared.Disk.{Ghosts}
 use Rattle.sqlite_disk.specs.declared.Files.{Files}
 use Rattle.sqlite.specs.declared.FileStore.{FileStore}
 use Rattle.sqlite.specs.Held.{Held}
 use Rattle.sqlite.specs.Files.{file_state}
 use Rattle.sqlite.specs.State.{HasCleanDisk}
-use Rattle.sqlite_wal.specs.Reads.{AreClean}
 use Rattle.sqlite_wal.specs.Recovery.{Image}
 use Rattle.bank_books.specs.WorldLists.{WorldLists}
 use Rattle.bank_meaning.specs.Run.{world_after}
@@ -18,7 +17,7 @@ use Rattle.cli_file.specs.BankDay.{IsBankDay}
 use Rattle.cli_file.specs.Crash.{IsLeftByCrash}
 use Rattle.cli_file.specs.Moments.{AreMoments}
 use Rattle.cli_file.specs.Opened.{HoldTheBank, IsBankImage, IsOpenedFrom}
-use Rattle.cli_file.specs.Files.{BankStore, IsClosed, IsFound, IsNotClosed, IsNotFound, file_status}
+use Rattle.cli_file.specs.Files.{BankStore, IsClosed, IsFound, IsNotClosed, IsNotFound, LeavesOnly, file_status}
 use Rattle.cli_file.specs.declared.fault.ActionFault.{ActionFault}
 use Rattle.cli_file.specs.declared.left.FileLeft.{FileLeft}
 use Rattle.cli_file.specs.declared.left.FileLeft.TheVariants as left
@@ -44,33 +43,39 @@ module _ {D C : Type 0} (g : Ghosts D) (users : List ℕ → Option ℕ) (may_gi
         (messages_listened file_status users may_give port requests output_old output_new (record { store = begun; clock = from }) (record { store = ended; clock = to }) result served)
         (AreListenedReplied file_status users may_give port requests output_old output_new (record { store = begun; clock = from }) (record { store = ended; clock = to }) result served)
         (file_status ended)
-    -- And so is each beginning of it: a crash at any moment leaves the World after all messages that are over, or with the request of the one
-    -- under way carried out.
+    -- And so are the first n messages, for each n: a crash at any moment leaves what it leaves after all messages that are over, or the World
+    -- with the request of the one under way carried out.
     pub moments : (image : Image) (w : WorldLists) → IsBankImage image w → IsOpenedFrom image opened → HasCleanDisk (file_state ended.conn)
         → AreMoments file_status users w
         (messages_listened file_status users may_give port requests output_old output_new (record { store = begun; clock = from }) (record { store = ended; clock = to }) result served) begun
 
-  -- It was closed after that: over every image of a bank, the file alone is the bank of the World after the day, also after a crash, and the next
-  -- day begins with it; unless a fault of the disk had stopped the store.
+  -- It was closed after that: over every image of a bank, the file alone is the bank of the World after the day, also after a crash and where a
+  -- fault of the disk stopped the store, and the next day begins with it.
   pub record IsListenedAndClosed (files : Files D) (result : Result Unit ActionFault) : Type 0 where
     pub ended : BankStore D g
     pub exit : Result Unit PortFault
     pub over : IsListenedOverFile ended exit
     pub closed : IsClosed g ended files
-    pub bank : (image : Image) (w : WorldLists) → IsBankImage image w → IsOpenedFrom image opened → ended.is_stopped ≡ false
+    pub bank : (image : Image) (w : WorldLists) → IsBankImage image w → IsOpenedFrom image opened
         → HoldTheBank g files (world_after w (requests_of users (messages_listened file_status users may_give port requests output_old output_new
         (record { store = over.begun; clock = from }) (record { store = ended; clock = to }) exit over.served)))
-    -- Also where one had, the file alone is the bank of a World that a crash could have left at the end of the day.
-    pub one : (image : Image) (w : WorldLists) → IsBankImage image w → IsOpenedFrom image opened → AreClean g files.log files.db
-        → (left : WorldLists) × IsLeftByCrash w (requests_of users (messages_listened file_status users may_give port requests output_old output_new
-        (record { store = over.begun; clock = from }) (record { store = ended; clock = to }) exit over.served)) left × HoldTheBank g files left
     pub reported : result ≡ end_of_port exit None
+
+  -- It could not be closed after that: file and log together are the bank of a World that a crash at the end of the day leaves.
+  pub record IsListenedAndUnclosed (rest : FileStore D g) (result : Result Unit ActionFault) : Type 0 where
+    pub ended : BankStore D g
+    pub exit : Result Unit PortFault
+    pub told : ActionFault
+    pub over : IsListenedOverFile ended exit
+    pub unclosed : IsNotClosed ended told rest
+    pub bank : (image : Image) (w : WorldLists) → IsBankImage image w → IsOpenedFrom image opened
+        → LeavesOnly rest (IsLeftByCrash w (requests_of users (messages_listened file_status users may_give port requests output_old output_new
+        (record { store = over.begun; clock = from }) (record { store = ended; clock = to }) exit over.served)))
+    pub reported : result ≡ end_of_port exit (Some told)
 
   -- It was served and closed; or it could not be closed; or no bank was found, and nothing was listened to or written.
   abbrev pub IsListenedIn : FileLeft D g → Result Unit ActionFault → Type 0
   IsListenedIn (left.Open conn) result =
       (told : ActionFault) × IsNotFound opened told conn × (output_new ≡ output_old) × (to ≡ from) × (result ≡ Err told)
   IsListenedIn (left.Closed files) result = IsListenedAndClosed files result
-  IsListenedIn (left.Unclosed rest) result =
-      (ended : BankStore D g) × (served : Result Unit PortFault) × (told : ActionFault) × IsListenedOverFile ended served
-      × IsNotClosed ended.conn told rest × (result ≡ end_of_port served (Some told))
+  IsListenedIn (left.Unclosed rest) result = IsListenedAndUnclosed rest result

@@ -70,4 +70,4 @@ not_carried_newest opened left why Commits other unchanged survives image w held
 pub carried_closed : {D : Type 0} (g : Ghosts D) (opened : Held (FileStore D g)) (store : BankStore D g) (files : Files D) → IsCarried opened store → IsClosed g store files
     → (e : Edition) (image : Image) (w : WorldLists) → e ≢ newest → IsBankImageIn e image w → IsOpenedFrom image opened → HoldTheBank g files w
 carried_closed g opened store files carried closed e image w older held from =
-    closed.bank carried.begins.works w (λ works clean is_open. (carried.bank e image w older held from clean).holds is_open)
+    closed.bank w (λ clean is_open. (carried.bank e image w older held from clean).holds is_open)

@@ -33,7 +33,7 @@ module _ {D : Type 0} (g : Ghosts D) (opened : Held (FileStore D g)) where
   IsUpgradedIn (left.Open conn) result = (told : ActionFault) × IsNotCarried opened told conn × (result ≡ Err told)
   IsUpgradedIn (left.Closed files) result = IsCarriedAndClosed files × (result ≡ Ok tt)
   IsUpgradedIn (left.Unclosed rest) result =
-      (store : BankStore D g) × (told : ActionFault) × IsCarried opened store × IsNotClosed store.conn told rest × (result ≡ Err told)
+      (store : BankStore D g) × (told : ActionFault) × IsCarried opened store × IsNotClosed store told rest × (result ≡ Err told)
 
 module _ {D : Type 0} (g : Ghosts D) (image : Image) where
   -- the file was opened, and the bank that stood there was carried over, or there was none

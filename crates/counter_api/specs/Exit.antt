@@ -28,7 +28,7 @@ module _ {S C : Type 0} (status : S → Status) (users : List ℕ → Option ℕ
   Gives from [] to = to ≡ from
   Gives from (m ∷ ms) to = (mid : C) × may_give from m.moment mid × Gives mid ms to
 
-  -- the store went through a state after each of these messages
+  -- the store passed through a state after each of these messages
   abbrev pub Passes : S → List MarkedMessage → S → Type 0
   Passes from [] to = to ≡ from
   Passes from (m ∷ ms) to = (mid : S) × IsHandled users (status from) (status mid) m (λ response. ⊤) × Passes mid ms to

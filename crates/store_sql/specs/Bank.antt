@@ -1,14 +1,14 @@
 -- What a store over SQL represents, by the connection that it keeps.
-use Rattle.std.specs.Prelude.{◌≡◌, ℕ, Bool, false, IsTrue}
+use Rattle.std.specs.Prelude.{ℕ, Bool, IsTrue}
 use Rattle.sqlite.specs.State.{HasCleanDisk, State}
 use Rattle.sqlite.specs.Tree.{Trees}
 use Rattle.bank_books.specs.WorldLists.{WorldLists}
 use Rattle.store_rows.specs.Status.{Status}
 use Rattle.sql_schema.specs.Held.{AreOfWorld, HoldsBank}
 
--- as long as it answers, its tables hold this World
-abbrev pub Holds : State → Bool → WorldLists → Type 0
-Holds s is_stopped w = is_stopped ≡ false → HasCleanDisk s → IsTrue s.is_open → HoldsBank s w
+-- as long as the connection is open, its tables hold this World, also after a fault of the disk
+abbrev pub Holds : State → WorldLists → Type 0
+Holds s w = HasCleanDisk s → IsTrue s.is_open → HoldsBank s w
 
 -- a crash may leave trees of this World
 abbrev pub MayLeave : State → WorldLists → Type 0
@@ -20,7 +20,7 @@ LeavesAWorld s = (trees : Trees) → s.may_leave trees → (w : WorldLists) × A
 
 abbrev pub sql_status : State → Bool → ℕ → ℕ → Status
 sql_status s is_stopped faults failures = record {
-  holds = Holds s is_stopped;
+  holds = Holds s;
   is_honest = HasCleanDisk s;
   is_stopped = is_stopped;
   fault_count = faults;

@@ -1,6 +1,6 @@
 -- By the clauses of what was served over the bank that was found.
 use Rattle.exit_lines.specs.Streams.{stream_at}
-use Rattle.cli_counter.proofs.DayLemmas.{and_closed, over_file}
+use Rattle.cli_counter.proofs.DayLemmas.{and_closed, and_unclosed, over_file}
 use Rattle.cli_counter.proofs.in_file.attend_in.Goals as goal
 
 pub returns-in-Ok-close : goal.returns-in-Ok-close
@@ -16,14 +16,13 @@ returns-in-Ok-close g c =
     c.in-Ok-close.ensures c.ended.ensures
 
 pub returns-in-Err-close : goal.returns-in-Err-close
-returns-in-Err-close g c = (
-  c.attend_behind_cache-store.result.0,
-  c.attend_behind_cache-store.result.1,
-  c.in-Err-close.fault,
-  over_file g.D.Disk (g.G.Gate.users c.args.gate.now) g.C.Clock.may_give c.args.conn c.args.place
-      (stream_at g.W.Write.contents c.args.output.now) (stream_at g.W.Write.contents c.attend_behind_cache-store.new.output)
-      c.args.clock.now c.attend_behind_cache-store.new.clock
-      c.in-Ok.store c.attend_behind_cache-store.result.0 c.attend_behind_cache-store.result.1 c.in-Ok.ensures c.attend_behind_cache-store.ensures,
-  c.in-Err-close.ensures,
-  c.ended-in-Err-close.ensures,
-)
+returns-in-Err-close g c =
+    and_unclosed g.D.Disk (g.G.Gate.users c.args.gate.now) g.C.Clock.may_give c.args.conn c.args.place
+    (stream_at g.W.Write.contents c.args.output.now) (stream_at g.W.Write.contents c.attend_behind_cache-store.new.output)
+    c.args.clock.now c.attend_behind_cache-store.new.clock
+    c.in-Err-close.left c.attend_behind_cache-store.result.0 c.attend_behind_cache-store.result.1 c.ended-in-Err-close.result c.in-Err-close.fault
+    (over_file g.D.Disk (g.G.Gate.users c.args.gate.now) g.C.Clock.may_give c.args.conn c.args.place
+    (stream_at g.W.Write.contents c.args.output.now) (stream_at g.W.Write.contents c.attend_behind_cache-store.new.output)
+    c.args.clock.now c.attend_behind_cache-store.new.clock
+    c.in-Ok.store c.attend_behind_cache-store.result.0 c.attend_behind_cache-store.result.1 c.in-Ok.ensures c.attend_behind_cache-store.ensures)
+    c.in-Err-close.ensures c.ended-in-Err-close.ensures

@@ -3,7 +3,7 @@ use Rattle.sqlite_disk.specs.declared.Files.{Files}
 use Rattle.sqlite_wal.specs.Reads.{AreClean}
 use Rattle.sqlite.specs.Closing.{IsCopied}
 use Rattle.sqlite.specs.Files.{IsClosed}
-use Rattle.cli_file.proofs.OpenedLemmas.{closed_bank, closed_one}
+use Rattle.cli_file.proofs.OpenedLemmas.{closed_bank, unclosed_bank}
 use Rattle.cli_file.proofs.file.close.Goals as goal
 
 pub returns-in-Ok : goal.returns-in-Ok
@@ -12,11 +12,9 @@ returns-in-Ok g c =
     record {
       copied = copied;
       bank = closed_bank g.D.Disk c.args.store c.in-Ok.files copied;
-      one = closed_one g.D.Disk c.args.store c.in-Ok.files g.met.D.Disk.seen_may_stay copied;
     }
 
 pub returns-in-Err : goal.returns-in-Err
-returns-in-Err g c = record {
-  of_file = c.of_closing.ensures;
-  closed = subst (λ conn. IsClosed conn c.in-Err.left) c.into_connection.ensures.connection c.in-Err.ensures.err.0;
-}
+returns-in-Err g c =
+    let closed = subst (λ conn. IsClosed conn c.in-Err.left) c.into_connection.ensures.connection c.in-Err.ensures.err.0 in
+    record { of_file = c.of_closing.ensures; closed = closed; bank = unclosed_bank c.args.store c.in-Err.left closed }

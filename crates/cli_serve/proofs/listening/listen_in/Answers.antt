@@ -1,6 +1,6 @@
 -- By the clauses of the port over the bank that was found.
 use Rattle.exit_lines.specs.Streams.{stream_at}
-use Rattle.cli_serve.proofs.ServedLemmas.{over_port, port_closed}
+use Rattle.cli_serve.proofs.ServedLemmas.{over_port, port_closed, port_unclosed}
 use Rattle.cli_serve.proofs.listening.listen_in.Goals as goal
 
 pub returns-in-Ok-close : goal.returns-in-Ok-close
@@ -16,14 +16,13 @@ returns-in-Ok-close g c =
     c.in-Ok-close.ensures c.ended.ensures
 
 pub returns-in-Err-close : goal.returns-in-Err-close
-returns-in-Err-close g c = (
-  c.serve_port_behind_cache-store.result.0,
-  c.serve_port_behind_cache-store.result.1,
-  c.in-Err-close.fault,
-  over_port g.D.Disk (g.G.Gate.users c.args.gate.now) g.C.Clock.may_give c.args.conn c.args.port c.args.requests
-      (stream_at g.W.Write.contents c.args.output.now) (stream_at g.W.Write.contents c.serve_port_behind_cache-store.new.output)
-      c.args.clock.now c.serve_port_behind_cache-store.new.clock
-      c.in-Ok.store c.serve_port_behind_cache-store.result.0 c.serve_port_behind_cache-store.result.1 c.in-Ok.ensures c.serve_port_behind_cache-store.ensures,
-  c.in-Err-close.ensures,
-  c.ended-in-Err-close.ensures,
-)
+returns-in-Err-close g c =
+    port_unclosed g.D.Disk c.args.conn c.in-Err-close.left (g.G.Gate.users c.args.gate.now) g.C.Clock.may_give c.args.port c.args.requests
+    (stream_at g.W.Write.contents c.args.output.now) (stream_at g.W.Write.contents c.serve_port_behind_cache-store.new.output)
+    c.args.clock.now c.serve_port_behind_cache-store.new.clock
+    c.serve_port_behind_cache-store.result.0 c.serve_port_behind_cache-store.result.1 c.ended-in-Err-close.result c.in-Err-close.fault
+    (over_port g.D.Disk (g.G.Gate.users c.args.gate.now) g.C.Clock.may_give c.args.conn c.args.port c.args.requests
+    (stream_at g.W.Write.contents c.args.output.now) (stream_at g.W.Write.contents c.serve_port_behind_cache-store.new.output)
+    c.args.clock.now c.serve_port_behind_cache-store.new.clock
+    c.in-Ok.store c.serve_port_behind_cache-store.result.0 c.serve_port_behind_cache-store.result.1 c.in-Ok.ensures c.serve_port_behind_cache-store.ensures)
+    c.in-Err-close.ensures c.ended-in-Err-close.ensures

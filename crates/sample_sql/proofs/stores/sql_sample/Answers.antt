@@ -14,6 +14,6 @@ returns-in-Ok c =
     let kept = c.in-Ok.ensures.kept clean in
     record {
       passes = subst PassesChecks c.in_ok-world.ensures (record { in_order = c.world_is_in_order.ensures; books = c.in-Ok.ensures.bank.books; sound = c.in-Ok.ensures.bank.policy.0; separated = c.in-Ok.ensures.bank.policy.1 });
-      holds = λ _ _ _. subst (λ (w : WorldLists). HoldsBank (state over_memory c.in-Ok.store.conn) w) c.in_ok-world.ensures kept.holds;
-      only = λ w h. kept.only w (h c.in-Ok.ensures.works.0 clean refl) ∙ c.in_ok-world.ensures;
+      holds = λ _ _. subst (λ (w : WorldLists). HoldsBank (state over_memory c.in-Ok.store.conn) w) c.in_ok-world.ensures kept.holds;
+      only = λ w h. kept.only w (h clean refl) ∙ c.in_ok-world.ensures;
     }
