@@ -16,7 +16,6 @@ use Rattle.sql_adopt.proofs.SoundLemmas.{holds_or_fails, sound_or_fails}
 use Rattle.sql_create.specs.Made.{IsRefusal}
 use Rattle.sql_create.specs.declared.open_fault.OpenFault.{OpenFault}
 use Rattle.sql_create.specs.declared.open_fault.OpenFault.TheVariants as making
-use Rattle.year_forward.specs.Closed.{IsClosed}
 use Rattle.year_forward.specs.Forward.{forward}
 use Rattle.year_laws.proofs.Judged.{forward_passes_checks}
 use Rattle.cli_file.specs.Faults.{IsOfFile, fault_of_store}
