@@ -48,30 +48,30 @@ pub record IsListenedToEnd (did : Stream → Result Unit ActionFault → Type 0)
   pub unread : new.input ≡ old.input
 
 -- The action was carried out, and this is left of the file; the status and both standard streams say how that ended.
--- What uses no file leaves the opener as it was. The file of a year that ends has its own disk and image, and is
--- dropped.
-abbrev pub IsActed : {A D O C : Type 0} → Ghosts A → Image → (g : Ghosts D) → Image → O → (C → ℕ → C → Type 0) → C → C → Action → Streams → Streams → Stream → Stream → PathLeft O (FileLeft D g) → ℕ → Type 0
-IsActed f earlier g image opener may_give from to (action.Sample moment) old new errors_old errors_new left status =
+-- What uses no file leaves the opener as it was. The file of a year that ends has its own disk, image and opener, and
+-- what is left of it is dropped.
+abbrev pub IsActed : {A D E O C : Type 0} → Ghosts A → Image → (g : Ghosts D) → Image → E → O → (C → ℕ → C → Type 0) → C → C → Action → Streams → Streams → Stream → Stream → PathLeft O (FileLeft D g) → ℕ → Type 0
+IsActed f earlier g image earlier_opener opener may_give from to (action.Sample moment) old new errors_old errors_new left status =
     (left ≡ path.Unopened opener) × IsSampleEnd cached_sql_status moment old new errors_old errors_new status
-IsActed f earlier g image opener may_give from to (action.Init file dir sums) old new errors_old errors_new left status =
+IsActed f earlier g image earlier_opener opener may_give from to (action.Init file dir sums) old new errors_old errors_new left status =
     IsToldOf (IsInited g image sums opener left) (codes "made") old new errors_old errors_new status
-IsActed f earlier g image opener may_give from to (action.Check file) old new errors_old errors_new left status =
+IsActed f earlier g image earlier_opener opener may_give from to (action.Check file) old new errors_old errors_new left status =
     IsToldOf (IsChecked g image opener left) (codes "books hold") old new errors_old errors_new status
-IsActed f earlier g image opener may_give from to (action.Upgrade file) old new errors_old errors_new left status =
+IsActed f earlier g image earlier_opener opener may_give from to (action.Upgrade file) old new errors_old errors_new left status =
     IsToldOf (IsUpgraded g image opener left) (codes "carried over") old new errors_old errors_new status
-IsActed f earlier g image opener may_give from to (action.Forward file new_file sums) old new errors_old errors_new left status =
-    IsToldOf (IsForwarded f earlier g image sums opener left) (codes "carried forward") old new errors_old errors_new status
-IsActed f earlier g image opener may_give from to (action.Run file badges moment) old new errors_old errors_new left status =
+IsActed {A} {D} {E} f earlier g image earlier_opener opener may_give from to (action.Forward file new_file sums) old new errors_old errors_new left status =
+    IsToldOf (λ result. (ended : PathLeft E (FileLeft A f)) × IsForwarded f earlier g image sums earlier_opener opener ended left result) (codes "carried forward") old new errors_old errors_new status
+IsActed f earlier g image earlier_opener opener may_give from to (action.Run file badges moment) old new errors_old errors_new left status =
     IsRunToEnd (λ served result. IsRun g image opener badges.now moment old served left result) new errors_old errors_new status
-IsActed f earlier g image opener may_give from to (action.Serve file badges port requests) old new errors_old errors_new left status =
+IsActed f earlier g image earlier_opener opener may_give from to (action.Serve file badges port requests) old new errors_old errors_new left status =
     IsListenedToEnd (λ told result. IsListened g image badges.now may_give opener port requests old.output told from to left result) old new errors_old errors_new status
-IsActed f earlier g image opener may_give from to (action.Counter file badges place until_input_ends) old new errors_old errors_new left status =
+IsActed f earlier g image earlier_opener opener may_give from to (action.Counter file badges place until_input_ends) old new errors_old errors_new left status =
     IsListenedToEnd (λ told result. IsAttended g image badges.now may_give opener place old.output told from to left result) old new errors_old errors_new status
 
 -- The arguments name an action, which was carried out; or they, or memory for them, are refused, and why was reported.
-abbrev pub IsAnswered : {A D O C : Type 0} → Ghosts A → Image → (g : Ghosts D) → Image → O → (C → ℕ → C → Type 0) → C → C → List Text → Streams → Streams → Stream → Stream → PathLeft O (FileLeft D g) → ℕ → Type 0
-IsAnswered f earlier g image opener may_give from to words old new errors_old errors_new left status =
+abbrev pub IsAnswered : {A D E O C : Type 0} → Ghosts A → Image → (g : Ghosts D) → Image → E → O → (C → ℕ → C → Type 0) → C → C → List Text → Streams → Streams → Stream → Stream → PathLeft O (FileLeft D g) → ℕ → Type 0
+IsAnswered f earlier g image earlier_opener opener may_give from to words old new errors_old errors_new left status =
     ((action : Action) × IsNamedBy (subcommand_of bank_app words) action × (fault_of bank_app words ≡ [])
-    × IsActed f earlier g image opener may_give from to action old new errors_old errors_new left status)
+    × IsActed f earlier g image earlier_opener opener may_give from to action old new errors_old errors_new left status)
     ⊎ ((error : Error) × IsRefusal words error × (new.input ≡ old.input) × (left ≡ path.Unopened opener)
     × IsExplained error old.output new.output errors_old errors_new status)

@@ -46,7 +46,7 @@ pub fn answer<
     errors: &mut Tallied<E>,
     progress: &mut Progress<P>,
 ) -> (PathLeft<O, FileLeft<D>>, u8)
-    ensures { IsAnswered A.Disk F.image D.Disk O.image opener C.may_give clock.old clock.new (map (λ w. w.now) words.now)
+    ensures { IsAnswered A.Disk F.image D.Disk O.image earlier opener C.may_give clock.old clock.new (map (λ w. w.now) words.now)
         (streams_at R.remaining W.contents input.old output.old)
         (streams_at R.remaining W.contents input.new output.new)
         (stream_at E.contents errors.old) (stream_at E.contents errors.new) result.0 result.1 }
@@ -84,7 +84,7 @@ fn act<
     errors: &mut Tallied<E>,
     progress: &mut Progress<P>,
 ) -> (PathLeft<O, FileLeft<D>>, u8)
-    ensures { IsActed A.Disk F.image D.Disk O.image opener C.may_give clock.old clock.new action.now
+    ensures { IsActed A.Disk F.image D.Disk O.image earlier opener C.may_give clock.old clock.new action.now
         (streams_at R.remaining W.contents input.old output.old)
         (streams_at R.remaining W.contents input.new output.new)
         (stream_at E.contents errors.old) (stream_at E.contents errors.new) result.0 result.1 }
@@ -115,8 +115,10 @@ fn act<
             (left, say_done(done, "carried over\n", output, errors))
         }
         Action::Forward { file, new, sums } => {
-            let (left, done) = forward_file(rt, file, new, sums, earlier, opener, progress);
-            (left, say_done(done, "carried forward\n", output, errors))
+            let (ended, left, done) = forward_file(rt, file, new, sums, earlier, opener, progress);
+            let status = say_done(done, "carried forward\n", output, errors);
+            drop(ended);
+            (left, status)
         }
         Action::Run {
             file,

@@ -1,6 +1,6 @@
 -- What ending a year and beginning the next come to.
-use Rattle.std.proofs.Common.{◌≡◌, ◌⊎◌, inl, inr, sym, subst, refl}
-use Rattle.std.specs.Prelude.{Bool, IfErr, IsErrAnd, Result, Ok, Err}
+use Rattle.std.proofs.Common.{◌≡◌, inr, sym, subst, refl}
+use Rattle.std.specs.Prelude.{Bool, IfErr, Result, Ok, Err}
 use Rattle.sqlite_disk.specs.declared.Disk.{Ghosts}
 use Rattle.sqlite_wal.specs.Recovery.{Image}
 use Rattle.sqlite.specs.declared.FileStore.{FileStore}
@@ -16,11 +16,9 @@ use Rattle.sql_adopt.proofs.SoundLemmas.{holds_or_fails, sound_or_fails}
 use Rattle.sql_create.specs.Made.{IsRefusal}
 use Rattle.sql_create.specs.declared.open_fault.OpenFault.{OpenFault}
 use Rattle.sql_create.specs.declared.open_fault.OpenFault.TheVariants as making
-use Rattle.year_forward.specs.Closed.{IsClosed}
 use Rattle.year_forward.specs.Forward.{forward}
 use Rattle.year_laws.proofs.Judged.{forward_passes_checks}
-use Rattle.cli_file.specs.Faults.{IsOfFile, IsUnopened, fault_of_store}
-use Rattle.cli_file.specs.Files.{IsNotFound}
+use Rattle.cli_file.specs.Faults.{IsOfFile, fault_of_store}
 use Rattle.cli_file.specs.Opened.{HoldTheBank, IsOpenedFrom}
 use Rattle.cli_file.specs.Sums.{HasSumsAsAsked}
 use Rattle.cli_file.specs.Unopened.{IsUnopenedFor}
@@ -32,7 +30,7 @@ use Rattle.cli_file.specs.declared.left.PathLeft.{PathLeft}
 use Rattle.cli_file.specs.declared.left.PathLeft.TheVariants as path
 use Rattle.cli_init.specs.Faults.{fault_of_making}
 use Rattle.cli_init.specs.Making.{IsMadeIn}
-use Rattle.cli_forward.specs.Forwarding.{IsForwardedTo, IsNextOf, IsOfNewFile, IsYearClosed}
+use Rattle.cli_forward.specs.Forwarding.{IsForwarded, IsForwardedTo, IsNextOf, IsOfNewFile, IsYearClosed}
 use Rattle.cli_forward.specs.Reading.{IsNextYear, IsNotBegun, IsYearEnded, IsYearRead}
 
 -- ---- the year that ends
@@ -45,34 +43,11 @@ out_of_memory w store.Disk is = cc
 out_of_memory w store.Stopped is = cc
 
 module _ {D : Type 0} {g : Ghosts D} (opened left : Held (FileStore D g)) where
-  pub ended : (w : WorldLists) → IsYearRead opened w left → (r : Result WorldLists ActionFault) → IsNextYear w r → IsYearEnded opened r
-  ended w read (Ok next) is = (left, w, read, is.0, is.1)
-  ended w read (Err told) is = (left, inr (w, read, is))
-
-  pub not_found : (r : Result WorldLists ActionFault) (told : ActionFault) → IsErrAnd r (λ e. e ≡ told) → IsNotFound opened told left → IsYearEnded opened r
-  not_found (Ok next) told same is = absurd same
-  not_found (Err e) told same is = (left, inl (subst (λ (t : ActionFault). IsNotFound opened t left) (sym same) is))
+  pub ended : (w : WorldLists) → IsYearRead opened w left → (r : Result WorldLists ActionFault) → IsNextYear w r → IsYearEnded opened left r
+  ended w read (Ok next) is = (w, read, is.0, is.1)
+  ended w read (Err told) is = inr (w, read, is)
 
 -- ---- faults of a file
-
-unopened_of_file : (told : ActionFault) → IsOfFile told → IsUnopened told
-unopened_of_file fault.NotRead is = tt
-unopened_of_file fault.Memory is = tt
-unopened_of_file fault.NotABank is = absurd is
-unopened_of_file (fault.List why) is = absurd is
-unopened_of_file (fault.Badge list row) is = absurd is
-unopened_of_file (fault.Books why) is = absurd is
-unopened_of_file (fault.Policy why) is = absurd is
-unopened_of_file fault.OtherVersion is = absurd is
-unopened_of_file fault.NotEmpty is = absurd is
-unopened_of_file (fault.NotClosed branch) is = absurd is
-unopened_of_file fault.Cut is = absurd is
-unopened_of_file fault.Broken is = absurd is
-
-pub unopened : {D O : Type 0} {g : Ghosts D} (opener : O) (left : PathLeft O (FileLeft D g)) (told : ActionFault) → IsUnopenedFor opener left told → IsUnopened told
-unopened opener (path.Unopened o) told is = is.1
-unopened opener path.Refused told is = unopened_of_file told is
-unopened opener (path.Opened left) told is = absurd is
 
 of_new_file : (told : ActionFault) → IsOfFile told → IsOfNewFile told
 of_new_file fault.NotRead is = tt
@@ -111,20 +86,22 @@ module _ {D : Type 0} (g : Ghosts D) (opened : Held (FileStore D g)) (w : WorldL
   made_refused checks (left.Unclosed rest) r (kept, told, made, is, same) =
       subst (λ (z : Result Unit ActionFault). IfErr z IsOfNewFile) (sym same) (of_new_file told is.of_file)
 
-module _ {A D : Type 0} (f : Ghosts A) (earlier : Image) (g : Ghosts D) (image : Image) (opened : Held (FileStore D g)) (w : WorldLists) (year : IsYearClosed f earlier g image w) where
-  pub next_of : (l : FileLeft D g) (r : Result Unit ActionFault) → IsMadeIn g opened (forward w) l r → IsNextOf f earlier g image year l
-  next_of (left.Open conn) r is = tt
-  next_of (left.Closed files) r (done, same) =
+module _ {A D : Type 0} (f : Ghosts A) (earlier : Image) (g : Ghosts D) (image : Image) (ended : Held (FileStore A f)) where
+  next_of : (opened : Held (FileStore D g)) (w : WorldLists) → IsYearClosed f earlier g image w ended → (l : FileLeft D g) (r : Result Unit ActionFault) → IsMadeIn g opened (forward w) l r
+      → IsNextOf f earlier g image ended l
+  next_of opened w year (left.Open conn) r is = tt
+  next_of opened w year (left.Closed files) r (done, same) =
       λ v held clean. subst (λ (z : WorldLists). HoldTheBank g files (forward z)) (year.read.bank earlier v held year.from clean) done.bank
-  next_of (left.Unclosed rest) r is = tt
+  next_of opened w year (left.Unclosed rest) r is = tt
 
-module _ {A D : Type 0} (f : Ghosts A) (earlier : Image) (g : Ghosts D) (image : Image) where
-  -- the World of a year that is closed, and what was seen of its file
-  pub year_is : (opened : Held (FileStore A f)) → IsOpenedFrom earlier opened → (next : WorldLists) (y : IsYearEnded opened (Ok next)) → IsYearClosed f earlier g image y.1
-  year_is opened from next y = record { opened = opened; from = from; left = y.0; read = y.2; closed = y.3 }
+  -- the World of a year that is closed, and what is left of its file
+  pub closed_year : (opened : Held (FileStore A f)) → IsOpenedFrom earlier opened → (next : WorldLists) → IsYearEnded opened ended (Ok next)
+      → (w : WorldLists) × IsYearClosed f earlier g image w ended × (next ≡ forward w)
+  closed_year opened from next year = (year.0, record { opened = opened; from = from; read = year.1; closed = year.2 }, year.3)
 
-  pub forwarded : (w : WorldLists) → IsYearClosed f earlier g image w → (next : WorldLists) → next ≡ forward w → (opened : Held (FileStore D g)) → IsOpenedFrom image opened
-      → (sums : Bool) → HasSumsAsAsked sums image opened → (l : FileLeft D g) (r : Result Unit ActionFault) → IsMadeIn g opened next l r → IsForwardedTo f earlier g image sums l r
+  pub forwarded : (w : WorldLists) → IsYearClosed f earlier g image w ended → (next : WorldLists) → next ≡ forward w → (opened : Held (FileStore D g)) → IsOpenedFrom image opened
+      → (sums : Bool) → HasSumsAsAsked sums image opened → (l : FileLeft D g) (r : Result Unit ActionFault) → IsMadeIn g opened next l r
+      → IsForwardedTo f earlier g image sums ended l r
   forwarded w year next same opened from sums asked l r is =
       let made : IsMadeIn g opened (forward w) l r = subst (λ (z : WorldLists). IsMadeIn g opened z l r) same is in
       record {
@@ -134,6 +111,13 @@ module _ {A D : Type 0} (f : Ghosts A) (earlier : Image) (g : Ghosts D) (image :
         from = from;
         asked = asked;
         made = made;
-        next = next_of f earlier g image opened w year l r made;
+        next = next_of opened w year l r made;
         refused = made_refused g opened (forward w) (forward_passes_checks w year.read.passes) l r made;
       }
+
+module _ {A D E O : Type 0} (f : Ghosts A) (earlier : Image) (g : Ghosts D) (image : Image) (sums : Bool) (earlier_opener : E) (opener : O) where
+  pub not_opened : (old : PathLeft E (FileLeft A f)) (told : ActionFault) → IsUnopenedFor earlier_opener old told
+      → IsForwarded f earlier g image sums earlier_opener opener old (path.Unopened opener) (Err told)
+  not_opened (path.Unopened o) told is = (refl, is)
+  not_opened path.Refused told is = (refl, is)
+  not_opened (path.Opened left) told is = absurd is

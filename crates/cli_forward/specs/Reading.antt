@@ -38,9 +38,8 @@ module _ {D : Type 0} {g : Ghosts D} where
     -- So over every image of a bank it is the World of that bank.
     pub bank : (image : Image) (v : WorldLists) → IsBankImage image v → IsOpenedFrom image opened → HasCleanDisk (file_state left) → w ≡ v
 
-  -- What an open file was before it was let go, and the World of the next year of the bank that was found there; or why there is none: no bank
-  -- was found, or it begins no year.
-  abbrev pub IsYearEnded : Held (FileStore D g) → Result WorldLists ActionFault → Type 0
-  IsYearEnded opened (Ok next) = (left : Held (FileStore D g)) × (w : WorldLists) × IsYearRead opened w left × IsClosed w × (next ≡ forward w)
-  IsYearEnded opened (Err told) =
-      (left : Held (FileStore D g)) × (IsNotFound opened told left ⊎ ((w : WorldLists) × IsYearRead opened w left × IsNotBegun w told))
+  -- From an open file and what is left of it: the World of the next year of the bank that was found there; or why there is none: no bank was
+  -- found, or it begins no year.
+  abbrev pub IsYearEnded : Held (FileStore D g) → Held (FileStore D g) → Result WorldLists ActionFault → Type 0
+  IsYearEnded opened left (Ok next) = (w : WorldLists) × IsYearRead opened w left × IsClosed w × (next ≡ forward w)
+  IsYearEnded opened left (Err told) = IsNotFound opened told left ⊎ ((w : WorldLists) × IsYearRead opened w left × IsNotBegun w told)

@@ -8,8 +8,8 @@ use cli_init::make_in;
 use sqlite_disk::Disk;
 use std::io::Write;
 
-/// Makes in a new file the bank that begins the next year of the one in a file that is there, which holds what it held. That file is
-/// let go before the new one is opened. What is left of the new file is handed back, or its opener where it was not opened.
+/// Makes in a new file the bank that begins the next year of the one in a file that is there, which is left as by its check.
+/// What is left of the old file and of the new one is handed back, or the opener of one that was not opened.
 pub fn forward_file<A: Disk + Drop, D: Disk + Drop, E: Opener<A>, O: Opener<D>, P: Write + Drop>(
     rt: &HostRuntime,
     file: &str,
@@ -18,24 +18,30 @@ pub fn forward_file<A: Disk + Drop, D: Disk + Drop, E: Opener<A>, O: Opener<D>, 
     earlier: E,
     opener: O,
     progress: &mut Progress<P>,
-) -> (PathLeft<O, FileLeft<D>>, Result<(), ActionFault<'static>>)
-    ensures { IsForwarded A.Disk E.image D.Disk O.image sums opener result.0 result.1 }
+) -> (
+    PathLeft<E, FileLeft<A>>,
+    PathLeft<O, FileLeft<D>>,
+    Result<(), ActionFault<'static>>,
+)
+    ensures { IsForwarded A.Disk E.image D.Disk O.image sums earlier opener result.0 result.1 result.2 }
 {
     progress.begin("opening the file ..\n");
     let conn = match open_existing(rt, file, earlier) {
         Ok(conn) => conn,
-        Err((_, fault)) => return (PathLeft::Unopened(opener), Err(fault)),
+        Err((old, fault)) => return (old, PathLeft::Unopened(opener), Err(fault)),
     };
     progress.begin("reading the bank and checking its books ..\n");
-    let world = match end_year(rt.alloc(), conn) {
+    let (conn, next) = end_year(rt.alloc(), conn);
+    let old = PathLeft::Opened(FileLeft::Open(conn));
+    let world = match next {
         Ok(world) => world,
-        Err(fault) => return (PathLeft::Unopened(opener), Err(fault)),
+        Err(fault) => return (old, PathLeft::Unopened(opener), Err(fault)),
     };
     progress.begin("opening the new file ..\n");
     let conn = match opener.make(rt, new, sums) {
         Ok(conn) => conn,
-        Err(fault) => return (PathLeft::Refused, Err(fault)),
+        Err(fault) => return (old, PathLeft::Refused, Err(fault)),
     };
     let (left, done) = make_in(rt.alloc(), conn, &world, progress);
-    (PathLeft::Opened(left), done)
+    (old, PathLeft::Opened(left), done)
 }

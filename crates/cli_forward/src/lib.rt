@@ -1,7 +1,6 @@
 //! The next year of a bank, in a file of its own. `forward_file` reads the bank in one file, as its check does, and
-//! makes the bank that begins its next year in another; where a branch is not closed, none is made. The first
-//! file is let go before the second is opened, and holds what it held. A crash leaves no bank in the second,
-//! or the whole one.
+//! makes the bank that begins its next year in another; where a branch is not closed, none is made. Both are
+//! handed back: the first holds what it held. A crash leaves no bank in the second, or the whole one.
 #![tactic(auto)]
 
 mod forwarding;

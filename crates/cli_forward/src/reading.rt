@@ -45,14 +45,17 @@ fn next_year(alloc: Global, bank: BankRows) -> Result<World, ActionFault<'static
     }
 }
 
-/// The World of the next year of the bank that stands in an open file. The file is let go, and nothing in it is changed.
+/// The World of the next year of the bank that stands in an open file, or why there is none. Nothing is changed. The connection is
+/// handed back.
 pub(crate) fn end_year<D: Disk + Drop>(
     alloc: Global,
     mut conn: FileConnection<D>,
-) -> Result<World, ActionFault<'static>>
+) -> (FileConnection<D>, Result<World, ActionFault<'static>>)
     requires { conn.in_transaction ≡ false }
-    ensures { IsYearEnded conn result }
+    ensures { IsYearEnded conn result.0 result.1 }
 {
-    let bank = read_year(alloc, &mut conn)?;
-    next_year(alloc, bank)
+    match read_year(alloc, &mut conn) {
+        Ok(bank) => (conn, next_year(alloc, bank)),
+        Err(fault) => (conn, Err(fault)),
+    }
 }
