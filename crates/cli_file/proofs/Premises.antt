@@ -1,5 +1,5 @@
 -- What the laws on pages with sums suppose is met by what it is named for.
-use Rattle.std.proofs.Common.{◌≡◌, ◌⊎◌, ◌∙◌, ℕ, true, inl, inr, arith, List, [], ◌∷◌, length, Some, None, refl, sym, ap}
+use Rattle.std.proofs.Common.{◌≡◌, ◌⊎◌, ◌∙◌, ℕ, true, false, inl, inr, arith, List, [], ◌∷◌, length, Some, None, refl, sym, ap}
 use Rattle.std.proofs.lemmas.Bool.{false≢true}
 use Rattle.sqlite_pool.specs.Header.{first_page}
 use Rattle.sqlite_pool.specs.Stored.{is_among, sealed, sum_bytes}

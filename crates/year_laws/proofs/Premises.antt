@@ -1,6 +1,5 @@
 -- What the laws across the turn of a year suppose is met by what it is named for.
-use Rattle.std.proofs.Common.{◌≡◌, ◌≢◌, ◌≤◌, ℕ, refl, arith}
-use Rattle.std.specs.Prelude.{⊤}
+use Rattle.std.proofs.Common.{refl, arith}
 use Rattle.counter_ops.specs.Operations.{IsOp}
 use Rattle.counter_ops.specs.declared.op.Op.{Op}
 use Rattle.counter_ops.specs.declared.op.Op.TheVariants as op

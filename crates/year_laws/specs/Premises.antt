@@ -1,7 +1,6 @@
 -- That what the laws across the turn of a year suppose is met by what it is named for, and that they except no more than they name.
-use Rattle.std.specs.Prelude.{◌≡◌, List, [], ◌∷◌, Some}
+use Rattle.std.specs.Prelude.{◌≡◌, [], ◌∷◌, Some}
 use Rattle.std.specs.List.{filter}
-use Rattle.bank_terms.specs.declared.rule.Rule.{Rule}
 use Rattle.bank_terms.specs.declared.rule.Rule.TheVariants as rule
 use Rattle.bank_books.specs.SlipRow.{SlipRow}
 use Rattle.bank_books.specs.WorldLists.{WorldLists}
