@@ -18,6 +18,10 @@ export function cash() {
   const part = cashOver(ROWS.slice(1, 2), 11);
   same([cashOf(part), part.isKnown], [[2500], false], 'cash since');
   same(cashOf(cashOver([ROWS[1], ROWS[5]], 11)), [40000, 39900], 'cash known by the count');
+  const into = row(5, 'move-cash', {amount: 2000, branch: 1, source: 0, target: 11}, {moved: 2000, source: 1, target: 44000});
+  same(cashOf(cashOver([...ROWS.slice(0, 4), into], 11)), [40000, 42500, 42000, 44000], 'cash that comes into the drawer');
+  same(cashOf(cashOver([ROWS[1], into], 11)), [42000, 44000], 'cash known by what comes into the drawer');
+  same(expectedCash([...ROWS.slice(0, 4), into], 11), 44000, 'expected after cash has come in');
   same(cashOver(ROWS, 12).points, [], 'another drawer');
   same([expectedCash(ROWS.slice(0, 4), 11), expectedCash(ROWS.slice(1, 4), 11), expectedCash(ROWS, 11)], [42000, null, null], 'expected');
   same(expectedCash([{...ROWS[0]}, {...ROWS[1], state: 'refused'}], 11), 40000, 'what was refused moved nothing');

@@ -23,10 +23,23 @@ export function reports() {
   const proof = readProof(PROOF);
   same([proof.day, proof.tellers[1], proof.sums['VAULT CASH']], [1, {teller: 12, balance: 0, cash: 5000, holder: 8}, 55000], 'proof');
   same(checksOf(proof).map(([agrees]) => agrees), [true, true, true], 'proof that agrees');
-  same(checksOf({sums: {...proof.sums, 'VAULT CASH': 1}}).map(([agrees]) => agrees), [true, true, false], 'proof that differs');
+  for (const [name, agree] of [
+    ['TELLERS TOTAL', [false, true, true]], ['BRANCH BALANCE', [false, false, true]], ['HISTORY TOTAL', [true, false, true]],
+    ['OPENING BALANCE', [true, false, true]], ['VAULT CASH', [true, true, false]], ['DRAWER CASH', [true, true, false]],
+    ['OPENING CASH', [true, true, false]], ['CASH ENTRIES', [true, true, false]], ['DIFFERENCES', [true, true, false]],
+  ]) {
+    for (const cents of [-1, 1, 99, 54999]) {
+      const found = checksOf({sums: {...proof.sums, [name]: proof.sums[name] + cents}}).map(([agrees]) => agrees);
+      same(found, agree, `a proof whose ${name} differs by ${cents}`);
+    }
+  }
   const listed = readPolicy(POLICY);
   same(listed.map(row => row.kind), ['user', 'certifier', 'set', 'relation', 'triple'], 'policy');
   same(listed[0].cells, {user: 1, isOfficer: true, isSuspended: false, name: 'Olga'}, 'user');
+  for (const [marks, isOfficer, isSuspended] of [['--', false, false], ['-S', false, true], ['OS', true, true]]) {
+    const [{cells}] = readPolicy(`POLICY LINES         1\nUSER    2 ${marks} Carl                \n`);
+    same(cells, {user: 2, isOfficer, isSuspended, name: 'Carl'}, `a user marked ${marks}`);
+  }
   same(listed[4].cells, {user: 7, procedure: 'post', set: 2, limit: 999999, first: 0, last: 99999999999}, 'triple');
 }
 

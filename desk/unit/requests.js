@@ -82,6 +82,35 @@ export async function queuesAcrossSessions() {
     'after the session');
 }
 
+/** How durable the transactions that write were asked to be while some work was done. */
+async function durabilities(work) {
+  const {transaction} = IDBDatabase.prototype;
+  const asked = [];
+  IDBDatabase.prototype.transaction = function made(names, mode, options) {
+    if (mode === 'readwrite') asked.push(options?.durability);
+    return transaction.call(this, names, mode, options);
+  };
+  try {
+    await work();
+  } finally {
+    IDBDatabase.prototype.transaction = transaction;
+  }
+  return asked;
+}
+
+/** A slip is on the disk before its request is sent, and struck off there before the next one is. */
+export async function durable() {
+  indexedDB.deleteDatabase('durable');
+  const store = await openStore('durable');
+  const ann = store.journalOf('ann');
+  let written = null;
+  same(await durabilities(() => store.setFact('ann session', {number: 7, used: 0})), ['strict'], 'a session is kept');
+  same(await durabilities(async () => { written = await ann.write({name: 'post', body: '1', at: 1}); }), ['strict'], 'a slip is kept');
+  same(await durabilities(() => ann.strike(written, 'done', {status: 200, text: '{}'})), ['strict'], 'a slip is struck off');
+  const other = await ann.write({name: 'post', body: '2', at: 2});
+  same(await durabilities(() => store.setAside(other.id, {by: 'sue', reason: 'x', at: 3})), ['strict'], 'a request is set aside');
+}
+
 export async function stores() {
   indexedDB.deleteDatabase('unit');
   const store = await openStore('unit');

@@ -25,6 +25,31 @@ export function operations() {
   same(isReply('post', reply(200, {balance: 1, branch: 1})), false, 'no reply of a post');
   same(isReply('post', reply(200, {balance: '<b>', branch: 1, entry: 1})), false, 'text for a number');
   same(OPERATIONS.post.asked({...DEPOSIT, delta: -2500}), 'Withdrawal of 25.00, account 101, drawer 11', 'asked');
+  same(OPERATIONS['new-account'].asked({account: 103, branch: 1, floor: -50}), 'New account 103 at branch 1, overdraft 0.50', 'an overdraft');
+}
+
+/** Of two accounts or two places, none is taken for the other. */
+export function ends() {
+  const endOf = (name, body, answer) => {
+    const {label, figure, more} = OPERATIONS[name].end(body, answer);
+    return [label, figure, more];
+  };
+  const legs = {branch: 1, first: 4, second: 5, source: 52000, target: 777};
+  const whole = ['Balance of account 101', '520.00', 'Account 102 has 7.77. Entries 4 and 5 of branch 1'];
+  same(endOf('transfer', TRANSFER, legs), whole, 'end of a transfer');
+  const undone = {account: 101, branch: 1, delta: -500, entry: 4, other: 102, teller: 11};
+  same(endOf('correct', undone, legs), whole, 'end of a transfer\'s correction');
+  const single = ['Balance of account 101', '525.00', 'Entry 6 of branch 1'];
+  same(endOf('correct', {...undone, other: 0}, {balance: 52500, branch: 1, entry: 6}), single, 'end of a post\'s correction');
+  const moved = {moved: 2000, source: 40000, target: 123};
+  const out = {amount: 2000, branch: 1, source: 11, target: 0};
+  const into = {...out, source: 0, target: 11};
+  same(OPERATIONS['move-cash'].asked(out), 'Cash of 20.00 from drawer 11 to the vault', 'cash out of the drawer');
+  same(OPERATIONS['move-cash'].asked(into), 'Cash of 20.00 from the vault to drawer 11', 'cash into the drawer');
+  same(endOf('move-cash', out, moved), ['Moved', '20.00', 'Drawer 11 has 400.00, the vault has 1.23'], 'end of cash out of the drawer');
+  same(endOf('move-cash', into, moved), ['Moved', '20.00', 'The vault has 400.00, drawer 11 has 1.23'], 'end of cash into the drawer');
+  const off = difference => endOf('drawer-off', {}, {difference, teller: 11, vault: 1})[0];
+  same([off(-1), off(0), off(1)], ['Cash is missing', 'The count agrees', 'Cash is over'], 'differences');
 }
 
 export function journals() {
@@ -37,6 +62,8 @@ export function journals() {
   same(branchOf({body: '{"beneficiary":8,"operation":{"branch":4}}'}), 4, 'branch of a release');
   same(journalFile([done]).split('\r\n')[1].split(',').at(-1), '""entry"":3}"', 'as a file');
   same(toCsv(['a', 'b'], [['x,"y"', -5], ['=1+1', '-2'], ['l\nm', '']]), 'a,b\r\n"x,""y""",-5\r\n\'=1+1,\'-2\r\n"l\nm",\r\n', 'csv');
+  for (const first of ['=', '+', '-', '@', '\t']) same(toCsv(['a'], [[`${first}x`]]), `a\r\n'${first}x\r\n`, `a cell that begins with ${first}`);
+  for (const text of ['x@y', '1-2', '']) same(toCsv(['a'], [[text]]), `a\r\n${text}\r\n`, `no formula: ${text}`);
 }
 
 export function receipts() {
@@ -45,7 +72,10 @@ export function receipts() {
   same(receiptOf(deposit, true).lines.slice(0, 6), [['Branch', '1'], ['Teller', 'tess, drawer 11'], ['Account', '101'], ['Amount', '25.00'],
     ['Balance of 101', '525.00'], ['Entry', '3']], 'deposit');
   same(labels(deposit, false), ['Branch', 'Teller', 'Account', 'Amount', 'Entry', 'Time'], 'no balance');
-  same(receiptOf(row(1, 'post', {...DEPOSIT, delta: -100}, {}), false).title, 'Withdrawal', 'withdrawal');
+  const withdrawal = receiptOf(row(1, 'post', {...DEPOSIT, delta: -100}, {}), false);
+  same([withdrawal.title, withdrawal.lines[3]], ['Withdrawal', ['Amount', '1.00']], 'withdrawal');
+  const timeOf = (at, answered) => receiptOf({...deposit, at, answered}, false).lines.find(([label]) => label === 'Time');
+  same([timeOf(0, 3600000), timeOf(0, 0)[1] === timeOf(0, 3600000)[1]], [timeOf(3600000, 3600000), false], 'the time of the reply');
   const transfer = row(2, 'transfer', TRANSFER, {branch: 1, first: 4, second: 5, source: 52000, target: 777});
   same(receiptOf(transfer, true).lines.slice(4, 7), [['Amount', '5.00'], ['Balance of 101', '520.00'], ['Entries', '4 and 5']], 'transfer');
   same(JSON.stringify(receiptOf(transfer, true)).includes('7.77'), false, 'the balance of the other account is nobody\'s here');
@@ -73,4 +103,16 @@ export function commands() {
   same(parseMoment('2026-11-28', true) - parseMoment('2026-11-28', false), 86399, 'a day');
   const released = operationOf({procedure: 'post', branch: 1, teller: 12, way: 'out', account: 101, amount: 60000});
   same(released, {account: 101, branch: 1, delta: -60000, procedure: 'post', teller: 12}, 'released');
+  const typed = {
+    branch: 1, teller: 12, way: 'in', account: 101, amount: 500, source: 101, target: 102, entry: 4, other: 102, cash: 700, from: 0, to: 12,
+  };
+  for (const wanted of [
+    {account: 101, branch: 1, delta: 500, procedure: 'post', teller: 12},
+    {amount: 500, branch: 1, procedure: 'transfer', source: 101, target: 102, teller: 12},
+    {account: 101, branch: 1, delta: 500, entry: 4, other: 102, procedure: 'correct', teller: 12},
+    {branch: 1, cash: 700, procedure: 'drawer-on', teller: 12},
+    {amount: 700, branch: 1, procedure: 'move-cash', source: 0, target: 12},
+  ]) same(operationOf({...typed, procedure: wanted.procedure}), wanted, `released: ${wanted.procedure}`);
+  const out = operationOf({...typed, procedure: 'correct', way: 'out', other: null});
+  same(out, {account: 101, branch: 1, delta: -500, entry: 4, other: 0, procedure: 'correct', teller: 12}, 'released: a withdrawal\'s correction');
 }

@@ -2,12 +2,13 @@
 import {failed, count} from './check.js';
 import {amounts} from './amounts.js';
 import {reports, lastTurns} from './reports.js';
-import {judged, slips, queues, queuesAcrossSessions, stores} from './requests.js';
-import {refusals, operations, journals, receipts, outcomes, commands} from './texts.js';
+import {judged, slips, queues, queuesAcrossSessions, durable, stores} from './requests.js';
+import {refusals, operations, ends, journals, receipts, outcomes, commands} from './texts.js';
 import {cash} from './cash.js';
+import {newAccounts, movedCash} from './screens.js';
 
-const TESTS = [amounts, reports, lastTurns, judged, slips, queues, queuesAcrossSessions, stores, refusals, operations, journals, receipts,
-  outcomes, commands, cash];
+const TESTS = [amounts, reports, lastTurns, judged, slips, queues, queuesAcrossSessions, durable, stores, refusals, operations, ends,
+  journals, receipts, outcomes, commands, cash, newAccounts, movedCash];
 
 /** A test that waits for ever has failed. */
 const late = () => new Promise((_, reject) => setTimeout(() => reject(new Error('no end')), 15000));

@@ -37,6 +37,7 @@ struct block {
     long memory_calls;   /* how many calls for memory were made */
     long clock_reads;    /* how often the clock was read */
     long skipped;        /* by how many seconds the running clock is ahead */
+    long stopped;        /* what the running clock reads, in seconds, where it stands; 0 where it goes on */
 };
 static struct block own, *block = &own;
 static int trace = -1;
@@ -126,6 +127,10 @@ int clock_gettime(clockid_t clock, struct timespec *now)
     }
     if (done == 0 && (clock == CLOCK_MONOTONIC || clock == CLOCK_MONOTONIC_COARSE || clock == CLOCK_BOOTTIME))
         now->tv_sec += block->skipped;
+    if (done == 0 && block->stopped && clock == CLOCK_MONOTONIC) {
+        now->tv_sec = block->stopped;
+        now->tv_nsec = 0;
+    }
     return done;
 }
 

@@ -17,7 +17,7 @@ from sample_file import ENDINGS
 # The numbers of the block, as machine.c has them.
 NUMBERS = (
     "moment stands disk_after disk_way disk_kinds disk_error disk_fired memory_after memory_count memory_fired drops_syncs "
-    "waits_part disk_calls memory_calls clock_reads skipped"
+    "waits_part disk_calls memory_calls clock_reads skipped stopped"
 ).split()
 READS, WRITES, SYNCS, SIZES, OPENS, REMOVES, SENDS = (1 << it for it in range(7))
 CHANGES = WRITES | SYNCS | SIZES | OPENS | REMOVES
