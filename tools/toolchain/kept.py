@@ -5,6 +5,7 @@ a change of what a piece hangs on gives it another name; so the folder may be re
 read or written, nothing is kept, and all work is done anew.
 """
 import contextlib
+import glob
 import hashlib
 import os
 import tempfile
@@ -12,8 +13,8 @@ import tempfile
 from repository import TOP, below
 
 PLACE = os.path.join(os.environ.get("XDG_CACHE_HOME") or os.path.expanduser("~/.cache"), "tespiorvu")
-# The files of the kit that name it and what it was built from.
-NAMES_OF_KIT = ("KIT-ID", "WHAT")
+# The files of the kit that name it and what it was built from, and its programs.
+NAMES_OF_KIT, PROGRAMS_OF_KIT = ("KIT-ID", "WHAT"), ("bin/*", "toolchain/bin/*")
 
 
 def sum_of(*parts):
@@ -32,9 +33,9 @@ def sum_of_file(path):
 
 def sum_of_kit(home):
     """The checksum of what names the toolchain's kit, and of the size and time of each of its programs."""
-    programs = os.path.join(home, "bin")
-    found = [(it.name, it.stat().st_size, it.stat().st_mtime_ns) for it in os.scandir(programs) if it.is_file()]
-    return sum_of([sum_of_file(os.path.join(home, it)) for it in NAMES_OF_KIT], sorted(found))
+    programs = sorted(path for it in PROGRAMS_OF_KIT for path in glob.glob(os.path.join(home, it)))
+    found = [(os.path.relpath(it, home), os.stat(it).st_size, os.stat(it).st_mtime_ns) for it in programs]
+    return sum_of([sum_of_file(os.path.join(home, it)) for it in NAMES_OF_KIT], found)
 
 
 def sum_of_tools(names):
@@ -42,9 +43,15 @@ def sum_of_tools(names):
     return sum_of([(it, sum_of_file(os.path.join(TOP, "tools", it))) for it in (*names, "toolchain/kept.py")])
 
 
+def sum_of_crate(folder):
+    """The checksum of a crate's sources, definitions and proofs."""
+    paths = sorted(path for it in ("src", "specs", "proofs") for path in glob.glob(f"{folder}/{it}/**", recursive=True))
+    return sum_of([(os.path.relpath(it, folder), sum_of_file(it)) for it in paths if os.path.isfile(it)])
+
+
 def sum_below(uses, crate, libraries, home):
-    """The checksum of the libraries that a crate stands on, or none where one of them is not built. Each has the sums of its
-    files in one of them, and the sums of those of the kit on which it stands."""
+    """The checksum of the libraries on which a crate stands, or none if one of them is not built. Each has a file with the sums of
+    its others, and of the libraries of the kit below it."""
     ours = [it for it in below(uses, [crate]) if it != crate]
     of_kit = sorted({"std", *(used for it in [crate, *ours] for used in uses[it])} - {*ours})
     places = {**{it: f"{libraries}/crates/{it}/out/rlib" for it in ours}, **{it: f"{home}/rlibs" for it in of_kit}}
@@ -53,7 +60,7 @@ def sum_below(uses, crate, libraries, home):
 
 
 def own_folder(kind):
-    """The folder for pieces of this kind, or none where there is none that is the user's own."""
+    """The folder for pieces of this kind, or none if there can be none that is the user's own."""
     if kind is None:
         return None
     folder = os.path.join(PLACE, kind)
@@ -65,7 +72,7 @@ def own_folder(kind):
 
 
 class Kept:
-    """The pieces of a kind that are kept: of no kind, none is. Where all is to be done anew, none of them is given."""
+    """The pieces of a kind that are kept; with no kind, none is. If all is to be done anew, none of them is given."""
 
     def __init__(self, kind, is_anew=False):
         self.folder, self.is_anew = own_folder(kind), is_anew
@@ -99,7 +106,7 @@ class Kept:
                 os.remove(os.path.join(self.folder, name))
 
     def shrink(self, most):
-        """Removes the pieces that were used longest ago, until the others take at most so many bytes of the disk."""
+        """Removes the pieces that were used longest ago, until the others take no more bytes of the disk than these."""
         if not self.folder:
             return
         with contextlib.suppress(OSError):

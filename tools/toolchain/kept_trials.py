@@ -80,7 +80,10 @@ def said_by_run(room, seed, words=(), variables=None):
     ran = subprocess.run(
         [f"{room}/tools/toolchain/mutants", "--libraries", room, "--seed", str(seed), *words],
         env={**os.environ, "PATH": path, "XDG_CACHE_HOME": f"{room}/cache", **(variables or {})},
-        stdin=subprocess.DEVNULL, stdout=subprocess.PIPE, stderr=subprocess.STDOUT, check=False,
+        stdin=subprocess.DEVNULL,
+        stdout=subprocess.PIPE,
+        stderr=subprocess.STDOUT,
+        check=False,
     )
     return ran.stdout.decode(errors="replace")
 
@@ -99,7 +102,8 @@ def against(row, begun, room, seeds):
 
 def all_against(is_drawn):
     """Each row, and what is wrong in it, if anything; `is_drawn` says whether a seed has a mutant of a crate tried anew."""
-    seeds = {drawn: next(it for it in itertools.count() if is_drawn(it, "high", "other_answer") is drawn) for drawn in (False, True)}
+    first = lambda drawn: next(it for it in itertools.count() if is_drawn(it, "high", "other_answer") is drawn)
+    seeds = {it: first(it) for it in (False, True)}
     with tempfile.TemporaryDirectory(prefix="kept-trials-") as room:
         made_in(f"{room}/begun")
         said = said_by_run(f"{room}/begun", seeds[False])
