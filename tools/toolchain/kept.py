@@ -43,9 +43,9 @@ def sum_of_tools(names):
     return sum_of([(it, sum_of_file(os.path.join(TOP, "tools", it))) for it in (*names, "toolchain/kept.py")])
 
 
-def sum_of_crate(folder):
-    """The checksum of a crate's sources, definitions and proofs."""
-    paths = sorted(path for it in ("src", "specs", "proofs") for path in glob.glob(f"{folder}/{it}/**", recursive=True))
+def sum_of_files(folder, *patterns):
+    """The checksum of the files below a folder whose paths match one of these patterns."""
+    paths = sorted(path for it in patterns for path in glob.glob(f"{folder}/{it}", recursive=True))
     return sum_of([(os.path.relpath(it, folder), sum_of_file(it)) for it in paths if os.path.isfile(it)])
 
 
