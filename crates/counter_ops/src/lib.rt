@@ -1,8 +1,8 @@
 //! The operations that a counter asks of the bank, as data: `Op` with its thirteen forms, `Releasable` with
-//! the five that a release may be for, and the `Procedure` of each. What each form says of itself is an
-//! `Operation`. `Op::to_row` and `Op::from_row` are an operation as a row of numbers and back. `touches` lists
-//! exactly its items, and `amount` is what the limit of a triple is compared with, in cents: both of the
-//! operation alone, whatever the books hold. What an operation means is in `bank_meaning`.
+//! the five that a release may be for. Each form is an `Operation`. `Op::to_row` and
+//! `Op::from_row` are an operation as a row of numbers and back. `touches` lists exactly its items, and
+//! `amount` is what the limit of a triple is compared with, in cents, both of the operation alone,
+//! whatever the books hold. What each means is in `bank_meaning`.
 #![tactic(auto)]
 
 mod accounts;
