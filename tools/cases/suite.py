@@ -31,6 +31,7 @@ A case may have several runs in one folder, each after a `run` of its own, and f
     after NAME                               the folder begins as the case NAME leaves it, whose runs are compared here, too; or as
                                              `files NAME` says, a block that has files and no run
     unchanged bank.db, absent bank.db        after a run: the file is as it was before it, or is not there
+    rights bank.db 644                       after a run, which a mask of 0 takes no rights from: those of the file
 """
 import glob
 import os
@@ -245,6 +246,7 @@ class Step:
         self.compares_output = True
         self.unchanged = []
         self.absent = []
+        self.rights = {}
 
 
 class Row:
@@ -385,6 +387,10 @@ class RowReader:
     def take_absent(self, text):
         self.step().absent.append(text)
 
+    def take_rights(self, text):
+        path, rights = text.split(" ")
+        self.step().rights[path] = int(rights, 8)
+
     def take_after(self, text):
         self.row.after = text
 
@@ -421,6 +427,7 @@ KEYS = {
     "output": RowReader.take_output,
     "unchanged": RowReader.take_unchanged,
     "absent": RowReader.take_absent,
+    "rights": RowReader.take_rights,
     "after": RowReader.take_after,
     "shows": RowReader.take_shows,
     "file": RowReader.take_file,
