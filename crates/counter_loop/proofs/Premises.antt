@@ -1,5 +1,6 @@
 -- What is supposed of turns is met by what it is named for.
-use Rattle.std.proofs.Common.{◌≡◌, [], ◌∷◌, length, All-head, All-tail}
+use Rattle.std.proofs.Common.{◌≡◌, [], ◌∷◌, length}
+use Rattle.std.proofs.lemmas.List.Elements.{All-head, All-tail}
 use Rattle.counter_loop.specs.Premises.{PremisesAreMet}
 
 pub premises_are_met : PremisesAreMet
