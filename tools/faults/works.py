@@ -359,8 +359,8 @@ class Run(Work):
         return is_report and output.startswith(head + end) and self.replies[0].startswith(output) and output != self.replies[0]
 
     def judged(self, said, file, fault, _):
-        """The state after the requests is there where one got its reply, the state before where none did, or, where the fault
-        allows both, one of them."""
+        """The state after the requests is there if one got its reply, the state before if none did; or, where the fault allows
+        both, and the run could not close the file, one of them."""
         status, output, errors = said
         done = []
         if (status, errors) != (3, BROKEN) or not self.is_broken_off(output):
@@ -369,7 +369,8 @@ class Run(Work):
             done = self.done(output, fault)
             if len(done) != len(self.replies) and (status == 0 or done):
                 raise Wrong(f"it ended with {said!r}")
-        return self.left(file, (True,) if any(done) else (True, False) if done and fault.may_be_done else (False,))
+        may_be_either = done and fault.may_be_done and status != 0
+        return self.left(file, (True,) if any(done) else (True, False) if may_be_either else (False,))
 
     def left(self, file, may_be):
         """Which state is there, one of these, row by row. It is sound, and what is asked for anew is answered and done once."""
