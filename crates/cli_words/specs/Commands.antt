@@ -100,10 +100,11 @@ counter_app =
     with_rule (with_places (with_rule (with_rule (new_app (codes "counter")) (word_rule (codes "file"))) (option_rule (codes "badges"))))
     (flag_rule (codes "until-input-ends"))
 
--- the program with no command: its arguments begin after its name, and a command must be among them
+-- the program with no command: its arguments begin after its name, and a command, or `--version`, must be among them
 abbrev pub top_app : App
 top_app = record {
-  top = record (new_app (codes "bank")).top {
+  top = record (new_app (codes "bank_cli")).top {
+    has_version = true;
     no_binary_name = true;
     subcommand_required = true;
   };

@@ -12,6 +12,9 @@ use clap::builder::ValueParser;
 use clap::{Arg, ArgAction, Command};
 use std::alloc::{AllocError, Global};
 
+/// What `--version` prints after the program's name: its version, and the newest schema version of a bank's file.
+const VERSION: &str = "1.0.0, schema version 3";
+
 /// A required option whose value is a number in these bounds.
 fn number<'a>(alloc: Global, id: &'a str, shown: &'a str, low: u64, high: u64) -> Arg<'a>
     ensures rule { rule_of result ≡ number_rule id.entry.now low high }
@@ -268,20 +271,24 @@ fn counter_command<'a>(alloc: Global) -> Result<Command<'a>, AllocError>
     with_places(alloc, command)?.arg(until_input_ends(alloc))
 }
 
-fn top_command<'a>(alloc: Global) -> Command<'a>
-    ensures { app_of result ≡ top_app }
+fn top_command<'a>(alloc: Global) -> Result<Command<'a>, AllocError>
+    ensures { IfOk result (λ c. app_of c ≡ top_app) }
 {
-    Command::new(alloc, "bank")
-        .about("A branch and teller system")
-        .no_binary_name(true)
-        .subcommand_required(true)
+    let command = Command::new(alloc, "bank_cli").bin_name("bank_cli")?;
+    Ok(
+        command
+            .version(VERSION)
+            .about("A branch and teller system")
+            .no_binary_name(true)
+            .subcommand_required(true),
+    )
 }
 
 /// The command line of the program.
 pub(crate) fn bank_command<'a>(alloc: Global) -> Result<Command<'a>, AllocError>
     ensures { IfOk result (λ c. app_of c ≡ bank_app) }
 {
-    top_command(alloc)
+    top_command(alloc)?
         .subcommand(sample_command(alloc)?)?
         .subcommand(init_command(alloc)?)?
         .subcommand(check_command(alloc)?)?

@@ -1,16 +1,17 @@
 -- What is judged of an operation with its slip.
-use Rattle.std.specs.Prelude.{◌≡◌, ℕ, ⊤, Bool, true, false, Option, Some, None, Result, IsSome}
+use Rattle.std.specs.Prelude.{◌≡◌, ℕ, ⊤, Bool, true, false, Option, Some, None, Result, IfOk, IsSome}
 use Rattle.money.specs.declared.fault.Fault.{Fault}
 use Rattle.bank_terms.specs.declared.rule.Rule.{Rule}
 use Rattle.bank_terms.specs.declared.rule.Rule.TheVariants as rule
 use Rattle.bank_books.specs.SlipRow.{SlipRow}
 use Rattle.bank_books.specs.WorldLists.{WorldLists}
+use Rattle.bank_policy.specs.declared.rows.Standing.{Standing}
 use Rattle.counter_ops.specs.Rows.{row_of}
 use Rattle.world_reads.specs.BookReads.{slip}
-use Rattle.store_rows.specs.Status.{Status, Tells}
+use Rattle.store_rows.specs.Status.{Keeps, Status, Tells, count_after, mark_of}
 use Rattle.bank_meaning.specs.NamedRelease.{is_same_operation}
 use Rattle.bank_meaning.specs.Requests.{executes, first, repeated, verdict}
-use Rattle.bank_meaning.specs.Run.{denied_by}
+use Rattle.bank_meaning.specs.PolicyRules.{grounds}
 use Rattle.bank_meaning.specs.declared.execution.Execution.{Execution}
 use Rattle.op_prepare.specs.Judged.{CountsFault}
 use Rattle.op_prepare.specs.declared.prepared.Ready.{Ready}
@@ -47,9 +48,28 @@ JudgesReportsOnly is (judgement.Denied rule) = ⊤
 JudgesReportsOnly is (judgement.Repeated text) = ⊤
 JudgesReportsOnly is (judgement.Ready r) = IsReadyFor is r
 
--- where its user has not the slip of this number, and a rule denies it, a fault is one that the store counted
-abbrev pub DeniesNewOrCounts : Status → Status → ℕ → ℕ → Execution → Result Judgement Fault → Type 0
-DeniesNewOrCounts old new user number x result = Tells old new (λ w. slip w user number ≡ None → IsSome (denied_by w (executes x)) → CountsFault old new result)
+-- this is what the row of the user who asks says of whether they may
+abbrev pub HasStanding : WorldLists → Execution → Option Standing → Type 0
+HasStanding w x row = (grounds w x).standing ≡ row
+
+-- the same, and the user has not the slip of this number
+abbrev pub IsNewTo : WorldLists → Execution → Option Standing → ℕ → ℕ → Type 0
+IsNewTo w x row user number = HasStanding w x row × (slip w user number ≡ None)
+
+-- What reading comes to of such a World, where there may be nothing to read; it counts the fault that it answers.
+pub record MayReadRow {A : Type 0} (old new : Status) (IsSuch : WorldLists → Type 0) (result : Result A Fault) (says : WorldLists → A → Type 0) : Type 0 where
+  pub told : Tells old new (λ w. IsSuch w → IfOk result (says w))
+  pub kept : Keeps old new (mark_of result)
+  pub counted : new.fault_count ≡ count_after (mark_of result) old.fault_count
+
+-- the same of what may find want of memory beside the store
+pub record MayReadOf {A : Type 0} (old new : Status) (IsSuch : WorldLists → Type 0) (result : Result A Fault) (says : WorldLists → A → Type 0) : Type 0 where
+  pub told : Tells old new (λ w. IsSuch w → IfOk result (says w))
+  pub kept : Keeps old new (mark_of result)
+
+-- where the World is such a one, and a rule denies it, a fault is one that the store counted
+abbrev pub DeniesWhereOrCounts : {A : Type 0} → Status → Status → (WorldLists → Type 0) → (WorldLists → Option Rule) → Result A Fault → Type 0
+DeniesWhereOrCounts old new IsSuch first_of result = Tells old new (λ w. IsSuch w → IsSome (first_of w) → CountsFault old new result)
 
 -- the first rule where the slip has no room: that its counts are full comes after each other rule that denies
 abbrev pub or_full : Option Rule → Rule

@@ -2,28 +2,26 @@
 
 ghost use Rattle.std.specs.Prelude.{◌≡◌, ◌≢◌, ◌++◌, ◌∷◌, [], IfErr, IfOk, IsSome, None, Some, true};
 ghost use Rattle.bank_books.specs.declared.row_write.RowWrite.TheVariants as write;
-ghost use Rattle.bank_policy.specs.HeldRows.{standing};
 ghost use Rattle.bank_terms.specs.Procedure.{takes_slip};
 ghost use Rattle.counter_ops.specs.Op.{procedure_of};
 ghost use Rattle.counter_ops.specs.Operations.{IsOp};
 ghost use Rattle.counter_ops.specs.Rows.{row_of};
-ghost use Rattle.world_reads.specs.BookReads.{slip};
-ghost use Rattle.store_rows.specs.Status.{Reads, ReadsRow};
+ghost use Rattle.store_rows.specs.Status.{Reads};
 ghost use Rattle.bank_meaning.specs.Executions.{execution_verdict};
 ghost use Rattle.bank_meaning.specs.NamedRelease.{is_same_operation};
 ghost use Rattle.bank_meaning.specs.Operations.{is_report};
-ghost use Rattle.bank_meaning.specs.PolicyRules.{is_identified};
 ghost use Rattle.bank_meaning.specs.Requests.{executes};
 ghost use Rattle.bank_meaning.specs.Run.{denied_by};
 ghost use Rattle.bank_meaning.specs.Slips.{slip_named};
 ghost use Rattle.op_prepare.specs.Judged.{DeniesOrCounts};
-ghost use Rattle.decide.specs.Slips.{DeniesNewOrCounts, IsJudgedWithSlip, IsOfFound, JudgesReportsOnly, or_full};
+ghost use Rattle.decide.specs.Slips.{DeniesWhereOrCounts, HasStanding, IsJudgedWithSlip, IsNewTo, IsOfFound, JudgesReportsOnly, MayReadOf, MayReadRow, or_full};
 
 use crate::judge::prepare;
 use crate::named_release::is_same_operation;
 use crate::policy_rules::{is_identified, policy_leave};
 use bank_books::{Plan, RowWrite, Slip};
 use bank_meaning::Execution;
+use bank_policy::Standing;
 use bank_terms::{MAX_SLIPS, OperationRow, Rule};
 use command_reads::standing_of;
 use money::Fault;
@@ -42,7 +40,7 @@ pub(crate) enum Judgement {
 }
 
 /// What is judged of an operation with its slip. Whether it repeats one that was made is asked right
-/// after the rule on identity.
+/// after the rule on identity. The row of the user who asks is read once.
 pub(crate) fn prepare_with_slip<S: PolicyReads + BookReads + ReportReads + SlipReads>(
     alloc: Global,
     store: &mut S,
@@ -57,30 +55,18 @@ pub(crate) fn prepare_with_slip<S: PolicyReads + BookReads + ReportReads + SlipR
     let Some(user) = execution.who.user else {
         unreachable!();
     };
+    let asker = standing_of(alloc, store, user)?;
     let number = execution.slip();
     if number == 0 {
-        return prepare_without_slip(alloc, store, execution);
+        return prepare_without_slip(alloc, store, asker, execution);
     }
-    if !is_known(alloc, store, user, execution.who.session)? {
+    if !is_identified(asker, execution.who.session) {
         return Ok(Judgement::Denied(Rule::Identity));
     }
     match store.slip(alloc, user, number)? {
         Some(slip) => Ok(judged_by(alloc, &slip, execution)?),
-        None => prepare_with_new_slip(alloc, store, user, number, execution),
+        None => prepare_with_new_slip(alloc, store, asker, user, number, execution),
     }
-}
-
-/// Whether a user is there, is not suspended, and has this session open.
-fn is_known<P: PolicyReads>(
-    alloc: Global,
-    store: &mut P,
-    user: u32,
-    session: u32,
-) -> Result<bool, Fault>
-    ensures { ReadsRow (P.status store.old) (P.status store.new) result (λ w known. known ≡ is_identified (standing w.policy user) session) }
-{
-    let standing = standing_of(alloc, store, user)?;
-    Ok(is_identified(standing, session))
 }
 
 /// What a slip that its user has makes of an operation. A denial takes no memory.
@@ -95,20 +81,21 @@ fn judged_by(alloc: Global, slip: &Slip, execution: &Execution) -> Result<Judgem
     }
 }
 
-/// The same where no slip is named.
+/// The same where no slip is named, and the row of the user who asks says what is passed.
 fn prepare_without_slip<S: PolicyReads + BookReads + ReportReads>(
     alloc: Global,
     store: &mut S,
+    asker: Option<Standing>,
     execution: &Execution,
 ) -> Result<Judgement, Fault>
     requires named { IsSome execution.now.who.user }
     requires proper { IsOp execution.now.op }
     requires none { slip_named execution.now ≡ 0 }
-    ensures judged { Reads (S.status store.old) (S.status store.new) result (λ w judged. IsJudgedWithSlip w execution.now judged) }
+    ensures judged { MayReadOf (S.status store.old) (S.status store.new) (λ w. HasStanding w execution.now asker) result (λ w judged. IsJudgedWithSlip w execution.now judged) }
     ensures reports { IfOk result (JudgesReportsOnly (is_report execution.now.op)) }
-    ensures denied { DeniesOrCounts (S.status store.old) (S.status store.new) (λ w. denied_by w (executes execution.now)) result }
+    ensures denied { DeniesWhereOrCounts (S.status store.old) (S.status store.new) (λ w. HasStanding w execution.now asker) (λ w. denied_by w (executes execution.now)) result }
 {
-    match prepare(alloc, store, execution)? {
+    match prepare(alloc, store, asker, execution)? {
         Ok(ready) => Ok(Judgement::Ready(ready)),
         Err(rule) => Ok(Judgement::Denied(rule)),
     }
@@ -119,6 +106,7 @@ fn prepare_without_slip<S: PolicyReads + BookReads + ReportReads>(
 fn prepare_with_new_slip<S: PolicyReads + BookReads + ReportReads + SlipReads>(
     alloc: Global,
     store: &mut S,
+    asker: Option<Standing>,
     user: u32,
     number: u32,
     execution: &Execution,
@@ -127,15 +115,15 @@ fn prepare_with_new_slip<S: PolicyReads + BookReads + ReportReads + SlipReads>(
     requires proper { IsOp execution.now.op }
     requires number { slip_named execution.now ≡ number }
     requires some { number ≢ 0 }
-    ensures judged { Reads (S.status store.old) (S.status store.new) result (λ w judged. slip w user number ≡ None → IsJudgedWithSlip w execution.now judged) }
+    ensures judged { MayReadOf (S.status store.old) (S.status store.new) (λ w. IsNewTo w execution.now asker user number) result (λ w judged. IsJudgedWithSlip w execution.now judged) }
     ensures reports { IfOk result (JudgesReportsOnly (is_report execution.now.op)) }
-    ensures denied { DeniesNewOrCounts (S.status store.old) (S.status store.new) user number execution.now result }
+    ensures denied { DeniesWhereOrCounts (S.status store.old) (S.status store.new) (λ w. IsNewTo w execution.now asker user number) (λ w. denied_by w (executes execution.now)) result }
 {
     if store.slips(alloc, user)? >= MAX_SLIPS {
-        let first = rule_with_no_room(alloc, store, execution)?;
+        let first = rule_with_no_room(alloc, store, asker, execution)?;
         return Ok(Judgement::Denied(first));
     }
-    match prepare(alloc, store, execution)? {
+    match prepare(alloc, store, asker, execution)? {
         Err(rule) => Ok(Judgement::Denied(rule)),
         Ok(Ready::Change(Prepared { plan, text })) => {
             let operation = execution.op.to_row();
@@ -151,13 +139,14 @@ fn prepare_with_new_slip<S: PolicyReads + BookReads + ReportReads + SlipReads>(
 fn rule_with_no_room<S: PolicyReads + BookReads>(
     alloc: Global,
     store: &mut S,
+    asker: Option<Standing>,
     execution: &Execution,
 ) -> Result<Rule, Fault>
     requires named { IsSome execution.now.who.user }
     requires takes { takes_slip (procedure_of execution.now.op) ≡ true }
-    ensures { ReadsRow (S.status store.old) (S.status store.new) result (λ w rule. rule ≡ or_full (execution_verdict execution.now w).first) }
+    ensures { MayReadRow (S.status store.old) (S.status store.new) (λ w. HasStanding w execution.now asker) result (λ w rule. rule ≡ or_full (execution_verdict execution.now w).first) }
 {
-    match policy_leave(alloc, store, execution)? {
+    match policy_leave(alloc, store, asker, execution)? {
         Err(rule) => Ok(rule),
         Ok(_) => {
             let rows = load_book_rows(alloc, store, &execution.op)?;

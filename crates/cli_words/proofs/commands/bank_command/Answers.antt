@@ -6,7 +6,7 @@ use Rattle.cli_words.proofs.commands.bank_command.Goals as goal
 pub returns : goal.returns
 returns c =
     let one = c.in_ok-subcommand.ensures.shape c.in_ok-sample_command.ensures.local
-    ∙ ap₂ with_subcommand c.top_command.ensures (ap (λ (a : App). a.top) c.in_ok-sample_command.ensures.app) in
+    ∙ ap₂ with_subcommand c.in_ok-top_command.ensures (ap (λ (a : App). a.top) c.in_ok-sample_command.ensures.app) in
     let two = c.in_ok-subcommand-2.ensures.shape c.in_ok-init_command.ensures.local
     ∙ ap₂ with_subcommand one (ap (λ (a : App). a.top) c.in_ok-init_command.ensures.app) in
     let three = c.in_ok-subcommand-3.ensures.shape c.in_ok-check_command.ensures.local

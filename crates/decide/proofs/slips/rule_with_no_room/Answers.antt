@@ -9,32 +9,29 @@ use Rattle.decide.proofs.slips.rule_with_no_room.Goals as goal
 
 pub returns-in-Err : goal.returns-in-Err
 returns-in-Err g c = record {
-  told = λ honest w holds. sym (ap or_full (leave_refused w c.args.execution.now c.in-Err.rule (sym (c.in_ok-rule.ensures.told honest w holds) ∙ c.in-Err.is)));
+  told = λ honest w holds known. sym (ap or_full (leave_refused w c.args.execution.now c.in-Err.rule (sym (c.in_ok-rule.ensures.told honest w holds known) ∙ c.in-Err.is)));
   kept = search rules;
-  refused = search rules;
   counted = search rules;
 }
 
 pub returns-in-Some : goal.returns-in-Some
 returns-in-Some g c = record {
-  told = λ honest w holds.
+  told = λ honest w holds known.
       let before = c.load_book_rows.ensures.kept.answers.honest honest in
-      let leave = sym (c.in_ok-rule.ensures.told before w holds) ∙ c.in-Ok.is in
+      let leave = sym (c.in_ok-rule.ensures.told before w holds known) ∙ c.in-Ok.is in
       let rows = c.in_ok-rows-in-Ok.ensures.told honest w (c.in_ok-rule.ensures.kept.kept w holds) in
       sym (ap or_full (sym (rule_by_rows w c.args.execution.now _ c.signature.result c.first_of_books.result c.signature.ensures leave (c.first_of_books.ensures w rows)) ∙ c.in-Some.is));
   kept = search rules;
-  refused = search rules;
   counted = search rules;
 }
 
 pub returns-in-None : goal.returns-in-None
 returns-in-None g c = record {
-  told = λ honest w holds.
+  told = λ honest w holds known.
       let before = c.load_book_rows.ensures.kept.answers.honest honest in
-      let leave = sym (c.in_ok-rule.ensures.told before w holds) ∙ c.in-Ok.is in
+      let leave = sym (c.in_ok-rule.ensures.told before w holds known) ∙ c.in-Ok.is in
       let rows = c.in_ok-rows-in-Ok.ensures.told honest w (c.in_ok-rule.ensures.kept.kept w holds) in
       sym (ap or_full (sym (rule_by_rows w c.args.execution.now _ c.signature.result c.first_of_books.result c.signature.ensures leave (c.first_of_books.ensures w rows)) ∙ c.in-None.is));
   kept = search rules;
-  refused = search rules;
   counted = search rules;
 }
