@@ -39,9 +39,15 @@ sound_more bytes more headers r n b =
       fits = b.fits;
     }
 
-pub awaited_more : (bytes more : List ℕ) (headers : List HeaderSpan) (a : Awaited) → IsAwaited bytes headers a → IsAwaited (bytes ++ more) headers a
-awaited_more bytes more headers (Head seen) is = seen_more bytes more seen is
-awaited_more bytes more headers (Body r n) b = sound_more bytes more headers r n b
+pub awaited_more : (bytes more : List ℕ) (a : Awaited) → IsAwaited bytes a → IsAwaited (bytes ++ more) a
+awaited_more bytes more (Head seen) is = seen_more bytes more seen is
+awaited_more bytes more (Body whole) b = record {
+  headers = b.headers;
+  spans = b.spans;
+  body = b.body;
+  sound = sound_more bytes more b.headers b.spans b.body b.sound;
+  is = b.is;
+}
 
 -- two reads, one after the other, are one
 pub takes_more : (a b c : Option (List ℕ)) (old mid new first more : List ℕ) → Takes a b old mid first → Takes b c mid new more

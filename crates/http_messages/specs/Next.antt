@@ -62,18 +62,26 @@ HasFault bytes Fault.BadHead = IsMalformed bytes
 HasFault bytes Fault.HeadTooLong = IsTooLong bytes
 HasFault bytes _ = ⊥
 
--- what was found of a message that came in part: how far a head was judged, or the head
-abbrev pub IsAwaited : List ℕ → List HeaderSpan → Awaited → Type 0
-IsAwaited bytes headers (Head seen) = IsSeen bytes seen
-IsAwaited bytes headers (Body r n) = BeginsSound bytes headers r n
+-- a head that has no fault begins them, and the message has so many bytes with its head
+pub record AwaitsBody (bytes : List ℕ) (whole : ℕ) : Type 0 where
+  pub headers : List HeaderSpan
+  pub spans : RequestSpans
+  pub body : ℕ
+  pub sound : BeginsSound bytes headers spans body
+  pub is : whole ≡ spans.len + body
+
+-- what was found of a message that came in part: how far a head was judged, or how long the message is
+abbrev pub IsAwaited : List ℕ → Awaited → Type 0
+IsAwaited bytes (Head seen) = IsSeen bytes seen
+IsAwaited bytes (Body whole) = AwaitsBody bytes whole
 
 -- where a head is awaited, all of the bytes were judged
 abbrev pub IsThrough : List ℕ → Awaited → Type 0
 IsThrough bytes (Head seen) = seen.len ≡ length bytes
-IsThrough bytes (Body r n) = ⊤
+IsThrough bytes (Body whole) = ⊤
 
 abbrev pub IsNext : List ℕ → List HeaderSpan → Next → Type 0
 IsNext bytes headers (Message r n) = BeginsMessage bytes headers r n
 IsNext bytes headers (FaultyHead r fault) = BeginsFaulty bytes headers r fault
 IsNext bytes headers (NoHead fault) = HasFault bytes fault
-IsNext bytes headers (Partial a) = IsPartial bytes × (length bytes < max_message_len) × IsAwaited bytes headers a × IsThrough bytes a
+IsNext bytes headers Partial = IsPartial bytes × (length bytes < max_message_len)

@@ -3,10 +3,13 @@
 ghost use Rattle.std.specs.Prelude.{◌≡◌, ◌+◌, ◌<◌, ◌≤◌, ℕ, List, [], length, take, drop, nat_lt, false, Ok, IfOk, OnErr};
 ghost use Rattle.std.specs.Io.KnownBytes.{Keeps, IsAtEnd};
 ghost use Rattle.money.specs.Counted.{stream_of};
+ghost use Rattle.http_heads.specs.Stream.{max_fields};
 ghost use Rattle.http_messages.specs.Failures.{CountsByCall};
+ghost use Rattle.http_messages.specs.Next.{IsNext};
 ghost use Rattle.http_messages.specs.Received.{max_message_len, Takes};
 
-use http_heads::{MAX_BODY_LEN, MAX_FIELDS, MAX_HEAD_LEN};
+use crate::looking::{Awaited, Next, look};
+use http_heads::{MAX_BODY_LEN, MAX_FIELDS, MAX_HEAD_LEN, Seen};
 use httparse::spans::{EMPTY_HEADER_SPAN, HeaderSpan};
 use money::Tallied;
 use std::alloc::{AllocError, Global};
@@ -41,22 +44,24 @@ fn read_after<R: Read>(
     }
 }
 
-/// The bytes that were read and not yet answered, in a room of one message.
+/// The bytes that were read and not yet answered, in a room of one message, and what was found of them.
 #[derive(Drop)]
 pub struct Received {
     room: Vec<u8>,
     len: usize,
+    awaited: Awaited,
 }
 
 impl Model for Received {
     ghost use Rattle.std.specs.Prelude.{◌≡◌, ◌≤◌, ℕ, List, length, take};
+    ghost use Rattle.http_messages.specs.Next.{IsAwaited};
     ghost use Rattle.http_messages.specs.Received.{max_message_len};
 
     ghost Value = { List ℕ };
 
     ghost view = { λ r. take r.len r.room.items };
 
-    ghost invariant = { λ r. (r.len ≤ max_message_len) × (length r.room.items ≡ max_message_len) };
+    ghost invariant = { λ r. (r.len ≤ max_message_len) × (length r.room.items ≡ max_message_len) × IsAwaited (take r.len r.room.items) r.awaited };
 }
 
 impl Received {
@@ -65,7 +70,11 @@ impl Received {
         ensures { IfOk result (λ received. received ≡ []) }
     {
         let room = vec![in alloc; 0u8; MAX_MESSAGE_LEN]?;
-        Ok(Received { room, len: 0 })
+        Ok(Received {
+            room,
+            len: 0,
+            awaited: Awaited::Head(Seen::nothing()),
+        })
     }
 
     /// The bytes.
@@ -74,6 +83,17 @@ impl Received {
         ensures bounded { length result.now ≤ max_message_len }
     {
         &self.room[..self.len]
+    }
+
+    /// What the bytes begin with. What is found of a message that has come in part is kept, so that a later look goes on
+    /// from there: a message takes time by its length, in however many pieces it comes. No contract says so.
+    pub(crate) fn look(&mut self, headers: &mut [HeaderSpan]) -> Next
+        requires { max_fields ≤ length headers.old }
+        ensures next { IsNext self.old headers.new result }
+        ensures bounded { length self.new ≤ max_message_len }
+        ensures kept { self.new ≡ self.old }
+    {
+        look(&self.room[..self.len], headers, &mut self.awaited)
     }
 
     /// Whether it holds no byte.
@@ -104,6 +124,7 @@ impl Received {
     {
         self.room.copy_within(n..self.len, 0);
         self.len -= n;
+        self.awaited = Awaited::Head(Seen::nothing());
     }
 }
 

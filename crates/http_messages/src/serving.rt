@@ -14,11 +14,11 @@ ghost use Rattle.http_messages.specs.Turn.{IsTurn};
 ghost use Rattle.http_heads.specs.Stream.{max_fields};
 
 use crate::engine::{AnswerFault, Engine};
-use crate::looking::{Awaited, Next, look};
+use crate::looking::Next;
 use crate::message::Message;
 use crate::received::{FieldRoom, Received};
 use crate::reply::write_reply;
-use http_heads::{Framing, Head, MessageFault, Seen, are_line_ends};
+use http_heads::{Framing, Head, MessageFault, are_line_ends};
 use httparse::spans::HeaderSpan;
 use money::Tallied;
 use std::alloc::{AllocError, Global};
@@ -91,8 +91,7 @@ fn flush_written<W: Write>(writer: &mut Tallied<W>, written: &mut bool) -> Resul
 }
 
 /// Reads until a whole message or a fault has come, or the input ends. Before each read the writer is flushed. What was
-/// found of the message is kept from read to read: how far its head was judged, or the head, after which the body is
-/// only counted.
+/// found of the message is kept from read to read, also from one call to the next.
 fn read_next<R: Read, W: Write>(
     reader: &mut Tallied<R>,
     writer: &mut Tallied<W>,
@@ -104,22 +103,21 @@ fn read_next<R: Read, W: Write>(
     ensures takes { (more : List ℕ) × Takes (R.remaining (stream_of reader.old)) (R.remaining (stream_of reader.new)) received.old received.new more }
     ensures bounded { length received.new ≤ max_message_len }
     ensures next { IfOk result (IsNext received.new headers.new) }
-    ensures end { (a : Awaited) → result ≡ Ok (Next.Partial a) → IsAtEnd (R.remaining (stream_of reader.new)) × (written.new ≡ false) }
+    ensures end { result ≡ Ok Next.Partial → IsAtEnd (R.remaining (stream_of reader.new)) × (written.new ≡ false) }
     ensures err { IfErr result (λ fault. ((fault ≡ ServeFault.Read) × IsPartial received.new × (written.new ≡ false))
         ⊎ ((fault ≡ ServeFault.Write) × (written.old ≡ true))) }
     ensures kept { Keeps (W.contents (stream_of writer.old)) (W.contents (stream_of writer.new)) }
     ensures failures { CountsByEnd reader.old reader.new writer.old writer.new result }
 {
-    let mut awaited = Awaited::Head(Seen::nothing());
     loop {
-        match look(received.bytes(), headers, awaited) {
-            Next::Partial(found) => awaited = found,
+        match received.look(headers) {
+            Next::Partial => {}
             next => return Ok(next),
         }
         flush_written(writer, written)?;
         match received.fill(reader) {
             Ok(true) => {}
-            Ok(false) => return Ok(Next::Partial(awaited)),
+            Ok(false) => return Ok(Next::Partial),
             Err(_) => return Err(ServeFault::Read),
         }
     }
@@ -214,7 +212,7 @@ fn serve_one<E: Engine, R: Read, W: Write>(
             *written = true;
             refuse(writer, fault, false)
         }
-        Next::Partial(_) => {
+        Next::Partial => {
             if are_line_ends(received.bytes()) {
                 Ok(Turn::Ended)
             } else {
