@@ -7,7 +7,7 @@ sum. The byte 20 of the file is 8 where its pages end so.
 import os
 import struct
 
-from sample_file import Wrong
+from checks import Wrong
 
 SUM = 8
 RESERVED_AT = 20
@@ -67,7 +67,7 @@ def seal_file(file):
 
 
 def require_pages(file, size, has_sums):
-    """Goes through where the pages of a file are of this length and end in their sums, or say that they don't."""
+    """Passes if the pages of a file are of this length and end in their sums, or say that they don't."""
     with open(file, "rb") as opened:
         text = opened.read()
     if (size_in(text), says_sums(text), len(text) % size) != (size, has_sums, 0):

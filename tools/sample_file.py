@@ -3,7 +3,10 @@ import json
 import os
 import shutil
 import subprocess
+import tempfile
+import threading
 
+from checks import Wrong
 from repository import TOP
 
 LISTS = os.path.join(TOP, "sample")
@@ -11,10 +14,6 @@ BADGES = os.path.join(LISTS, "badges.csv")
 # A bank is a file and the log that may stand beside it.
 ENDINGS = ("", "-wal")
 SECONDS = 240
-
-
-class Wrong(Exception):
-    """What a run did that it must not do."""
 
 
 def message(badge, path, body=None, session=1):
@@ -63,8 +62,32 @@ def copy_bank(file, target):
             shutil.copyfile(file + ending, target + ending)
 
 
+class SampleBanks:
+    """Copies of the bank that `sample` serves, which is made in a folder once a copy is asked for."""
+
+    def __init__(self, program, room):
+        self.program, self.room = program, room
+        self.lock, self.bank = threading.Lock(), None
+
+    def made(self):
+        """The file of the bank itself."""
+        with self.lock:
+            if not self.bank:
+                bank = os.path.join(self.room, "sample")
+                make_sample(self.program, bank)
+                self.bank = bank
+        return self.bank
+
+    def copy(self):
+        """The file of another copy, in a folder of its own. Its name is short, as the path of a Unix socket has room for a hundred
+        bytes."""
+        file = os.path.join(tempfile.mkdtemp(dir=self.room), "bank")
+        copy_bank(self.made(), file)
+        return file
+
+
 def require_sound(program, file):
-    """Goes through where `check` says that the books of a bank hold."""
+    """Passes if `check` says that the books of a bank hold."""
     said = ended(program, ["check", file])
     if said != b"books hold\n":
         raise Wrong(f"check said {said!r}")

@@ -3,10 +3,9 @@ import os
 import re
 import subprocess
 
-from sample_file import Wrong
+from checks import Wrong
+from replies import body_of, next_reply
 
-LENGTH = re.compile(rb"^Content-Length: (\d+)\r$", re.MULTILINE)
-END_OF_HEAD = b"\r\n\r\n"
 PIECE = 1 << 16
 
 
@@ -29,24 +28,13 @@ class Served:
         if not kind and (more, status) != (b"", 0):
             raise Wrong(f"it ended with status {status}, and wrote {more[:200]!r} after the last reply")
 
-    def size(self):
-        """How many bytes the reply has whose beginning has come, or none where its head is not whole yet."""
-        head, end, _ = self.got.partition(END_OF_HEAD)
-        length = LENGTH.search(head + b"\r\n") if end else None
-        return len(head + end) + int(length[1]) if length else None
-
     def ask(self, message):
         """The body of the reply to a message. It has to be carried out."""
         self.run.stdin.write(message)
-        while self.size() is None or len(self.got) < self.size():
-            piece = os.read(self.run.stdout.fileno(), PIECE)
-            if not piece:
-                raise Wrong(f"it ended within a reply: {self.got[:200]!r}")
-            self.got += piece
-        reply, self.got = self.got[: self.size()], self.got[self.size() :]
+        reply, self.got = next_reply(lambda: os.read(self.run.stdout.fileno(), PIECE), self.got)
         if not reply.startswith(b"HTTP/1.1 200 "):
             raise Wrong(f"it answered {reply[:200]!r}")
-        return reply.partition(END_OF_HEAD)[2]
+        return body_of(reply)
 
     def most_held(self):
         """The most memory that the program ever held at once, in kilobytes."""

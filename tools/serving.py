@@ -6,7 +6,8 @@ import socket
 import subprocess
 import time
 
-from sample_file import BADGES, Wrong
+from checks import Wrong
+from sample_file import BADGES
 
 SECONDS = 240
 HOST = "127.0.0.1"
@@ -124,13 +125,13 @@ class Serving:
         return self.run.returncode, output, errors
 
     def require_done(self, seconds=SECONDS):
-        """Goes through where it has counted its messages, and has nothing more to say."""
+        """Passes if it has counted its messages, and has nothing more to say."""
         found = self.ended(seconds)
         if found != (0, b"", b""):
             raise Wrong(f"it ended with {found!r}")
 
     def require_going(self):
-        """Goes through where it still serves."""
+        """Passes if it still serves."""
         time.sleep(0.05)
         if self.run.poll() is not None:
             raise Wrong(f"it has ended: {self.ended()!r}")
