@@ -11,8 +11,10 @@ import tempfile
 from typing import NamedTuple
 
 from cases.suite import Suite
+from checks import Wrong
+from replies import body_of, size_of, with_body
 from repository import TOP
-from sample_file import Wrong, copy_bank
+from sample_file import copy_bank
 
 SECONDS = 240
 # How an action ends: its status, and what it writes on both streams.
@@ -29,7 +31,6 @@ BANK = "bank"
 # The present schema version, and the moments that a triple of version 1 comes to have.
 VERSION = 3
 WIDEST = (0, 99_999_999_999)
-REPLY = re.compile(rb"(HTTP/1\.1 \d+ [^\r]*\r\n(?:[^\r]+\r\n)*?Content-Length: )(\d+)(\r\n(?:[^\r]+\r\n)*\r\n)")
 LISTING = b"POLICY LINES "
 TRIPLE = re.compile(rb"^TRIPLE .*$", re.MULTILINE)
 SCHEMA = "SELECT rowid, type, name, tbl_name, sql FROM sqlite_schema ORDER BY rowid"
@@ -89,14 +90,13 @@ def make_earlier_file(suite, name, room):
 
 def widened(output):
     """Replies in which each triple of a listing has the widest moments, too."""
-    made, at = [], 0
-    while at < len(output):
-        head = REPLY.match(output, at)
-        at = head.end() + int(head[2])
-        body = output[head.end() : at]
-        if body.startswith(LISTING):
-            body = TRIPLE.sub(lambda line: line[0] + b" %11d %11d" % WIDEST, body)
-        made.append(head[1] + b"%d" % len(body) + head[3] + body)
+    made = []
+    while output:
+        size = size_of(output)
+        reply, output = output[:size], output[size:]
+        if body_of(reply).startswith(LISTING):
+            reply = with_body(reply, TRIPLE.sub(lambda line: line[0] + b" %11d %11d" % WIDEST, body_of(reply)))
+        made.append(reply)
     return b"".join(made)
 
 

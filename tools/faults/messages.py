@@ -1,7 +1,8 @@
 """The messages that a case sends to `sample`: where each ends, its reply, and what comes of the input where it is cut."""
 import re
 
-from sample_file import Wrong
+from checks import Wrong
+from replies import replies_in
 
 CUT = b"stream: cut\n"
 # A message of more than LONG bytes is cut at each of its first and last EDGE bytes, and of those between at one in SPARSE.
@@ -13,7 +14,6 @@ FIRST_LINE = re.compile(TOKEN + rb" [^\x00-\x20\x7f]+ HTTP/1\.[01]\r?\n")
 FIELD_LINE = re.compile(TOKEN + rb":[^\x00-\x08\x0a-\x1f\x7f]*\r?\n")
 LINE_ENDS = re.compile(rb"(?:\r?\n)*")
 LENGTH = re.compile(rb"^content-length:[ \t]*(\d+)[ \t]*\r?$", re.IGNORECASE | re.MULTILINE)
-REPLY = re.compile(rb"(?=HTTP/1\.1 \d{3} )")
 MOST_HEAD = 8_192
 
 
@@ -50,7 +50,7 @@ class Messages:
     def __init__(self, given, output):
         self.given = given
         self.all = []
-        for reply in REPLY.split(output)[1:]:
+        for reply in replies_in(output):
             self.all.append(Message(given, self.all[-1].end if self.all else 0, reply))
 
     def whole(self, size):

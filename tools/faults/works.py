@@ -6,16 +6,18 @@ the model, so the rows after it are always the same.
 import contextlib
 import itertools
 import os
-import re
 import subprocess
 import tempfile
+from pathlib import Path
 
 import page_sums
+from checks import Wrong
 from faults.earlier_files import CARRIED, HOLDS, OTHER, Tables, difference_of, make_earlier_file, require_said, without_moments
 from faults.file_kinds import KINDS, YEAR, answered
-from faults.messages import REPLY, Messages
+from faults.messages import Messages
 from model.bank import MOMENT, Bank
-from sample_file import LISTS, Wrong, copy_bank, ended, require_sound, run_words
+from replies import END_OF_HEAD, replies_in, size_of
+from sample_file import LISTS, copy_bank, ended, require_sound, run_words
 from serving import asked, free_port, serve_words
 
 BROKEN = b"stream: broken\n"
@@ -106,7 +108,7 @@ class Case(Work):
     def due_where(self, refused):
         """What is due by which messages are answered 503: the others are answered as if they had come alone."""
         made = [piece for piece, it in zip(self.pieces, refused) if not it]
-        replies = REPLY.split(self.plainly(made))[1:]
+        replies = replies_in(self.plainly(made))
         if self.takes_memory and len(replies) != len(made):
             raise Wrong("a reply of its ends the connection")
         each = iter(replies)
@@ -166,7 +168,7 @@ class Init(Work):
         return ["init", file, LISTS, *self.sums]
 
     def require_made(self, file):
-        """Goes through where the bank is sound, its pages are those that were asked for, and nothing else is left. Half a page may
+        """Passes if the bank is sound, its pages are those that were asked for, and nothing else is left. Half a page may
         stand in the file while the log has all of it, until a run copies that."""
         require_sound(self.program, file)
         ended(self.program, run_words(file, MOMENT))
@@ -231,7 +233,7 @@ class Forward(Work):
         return AFTER if is_made else BEFORE
 
 
-class Check(Work):
+class Checked(Work):
     """A bank that is checked."""
 
     def __init__(self, program, bank):
@@ -321,7 +323,7 @@ class Run(Work):
         return run_words(file, MOMENT)
 
     def require_answered(self, file, given, replies):
-        """Goes through where what is given is answered so."""
+        """Passes if what is given is answered so."""
         said = ended(self.program, self.arguments(file), given)
         if said != b"".join(replies):
             raise Wrong(f"it answered {said!r}; due was {b''.join(replies)!r}")
@@ -340,7 +342,7 @@ class Run(Work):
     def done(self, output, fault):
         """Of each reply whether it is the one that is due; the others are of the fault. Where that stops the disk, each reply
         after its first is of the second, and none is due."""
-        replies = REPLY.split(output)[1:]
+        replies = replies_in(output)
         if b"".join(replies) != output or len(replies) > len(self.replies):
             raise Wrong(f"it wrote {output!r}")
         done = [reply == due for reply, due in zip(replies, self.replies)]
@@ -386,7 +388,7 @@ class Run(Work):
         return AFTER if is_after else BEFORE
 
     def require_world(self, file, count):
-        """Goes through where a file has the rows after so many of the requests."""
+        """Passes if a file has the rows after so many of the requests."""
         difference = difference_of(Tables(file).rows, self.worlds[count])
         if difference:
             raise Wrong(f"after {count} requests another bank is there: {difference}")
@@ -445,16 +447,12 @@ REFUSED = {number: refusal(number) for number in (1, 3, 4)}
 
 def ends_in_report(output):
     """Whether bytes end within a report, after its head."""
-    head, end, text = output[max(output.rfind(b"HTTP/1.1 "), 0) :].partition(b"\r\n\r\n")
-    length = re.search(rb"\r\nContent-Type: text/plain\r\nContent-Length: ([0-9]+)$", head)
-    return end != b"" and length is not None and len(text) < int(length[1])
+    last = output[max(output.rfind(b"HTTP/1.1 "), 0) :]
+    head, end, _ = last.partition(END_OF_HEAD)
+    return b"\r\nContent-Type: text/plain\r\n" in head + b"\r\n" and end and size_of(last) is None
 
 
 def require_same_bytes(bank, file):
-    """Goes through where a file is a copy of a bank's."""
-    texts = []
-    for it in (bank, file):
-        with open(it, "rb") as opened:
-            texts.append(opened.read())
-    if texts[0] != texts[1]:
+    """Passes if a file is a copy of a bank's."""
+    if Path(bank).read_bytes() != Path(file).read_bytes():
         raise Wrong("the file is not as it was")

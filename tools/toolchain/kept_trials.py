@@ -1,14 +1,16 @@
 """Trials of what tools/toolchain/mutants keeps: after each change that its verdict hangs on a mutant has to be tried again. They
 run a copy of the tool over one crate, by a prover of a few lines, which refuses the crate's one function unless that returns
 the number which the library below has."""
+import functools
 import itertools
 import os
 import shutil
 import subprocess
 import sys
-import tempfile
+from pathlib import Path
 from typing import NamedTuple
 
+from checks import Check, Wrong
 from repository import TOP
 
 SOURCE, EDIT = "crates/high/src/lib.rt", "crates/high/must-fail/other_answer.edit"
@@ -88,25 +90,31 @@ def said_by_run(room, seed, words=(), variables=None):
     return ran.stdout.decode(errors="replace")
 
 
-def against(row, begun, room, seeds):
-    """What is wrong in a row, which begins with a copy of a folder in which the mutant was refused."""
+def require_parts(said, parts):
+    """Passes if a text has all of these."""
+    if not all(it in said for it in parts):
+        raise Wrong(f"it said: {said}")
+
+
+def try_row(row, begun, room, seeds):
+    """Tries a row, which begins with a copy of a folder in which the mutant was refused."""
     shutil.copytree(begun, room)
     path, old, new = row.change
-    with open(f"{room}/{path}", encoding="utf-8") as file:
-        text = file.read()
-    with open(f"{room}/{path}", "w", encoding="utf-8") as file:
-        file.write(text.replace(old, new, 1))
-    said = said_by_run(room, seeds[row.is_drawn], row.words, row.variables)
-    return None if all(it in said for it in row.says) else f"it said: {said}"
+    file = Path(room, path)
+    file.write_text(file.read_text(encoding="utf-8").replace(old, new, 1), encoding="utf-8")
+    require_parts(said_by_run(room, seeds[row.is_drawn], row.words, row.variables), row.says)
 
 
-def all_against(is_drawn):
-    """Each row, and what is wrong in it, if anything; `is_drawn` says whether a seed has a mutant of a crate tried anew."""
+def checks_of(is_drawn, room):
+    """The trials; `is_drawn` says whether a seed has a mutant of a crate tried anew."""
     first = lambda drawn: next(it for it in itertools.count() if is_drawn(it, "high", "other_answer") is drawn)
-    seeds = {it: first(it) for it in (False, True)}
-    with tempfile.TemporaryDirectory(prefix="kept-trials-") as room:
-        made_in(f"{room}/begun")
-        said = said_by_run(f"{room}/begun", seeds[False])
-        yield "kept_nothing_yet", None if TRIED in said and REFUSED in said else f"it said: {said}"
-        for name, row in ROWS.items():
-            yield name, against(row, f"{room}/begun", f"{room}/{name}", seeds)
+    seeds, begun = {it: first(it) for it in (False, True)}, f"{room}/begun"
+
+    @functools.cache
+    def said_at_first():
+        made_in(begun)
+        return said_by_run(begun, seeds[False])
+
+    yield Check("kept_nothing_yet", lambda: require_parts(said_at_first(), (TRIED, REFUSED)))
+    for name, row in ROWS.items():
+        yield Check(name, lambda row=row, name=name: said_at_first() and try_row(row, begun, f"{room}/{name}", seeds))

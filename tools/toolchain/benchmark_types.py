@@ -1,0 +1,52 @@
+"""Reads the benchmarks, and the library of theirs, as the compiler does, and proves nothing of them.
+
+    tools/toolchain/benchmark-types --libraries FOLDER
+
+Their names, types, borrows and layout are looked at, so that a change of what they call is reported; tools/benchmarks/posts and
+tools/benchmarks/check prove them, before they run. All are read at once, as libraries of an empty crate: a crate that
+is read as a program is linked with all that it reaches, which takes minutes and shows nothing more. FOLDER has the crates
+below them with their libraries built, as rt ci leaves them.
+"""
+import glob
+import os
+import subprocess
+import tempfile
+
+from checks import Report, reader
+from repository import BENCHES, TOP, kit, words_of_all, words_of_check
+
+# The crate that has them as libraries.
+READER = "reads_benches"
+
+
+def said_of(words, folder=TOP):
+    """The lines of a command that ended with another status than 0."""
+    ran = subprocess.run(
+        words, cwd=folder, stdin=subprocess.DEVNULL, stdout=subprocess.PIPE, stderr=subprocess.STDOUT, check=False
+    )
+    return ran.stdout.decode(errors="replace").rstrip("\n").split("\n") if ran.returncode else []
+
+
+def against_layout(name):
+    """What is said against the layout of a crate's files."""
+    files = glob.glob(os.path.join(TOP, "crates", name, "src", "**", "*.rt"), recursive=True)
+    return said_of(["rattle", "fmt", "--check", *sorted(files)])
+
+
+def against_source(libraries):
+    """What the compiler says against the sources of all of them."""
+    reads = words_of_check({**words_of_all(), READER: [*BENCHES]}, READER, "src/lib.rt", libraries, kit())
+    with tempfile.TemporaryDirectory(prefix="benches-") as room:
+        os.mkdir(os.path.join(room, "src"))
+        with open(os.path.join(room, "src", "lib.rt"), "w", encoding="utf-8") as file:
+            file.write("#![tactic(auto)]\n")
+        return said_of(["rattle", "check", *reads, "--only", ""], room)
+
+
+def main():
+    words = reader(__doc__, has_program=False, has_checks=False)
+    words.add_argument("--libraries", metavar="FOLDER", type=os.path.abspath, required=True, help="a copy of the repository whose crates are proved")
+    given = words.parse_args()
+    parts = [(f"{it}: its layout", against_layout(it)) for it in BENCHES]
+    parts.append((f"{', '.join(BENCHES)}: their sources", against_source(given.libraries)))
+    return Report(len(parts)).add_all((what, "\n    ".join(lines[:40]) or None) for what, lines in parts)

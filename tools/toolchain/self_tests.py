@@ -1,0 +1,378 @@
+"""Tries the reader of cases (tools/cases/suite.py) and their runs (tools/cases/run) over cases of its own; which checks have a second
+try (tools/checks.py); the minutes of a build (tools/toolchain/chain.py) over crates of its own; which functions have a clause (tools/toolchain/rattle_source.py, tools/pages/crates);
+what is the program's own of what rt try says (tools/try); which changes of a definition are seen (tools/pages/reading); whether the
+model over kept sums (tools/simulation/ledger.py) answers as the one that adds up; and whether tools/toolchain/mutants tries again
+what a change concerns (tools/toolchain/kept_trials.py).
+
+    tools/toolchain/self-tests
+
+The program that these cases run is Python's interpreter, with a few lines of Python. So it is tried what no case of the bank
+program needs yet: files, SQL, several runs in one folder, and that a row which must fail does.
+"""
+import contextlib
+import copy
+import importlib.machinery
+import importlib.util
+import io
+import os
+import random
+import sys
+import tempfile
+from functools import partial
+
+from cases import run as CASES
+from cases.suite import BadRow, Suite, bytes_of_lines, reply, request, spelled
+from checks import Check, Late, Report, Wrong, reader, require, require_nothing, run_checks
+from model.bank import Bank
+from pages import crates as CRATES, reading as READING
+from repository import TOP
+from simulation.drawing import Drawing
+from simulation.opening import FIRST_MOMENT, opening_of
+from simulation.table_rows import rows_of_bank
+from toolchain import kept_trials
+from toolchain.chain import ends, longest_chain, minutes_left, minutes_of
+from toolchain.rattle_source import promised
+
+
+def tool(name):
+    """A tool as a module."""
+    loader = importlib.machinery.SourceFileLoader(name, os.path.join(TOP, "tools", name))
+    module = importlib.util.module_from_spec(importlib.util.spec_from_loader(name, loader))
+    loader.exec_module(module)
+    return module
+
+
+TRY, MUTANTS = tool("try"), tool("toolchain/mutants")
+ECHO = r"run -c import\ssys;sys.stdout.write(sys.stdin.read())"
+QUIET = 'run -c ""'
+LISTS = r"""
+files lists
+file lists/users.csv
+| user,name
+| 1,Olga
+| 2,Carl
+file notes
+| as\x00is\
+"""
+BANK = r"""
+row makes_a_bank
+sql bank.db
+| CREATE TABLE users (user_no INTEGER PRIMARY KEY, name TEXT);
+| INSERT INTO users VALUES (1, 'Olga');
+run -c import\ssqlite3;print(sqlite3.connect('bank.db').execute('SELECT\sname\sFROM\susers').fetchall())
+| [('Olga',)]
+"""
+
+# What a text represents.
+TEXTS = [
+    (bytes_of_lines(["a", r"b\\", "c\\n\\"]), b"a\nb\\\nc\n"),
+    (bytes_of_lines([r"\x00\xff\r\t\s\{3*ab}\{2*\s}"]), b"\x00\xff\r\t ababab  \n"),
+    (spelled(["GET / HTTP/1.1", "", "body\\"]), b"GET / HTTP/1.1\r\n\r\nbody"),
+    (spelled([r"Length: \{length}", "", "two", "\\xff\\"]), b"Length: 6\r\n\r\ntwo\r\n\xff"),
+    (
+        request("tess", "", "POST", "/end", None),
+        b"POST /end HTTP/1.1\r\nHost: bank\r\nBank-Badge: tess\r\nBank-Session: 1\r\n\r\n",
+    ),
+    (request("tess", "", "POST", "/session", None), b"POST /session HTTP/1.1\r\nHost: bank\r\nBank-Badge: tess\r\n\r\n"),
+    (
+        request("tom", " slip=5 release=1 session=2", "POST", "/do/post", "{}"),
+        b"POST /do/post HTTP/1.1\r\nHost: bank\r\nBank-Badge: tom\r\nBank-Session: 2\r\nBank-Release: 1\r\nBank-Slip: 5\r\n"
+        b"Content-Length: 2\r\n\r\n{}",
+    ),
+    (reply("200", None, None, b"{}"), b"HTTP/1.1 200 OK\r\nContent-Type: application/json\r\nContent-Length: 2\r\n\r\n{}"),
+    (
+        reply("404", " text", " close", b""),
+        b"HTTP/1.1 404 Not Found\r\nContent-Type: text/plain\r\nContent-Length: 0\r\nConnection: close\r\n\r\n",
+    ),
+]
+
+# Crates: a chain of three, and two others that use its first.
+USES = {"low": ["std"], "mid": ["low"], "top": ["mid", "sqlite"], "long": ["low"], "short": ["low"]}
+MINUTES = {"low": 1.0, "mid": 2.0, "top": 4.0, "long": 5.0, "short": 0.5}
+ON_ONE = {"low": 1.0, "mid": 3.0, "long": 8.0, "top": 12.0, "short": 12.5}
+ON_TWO = {"low": 1.0, "mid": 3.0, "long": 6.0, "short": 6.5, "top": 7.0}
+
+# What is reckoned of a build.
+BUILDS = [
+    (minutes_of("# a head\nlow 1.5\n\ntop 2 # the last\n"), {"low": 1.5, "top": 2.0}),
+    (longest_chain(USES, MINUTES, list(USES)), ["low", "mid", "top"]),
+    (longest_chain(USES, {**MINUTES, "long": 7.0}, list(USES)), ["low", "long"]),
+    (longest_chain(USES, MINUTES, ["mid", "short"]), ["mid"]),
+    (ends(USES, MINUTES, list(USES), 1), ON_ONE),
+    (ends(USES, MINUTES, list(USES), 2), ON_TWO),
+    (ends(USES, {**MINUTES, "low": 0, "mid": 0}, list(USES), 4), {"low": 0, "mid": 0, "top": 4.0, "long": 5.0, "short": 0.5}),
+    # Nothing is proved; all but the last two; all; two of two processors are halfway through the longest.
+    (minutes_left(USES, MINUTES, {}, {}, 2), 7.0),
+    (minutes_left(USES, MINUTES, {"low": 1.0, "mid": 2.0, "short": 0.5}, {}, 2), 5.0),
+    (minutes_left(USES, MINUTES, dict.fromkeys(USES), {}, 2), 0),
+    (minutes_left(USES, MINUTES, {"low": 1.0, "mid": 2.0, "short": 0.5}, {"top": 2.0, "long": 2.5}, 2), 2.5),
+    # At half the pace, of which the two minutes that are added leave 8 minutes for 5; and what was kept sets no pace.
+    (minutes_left(USES, MINUTES, {"low": 2.0, "mid": 4.0}, {}, 2), 8.0),
+    (minutes_left(USES, MINUTES, {"low": None, "mid": None}, {}, 2), 5.0),
+]
+
+# A file of a crate, and its functions that have no clause.
+SOURCE = """
+trait Says {
+    fn promised(&self) -> [u8; 2]
+        ensures { result ≡ self.now };
+
+    fn silent(&self);
+}
+
+impl Says for Kind {
+    fn promised(&self) -> [u8; 2] {
+        fn_of("{")
+    }
+
+    fn silent(&self) {}
+}
+
+impl<T> From<T> for Kind {
+    ghost from_gives = { λ one kind. kind ≡ one };
+
+    fn from(one: T) -> Kind {}
+}
+
+impl From<u8> for Kind {
+    fn from(one: u8) -> Kind {}
+}
+
+impl Read for Kind {
+    fn read(&mut self, buf: &mut [u8]) -> usize {}
+}
+
+fn read(buf: &mut [u8]) -> usize {}
+
+impl Kind {
+    // ensures nothing
+    pub fn own(&self) -> u8 {}
+
+    fn asks<T>(one: T)
+    where
+        T: Says,
+        requires { one.now ≡ 0 }
+    {
+    }
+}
+
+fn free(ensured: &'static str) {}
+"""
+CLAUSES = [
+    (promised(SOURCE), {"Says::promised"}),
+    (
+        CRATES.without_clause({"src/kinds.rt": SOURCE}, {*promised(SOURCE), *CRATES.PROMISED}),
+        ["kinds::KindSays::silent", "kinds::KindFromu8::from", "kinds::read", "kinds::Kind::own", "kinds::free"],
+    ),
+    (CRATES.against_functions(["a::old", "a::new"], ["a::old"]), ["a::new has no clause, and docs/PROVED.md does not list it"]),
+    (
+        CRATES.against_functions(["a::old"], ["a::old", "a::gone"]),
+        ["docs/PROVED.md lists a::gone, which has a clause or is not there"],
+    ),
+]
+
+# The sum of a definition: of another text or of an import from elsewhere it is another, of another layout the same.
+DEFINED = ["abbrev pub is_paid : Row → Bool", "is_paid r = r.due == 0"]
+MEANT = {"Row": ("bank_books", "Rows", "Row")}
+
+
+def same_sum(lines, meant):
+    """Whether a definition of these lines and imports has the sum of the one above."""
+    return READING.sum_of(lines, meant) == READING.sum_of(DEFINED, MEANT)
+
+
+OLD_SUMS = ["The head.", "", "bank/Rows", "  1a is_paid: Is it?", "  2b is_due"]
+SUMS = [
+    (same_sum(["abbrev pub is_paid : Row", "    → Bool", "is_paid r  = r.due == 0"], MEANT), True),
+    (same_sum([DEFINED[0], "is_paid r = r.due == 1"], MEANT), False),
+    (same_sum(DEFINED, {"Row": ("sql_books", "Rows", "Row")}), False),
+    (same_sum(DEFINED, {**MEANT, "Column": ("sql_books", "Rows", "Column")}), True),
+    (list(READING.changed(OLD_SUMS, OLD_SUMS)), []),
+    (
+        list(READING.changed(OLD_SUMS, [*OLD_SUMS[:3], "  1c is_paid: Is it?", "  3d is_over"])),
+        [
+            "docs/DEFINITIONS.txt: bank/Rows has changed: is_paid: Is it?",
+            "docs/DEFINITIONS.txt: bank/Rows has a new is_over",
+            "docs/DEFINITIONS.txt: bank/Rows has no is_due",
+        ],
+    ),
+    (list(READING.changed(OLD_SUMS, OLD_SUMS[1:])), ["docs/DEFINITIONS.txt has other lines, or another order, than --update writes"]),
+]
+
+# What rt try says, and what is the program's own of it.
+ENDS = b"checked: ended status=3\nrun=ended status=3 runners=1 proved=no\n"
+SAID = [
+    (TRY.parted(b"stream: cut\n" + ENDS), (3, b"stream: cut\n")),
+    (TRY.parted(b"\n" + ENDS), (3, b"")),
+    (TRY.parted(b"an index out of bounds\nrun=none proved=no\n"), (125, b"an index out of bounds\nrun=none proved=no\n")),
+]
+
+# Checks, by how they end at their tries, and what is counted of them.
+WRONG, LATE = Wrong("a balance of 49999, and not 50000"), Late("no reply within 60 seconds")
+TALLIES = {
+    "race_passes_at_the_second_try": ([[None], [LATE, None], [None]], (3, 0, 1)),
+    "race_of_the_system_too": ([[TimeoutError("timed out"), None]], (1, 0, 1)),
+    "wrong_amount_fails_at_once": ([[None], [WRONG]], (1, 1, 0)),
+    "late_twice_fails": ([[LATE, LATE]], (0, 1, 0)),
+    "wrong_amount_at_the_second_try": ([[LATE, WRONG]], (0, 1, 0)),
+    "four_late_ones": ([[LATE, None]] * 4, (4, 0, 4)),
+    "five_late_ones_of_five": ([[LATE]] * 5, (0, 5, 0)),
+    "a_fifth_late": ([[LATE, None]] * 6 + [[None]] * 24, (30, 0, 6)),
+    "more_than_a_fifth_late": ([[LATE]] * 7 + [[None]] * 23, (23, 7, 0)),
+}
+
+# Cases that must be refused as they are read.
+REFUSED = {
+    "an_escape_unknown": "row x\nrun\n> \\q",
+    "a_space_at_an_end": "row x\nrun\n> a ",
+    "a_tab": "row x\nrun\n> a\tb",
+    "a_byte_above_127": "row x\nrun\n> \xe9",
+    "a_line_of_no_kind": "row x\nrun\nsomething else",
+    "a_status_unknown": "row x\nrun\n299 {}",
+    "a_field_unknown": "row x\nrun\ntess slap=1 POST /end",
+    "no_run": "row x\n> a",
+    "a_file_after_the_last_run": "row x\nrun\nfile a\n| b",
+    "input_between_a_file_and_its_run": "row x\nrun\nfile a\n| b\n> c\nrun",
+    "two_rows_of_a_name": "row x\nrun\nrow x\nrun",
+    "a_row_before_that_is_not_there": "row x\nafter y\nrun",
+    "a_row_before_itself": "row x\nafter y\nrun\nrow y\nafter x\nrun",
+    "a_run_of_files": "files x\nrun",
+    "any_output_beside_output": "row x\nrun\n| made\noutput any",
+}
+
+# Cases that must pass, and cases that must fail with this said.
+ROWS_TO_RUN = [
+    ("input_comes_back", f"row x\n{ECHO}\n> a\n> \\xff\\\n< a\n< \\xff\\", None),
+    (
+        "a_report",
+        f"row x\n{ECHO}\n> HTTP/1.1 200 OK\n> Content-Type: text/plain\n> Content-Length: 4\n>\n> a\\nb\\n\\\n"
+        "200 text\n| a\n| b",
+        None,
+    ),
+    ("other_output", f"row x\n{ECHO}\n> a\n< b", r"-b\r\n"),
+    ("a_line_end_less", f"row x\n{ECHO}\n> a\n< a\\", r"+a\r\n"),
+    ("output_that_is_not_compared", f"row x\n{ECHO}\n> a\noutput any", None),
+    ("a_status", "row x\nrun -c import\\ssys;sys.exit(3)\nstatus 3", None),
+    ("another_status", "row x\nrun -c import\\ssys;sys.exit(3)", "status: 3, wanted 0"),
+    ("error_output", "row x\nrun -c import\\ssys;sys.exit('cut')\n! cut\nstatus 1", None),
+    ("other_error_output", "row x\nrun -c import\\ssys;sys.exit('cut')\nstatus 1", r"+cut\n"),
+    ("a_file", f"{LISTS}row x\nafter lists\nrun -c print(repr(open('notes','rb').read()))\n| b'as\\\\x00is'", None),
+    (
+        "an_edit",
+        f"{LISTS}row x\nafter lists\nedit lists/users.csv\n- 2,Carl\n+ 2x,Carl\n+ 3,Cora\n"
+        "run -c print(open('lists/users.csv').read())\n| user,name\n| 1,Olga\n| 2x,Carl\n| 3,Cora\n|",
+        None,
+    ),
+    ("an_edit_of_no_line", f"{LISTS}row x\nafter lists\nedit lists/users.csv\n- Carl\n+ b\n{QUIET}", "do not stand in"),
+    ("a_copy", f"{LISTS}row x\nafter lists\ncopy notes more\nrun -c print(len(open('more').read()))\n| 5", None),
+    ("a_copy_of_no_file", f"row x\ncopy notes more\n{QUIET}", "a file can't be brought about"),
+    ("sql", BANK, None),
+    (
+        "sql_over_a_file_that_a_row_before_made",
+        f"{BANK}row x\nafter makes_a_bank\nsql bank.db\n| UPDATE users SET name = 'Ann';\n"
+        "run -c import\\ssqlite3;print(sqlite3.connect('bank.db').execute('SELECT\\sname\\sFROM\\susers').fetchall())\n"
+        "| [('Ann',)]\nunchanged bank.db",
+        None,
+    ),
+    ("sql_that_is_none", f"row x\nsql bank.db\n| SELECT;\n{QUIET}", "a file can't be brought about"),
+    (
+        "two_runs_in_one_folder",
+        f"row x\n{QUIET}\nabsent made\nrun -c open('made','w').write('a')\n"
+        "run -c print(open('made').read())\n| a\nunchanged made",
+        None,
+    ),
+    ("the_second_run_fails", f"row x\n{QUIET}\n{ECHO}\n> a\n< b", "in run 2:"),
+    ("a_file_that_is_there", "row x\nrun -c open('made','w').write('a')\nabsent made", "made is there"),
+    (
+        "a_file_that_was_changed",
+        f"{LISTS}row x\nafter lists\nrun -c open('notes','w').write('a')\nunchanged notes",
+        "is not as it was",
+    ),
+    ("a_file_that_was_not_there", f"row x\n{QUIET}\nunchanged made", "was not there before"),
+    ("rights_that_a_run_asks_for", "row x\nrun -c open('made','w').write('a')\nrights made 666", None),
+    ("other_rights", "row x\nrun -c open('made','w').write('a')\nrights made 644", "made has the rights 666, wanted 644"),
+    ("a_row_before_that_fails", f"row y\n{ECHO}\n> a\nrow x\nafter y\n{QUIET}", "in y, which comes before:"),
+    ("words_of_the_file", f"{ECHO}\nrow x\n> a\n< a", None),
+    ("a_comment_ends_a_message", f"{ECHO}\nrow x\n> \\{{length}}\n>\n> ab\\\n# another\n> c\n< 2\n<\n< abc", None),
+]
+
+
+def suite_of(text):
+    """The cases of a text."""
+    with tempfile.TemporaryDirectory(prefix="bank-suite-") as folder:
+        with open(os.path.join(folder, "tried.rows"), "w", encoding="latin-1") as file:
+            file.write(text + "\n")
+        return Suite(folder)
+
+
+def require_refused(text):
+    """Passes if a text is refused as it is read as rows."""
+    with contextlib.suppress(BadRow, ValueError):
+        suite_of(text)
+        raise Wrong("it was read")
+
+
+def run_last(text, wanted):
+    """Runs the last case of a text, of which this has to be said, or nothing."""
+    suite = suite_of(text)
+    # No case here is of the sample bank, so none is run over a copy of its file.
+    lines = [line for it in CASES.runs_of(suite, suite.names()[-1], sys.executable, None) for line in it.faults()]
+    if wanted is None:
+        require_nothing(lines)
+    elif wanted not in "\n".join(lines):
+        raise Wrong(f"it said: {lines}")
+
+
+def require_tally(tries, wanted, go_by_clock=True):
+    """Makes checks that end so at their tries, one after another: this is counted of them, passed, failed and passed at the second
+    try, and no try is left over."""
+    def make(left):
+        if (error := left.pop(0)) is not None:
+            raise error
+
+    left, report = [list(it) for it in tries], Report()
+    with contextlib.redirect_stdout(io.StringIO()) as said:
+        report.make([Check("planted", partial(make, it)) for it in left], go_by_clock=go_by_clock)
+        report.end()
+    found = report.passed, report.failed, report.passed_again, sum(map(len, left)), said.getvalue().count("passed planted: at the second try")
+    require(found, (*wanted, 0, wanted[2]), said.getvalue())
+
+
+def ask_both(seed):
+    """Asks requests that are drawn of a bank over a ledger and of one that adds up: they answer alike, and have the same rows."""
+    rng = random.Random(seed)
+    opening = opening_of(rng, False)
+    drawing, kept, plain = Drawing(rng, opening), opening.bank.copied(), Bank()
+    drawing.moment = FIRST_MOMENT
+    vars(plain).update({name: copy.copy(it) for name, it in vars(kept).items() if name != "ledger"})
+    plain.entries, plain.lines = [], []
+    for kind in ["session"] * 20 + ["drawer-on"] * 8 + [None] * 300:
+        message = drawing.drawn(kept, kind)
+        (kept, said), (plain, due) = (message.due(it, FIRST_MOMENT) for it in (kept, plain))
+        require(said, due, f"to {message.given!r}")
+        if rng.random() < 0.5:
+            before = rows_of_bank(kept)
+            kept.settle()
+            require(rows_of_bank(kept), before, "the rows of a bank that settles")
+    require([it[:9] for it in sorted(plain.entries)], [it[:9] for it in rows_of_bank(kept)["entries"]], "entries")
+
+
+def checks_of(room):
+    """All that is tried."""
+    for kind, pairs in (("text", TEXTS), ("build", BUILDS), ("clause", CLAUSES), ("sum", SUMS), ("said", SAID)):
+        for number, (found, wanted) in enumerate(pairs, 1):
+            yield Check(f"{kind}_{number}", partial(require, found, wanted, kind))
+    for name, (tries, wanted) in TALLIES.items():
+        yield Check(name, partial(require_tally, tries, wanted))
+    yield Check("late_where_no_clock_is_gone_by", partial(require_tally, [[LATE]], (0, 1, 0), go_by_clock=False))
+    for name, text in REFUSED.items():
+        yield Check(name, partial(require_refused, text))
+    for seed in range(1, 4):
+        yield Check(f"ledger_{seed}", partial(ask_both, seed))
+    yield from kept_trials.checks_of(MUTANTS.is_drawn, room)
+    for name, text, wanted in ROWS_TO_RUN:
+        yield Check(name, partial(run_last, text, wanted))
+
+
+def main():
+    return run_checks(reader(__doc__, has_program=False).parse_args(), checks_of, programs=[])
