@@ -1,23 +1,12 @@
 /* A machine whose clock, disk and memory do as a block of numbers says, which the simulation shares with the program.
    The loader puts this before the C library; machine.py compiles and runs it. */
-#define _GNU_SOURCE
-#include <dlfcn.h>
-#include <errno.h>
-#include <fcntl.h>
+#include "../file_calls.h"
 #include <malloc.h>
-#include <signal.h>
-#include <stdarg.h>
-#include <stdio.h>
-#include <stdlib.h>
-#include <string.h>
 #include <sys/mman.h>
 #include <sys/socket.h>
-#include <sys/stat.h>
-#include <sys/syscall.h>
 #include <sys/time.h>
 #include <sys/uio.h>
 #include <time.h>
-#include <unistd.h>
 
 /* the block; machine.py has the same names in the same order */
 struct block {
@@ -40,7 +29,6 @@ struct block {
     long stopped;        /* what the running clock reads, in seconds, where it stands; 0 where it goes on */
 };
 static struct block own, *block = &own;
-static int trace = -1;
 static long standing;
 
 enum { READS = 1, WRITES = 2, SYNCS = 4, SIZES = 8, OPENS = 16, REMOVES = 32, SENDS = 64 };
@@ -53,10 +41,10 @@ void *__libc_realloc(void *old, size_t size);
 
 __attribute__((constructor)) static void start(void)
 {
-    const char *path = getenv("MACHINE_BLOCK"), *told = getenv("MACHINE_TRACE");
+    const char *path = getenv("MACHINE_BLOCK"), *trace = getenv("MACHINE_TRACE");
     int file = path ? syscall(SYS_openat, AT_FDCWD, path, O_RDWR, 0) : -1;
-    if (told)
-        trace = atoi(told);
+    if (trace)
+        told = atoi(trace);
     if (file < 0)
         return;
     void *found = mmap(NULL, sizeof own, PROT_READ | PROT_WRITE, MAP_SHARED, file, 0);
@@ -64,8 +52,6 @@ __attribute__((constructor)) static void start(void)
     if (found != MAP_FAILED)
         block = found;
 }
-
-static void die(void) { kill(getpid(), SIGKILL); }
 
 /* what becomes of the next call of this kind */
 static int fate(int kind)
@@ -88,23 +74,6 @@ static int fate(int kind)
         return FAILED;
     }
     return way == HALF ? HALVED : way == HALF_AND_KILLED ? TORN : LAST;
-}
-
-static int is_file(int file)
-{
-    struct stat found;
-    return fstat(file, &found) == 0 && S_ISREG(found.st_mode);
-}
-
-static void tell(char kind, int file, long long where, const void *bytes, size_t size)
-{
-    char line[80];
-    int length;
-    if (trace < 0)
-        return;
-    length = snprintf(line, sizeof line, "%c %d %lld %zu\n", kind, file, where, size);
-    if (syscall(SYS_write, trace, line, length) != length || (size && syscall(SYS_write, trace, bytes, size) != (long)size))
-        abort();
 }
 
 static ssize_t after(int next, ssize_t done)
@@ -211,8 +180,6 @@ ssize_t pread64(int file, void *room, size_t size, off64_t where)
     return after(next, syscall(SYS_pread64, file, room, size, where));
 }
 
-ssize_t pread(int file, void *room, size_t size, off_t where) { return pread64(file, room, size, where); }
-
 ssize_t pwrite64(int file, const void *bytes, size_t size, off64_t where)
 {
     int next = is_file(file) ? fate(WRITES) : MADE;
@@ -227,8 +194,6 @@ ssize_t pwrite64(int file, const void *bytes, size_t size, off64_t where)
     return after(next, done);
 }
 
-ssize_t pwrite(int file, const void *bytes, size_t size, off_t where) { return pwrite64(file, bytes, size, where); }
-
 ssize_t write(int file, const void *bytes, size_t size)
 {
     if (!is_file(file)) {
@@ -237,11 +202,7 @@ ssize_t write(int file, const void *bytes, size_t size)
             return -1;
         return after(next, syscall(SYS_write, file, bytes, next == TORN || next == HALVED ? (size + 1) / 2 : size));
     }
-    long long where = lseek(file, 0, SEEK_CUR);
-    ssize_t done = pwrite64(file, bytes, size, where);
-    if (done > 0)
-        lseek(file, done, SEEK_CUR);
-    return done;
+    return written(file, bytes, size);
 }
 
 ssize_t writev(int file, const struct iovec *parts, int count)
@@ -263,8 +224,6 @@ int ftruncate64(int file, off64_t size)
     return after(next, done);
 }
 
-int ftruncate(int file, off_t size) { return ftruncate64(file, size); }
-
 static int synced(int file, int call)
 {
     int next = fate(SYNCS), done;
@@ -278,9 +237,6 @@ static int synced(int file, int call)
     return after(next, done);
 }
 
-int fsync(int file) { return synced(file, SYS_fsync); }
-int fdatasync(int file) { return synced(file, SYS_fdatasync); }
-
 static int opened(int folder, const char *path, int flags, unsigned mode)
 {
     int is_change = flags & (O_CREAT | O_TRUNC);
@@ -293,22 +249,6 @@ static int opened(int folder, const char *path, int flags, unsigned mode)
     return after(next, file);
 }
 
-static unsigned mode_of(int flags, va_list more) { return flags & (O_CREAT | O_TMPFILE) ? va_arg(more, unsigned) : 0; }
-
-#define OPENING(name, head, folder) \
-    int name head \
-    { \
-        va_list more; \
-        va_start(more, flags); \
-        unsigned mode = mode_of(flags, more); \
-        va_end(more); \
-        return opened(folder, path, flags, mode); \
-    }
-OPENING(open, (const char *path, int flags, ...), AT_FDCWD)
-OPENING(open64, (const char *path, int flags, ...), AT_FDCWD)
-OPENING(openat, (int folder, const char *path, int flags, ...), folder)
-OPENING(openat64, (int folder, const char *path, int flags, ...), folder)
-
 int unlinkat(int folder, const char *path, int flags)
 {
     int next = fate(REMOVES), done;
@@ -319,5 +259,3 @@ int unlinkat(int folder, const char *path, int flags)
         tell('u', 0, 0, path, strlen(path));
     return after(next, done);
 }
-
-int unlink(const char *path) { return unlinkat(AT_FDCWD, path, 0); }
