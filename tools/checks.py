@@ -177,7 +177,7 @@ def reader(description: str | None, *, has_program: bool = True, has_checks: boo
         found.add_argument("--list", action="store_true", help="print the names of the checks")
         found.add_argument("--only", metavar="TEXT", action="append", default=[], help="make those with this in their names")
     if has_program:
-        found.add_argument("program", metavar="PROGRAM", nargs="?", default=PROGRAM, type=os.path.abspath, help="the bank program")
+        found.add_argument("program", metavar="PROGRAM", nargs="?", default=PROGRAM, type=os.path.abspath, help="the bank program, if not crates/bank_cli/out/bank_cli")
     return found
 
 

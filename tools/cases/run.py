@@ -3,8 +3,8 @@
     tools/cases/run [PROGRAM [CASE ..]]
     tools/cases/run --input CASE
 
-PROGRAM is crates/bank_cli/out/bank_cli where it is left out. With names of cases, or of their files, only those are run.
-`--input` writes the bytes that a case sends. tools/cases/suite.py says how a case is written, and reads it.
+With names of cases, or of their files, only those are run. `--input` writes the bytes that a case sends. tools/cases/suite.py
+says how a case is written, and reads it.
 
 Each case is run over PROGRAM, in a folder of its own. A case of `sample` that begins in an empty folder is run six times
 more, over crates/test_stores/out/test_stores: with the sample bank in lists, in lists with a cache in front, and in SQL tables in
@@ -13,8 +13,7 @@ the row's last operation is of, and changes nothing: so the cache keeps the rows
 request is judged. What is written after the reply to it is compared. And once more it is run by PROGRAM's `run` over a copy
 of a file: the bank of the sample's opening lists, as an earlier `run` opened it.
 
-What differs is shown by lines: `-` is what had to be written, `+` is what was. The last line is 'N passed, M failed',
-counted in runs; the exit status is 1 where M is not 0.
+What differs is shown by lines: `-` is what had to be written, `+` is what was. Each run is a check.
 """
 import difflib
 import json

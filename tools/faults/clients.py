@@ -3,15 +3,13 @@ where what they ask for is not counted.
 
     tools/faults/clients [--long] [--only TEXT] [--list] [PROGRAM]
 
-PROGRAM is crates/bank_cli/out/bank_cli where it is left out. curl, wget and Python's own http.client ask for a post, a
-statement and a path that is not there. Other clients send two messages a byte at a time, end inside a message, say nothing, or
-send ten megabytes of one line: their connection ends, and the next one is served. The port is another's; a port that is served
-is so at 127.0.0.1 alone. A triple begins and another ends between two requests. With --long there come a client that sends a
-byte a second without end, one that reads none of its replies, and 10,000 connections one after another, whose memory is
-compared with that of ten; that takes three minutes.
+curl, wget and Python's own http.client ask for a post, a statement and a path that is not there. Other clients send two messages
+a byte at a time, end inside a message, say nothing, or send ten megabytes of one line: their connection ends, and the next one is
+served. The port is another's; a port that is served is so at 127.0.0.1 alone. A triple begins and another ends between two
+requests. With --long there come a client that sends a byte a second without end, one that reads none of its replies, and 10,000
+connections one after another, whose memory is compared with that of ten; that takes three minutes.
 
-Each of these is a run of its own, over a bank of its own, beside the others; who was late is tried once more at the end. The last
-line is 'N passed, M failed'; the exit status is 1 where M is not 0.
+Each of these is a run of its own, over a bank of its own, beside the others; who was late is tried once more at the end.
 """
 import contextlib
 import http.client

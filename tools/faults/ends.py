@@ -2,14 +2,11 @@
 
     tools/faults/ends [--only TEXT] [--list] [PROGRAM]
 
-PROGRAM is crates/bank_cli/out/bank_cli where it is left out. An end is a run
-of the program with its standard streams on a device that takes no byte, on a folder, on a pipe that no one reads, or
-closed; or with input that comes in pieces, each sent once what was due before it has come; or a run of test_stores with
+An end is a run of the program with its standard streams on a device that takes no byte, on a folder, on a pipe that no one reads,
+or closed; or with input that comes in pieces, each sent once what was due before it has come; or a run of test_stores with
 arguments that it refuses. Its status and what it wrote are compared with what has to be. In one run the calls are counted by
-which replies go out; it is skipped, and a line says so, where there is no strace that can watch a program. What was late is
-tried once more at the end.
-
-The last line is 'N passed, M failed'; the exit status is 1 where M is not 0.
+which replies go out; it is skipped, and a line says so, where there is no strace that can watch a program. What was late is tried
+once more at the end.
 """
 import contextlib
 import os

@@ -7,9 +7,6 @@ are, which takes hours. In a file with sums none may pass as `books hold`, but f
 that it has them: it is then one without, with the same rows, and each of these is tried. Then whole pages are damaged: each made
 zeros, each put in the place of another, each taken from the copy of the day before. Zeros and another page may not pass, with
 sums or without. A line for each kind of damage says what was reported how often. Each file has to be sound before, by `check` and by Python's sqlite3, and its pages have to end in their sums.
-
-PROGRAM is crates/bank_cli/out/bank_cli where it is left out. The last line is 'N passed, M failed', counted in kinds of damage; the
-exit status is 1 where M is not 0.
 """
 import contextlib
 import functools

@@ -19,7 +19,7 @@ once, with its reply.
 (A request that is denied takes no slip. So a client that sends several at a time may find one allowed when sending it again,
 by what came after it; these streams have none.)
 
-The last line is 'N passed, M failed', counted in kills of posts and in streams; the exit status is 1 where M is not 0.
+Each kill of posts and each stream is a check.
 """
 import os
 import random

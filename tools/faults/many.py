@@ -2,15 +2,14 @@
 
     tools/faults/many [--only TEXT] [--list] [PROGRAM]
 
-PROGRAM is crates/bank_cli/out/bank_cli where it is left out. 500 connections are idle, one sends byte by byte, twenty are busy, one
-reads none of its replies; a thousand are accepted at once, and beyond that the one that was idle longest gives way. Busy clients post
-over several connections: every entry is there once, each gets the reply to its own. The place is a port, a Unix socket or a socket
-that is handed over. An end by order answers what has come, on a slow disk, too. What is late is tried on a clock that the test sets: a
-message that does not become whole, to the second, and replies that are not taken. A last reply that the system does not hold arrives
-whole, however slowly it is read and whatever is sent beyond it.
+500 connections are idle, one sends byte by byte, twenty are busy, one reads none of its replies; a thousand are accepted at once,
+and beyond that the one that was idle longest gives way. Busy clients post over several connections: every entry is there once,
+each gets the reply to its own. The place is a port, a Unix socket or a socket that is handed over. An end by order answers what
+has come, on a slow disk, too. What is late is tried on a clock that the test sets: a message that does not become whole, to the
+second, and replies that are not taken. A last reply that the system does not hold arrives whole, however slowly it is read and
+whatever is sent beyond it.
 
-Each of these is a run of its own, over a bank of its own, one after another; who was late is tried once more at the end. The last
-line is 'N passed, M failed'; the exit status is 1 where M is not 0.
+Each of these is a run of its own, over a bank of its own, one after another; who was late is tried once more at the end.
 """
 import contextlib
 import fcntl

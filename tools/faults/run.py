@@ -6,13 +6,12 @@ The table LINES has what fails (injected.py), the works (works.py), and what mus
 over a copy of its bank, with the call, byte or moment of that place. Libraries of a few lines, which cc compiles into a temporary
 folder and the loader puts before the C library, count calls and have them fail.
 
-PROGRAM is crates/bank_cli/out/bank_cli where it is left out. Of a file's allocations one in STEP is refused, which is 20 where it
-is left out; with 1 each is, which takes an hour. With names of cases that `sample` runs, memory and cuts are tried over these
-alone; with `all`, cuts over all. With programs of the earlier schema versions, their `check` has to see the same of a migrated file. With a text, only
-the lines are tried that have it in their names.
+Of a file's allocations one in STEP is refused, which is 20 where it is left out; with 1 each is, which takes an hour. With names
+of cases that `sample` runs, memory and cuts are tried over these alone; with `all`, cuts over all. With programs of the earlier
+schema versions, their `check` has to see the same of a migrated file. With a text, only the lines are tried that have it in their
+names.
 
-A line for each fault and work says what was left how often. The last line is 'N passed, M failed', counted in these; the exit
-status is 1 where M is not 0.
+A line for each fault and work says what was left how often. Each of these is a check.
 """
 import functools
 import os

@@ -2,13 +2,13 @@
 
     tools/faults/upgrades [--only TEXT] [--list] [PROGRAM [FIRST [SECOND]]]
 
-The banks are those of migrations/version-1 and migrations/version-2, each made as a file by Python's sqlite3, or byte for byte as a kill
-left it. PROGRAM is crates/bank_cli/out/bank_cli where it is left out. `check` has to report another version of each, and to leave it
-alone. `upgrade` has to print `carried over`, and the file alone has to be the bank: a log beside it has no page, and is taken
-away. Python's sqlite3 has to find in it the tables that `init` makes, in their order, with the rows that it had, but for the
-version; for triples of the first version, which stand in `grants` with the widest moments; and for slips, of which nobody has
-any. `check` has to pass it, a second `upgrade` has to report another version and leave it alone, and `run` has to answer the
-requests of the row as the program of that schema version did; in a listing each triple has its moments, too.
+The banks are those of migrations/version-1 and migrations/version-2, each made as a file by Python's sqlite3, or byte for byte as
+a kill left it. `check` has to report another version of each, and to leave it alone. `upgrade` has to print `carried over`, and
+the file alone has to be the bank: a log beside it has no page, and is taken away. Python's sqlite3 has to find in it the tables
+that `init` makes, in their order, with the rows that it had, but for the version; for triples of the first version, which stand
+in `grants` with the widest moments; and for slips, of which nobody has any. `check` has to pass it, a second `upgrade` has to
+report another version and leave it alone, and `run` has to answer the requests of the row as the program of that schema version
+did; in a listing each triple has its moments, too.
 
 Files that are no sound bank of their version, that are cut, or that another program has open are refused: by the line of
 `refused.rows` in the folder, or by that of this file. Everything in the folder is then as it was, byte for byte; but for a log
@@ -17,7 +17,7 @@ that has no page, and zeros at the end of one.
 With FIRST or SECOND, a program of that version, its `check` has to pass each bank, its `run` has to answer as the case says, and
 its `check` has to report of each file that is refused what `upgrade` reports.
 
-The last line is 'N passed, M failed', counted in files; the exit status is 1 where M is not 0.
+Each file is a check.
 """
 import functools
 import os

@@ -2,10 +2,9 @@
 
     tools/pages/guide [PROGRAM]
 
-PROGRAM is crates/bank_cli/out/bank_cli where it is left out. The lines are those of the blocks marked `sh`, which one shell
-carries out one after another, in a folder that begins like a clone in which the program is built. What they write, to
-standard error too, has to be the block that follows, or nothing where none does before the next lines. They need bash and
-curl; where there is no sqlite3, what Python has stands in for it.
+The lines are those of the blocks marked `sh`, which one shell carries out one after another, in a folder that begins like a clone
+in which the program is built. What they write, to standard error too, has to be the block that follows, or nothing where none
+does before the next lines. They need bash and curl; where there is no sqlite3, what Python has stands in for it.
 
 Each block of lines is a check.
 """

@@ -2,7 +2,7 @@
 
     tools/pages/openapi [PROGRAM]
 
-PROGRAM is crates/bank_cli/out/bank_cli where it is left out; its `sample` is asked. Of each path of the file:
+Of the program its `sample` is asked. Of each path of the file:
 
 - The example of its body is answered by the example of its reply, byte for byte. Where a slip may be borne it is asked for twice
   with one, and answered so twice; another body with that slip is denied by the rule of slips.
