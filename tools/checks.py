@@ -11,6 +11,7 @@ import shutil
 import subprocess
 import sys
 import tempfile
+import threading
 import time
 import traceback
 from collections.abc import Callable, Iterable, Sequence
@@ -80,10 +81,10 @@ def lacking(*programs: str) -> str:
     return ", ".join(f"there is no {it}" for it in programs if not shutil.which(it))
 
 
-def reason(error: Exception) -> str:
-    """What is printed of an error: of one that no check raises by itself, where it was raised, too."""
-    if isinstance(error, Wrong):
-        return str(error)
+def reason(error: Exception | None) -> str | None:
+    """What is printed of an error, if there is one: of one that no check raises by itself, where it was raised, too."""
+    if error is None or isinstance(error, Wrong):
+        return error and str(error)
     places = [it for it in traceback.extract_tb(error.__traceback__) if it.filename.startswith(TOP)]
     place = f" ({os.path.relpath(places[-1].filename, TOP)}:{places[-1].lineno})" if places else ""
     return f"{type(error).__name__}: {error}{place}"
@@ -102,18 +103,20 @@ class Report:
 
     def __init__(self, count: int = 0) -> None:
         self.count, self.passed, self.failed, self.skipped, self.passed_again = count, 0, 0, 0, 0
-        self.printed = time.monotonic()
+        self.late: list[tuple[Check, str]] = []
+        self.lock, self.printed = threading.Lock(), time.monotonic()
 
     def add(self, name: str, why: str | None = None, note: str = "") -> None:
         """Takes a check as passed, or, if there is a reason, as failed."""
-        self.passed, self.failed = self.passed + (why is None), self.failed + (why is not None)
-        if why is not None:
-            print(f"FAILED {name}: {why}", flush=True)
-        elif note or 0 < self.count <= MOST_PRINTED:
-            print(f"passed {name}{note and ': ' + note}", flush=True)
-        elif self.count and time.monotonic() - self.printed > SECONDS_BETWEEN:
-            self.printed = time.monotonic()
-            print(f"{self.passed + self.failed} of {self.count} checks are made", flush=True)
+        with self.lock:
+            self.passed, self.failed = self.passed + (why is None), self.failed + (why is not None)
+            if why is not None:
+                print(f"FAILED {name}: {why}", flush=True)
+            elif note or 0 < self.count <= MOST_PRINTED:
+                print(f"passed {name}{note and ': ' + note}", flush=True)
+            elif self.count and time.monotonic() - self.printed > SECONDS_BETWEEN:
+                self.printed = time.monotonic()
+                print(f"{self.passed + self.failed} of {self.count} checks are made", flush=True)
 
     def add_all(self, found: Iterable[tuple[str, str | None]]) -> int:
         """Takes checks by their names, each with what is wrong, if anything, and prints the last lines. The exit status."""
@@ -121,37 +124,56 @@ class Report:
             self.add(name, why)
         return self.end()
 
-    def skip(self, name: str, lacks: str) -> None:
-        """Takes a check as one that can't be made here."""
-        self.skipped += 1
-        print(f"skipped {name}: {lacks}", flush=True)
+    def take(self, check: Check, found: tuple[str, Exception | None], go_by_clock: bool) -> None:
+        """Takes a check by its outcome; one that was late has a second try, if it goes by the clock."""
+        note, error = found
+        if go_by_clock and isinstance(error, BY_WAITING):
+            self.late.append((check, str(reason(error))))
+            print(f"late {check.name}: {reason(error)}", flush=True)
+        else:
+            self.add(check.name, reason(error), note)
 
-    def make(self, checks: Sequence[Check], jobs: int = 1, go_by_clock: bool = False) -> None:
-        """Makes checks, so many at a time, and then those once more that were late, if they go by the clock."""
-        late = []
-        able = [it for it in checks if not it.lacks]
-        for it in checks:
+    def able(self, checks: Iterable[Check]) -> list[Check]:
+        """Those of the checks that lack nothing; the others are skipped."""
+        found = list(checks)
+        for it in found:
             if it.lacks:
-                self.skip(it.name, it.lacks)
-        for check, (note, error) in zip(able, in_order([it.make for it in able], jobs)):
-            if go_by_clock and isinstance(error, BY_WAITING):
-                late.append((check, reason(error)))
-                print(f"late {check.name}: {late[-1][1]}", flush=True)
-            else:
-                self.add(check.name, error and reason(error), note)
-        self.try_again(late, len(able))
+                self.skipped += 1
+                print(f"skipped {it.name}: {it.lacks}", flush=True)
+        return [it for it in found if not it.lacks]
 
-    def try_again(self, late: list[tuple[Check, str]], count: int) -> None:
-        """Makes checks a second time that were late, each with the reason, if they are few among so many."""
-        is_by_chance = len(late) <= max(FEW_LATE, count * SHARE_OF_LATE)
-        for check, why in late:
-            if not is_by_chance:
-                self.add(check.name, f"{why}; so were {len(late)} of {count}, too many for a second try")
-                continue
-            note, error = outcome(check.again or check.make)
-            self.passed_again += error is None
-            first = f"at the second try; at the first: {why}"
-            self.add(check.name, error and f"{why}; at the second try: {reason(error)}", f"{first}{note and '; ' + note}")
+    def make(self, checks: Iterable[Check], jobs: int = 1, go_by_clock: bool = False) -> None:
+        """Makes checks, so many at a time, and then those once more that were late, if they go by the clock."""
+        able = self.able(checks)
+        for check, found in zip(able, in_order([it.make for it in able], jobs)):
+            self.take(check, found, go_by_clock)
+        self.try_again(len(able))
+
+    def make_lanes(self, lanes: Sequence[Sequence[Check]]) -> None:
+        """Makes checks that go by the clock, those of a lane one after another and the lanes beside one another."""
+        def make_lane(checks: Sequence[Check]) -> int:
+            able = self.able(checks)
+            for it in able:
+                self.take(it, outcome(it.make), True)
+            return len(able)
+
+        with ThreadPoolExecutor(len(lanes)) as pool:
+            self.try_again(sum(pool.map(make_lane, lanes)))
+
+    def try_again(self, count: int) -> None:
+        """Makes the checks a second time that were late, if they are few among so many."""
+        for check, why in self.late:
+            if is_by_chance(len(self.late), count):
+                self.add_again(check.name, why, outcome(check.again or check.make))
+            else:
+                self.add(check.name, f"{why}; so were {len(self.late)} of {count}, too many for a second try")
+
+    def add_again(self, name: str, why: str, found: tuple[str, Exception | None]) -> None:
+        """Takes a check that was late, for a reason, by its outcome at the second try."""
+        note, error = found
+        self.passed_again += error is None
+        first = f"at the second try; at the first: {why}"
+        self.add(name, f"{why}; at the second try: {reason(error)}" if error else None, f"{first}{note and '; ' + note}")
 
     def end(self) -> int:
         """Prints the last lines. The exit status."""
@@ -159,6 +181,11 @@ class Report:
             print(f"{self.passed_again} passed at the second try")
         print(f"{self.passed} passed, {self.failed} failed" + f", {self.skipped} skipped" * bool(self.skipped), flush=True)
         return 1 if self.failed else 0
+
+
+def is_by_chance(late: int, count: int) -> bool:
+    """Whether so many of the checks may be late."""
+    return late <= max(FEW_LATE, count * SHARE_OF_LATE)
 
 
 def in_order(makes: list[Callable[[], str | None]], jobs: int) -> Iterable[tuple[str, Exception | None]]:
@@ -177,7 +204,7 @@ def reader(description: str | None, *, has_program: bool = True, has_checks: boo
         found.add_argument("--list", action="store_true", help="print the names of the checks")
         found.add_argument("--only", metavar="TEXT", action="append", default=[], help="make those with this in their names")
     if has_program:
-        found.add_argument("program", metavar="PROGRAM", nargs="?", default=PROGRAM, type=os.path.abspath, help="the bank program, if not crates/bank_cli/out/bank_cli")
+        found.add_argument("program", metavar="PROGRAM", nargs="?", default=PROGRAM, type=lambda it: os.path.abspath(it), help="the bank program, if not crates/bank_cli/out/bank_cli")
     return found
 
 
@@ -208,7 +235,7 @@ def run_checks(
         try:
             checks = [it for it in checks_of(room) if is_chosen(it.name, given.only)]
         except Exception as error:  # noqa: BLE001 - whatever goes wrong, no check can be made
-            return refuse(reason(error))
+            return refuse(str(reason(error)))
         if given.list:
             print("\n".join(it.name for it in checks))
             return 0
