@@ -1,4 +1,5 @@
 """A branch in a temporary folder, from nothing: certificates, a bank that is started again when it ends, the front, and clients."""
+import collections
 import contextlib
 import http.client
 import json
@@ -12,19 +13,23 @@ import socket
 import sqlite3
 import ssl
 import subprocess
+import sys
 import tempfile
 import threading
 import time
 from pathlib import Path
 
 HERE = Path(__file__).resolve().parent
+sys.path.append(str(HERE.parent / "tools"))
+
+from checks import Late, Wrong, require, wait_until
+from model.bank import PROCEDURES
+
 PROGRAM = HERE.parent / "crates/bank_cli/out/bank_cli"
 TELLERS = ["amy", "ben", "cai", "dot", "eli", "fay"]
 # An officer, two certifiers and a supervisor, by their badges; the tellers are users 7 to 12.
 OTHERS = {"olga": 1, "carl": 2, "cora": 3, "sue": 13}
 USERS = {**OTHERS, **{badge: 7 + i for i, badge in enumerate(TELLERS)}}
-PROCEDURES = ("post transfer correct drawer-on drawer-off move-cash new-account release balance statement accounts proof "
-              "close-day").split()
 # The columns that hold no moment, so that two runs can be compared row by row.
 COLUMNS = {
     "accounts": "*", "branches": "*", "tellers": "*", "users": "*", "slip_counts": "*", "proofs": "*", "releases": "*",
@@ -39,17 +44,10 @@ NOBODY = 65534
 # For so many seconds a test waits for what has to come: a busy machine takes its time.
 PATIENCE = 60
 PORTS, PORTS_LOCK = set(), threading.Lock()
+# The status of a curl whose time is over.
+CURL_LATE = 28
 # Changes of the front's settings that lift its limits per certificate.
 NO_RATE = [("limit_req zone=by_certificate burst=40 nodelay;", ""), ("limit_conn open_by_certificate 20;", "")]
-
-
-class Wrong(Exception):
-    """What was found is not what is wanted."""
-
-
-def require(found, wanted, what):
-    if found != wanted:
-        raise Wrong(f"{what}: {found!r}, and not {wanted!r}")
 
 
 def missing():
@@ -113,6 +111,7 @@ class Files:
         with contextlib.suppress(ValueError): # where no more are allowed
             resource.setrlimit(resource.RLIMIT_NOFILE, (8192, resource.getrlimit(resource.RLIMIT_NOFILE)[1]))
         self.top = Path(tempfile.mkdtemp(prefix="branch-"))
+        self.folders = collections.Counter()
         self.lock = threading.Lock() # of what the front reads of the certificates, while a command writes it anew
         shutil.copy(program, self.top / "bank_cli")
         shutil.copy(HERE / "certificates", self.top)
@@ -125,6 +124,13 @@ class Files:
                     os.chown(path, NOBODY, NOBODY)
             become_nobody()
         os.environ["HOME"] = str(self.top)
+
+    def folder(self, name):
+        """The path of a folder that is not there yet, with this name or with a number after it."""
+        with self.lock:
+            path = self.top / f"{name}{self.folders[name] + 1 if self.folders[name] else ''}"
+            self.folders[name] += 1
+        return path
 
     def make_certificates(self):
         self.certificates("begin", "localhost")
@@ -183,7 +189,7 @@ class Branch:
 
     def __init__(self, files, name, changes=(), bank=True, tcp=False, room=None):
         self.files, self.is_tcp = files, tcp
-        self.folder = files.top / name
+        self.folder = files.folder(name)
         # Opened here and handed to the front, as systemd does it: nobody else gets its port meanwhile.
         door = socket.create_server(("127.0.0.1", 0), backlog=1024)
         door.setblocking(False)
@@ -242,6 +248,8 @@ class Branch:
         try:
             with socket.create_connection(("127.0.0.1", self.port), PATIENCE) as bare:
                 context.wrap_socket(bare, server_hostname="localhost").close()
+        except TimeoutError as error:
+            raise Late(f"the front does not answer: {error}") from error
         except OSError as error:
             raise Wrong(f"the front does not answer: {error}") from error
 
@@ -277,7 +285,7 @@ class Branch:
         started = threading.Event()
         self.keeper = threading.Thread(target=self._keep, args=(started,), daemon=True)
         self.keeper.start()
-        require(started.wait(PATIENCE), True, "the bank has said that it listens")
+        wait_until(started.is_set, PATIENCE, "the bank has said that it listens")
 
     def _keep(self, started):
         while self.kept:
@@ -315,10 +323,7 @@ class Branch:
         before = self.starts
         environment = {"PATH": PATH, "MAINPID": str(self.bank.pid), "RUNTIME_DIRECTORY": str(self.folder / "run")}
         subprocess.run([self.files.top / "units/end-bank"], env=environment, check=True)
-        end = time.monotonic() + PATIENCE
-        while self.starts == before:
-            require(time.monotonic() < end, True, "the bank has started again")
-            time.sleep(0.02)
+        wait_until(lambda: self.starts != before, PATIENCE, "the bank has started again")
 
     # ---- asking by curl
 
@@ -339,6 +344,8 @@ class Branch:
             command += ["-H", field]
         given = ["--data-binary", "@-"] if body is not None else []
         ran = subprocess.run([*command, *given, f"{self.url}{path}"], capture_output=True, text=True, input=body)
+        if ran.returncode == CURL_LATE:
+            raise Late(f"{path}: no reply in time")
         text, _, status = ran.stdout.rpartition("\n")
         return int(status), text
 
@@ -371,9 +378,13 @@ class Branch:
         with self.connected(who, protocols) as client, contextlib.suppress(OSError):
             client.settimeout(PATIENCE)
             client.sendall(given)
-            while piece := client.recv(65536):
-                got += piece
-                client.settimeout(0.7 if is_whole(got) else PATIENCE)
+            try:
+                while piece := client.recv(65536):
+                    got += piece
+                    client.settimeout(0.7 if is_whole(got) else PATIENCE)
+            except TimeoutError as error:
+                if not is_whole(got):
+                    raise Late(f"within {PATIENCE} seconds {got!r} came") from error
         return got
 
     def received(self, client, is_whole):
@@ -410,11 +421,9 @@ class Branch:
 
     def reload(self):
         """Has the front read its settings anew, and waits until no worker of the earlier ones serves."""
-        before, end = self.workers(), time.monotonic() + PATIENCE
+        before = self.workers()
         self.front.send_signal(signal.SIGHUP)
-        while not self.workers() or self.workers() & before:
-            require(time.monotonic() < end, True, "the front has other workers")
-            time.sleep(0.05)
+        wait_until(lambda: self.workers() and not self.workers() & before, PATIENCE, "the front has other workers")
         time.sleep(0.2)
 
     def close(self):

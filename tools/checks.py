@@ -84,7 +84,7 @@ def lacking(*programs: str) -> str:
 def reason(error: Exception | None) -> str | None:
     """What is printed of an error, if there is one: of one that no check raises by itself, where it was raised, too."""
     if error is None or isinstance(error, Wrong):
-        return error and str(error)
+        return None if error is None else str(error)
     places = [it for it in traceback.extract_tb(error.__traceback__) if it.filename.startswith(TOP)]
     place = f" ({os.path.relpath(places[-1].filename, TOP)}:{places[-1].lineno})" if places else ""
     return f"{type(error).__name__}: {error}{place}"

@@ -4,7 +4,6 @@ import itertools
 import os
 import socket
 import subprocess
-import time
 
 from checks import Wrong
 from sample_file import BADGES
@@ -129,12 +128,6 @@ class Serving:
         found = self.ended(seconds)
         if found != (0, b"", b""):
             raise Wrong(f"it ended with {found!r}")
-
-    def require_going(self):
-        """Passes if it still serves."""
-        time.sleep(0.05)
-        if self.run.poll() is not None:
-            raise Wrong(f"it has ended: {self.ended()!r}")
 
 
 def counter_words(file, *more):

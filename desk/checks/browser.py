@@ -18,7 +18,7 @@ from selenium.webdriver.common.keys import Keys
 from selenium.webdriver.firefox.options import Options as FirefoxOptions
 from selenium.webdriver.firefox.service import Service as FirefoxService
 
-from branches import Wrong
+from checks import Late, Wrong
 
 CHROMIUM, CHROMEDRIVER = "/usr/bin/chromium", "/usr/bin/chromedriver"
 # For so many seconds a check waits for what has to come: a busy machine takes its time.
@@ -103,7 +103,7 @@ class Browser:
                 return work()
             except MOMENTARY as error:
                 if time.monotonic() > end:
-                    raise Wrong(f"it was never there: {error}") from error
+                    raise Late(f"it was never there: {error}") from error
             time.sleep(0.03)
 
     def all(self, css):
@@ -128,15 +128,18 @@ class Browser:
                     return found
             time.sleep(0.03)
         seen = {css: self.text(css)[:400] for css in ("h1", "#outcome", "#waiting", "#work")}
-        raise Wrong(f"it never came to {what}: {seen}")
+        raise Late(f"it never came to {what}: {seen}")
 
     def until_text(self, css, *pieces, seconds=SECONDS):
-        """The text there, once it has all these pieces."""
+        """The text there, once it has all these pieces. Another text there at the end is a wrong one."""
         def found():
             text = self.text(css)
             return text if all(it in text for it in pieces) else ""
 
-        return self.until(found, f"{pieces} in {css}", seconds)
+        try:
+            return self.until(found, f"{pieces} in {css}", seconds)
+        except Late as error:
+            raise (Wrong if self.text(css) else Late)(str(error)) from error
 
     def await_nothing_waiting(self):
         """The panel of what waits is emptied after the outcome is shown."""

@@ -14,7 +14,8 @@ from pathlib import Path
 DESK = Path(__file__).resolve().parent.parent
 sys.path.insert(0, str(DESK.parent / "branch"))
 
-from branches import PATIENCE, Branch, Files, require
+from branches import PATIENCE, Branch
+from checks import wait_until
 
 BADGES = ["olga", "carl", "cora", "tess", "tom", "sue"]
 # Read at the start, as the unprivileged user whom the tests become may have no right to read this folder.
@@ -73,11 +74,7 @@ class Counter(Branch):
                     now[path.name] = path.read_bytes()
             return now
 
-        found, end = read(), time.monotonic() + PATIENCE
-        while (again := read()) != found:
-            require(time.monotonic() < end, True, "the bank's file stands still")
-            found = again
-        return found
+        return wait_until(lambda: (found := read()) == read() and found, PATIENCE, "the bank's file stands still")
 
     def one(self, query, *values):
         return self.sql(query, *values)[0][0]
