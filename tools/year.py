@@ -62,7 +62,7 @@ def has_memory_disk():
     return shutil.disk_usage(MEMORY).free > MEMORY_BYTES
 
 
-def lived(given, seed):
+def live_one(given, seed):
     """Lives one life: what occurred, how long it took, and what is wrong, if anything is."""
     room = tempfile.mkdtemp(prefix=f"bank-year-{seed}-", dir=MEMORY if has_memory_disk() else None)
     begin, life = time.monotonic(), None
@@ -115,7 +115,7 @@ def live_all(given, report):
     counts = Counter()
     seeds = range(given.seed, given.seed + given.seeds)
     with ProcessPoolExecutor(min(given.processes, given.seeds)) as pool:
-        for seed, (found, seconds, wrong) in zip(seeds, pool.map(partial(lived, given), seeds)):
+        for seed, (found, seconds, wrong) in zip(seeds, pool.map(partial(live_one, given), seeds)):
             counts += found
             note = f"{line_of(found)}; {seconds:.1f} seconds"
             if given.plant:

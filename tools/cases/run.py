@@ -40,7 +40,7 @@ SECONDS = 240
 MOST_LINES = 60
 
 
-def shown(text):
+def lines_shown(text):
     """The lines of bytes, with their ends to be seen. The head of a message begins a line."""
     lines = re.findall(rb"[^\n]*?\n|[^\n]+?(?=HTTP/1\.1 )|[^\n]+$", text)
     return [repr(it)[2:-1] for it in lines]
@@ -50,7 +50,7 @@ def difference(what, wrote, wanted):
     """Lines that show how two texts differ."""
     if wrote == wanted:
         return []
-    pieces = difflib.unified_diff(shown(wanted), shown(wrote), n=2, lineterm="")
+    pieces = difflib.unified_diff(lines_shown(wanted), lines_shown(wrote), n=2, lineterm="")
     lines = [it if len(it) <= 200 else f"{it[:200]} .. of {len(it) - 1}" for it in list(pieces)[2:]]
     cut = [] if len(lines) <= MOST_LINES else [f".. and {len(lines) - MOST_LINES} lines more"]
     return [f"{what}: {len(wrote)} bytes, wanted {len(wanted)}", *lines[:MOST_LINES], *cut]
@@ -94,7 +94,7 @@ def after_first(output, statuses):
     return output[size:] if size and parsed(output[:size]).status in statuses else None
 
 
-def started(program, words, given, room):
+def run_program(program, words, given, room):
     """Runs the program in a folder, with an environment of its own. A file that it makes has all rights that it asks for."""
     environment = {
         "PATH": "/usr/local/bin:/usr/bin:/bin",
@@ -160,7 +160,7 @@ def faults_of_files(step, room, before):
     return said + [f"{it} is there" for it in step.absent if os.path.lexists(os.path.join(room, it))]
 
 
-def made(changes, room):
+def make_changes(changes, room):
     """Does what is done before a run, and returns lines that say what can't be."""
     try:
         for change in changes:
@@ -172,11 +172,11 @@ def made(changes, room):
 
 def faults_of_step(program, step, room):
     """Lines that say what differs in one run of a row."""
-    said = made(step.changes, room)
+    said = make_changes(step.changes, room)
     if said:
         return said
     before = {path: bytes_in(room, path) for path in step.unchanged}
-    ran = started(program, step.words, step.given, room)
+    ran = run_program(program, step.words, step.given, room)
     return differences(step, ran, ran.stdout) + faults_of_files(step, room, before)
 
 
@@ -186,7 +186,7 @@ def faults_of_row(program, row, room):
         said = faults_of_step(program, step, room)
         if said:
             return ([f"in run {number}:"] if len(row.steps) > 1 else []) + said
-    return made(row.changes, room)
+    return make_changes(row.changes, room)
 
 
 class Run:
@@ -228,7 +228,7 @@ class RunOver:
         """Runs the program, and returns lines that say what differs."""
         first, statuses = first_of(self.step.given) if self.is_second else (b"", set())
         with tempfile.TemporaryDirectory(prefix="bank-row-") as room:
-            ran = started(OVER, self.words, first + self.step.given, room)
+            ran = run_program(OVER, self.words, first + self.step.given, room)
         output = after_first(ran.stdout, statuses) if self.is_second else ran.stdout
         if output is None:
             return [f"the message put before it was answered by {ran.stdout[:200]!r}"]
@@ -253,7 +253,7 @@ class RunOverFile:
         with tempfile.TemporaryDirectory(prefix="bank-row-") as room:
             file = os.path.join(room, "bank")
             copy_bank(self.banks.made(), file)
-            ran = started(self.program, run_words(file, self.moment), self.step.given, room)
+            ran = run_program(self.program, run_words(file, self.moment), self.step.given, room)
         return differences(self.step, ran, ran.stdout)
 
 

@@ -96,7 +96,7 @@ class ByPython:
         return str(reply.status), reply.getheader("Content-Type"), reply.read()
 
 
-def asked_three(serving, ask, first):
+def ask_three(serving, ask, first):
     """Has a client ask for a post, a statement and a path that is not there, and looks at the replies."""
     url = f"http://{HOST}:{serving.port}"
     require(ask(f"{url}/do/post", POST), ("200", "application/json", b'{"balance":52500,"branch":1,"entry":1}'), "post")
@@ -110,7 +110,7 @@ def curl_is_answered(program, file, serve=Serving):
     """curl, each request on a connection of its own."""
     first = int(time.time())
     with serve(program, file, 3) as serving:
-        asked_three(serving, by_curl, first)
+        ask_three(serving, by_curl, first)
         serving.require_done()
 
 
@@ -118,7 +118,7 @@ def wget_is_answered(program, file, serve=Serving):
     """wget, likewise."""
     first = int(time.time())
     with serve(program, file, 3) as serving:
-        asked_three(serving, by_wget, first)
+        ask_three(serving, by_wget, first)
         serving.require_done()
 
 
@@ -126,7 +126,7 @@ def python_is_answered(program, file, serve=Serving):
     """Python's own client, all on one connection."""
     first = int(time.time())
     with serve(program, file, 3) as serving:
-        asked_three(serving, ByPython(serving.port), first)
+        ask_three(serving, ByPython(serving.port), first)
         serving.require_done()
 
 

@@ -145,7 +145,7 @@ class Opened:
             os.close(file)
 
 
-def started(program, end, room, watched_by=()):
+def start(program, end, room, watched_by=()):
     """The program, on the streams of the end, and after the arguments of what watches it."""
     opened = Opened(room)
     streams = [end.given, end.output, end.errors]
@@ -189,10 +189,10 @@ def make_end(program, end):
     """Runs the program as an end says."""
     with tempfile.TemporaryDirectory(prefix="bank-end-") as room:
         given = end.given if isinstance(end.given, bytes) else None
-        require_end(started(program, end, room), (end.status, end.output, end.errors), given)
+        require_end(start(program, end, room), (end.status, end.output, end.errors), given)
 
 
-def come(file, count, seconds):
+def receive(file, count, seconds):
     """The bytes that come, up to so many, within the time."""
     last = time.monotonic() + seconds
     got = b""
@@ -210,7 +210,7 @@ def come(file, count, seconds):
 def require_come(run, due, what):
     """Passes if a run writes these bytes next."""
     start = time.monotonic()
-    found = come(run.stdout, len(due), SECONDS)
+    found = receive(run.stdout, len(due), SECONDS)
     if due.startswith(found) and time.monotonic() - start > SECONDS:
         raise Late(f"{what}: {found!r} after {SECONDS} seconds")
     require(found, due, what)
@@ -219,7 +219,7 @@ def require_come(run, due, what):
 @contextlib.contextmanager
 def open_run(program, room, watched_by=()):
     """A run whose input stays open, which is killed where it is left early."""
-    run = started(program, End("", 0), room, watched_by)
+    run = start(program, End("", 0), room, watched_by)
     try:
         yield run
     finally:
@@ -242,7 +242,7 @@ def replies_come_while_the_input_is_open(program):
         for due in (replies[: len(replies) // 2], replies[len(replies) // 2 :]):
             for piece in (POST[:50], POST[50:-1]):
                 send(run, piece)
-                require(come(run.stdout, 1, 0.1), b"", "before its message was whole")
+                require(receive(run.stdout, 1, 0.1), b"", "before its message was whole")
             send(run, POST[-1:])
             require_come(run, due, "reply to a message in pieces")
         require_end(run, (0, b"", b""))

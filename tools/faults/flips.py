@@ -63,7 +63,7 @@ class Damaged:
             raise Wrong(f"sqlite3 says {whole}")
         self.rows = Tables(self.file).rows
 
-    def reported(self, text):
+    def report_on(self, text):
         """What `check` says of a file of these bytes."""
         with tempfile.TemporaryDirectory(dir=self.room) as folder:
             file = os.path.join(folder, "bank")
@@ -74,7 +74,7 @@ class Damaged:
             raise Wrong(f"check ended with status {ran.returncode} and said {said!r}")
         return said
 
-    def flipped(self, place):
+    def with_flipped(self, place):
         """The file with one bit turned."""
         at, bit = place
         text = bytearray(self.text)
@@ -110,7 +110,7 @@ class Damaged:
             raise Wrong(f"it passes and has other rows: {difference}")
 
 
-def counted(said):
+def counts_as_text(said):
     """How often each thing was reported, as text."""
     return ", ".join(f"`{line}` {count}" for line, count in Counter(said).most_common())
 
@@ -118,19 +118,19 @@ def counted(said):
 def flips(bank, share, pool):
     """Turns bits of a file; those are reported that have to be. Returns what is printed."""
     bits = bank.bits(share)
-    said = dict(zip(bits, pool.map(lambda it: bank.reported(bank.flipped(it)), bits)))
+    said = dict(zip(bits, pool.map(lambda it: bank.report_on(bank.with_flipped(it)), bits)))
     unseen = [it for it, line in said.items() if line == HOLD] if bank.sums else []
     for place in unseen:
-        bank.require_same_rows(bank.flipped(place))
+        bank.require_same_rows(bank.with_flipped(place))
     if not set(unseen) <= NO_SUMS:
         raise Wrong(f"these bits of these bytes are not seen: {sorted((bit, at) for at, bit in set(unseen) - NO_SUMS)}")
-    return f"{len(bits)} of {8 * len(bank.text)} bits turned: {counted(said.values())}"
+    return f"{len(bits)} of {8 * len(bank.text)} bits turned: {counts_as_text(said.values())}"
 
 
 def pages(bank, pool):
     """Damages whole pages of a file; each is reported that must be. Returns what is printed."""
-    found = {kind: list(pool.map(bank.reported, texts)) for kind, texts in bank.damages().items()}
-    notes = [f"{kind}, {len(said)} times: {counted(said)}" for kind, said in found.items()]
+    found = {kind: list(pool.map(bank.report_on, texts)) for kind, texts in bank.damages().items()}
+    notes = [f"{kind}, {len(said)} times: {counts_as_text(said)}" for kind, said in found.items()]
     unseen = [kind for kind, said in found.items() if HOLD in said and kind != OLDER]
     if unseen:
         raise Wrong(f"{' and '.join(unseen)} is not seen: {'; '.join(notes)}")

@@ -80,7 +80,7 @@ class ByRun:
         """The next piece of what is answered."""
         return os.read(self.run.stdout.fileno(), 4096)
 
-    def killed(self):
+    def kill(self):
         """Kills it, and returns what else was answered, and the status."""
         self.run.kill()
         return self.run.communicate()[0], self.run.returncode
@@ -104,7 +104,7 @@ class ByServe:
         """The next piece of what is answered."""
         return self.client.recv(4096)
 
-    def killed(self):
+    def kill(self):
         """Kills it, and returns what else was answered, and the status."""
         self.serving.run.kill()
         self.serving.run.communicate()
@@ -182,7 +182,7 @@ def require_answered(run, sent):
             break
         got += piece
     if got != due:
-        run.killed()
+        run.kill()
         raise Wrong(f"it answered {got[-200:]!r}; due was {due[-200:]!r}")
 
 
@@ -202,7 +202,7 @@ def in_pieces(sent, most, rng):
         yield piece
 
 
-def sent_until_killed(run, sent, answered, most, longest, rng):
+def send_until_killed(run, sent, answered, most, longest, rng):
     """Sends requests to a program, of which so many are answered, kills it a moment after some more were sent, and returns how
     many were answered."""
     for piece in in_pieces(sent[:answered], most, rng):
@@ -210,13 +210,13 @@ def sent_until_killed(run, sent, answered, most, longest, rng):
     last = sent[answered : answered + rng.randint(1, most)]
     run.send(bytes_of(last))
     time.sleep(rng.random() * longest)
-    got, status = run.killed()
+    got, status = run.kill()
     if status != -9:
         raise Wrong(f"it ended with status {status}")
     return answered + count_answered(last, got)
 
 
-def done_more(file, sent, answered):
+def count_done(file, sent, answered):
     """How many requests are done after those that were answered. They have to be the next ones, each with its slip."""
     slips = {(row[0], row[1]): row[-1] for row in Tables(file).rows["slips"]}
     done = {(it.user, it.slip): it.body for it in sent[: len(slips)]}
@@ -225,17 +225,17 @@ def done_more(file, sent, answered):
     return len(slips) - answered
 
 
-def sent_with_kills(by, program, file, sent, times, rng):
+def send_with_kills(by, program, file, sent, times, rng):
     """Sends a stream to a bank, killed so many times, and returns how many requests were sent again that had been done."""
     at = again = 0
     for _ in range(times):
-        at += sent_until_killed(by(program, file), sent[at:], rng.randint(0, MOST_ANSWERED), MOST_AT_A_TIME, LONGEST, rng)
-        again += done_more(file, sent, at)
+        at += send_until_killed(by(program, file), sent[at:], rng.randint(0, MOST_ANSWERED), MOST_AT_A_TIME, LONGEST, rng)
+        again += count_done(file, sent, at)
     run = by(program, file)
     for piece in in_pieces(sent[at:], MOST_AT_A_TIME, rng):
         require_answered(run, piece)
-    run.killed()
-    done_more(file, sent, len(sent))
+    run.kill()
+    count_done(file, sent, len(sent))
     return again
 
 
@@ -255,7 +255,7 @@ class Kills:
     def kill_posts(self, by, number):
         """Kills a run over a copy of the bank, and takes note of a post that is there and was not answered."""
         file, rng = self.banks.copy(), self.rng(f"{by.name} {number}")
-        answered = sent_until_killed(by(self.program, file), self.posts, rng.randint(0, MOST_POSTS), 1, LONGEST_OF_POST, rng)
+        answered = send_until_killed(by(self.program, file), self.posts, rng.randint(0, MOST_POSTS), 1, LONGEST_OF_POST, rng)
         require_sound(self.program, file)
         require_sound(self.program, file)
         there = len(Tables(file).rows["entries"])
@@ -271,7 +271,7 @@ class Kills:
         whole, file = self.banks.copy(), self.banks.copy()
         if ended(self.program, run_words(whole, 700), bytes_of(sent)) != replies_to(sent):
             raise Wrong("without a kill it answers otherwise than the model")
-        again = sent_with_kills(by, self.program, file, sent, self.times, rng)
+        again = send_with_kills(by, self.program, file, sent, self.times, rng)
         require_sound(self.program, file)
         tables = [Tables(it).rows for it in (file, whole)]
         difference = difference_of(*(map(without_moments, tables) if by is not ByRun else tables))

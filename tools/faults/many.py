@@ -279,7 +279,7 @@ def by_socket(path):
     return client
 
 
-def served_at(words, line, **how):
+def start_at(words, line, **how):
     """A run of the program, once it has said its first line."""
     ran = subprocess.Popen(words, stdin=subprocess.PIPE, stdout=subprocess.PIPE, stderr=subprocess.PIPE, **how)
     said = ran.stdout.readline()
@@ -300,18 +300,18 @@ def unix_socket_is_served(program, file):
     path = os.path.join(os.path.dirname(file), "counter.socket")
     words = [program, *counter_words(file, "--socket", path)]
     line = b"listening " + path.encode() + b"\n"
-    ran = served_at(words, line, umask=0o077)
+    ran = start_at(words, line, umask=0o077)
     require(stat.S_IMODE(os.stat(path).st_mode), 0o700, "rights")
     with by_socket(path) as client, by_socket(path) as other:
         require_soon(client, "a balance")
         require_soon(other, "another")
     require_ended(ran)
     require(os.path.exists(path), False, "the socket, after the end")
-    ran = served_at(words, line)
+    ran = start_at(words, line)
     ran.kill()
     ran.communicate()
     require(os.path.exists(path), True, "the socket, after a kill")
-    ran = served_at(words, line)
+    ran = start_at(words, line)
     with by_socket(path) as client:
         require_soon(client, "a balance at the socket that was replaced")
     require_ended(ran)
@@ -336,7 +336,7 @@ def inherited_words(program, file, count=1, pid="$$"):
     return ["sh", "-c", f"LISTEN_FDS={count} LISTEN_PID={pid} exec {inner}"]
 
 
-def handed(number):
+def with_descriptor(number):
     """How a run begins with a descriptor as its descriptor 3."""
 
     def hand_over():
@@ -356,7 +356,7 @@ def inherited_sockets_are_served(program, file):
             listener.listen()
             with socket.socket(listener.family) as first:
                 first.connect(listener.getsockname())
-                ran = served_at(inherited_words(program, file), b"listening inherited\n", **handed(listener.fileno()))
+                ran = start_at(inherited_words(program, file), b"listening inherited\n", **with_descriptor(listener.fileno()))
                 require_soon(first, "the one that waited")
                 with socket.socket(listener.family) as second:
                     second.connect(listener.getsockname())
@@ -371,10 +371,10 @@ def what_is_not_handed_over_is_refused(program, file):
         listener.bind((HOST, 0))
         for words, how in (
             ([program, *counter_words(file, "--inherited")], {}),
-            (inherited_words(program, file, count=2), handed(listener.fileno())),
-            (inherited_words(program, file, pid=1), handed(listener.fileno())),
-            (inherited_words(program, file), handed(listener.fileno())),
-            (inherited_words(program, file), handed(1)),
+            (inherited_words(program, file, count=2), with_descriptor(listener.fileno())),
+            (inherited_words(program, file, pid=1), with_descriptor(listener.fileno())),
+            (inherited_words(program, file), with_descriptor(listener.fileno())),
+            (inherited_words(program, file), with_descriptor(1)),
             (inherited_words(program, file), {}),
         ):
             ran = subprocess.run(words, capture_output=True, stdin=subprocess.DEVNULL, timeout=SECONDS, check=False, **how)
@@ -395,8 +395,8 @@ class Narrow:
             self.listener.setsockopt(socket.SOL_SOCKET, socket.SO_SNDBUF, LITTLE_ROOM)
         self.listener.bind((HOST, 0))
         self.listener.listen()
-        how = {"env": self.machine.environment(None), **handed(self.listener.fileno())}
-        self.ran = served_at(inherited_words(program, file), b"listening inherited\n", **how)
+        how = {"env": self.machine.environment(None), **with_descriptor(self.listener.fileno())}
+        self.ran = start_at(inherited_words(program, file), b"listening inherited\n", **how)
         self.witness = self.connected()
 
     def __enter__(self):
@@ -516,7 +516,7 @@ def unread_replies_are_let_go(program, file):
                 raise Wrong(f"one that took {name} got all {count} bytes after 31 seconds")
 
 
-def sent_to(client, given):
+def send_to(client, given):
     """Sends bytes as long as the connection stands."""
     with contextlib.suppress(ConnectionError):
         client.sendall(given)
@@ -527,7 +527,7 @@ def last_reply_arrives_whole(program, file, has_room=False, beyond=b""):
     sent what the system takes, and then a little at a time."""
     make_long(program, file)
     with Narrow(program, file, has_room) as counter, counter.connected() as client:
-        sender = threading.Thread(target=sent_to, args=(client, LAST_STATEMENT + beyond))
+        sender = threading.Thread(target=send_to, args=(client, LAST_STATEMENT + beyond))
         sender.start()
         require(client.recv(1, socket.MSG_PEEK), b"H", "the first byte of the reply")
         counter.visit()

@@ -214,7 +214,7 @@ class Table:
         ]
 
 
-def judged(fault, work, place, room):
+def judge_place(fault, work, place, room):
     """Tries a work at a place, and returns what is left, and what is wrong, if anything is."""
     def left():
         with tempfile.TemporaryDirectory(dir=room) as folder:
@@ -230,7 +230,7 @@ def passes(fault, make, holds, room, pool):
     """Tries a work at each place of a fault, and returns what is left how often."""
     work = make()
     work.prepare()
-    found = list(pool.map(lambda place: judged(fault, work, place, room), fault.places(work, room)))
+    found = list(pool.map(lambda place: judge_place(fault, work, place, room), fault.places(work, room)))
     wrong = [why for _, why in found if why]
     if wrong:
         raise Wrong("\n    ".join([holds, *wrong]))

@@ -67,7 +67,7 @@ def make_stand_in(room):
     return folder
 
 
-def written(program, lines, room):
+def run_lines(program, lines, room):
     """What one shell writes that carries out these blocks of lines, block by block."""
     script = os.path.join(room, "lines")
     with open(script, "w", encoding="utf-8") as file:
@@ -123,7 +123,7 @@ def main():
     if lacks or not known:
         return refuse(lacks or "no lines")
     with tempfile.TemporaryDirectory(prefix="bank-guide-") as room:
-        outputs = written(program, [lines for lines, _ in known], room)
+        outputs = run_lines(program, [lines for lines, _ in known], room)
     # (an output less than there are blocks: the lines have ended before)
     outputs = [*outputs[:-1], *["(not written)"] * len(known)]
     named = [f"block {number}: {lines.splitlines()[0]}" for number, (lines, _) in enumerate(known, 1)]

@@ -146,7 +146,7 @@ def replies(output, methods):
     return found, output
 
 
-def asked_all(program, messages):
+def ask_all(program, messages):
     """Sends messages to the sample, and says of each what is wrong with its reply, if anything."""
     given = b"".join(it.given for it in messages)
     ran = subprocess.run([program, *SAMPLE], input=given, capture_output=True, timeout=SECONDS, check=False)
@@ -365,22 +365,22 @@ def faults_of_file(document, paths):
             yield f"{kind} {name}", None if is_used else "nothing refers to it"
 
 
-def all_judged(document, program):
+def judge_all(document, program):
     """All that is tried, and what is wrong with it, if anything."""
     paths = [Path(document, *it) for it in document.operations()]
     yield from faults_of_file(document, paths)
     for path in paths:
         for group in path.groups():
-            yield from asked_all(program, group)
+            yield from ask_all(program, group)
     for status, fault, lines in ENDINGS:
         judge = lambda reply, of=(status, fault): fault_of_ending(paths, *of, reply)
         given = "\r\n".join([*lines, "", ""]).encode()
-        yield from asked_all(program, [Asked(f"{fault}: {lines[-1][:40]}", "POST", given, judge)])
-    yield from asked_all(program, list(others(paths)))
+        yield from ask_all(program, [Asked(f"{fault}: {lines[-1][:40]}", "POST", given, judge)])
+    yield from ask_all(program, list(others(paths)))
 
 
 def main():
     program = reader(__doc__, has_checks=False).parse_args().program
     if not are_built(program):
         return refuse("there is no program")
-    return Report().add_all(all_judged(Document(FILE), program))
+    return Report().add_all(judge_all(Document(FILE), program))

@@ -19,7 +19,7 @@ from repository import BENCHES, TOP, kit, words_of_all, words_of_check
 READER = "reads_benches"
 
 
-def said_of(words, folder=TOP):
+def faults_of(words, folder=TOP):
     """The lines of a command that ended with another status than 0."""
     ran = subprocess.run(
         words, cwd=folder, stdin=subprocess.DEVNULL, stdout=subprocess.PIPE, stderr=subprocess.STDOUT, check=False
@@ -30,7 +30,7 @@ def said_of(words, folder=TOP):
 def against_layout(name):
     """What is said against the layout of a crate's files."""
     files = glob.glob(os.path.join(TOP, "crates", name, "src", "**", "*.rt"), recursive=True)
-    return said_of(["rattle", "fmt", "--check", *sorted(files)])
+    return faults_of(["rattle", "fmt", "--check", *sorted(files)])
 
 
 def against_source(libraries):
@@ -40,7 +40,7 @@ def against_source(libraries):
         os.mkdir(os.path.join(room, "src"))
         with open(os.path.join(room, "src", "lib.rt"), "w", encoding="utf-8") as file:
             file.write("#![tactic(auto)]\n")
-        return said_of(["rattle", "check", *reads, "--only", ""], room)
+        return faults_of(["rattle", "check", *reads, "--only", ""], room)
 
 
 def main():

@@ -64,7 +64,7 @@ ROWS = {
 }
 
 
-def made_in(room):
+def make_repository(room):
     """Makes the repository of the trials in a folder, with the crate below built, and the kit."""
     for path in (*TEXTS, *TOOLS):
         os.makedirs(os.path.dirname(f"{room}/{path}"), exist_ok=True)
@@ -76,7 +76,7 @@ def made_in(room):
             os.chmod(f"{room}/{path}", 0o755)
 
 
-def said_by_run(room, seed, words=(), variables=None):
+def run_tool(room, seed, words=(), variables=None):
     """What the tool says in such a folder, in which it keeps what it keeps."""
     path = f"{room}/kit/bin:{os.environ['PATH']}"
     ran = subprocess.run(
@@ -102,7 +102,7 @@ def try_row(row, begun, room, seeds):
     path, old, new = row.change
     file = Path(room, path)
     file.write_text(file.read_text(encoding="utf-8").replace(old, new, 1), encoding="utf-8")
-    require_parts(said_by_run(room, seeds[row.is_drawn], row.words, row.variables), row.says)
+    require_parts(run_tool(room, seeds[row.is_drawn], row.words, row.variables), row.says)
 
 
 def checks_of(is_drawn, room):
@@ -111,10 +111,10 @@ def checks_of(is_drawn, room):
     seeds, begun = {it: first(it) for it in (False, True)}, f"{room}/begun"
 
     @functools.cache
-    def said_at_first():
-        made_in(begun)
-        return said_by_run(begun, seeds[False])
+    def say_at_first():
+        make_repository(begun)
+        return run_tool(begun, seeds[False])
 
-    yield Check("kept_nothing_yet", lambda: require_parts(said_at_first(), (TRIED, REFUSED)))
+    yield Check("kept_nothing_yet", lambda: require_parts(say_at_first(), (TRIED, REFUSED)))
     for name, row in ROWS.items():
-        yield Check(name, lambda row=row, name=name: said_at_first() and try_row(row, begun, f"{room}/{name}", seeds))
+        yield Check(name, lambda row=row, name=name: say_at_first() and try_row(row, begun, f"{room}/{name}", seeds))

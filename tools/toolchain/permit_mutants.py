@@ -163,7 +163,7 @@ def words_of_reading(libraries):
     return ["rattle", "check", *made, "--jobs", "1", "--only", ""]
 
 
-def compiled(command, text):
+def compile_text(command, text):
     """The status of the compiler on a crate of this text, the names of its errors, and its last line."""
     with tempfile.TemporaryDirectory(prefix="permit-mutants-") as folder:
         os.mkdir(os.path.join(folder, "src"))
@@ -184,7 +184,7 @@ def compiled(command, text):
 
 def judge(command, error, text):
     """Passes if a text is accepted, or refused by this error alone. Returns what is printed."""
-    status, errors, last = compiled(command, text)
+    status, errors, last = compile_text(command, text)
     wanted = (1, {error}) if error else (0, set())
     if (status, errors) != wanted:
         raise Wrong(f"refused by {', '.join(sorted(errors)) or 'no error'}, and not by {error or 'none'}: {last}")

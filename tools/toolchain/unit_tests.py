@@ -92,7 +92,7 @@ def make_whole(names, room):
     return folder
 
 
-def linked(folder, to, but):
+def link_folder(folder, to, but):
     """Makes a folder anew, of links, but for these files, by their paths in it, and the folders that have them."""
     os.makedirs(to)
     for it in os.listdir(folder):
@@ -100,14 +100,14 @@ def linked(folder, to, but):
         if not inside:
             os.symlink(f"{folder}/{it}", f"{to}/{it}")
         elif all(inside):
-            linked(f"{folder}/{it}", f"{to}/{it}", inside)
+            link_folder(f"{folder}/{it}", f"{to}/{it}", inside)
 
 
 def optimizing_kit(to, linked_to):
     """Makes the toolchain anew in a folder, of links, but with programs of its own, which leave what is linked in this file, and
     returns the folder."""
     home = kit()
-    linked(home, to, [*OWN_FILES, *OWN_PROGRAMS])
+    link_folder(home, to, [*OWN_FILES, *OWN_PROGRAMS])
     for it in OWN_FILES:
         shutil.copy2(f"{home}/{it}", f"{to}/{it}")
     for it, text in OWN_PROGRAMS.items():
@@ -117,7 +117,7 @@ def optimizing_kit(to, linked_to):
     return to
 
 
-def compiled_and_run(folder, room, kept, name):
+def compile_and_run(folder, room, kept, name):
     """Compiles the crate with all tests and runs them, and returns the exit status of rt try and what it says. The program is kept
     under this name if all passed."""
     made = os.path.join(room, "program")
@@ -162,7 +162,7 @@ def run_tests(names, is_anew):
         folder = make_whole(names, repository)
         name = sum_of(sum_of_kit(kit()), sum_of_tools(TOOLS), sum_of_files(repository, *SOURCES))
         program = kept.get(name)
-        status, text = run_again(program, room) if program else compiled_and_run(folder, room, kept, name)
+        status, text = run_again(program, room) if program else compile_and_run(folder, room, kept, name)
     result, tests = RESULT.search(text), TEST.findall(text)
     if not result or not tests or int(result[1]) + int(result[2]) != len(tests):
         return dict.fromkeys(names, (0, 1)), text.rstrip("\n").split("\n")[-20:]
