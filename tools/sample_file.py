@@ -38,12 +38,18 @@ def run_words(file, moment):
     return ["run", file, "--badges", BADGES, "--moment", str(moment)]
 
 
+def run_to_end(words, given=b"", **how):
+    """How a run ends: its status, and what it wrote on both streams."""
+    ran = subprocess.run(words, input=given, capture_output=True, timeout=SECONDS, check=False, **how)
+    return ran.returncode, ran.stdout, ran.stderr
+
+
 def ended(program, words, given=b""):
     """What a run wrote to standard output. It has to end well."""
-    ran = subprocess.run([program, *words], input=given, capture_output=True, timeout=SECONDS, check=False)
-    if (ran.returncode, ran.stderr) != (0, b""):
-        raise Wrong(f"{words[0]} ended with status {ran.returncode} and wrote {ran.stdout[-200:]!r} and {ran.stderr!r}")
-    return ran.stdout
+    status, output, errors = run_to_end([program, *words], given)
+    if (status, errors) != (0, b""):
+        raise Wrong(f"{words[0]} ended with status {status} and wrote {output[-200:]!r} and {errors!r}")
+    return output
 
 
 def make_sample(program, file, sums=True):

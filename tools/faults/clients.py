@@ -21,7 +21,7 @@ import time
 
 from checks import Check, Late, Wrong, lacking, reader, require, require_time, run_checks
 from replies import body_of, next_reply
-from sample_file import SampleBanks, ended, message, require_sound, run_words
+from sample_file import SampleBanks, ended, message, require_sound, run_to_end, run_words
 from served import most_held
 from serving import HOST, Counter, Serving, asked, connected, read_to_end, serve_words
 
@@ -230,8 +230,7 @@ def port_of_another_is_reported(program, file, serve=Serving):
         other.bind((HOST, 0))
         other.listen()
         words = serve_words(file, other.getsockname()[1], 1)
-        ran = subprocess.run([program, *words], capture_output=True, stdin=subprocess.DEVNULL, timeout=SECONDS, check=False)
-        require((ran.returncode, ran.stdout, ran.stderr), (3, b"", b"stream: broken\n"), "a port of another")
+        require(run_to_end([program, *words]), (3, b"", b"stream: broken\n"), "a port of another")
     require_sound(program, file)
 
 
@@ -282,8 +281,7 @@ def triples_begin_and_end(program, file, serve=Serving):
 def open_file_is_locked(program, file, serve=Serving):
     """While it serves, no other run has the file."""
     with serve(program, file, 1) as serving:
-        ran = subprocess.run([program, "check", file], capture_output=True, timeout=SECONDS, check=False)
-        require((ran.returncode, ran.stdout, ran.stderr), (3, b"", b"file: not read\n"), "check beside it")
+        require(run_to_end([program, "check", file]), (3, b"", b"file: not read\n"), "check beside it")
         require_served(serving)
         serving.require_done()
 

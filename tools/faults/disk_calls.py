@@ -2,11 +2,10 @@
 the C library, counts those calls and has one of them end the program, fail or do half of what it is asked."""
 import os
 import re
-import subprocess
 
 from preload import preloaded
+from sample_file import run_to_end
 
-SECONDS = 240
 LINE = re.compile(rb"(\w) (\d+) (\d+) (\d+)\n")
 
 
@@ -58,14 +57,12 @@ class Watched:
         """What a run wrote, on both streams, after its status. The call of this number is not made as it is asked for: `k` the
         program is killed in its place, `t` after half of it, `h` half of it is made, `o` it fails, `f` with all later ones. Of
         `only`, the path of a file, each call is counted, and no other."""
-        how = {"env": self.environment(call, way, -1, only), "input": given}
-        ran = subprocess.run([self.path, *words], capture_output=True, timeout=SECONDS, check=False, **how)
-        return ran.returncode, ran.stdout, ran.stderr
+        return run_to_end([self.path, *words], given, env=self.environment(call, way, -1, only))
 
     def calls(self, words, told, given=b"", only=""):
         """What a run wrote, as above, and the calls that it made, which it reports in a file. Of `only` their number comes last."""
         with open(told, "w+b") as file:
-            how = {"env": self.environment(0, "n", file.fileno(), only), "input": given, "pass_fds": [file.fileno()]}
-            ran = subprocess.run([self.path, *words], capture_output=True, timeout=SECONDS, check=False, **how)
+            how = {"env": self.environment(0, "n", file.fileno(), only), "pass_fds": [file.fileno()]}
+            said = run_to_end([self.path, *words], given, **how)
             file.seek(0)
-            return (ran.returncode, ran.stdout, ran.stderr), calls_in(file.read())
+            return said, calls_in(file.read())

@@ -6,7 +6,6 @@ run whose requests the program of that version answered so. `refused` has files 
 import os
 import re
 import sqlite3
-import subprocess
 import tempfile
 from typing import NamedTuple
 
@@ -14,9 +13,8 @@ from cases.suite import Suite
 from checks import Wrong
 from replies import body_of, size_of, with_body
 from repository import TOP
-from sample_file import copy_bank
+from sample_file import copy_bank, run_to_end
 
-SECONDS = 240
 # How an action ends: its status, and what it writes on both streams.
 CARRIED = (0, b"carried over\n", b"")
 HOLDS = (0, b"books hold\n", b"")
@@ -109,9 +107,7 @@ def parted(said, wanted):
 
 def require_said(program, words, wanted, room=None, given=b""):
     """Runs a program, in a folder. It has to end with this status, and to write this on both streams."""
-    how = {"input": given, "capture_output": True, "cwd": room, "timeout": SECONDS, "check": False}
-    ran = subprocess.run([program, *words], **how)
-    said = ran.returncode, ran.stdout, ran.stderr
+    said = run_to_end([program, *words], given, cwd=room)
     if said != wanted:
         output, due = parted(said[1], wanted[1])
         found = f"status {said[0]}, wrote {output!r} and {said[2][-160:]!r}"

@@ -13,7 +13,6 @@ import functools
 import itertools
 import os
 import sqlite3
-import subprocess
 import tempfile
 from collections import Counter
 from concurrent.futures import ThreadPoolExecutor
@@ -26,9 +25,8 @@ from faults.file_kinds import ABOVE, CLOSING, OFF, RELEASE, SLIPPED, TOM, TRANSF
 from faults.works import PAGE
 from model.bank import MOMENT, Bank
 from page_sums import RESERVED_AT, SUM, pages_in, require_pages
-from sample_file import ended, make_sample, require_sound, run_words
+from sample_file import ended, make_sample, require_sound, run_to_end, run_words
 
-SECONDS = 240
 SHARE = 499
 HOLD = "books hold"
 # A page that held once, which need not show.
@@ -68,10 +66,10 @@ class Damaged:
         with tempfile.TemporaryDirectory(dir=self.room) as folder:
             file = os.path.join(folder, "bank")
             Path(file).write_bytes(text)
-            ran = subprocess.run([self.program, "check", file], capture_output=True, timeout=SECONDS, check=False)
-        said = (ran.stdout + ran.stderr).decode().rstrip("\n")
-        if (ran.returncode == 0) != (said == HOLD):
-            raise Wrong(f"check ended with status {ran.returncode} and said {said!r}")
+            status, output, errors = run_to_end([self.program, "check", file])
+        said = (output + errors).decode().rstrip("\n")
+        if (status == 0) != (said == HOLD):
+            raise Wrong(f"check ended with status {status} and said {said!r}")
         return said
 
     def with_flipped(self, place):

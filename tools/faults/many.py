@@ -28,7 +28,7 @@ import time
 from checks import Check, Late, Wrong, reader, require, require_time, run_checks, wait_until
 from preload import preloaded
 from replies import body_of, next_reply
-from sample_file import BADGES, SampleBanks, ended, message, require_sound, run_words
+from sample_file import BADGES, SampleBanks, ended, message, require_sound, run_to_end, run_words
 from serving import HOST, Counter, asked, connected, counter_words, listening, read_to_end
 from simulation.machine import Machine
 
@@ -37,6 +37,8 @@ BALANCE = message("tess", "/do/balance", {"account": 101})
 BALANCE_REPLY = b'HTTP/1.1 200 OK\r\nContent-Type: application/json\r\nContent-Length: 17\r\n\r\n{"balance":50000}'
 POST = message("tess", "/do/post", {"account": 101, "branch": 1, "delta": 1, "teller": 11})
 STATEMENT = message("tess", "/do/statement", {"account": 101, "count": 1000, "start": 1})
+# How a run ends whose place can't be bound.
+BROKEN = (3, b"", b"stream: broken\n")
 # So long a client may wait for a balance beside others, in seconds.
 SOON = 1
 # How long a message may be on its way, and a reply be waited for to be taken.
@@ -252,14 +254,13 @@ def end_of_a_file_ends_nothing(program, file):
 def place_is_one(program, file):
     """No place, and two of them."""
     for more in ([], ["--port", "8475", "--inherited"], ["--port", "8475", "--socket", "x"], ["--socket", "x", "--inherited"], ["--port", "0"]):
-        ran = subprocess.run([program, "counter", file, "--badges", BADGES, *more], capture_output=True, stdin=subprocess.DEVNULL, timeout=SECONDS, check=False)
-        require((ran.returncode, ran.stdout, bool(ran.stderr)), (2, b"", True), f"{more}")
+        status, output, errors = run_to_end([program, "counter", file, "--badges", BADGES, *more])
+        require((status, output, bool(errors)), (2, b"", True), f"{more}")
 
 
 def broken(program, file, *more, **how):
     """Passes if the place can't be bound, which is reported so."""
-    ran = subprocess.run([program, *counter_words(file, *more)], capture_output=True, stdin=subprocess.DEVNULL, timeout=SECONDS, check=False, **how)
-    require((ran.returncode, ran.stdout, ran.stderr), (3, b"", b"stream: broken\n"), f"{more}")
+    require(run_to_end([program, *counter_words(file, *more)], **how), BROKEN, f"{more}")
     require_sound(program, file)
 
 
@@ -377,8 +378,7 @@ def what_is_not_handed_over_is_refused(program, file):
             (inherited_words(program, file), with_descriptor(1)),
             (inherited_words(program, file), {}),
         ):
-            ran = subprocess.run(words, capture_output=True, stdin=subprocess.DEVNULL, timeout=SECONDS, check=False, **how)
-            require((ran.returncode, ran.stdout, ran.stderr), (3, b"", b"stream: broken\n"), f"{words}")
+            require(run_to_end(words, **how), BROKEN, f"{words}")
             require_sound(program, file)
 
 

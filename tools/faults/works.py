@@ -6,7 +6,6 @@ the model, so the rows after it are always the same.
 import contextlib
 import itertools
 import os
-import subprocess
 import tempfile
 from pathlib import Path
 
@@ -17,11 +16,10 @@ from faults.file_kinds import KINDS, YEAR, answered
 from faults.messages import Messages
 from model.bank import MOMENT, Bank
 from replies import END_OF_HEAD, replies_in, size_of
-from sample_file import LISTS, copy_bank, ended, require_sound, run_words
+from sample_file import LISTS, copy_bank, ended, require_sound, run_to_end, run_words
 from serving import asked, free_port, serve_words
 
 BROKEN = b"stream: broken\n"
-SECONDS = 240
 # How long a page of a new file is, in bytes.
 PAGE = 1024
 MADE = (0, b"made\n", b"")
@@ -180,12 +178,12 @@ class Init(Work):
         """The bank is there, or a file that is not there or holds no bank, of which `init` then makes one."""
         if said not in fault.ends(MADE):
             raise Wrong(f"it ended with {said!r}")
-        found = subprocess.run([self.program, "check", file], capture_output=True, timeout=SECONDS, check=False)
-        if found.stdout == HOLDS[1]:
+        checked = run_to_end([self.program, "check", file])
+        if checked == HOLDS:
             self.require_made(file)
             return AFTER
-        if said == MADE or found.stderr not in NO_BANK:
-            raise Wrong(f"check said {found.stdout!r} and {found.stderr!r}")
+        if said == MADE or checked[2] not in NO_BANK:
+            raise Wrong(f"check ended with {checked!r}")
         ended(self.program, self.arguments(file))
         self.require_made(file)
         return BEFORE
@@ -217,11 +215,11 @@ class Forward(Work):
         if said not in fault.ends(FORWARDED):
             raise Wrong(f"it ended with {said!r}")
         require_same_bytes(self.old, file + OLD)
-        found = subprocess.run([self.program, "check", file], capture_output=True, timeout=SECONDS, check=False)
-        is_made = found.stdout == HOLDS[1]
+        checked = run_to_end([self.program, "check", file])
+        is_made = checked == HOLDS
         if not is_made:
-            if said == FORWARDED or found.stderr not in NO_BANK:
-                raise Wrong(f"check said {found.stdout!r} and {found.stderr!r}")
+            if said == FORWARDED or checked[2] not in NO_BANK:
+                raise Wrong(f"check ended with {checked!r}")
             require_said(self.program, self.arguments(file), FORWARDED)
             require_sound(self.program, file)
         ended(self.program, run_words(file, MOMENT))

@@ -21,7 +21,6 @@ Each request is a check, and each part of the file.
 """
 import json
 import os
-import subprocess
 
 from cases.suite import PHRASES
 from checks import Report, reader, refuse
@@ -29,10 +28,10 @@ from model.bank import COMMANDS, PROCEDURES
 from pages.openapi_schema import JSON, Document, admits, fault_of_schema, letters_of, text_of, variants
 from replies import parsed, size_of
 from repository import TOP, are_built
+from sample_file import run_to_end
 
 FILE = os.path.join(TOP, "docs", "openapi.json")
 SAMPLE = ["sample", "--moment", "700"]
-SECONDS = 240
 FIELDS = ("Bank-Badge", "Bank-Session", "Bank-Release", "Bank-Slip")
 # The statuses of a request that the rules have judged, and the denial by rule 1.
 JUDGED = (200, 403, 409)
@@ -149,12 +148,12 @@ def replies(output, methods):
 def ask_all(program, messages):
     """Sends messages to the sample, and says of each what is wrong with its reply, if anything."""
     given = b"".join(it.given for it in messages)
-    ran = subprocess.run([program, *SAMPLE], input=given, capture_output=True, timeout=SECONDS, check=False)
-    found, rest = replies(ran.stdout, [it.method for it in messages])
+    status, output, errors = run_to_end([program, *SAMPLE], given)
+    found, rest = replies(output, [it.method for it in messages])
     said = [it.fault(reply) for it, reply in zip(messages, found)]
     said += ["no reply"] * (len(messages) - len(found))
-    if ran.returncode or ran.stderr or rest:
-        said[-1] = said[-1] or f"after it: status {ran.returncode}, {ran.stderr!r}, {rest[:100]!r}"
+    if status or errors or rest:
+        said[-1] = said[-1] or f"after it: status {status}, {errors!r}, {rest[:100]!r}"
     return [(it.name, why) for it, why in zip(messages, said)]
 
 

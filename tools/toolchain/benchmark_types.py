@@ -7,30 +7,15 @@ tools/benchmarks/check prove them, before they run. All are read at once, as lib
 is read as a program is linked with all that it reaches, which takes minutes and shows nothing more. FOLDER has the crates
 below them with their libraries built, as rt ci leaves them.
 """
-import glob
 import os
-import subprocess
 import tempfile
 
 from checks import Report, reader
-from repository import BENCHES, TOP, kit, words_of_all, words_of_check
+from repository import BENCHES, kit, words_of_all, words_of_check
+from toolchain.program import fault_of, layout_of
 
 # The crate that has them as libraries.
 READER = "reads_benches"
-
-
-def faults_of(words, folder=TOP):
-    """The lines of a command that ended with another status than 0."""
-    ran = subprocess.run(
-        words, cwd=folder, stdin=subprocess.DEVNULL, stdout=subprocess.PIPE, stderr=subprocess.STDOUT, check=False
-    )
-    return ran.stdout.decode(errors="replace").rstrip("\n").split("\n") if ran.returncode else []
-
-
-def against_layout(name):
-    """What is said against the layout of a crate's files."""
-    files = glob.glob(os.path.join(TOP, "crates", name, "src", "**", "*.rt"), recursive=True)
-    return faults_of(["rattle", "fmt", "--check", *sorted(files)])
 
 
 def against_source(libraries):
@@ -40,13 +25,13 @@ def against_source(libraries):
         os.mkdir(os.path.join(room, "src"))
         with open(os.path.join(room, "src", "lib.rt"), "w", encoding="utf-8") as file:
             file.write("#![tactic(auto)]\n")
-        return faults_of(["rattle", "check", *reads, "--only", ""], room)
+        return fault_of(["rattle", "check", *reads, "--only", ""], room)
 
 
 def main():
     words = reader(__doc__, has_program=False, has_checks=False)
     words.add_argument("--libraries", metavar="FOLDER", type=os.path.abspath, required=True, help="a copy of the repository whose crates are proved")
     given = words.parse_args()
-    parts = [(f"{it}: its layout", against_layout(it)) for it in BENCHES]
+    parts = [(f"{it}: its layout", fault_of(layout_of(it))) for it in BENCHES]
     parts.append((f"{', '.join(BENCHES)}: their sources", against_source(given.libraries)))
-    return Report(len(parts)).add_all((what, "\n    ".join(lines[:40]) or None) for what, lines in parts)
+    return Report(len(parts)).add_all(parts)

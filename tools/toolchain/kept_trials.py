@@ -5,13 +5,13 @@ import functools
 import itertools
 import os
 import shutil
-import subprocess
 import sys
 from pathlib import Path
 from typing import NamedTuple
 
 from checks import Check, Wrong
 from repository import TOP
+from toolchain.program import output_of
 
 SOURCE, EDIT = "crates/high/src/lib.rt", "crates/high/must-fail/other_answer.edit"
 LIBRARY, KIT, TOOL = "crates/low/out/rlib/low.rlib/format", "kit/KIT-ID", "tools/toolchain/rattle_source.py"
@@ -79,15 +79,8 @@ def make_repository(room):
 def run_tool(room, seed, words=(), variables=None):
     """What the tool says in such a folder, in which it keeps what it keeps."""
     path = f"{room}/kit/bin:{os.environ['PATH']}"
-    ran = subprocess.run(
-        [f"{room}/tools/toolchain/mutants", "--libraries", room, "--seed", str(seed), *words],
-        env={**os.environ, "PATH": path, "XDG_CACHE_HOME": f"{room}/cache", **(variables or {})},
-        stdin=subprocess.DEVNULL,
-        stdout=subprocess.PIPE,
-        stderr=subprocess.STDOUT,
-        check=False,
-    )
-    return ran.stdout.decode(errors="replace")
+    words = [f"{room}/tools/toolchain/mutants", "--libraries", room, "--seed", str(seed), *words]
+    return output_of(words, env={**os.environ, "PATH": path, "XDG_CACHE_HOME": f"{room}/cache", **(variables or {})})[1]
 
 
 def require_parts(said, parts):

@@ -11,12 +11,12 @@ needed, but each mutant takes half a minute. Nothing is proved.
 """
 import os
 import re
-import subprocess
 import tempfile
 from functools import partial
 
 from checks import Check, Wrong, reader, run_checks
 from repository import TOP, below, kit, words_of_all, words_of_check
+from toolchain.program import output_of
 
 # The crate, and what it uses.
 NAME = "probe"
@@ -169,17 +169,10 @@ def compile_text(command, text):
         os.mkdir(os.path.join(folder, "src"))
         with open(os.path.join(folder, "src", "lib.rt"), "w") as file:
             file.write(text)
-        ran = subprocess.run(
-            command,
-            cwd=folder,
-            stdin=subprocess.DEVNULL,
-            stdout=subprocess.PIPE,
-            stderr=subprocess.STDOUT,
-            check=False,
-        )
-    lines = ran.stdout.decode(errors="replace").splitlines()
+        status, said = output_of(command, folder)
+    lines = said.splitlines()
     errors = {m[1] for m in (re.search(r"error\[([a-z0-9-]+)\]", line) for line in lines) if m}
-    return ran.returncode, errors, lines[-1] if lines else ""
+    return status, errors, lines[-1] if lines else ""
 
 
 def judge(command, error, text):

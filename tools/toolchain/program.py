@@ -1,9 +1,32 @@
 """How a program is proved and built over libraries that rt ci has built."""
+import glob
 import os
+import subprocess
 
-from repository import kit, words_of_all, words_of_check
+from repository import TOP, kit, words_of_all, words_of_check
 
+# For the last lines of a command that ends badly.
+MOST_LINES = 40
 TARGET = "x86_64-unknown-linux-gnu"
+
+
+def output_of(words, folder=TOP, **how):
+    """The exit status of a command that is given no input, and what it says."""
+    how = {"cwd": folder, "stdin": subprocess.DEVNULL, "stdout": subprocess.PIPE, "stderr": subprocess.STDOUT, "check": False, **how}
+    ran = subprocess.run(words, **how)
+    return ran.returncode, ran.stdout.decode(errors="replace")
+
+
+def fault_of(words, folder=TOP):
+    """The last lines of a command that ends badly, or none."""
+    status, text = output_of(words, folder)
+    return "\n    ".join(text.rstrip("\n").split("\n")[-MOST_LINES:]) if status else None
+
+
+def layout_of(crate):
+    """The command that fails if a file of a crate has another layout."""
+    files = glob.glob(os.path.join(TOP, "crates", crate, "src", "**", "*.rt"), recursive=True)
+    return ["rattle", "fmt", "--check", *sorted(files)]
 
 
 def steps(name, folder, libraries, backend, room, jobs=1):

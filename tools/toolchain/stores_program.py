@@ -9,24 +9,17 @@ over is LLVM's. The program is kept for later runs (kept.py), which take it unle
 with --anew it is proved and built anew.
 """
 import contextlib
-import glob
 import os
-import subprocess
 import tempfile
 
 from checks import Report, reader
 from repository import OVER, ROWS_OVER, TOP, kit, words_of_all
 from toolchain.kept import Kept, sum_below, sum_of, sum_of_files, sum_of_kit, sum_of_tools
-from toolchain.program import steps
+from toolchain.program import fault_of, layout_of, steps
 
 FOLDER = os.path.join(TOP, "crates", ROWS_OVER)
 # The files of tools/ by which it is built, and the most bytes that are kept.
 TOOLS, MOST_KEPT = ("toolchain/stores_program.py", "toolchain/program.py", "repository.py"), 500_000_000
-
-
-def layout():
-    """The command that fails where a file of the crate has another layout."""
-    return ["rattle", "fmt", "--check", *sorted(glob.glob(os.path.join(FOLDER, "src", "**", "*.rt"), recursive=True))]
 
 
 def name_of(libraries):
@@ -53,14 +46,6 @@ def keep(kept, name):
     kept.shrink(MOST_KEPT)
 
 
-def fault_of(command):
-    """The last lines of a command that ends badly, or none."""
-    ran = subprocess.run(
-        command, cwd=FOLDER, stdin=subprocess.DEVNULL, stdout=subprocess.PIPE, stderr=subprocess.STDOUT, check=False
-    )
-    return "\n    ".join(ran.stdout.decode(errors="replace").rstrip("\n").split("\n")[-40:]) if ran.returncode else None
-
-
 def main():
     words = reader(__doc__, has_program=False, has_checks=False)
     words.add_argument("--libraries", metavar="FOLDER", type=os.path.abspath, required=True, help="a copy of the repository whose crates are proved")
@@ -68,10 +53,10 @@ def main():
     given = words.parse_args()
     kept, name, report = Kept("stores-program", given.anew), name_of(given.libraries), Report()
     program = kept.get(name)
-    report.add(f"{ROWS_OVER}, its layout", fault_of(layout()))
+    report.add(f"{ROWS_OVER}, its layout", fault_of(layout_of(ROWS_OVER)))
     with tempfile.TemporaryDirectory(prefix="stores-program-") as room:
         for what, command in steps(ROWS_OVER, FOLDER, given.libraries, "rattle", room):
-            report.add(f"{ROWS_OVER}, {what}", fault_of(command) if program is None else None, "kept" * (program is not None))
+            report.add(f"{ROWS_OVER}, {what}", fault_of(command, FOLDER) if program is None else None, "kept" * (program is not None))
     if program is not None:
         take(program)
     elif not report.failed and name == name_of(given.libraries):

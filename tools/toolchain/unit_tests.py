@@ -16,12 +16,12 @@ import glob
 import os
 import re
 import shutil
-import subprocess
 import tempfile
 
 from checks import Report, reader
 from repository import TOP, below, kit, shared_by_tests, tests_to_run, words_of_all
 from toolchain.kept import Kept, sum_of, sum_of_files, sum_of_kit, sum_of_tools
+from toolchain.program import layout_of, output_of
 
 # A run of all tests is given so many seconds. CI has it beside the proofs, on the time of the processor that they leave.
 SECONDS = 14_400
@@ -39,17 +39,9 @@ PROVER = "exit 2"
 LINKER = '"HOME/toolchain/bin/ld.lld" "$@" && { cp program "LINKED" 2>/dev/null || true; }'
 OWN_PROGRAMS = {"toolchain/bin/clang": COMPILER, "toolchain/bin/ld.lld": LINKER, "bin/rattle": PROVER}
 # What the program is made from, the files of tools/ by which it is, and the most bytes that are kept.
-SOURCES, TOOLS, MOST_KEPT = ("crates.txt", "HANDLES", "crates/*/src/**"), ("toolchain/unit_tests.py", "repository.py"), 500_000_000
+SOURCES, TOOLS, MOST_KEPT = ("crates.txt", "HANDLES", "crates/*/src/**"), ("toolchain/unit_tests.py", "toolchain/program.py", "repository.py"), 500_000_000
 TEST = re.compile(r"^test (\w+)::(\S+) \.\.\. (\w+)", re.M)
 RESULT = re.compile(r"^test result: \w+\. (\d+) passed; (\d+) failed; 0 ignored; 0 filtered out$", re.M)
-
-
-def output_of(words, folder):
-    """The exit status of a command and what it says."""
-    ran = subprocess.run(
-        words, cwd=folder, stdin=subprocess.DEVNULL, stdout=subprocess.PIPE, stderr=subprocess.STDOUT, check=False
-    )
-    return ran.returncode, ran.stdout.decode(errors="replace")
 
 
 def sources_of(name):
@@ -188,7 +180,7 @@ def main():
     names = given.crates or [it for it in tests_to_run(uses) if it not in shared]
     counts, lines = run_tests(names, given.anew)
     for name in [*names, *(it for it in below(uses, names) if it in shared)]:
-        status, text = output_of(["rattle", "fmt", "--check", *sources_of(name)], TOP)
+        status, text = output_of(layout_of(name))
         good, bad = counts.get(name, (0, 0))
         counts[name] = (good, bad + bool(status))
         lines += text.rstrip("\n").split("\n") if status else []
