@@ -1,0 +1,93 @@
+// The seven shapes that the page's modules pass around, for tsc and for editors: nothing of this is loaded.
+
+/** What is sent to the bank: by `send` of http.js. */
+interface BankRequest {
+  path: string;
+  method?: 'GET' | 'POST';
+  badge?: string;
+  session?: number | null;
+  slip?: number | null;
+  release?: number | null;
+  /** The text of an object. */
+  body?: string;
+}
+
+/** What came of it: a reply, or none. */
+interface BankReply {
+  kind: 'reply' | 'none';
+  /** Of none: whether the time was up. */
+  isLate?: boolean;
+  status?: number;
+  type?: string;
+  text?: string;
+  /** The object that a reply of JSON has. */
+  body?: Record<string, any> | null;
+}
+
+/** What is kept of a request: with slip, name and body if it bears a slip, or else with its text and its end. */
+interface JournalRow {
+  id?: number;
+  badge: string;
+  state: 'waiting' | 'done' | 'refused' | 'aside' | 'unsure';
+  at: number;
+  answered?: number;
+  name?: string;
+  body?: string;
+  slip?: number;
+  release?: number | null;
+  tries?: number;
+  text?: string;
+  end?: string;
+  status?: number;
+  reply?: string;
+  aside?: {by: string, reason: string, at: number};
+}
+
+/** What a field is made of. */
+interface FieldSpec {
+  name: string;
+  label: string;
+  kind: 'number' | 'amount' | 'text' | 'choice' | 'pick' | 'tick';
+  value?: any;
+  hint?: string;
+  least?: number;
+  most?: number;
+  optional?: boolean;
+  pattern?: RegExp;
+  fault?: string;
+  options?: [string, string, string?][];
+  /** A line that opens to the field. */
+  tucked?: string;
+}
+
+/** A field: its row of elements, and what was typed, as a value or with what is wrong with it. */
+interface DeskField {
+  spec: FieldSpec;
+  row: HTMLElement & {open?: boolean};
+  input: HTMLInputElement;
+  error: HTMLElement;
+  read(): {value?: any, fault?: string};
+  set(value: any): void;
+}
+
+/** A form: its element, and its fields by their names. */
+interface DeskForm {
+  element: HTMLFormElement;
+  fields: Record<string, DeskField>;
+  focus(): void;
+}
+
+/** A screen: its name in the menu, its key there, and what draws it for a desk. */
+interface DeskScreen {
+  name: string;
+  key: string;
+  draw(desk: Desk, ...more: any[]): any;
+}
+
+/** The desk of a badge: who works here, in which session, and the ways to ask the bank. */
+interface Desk {
+  badge: string;
+  session: number | null;
+  place: {branch: number | null, teller: number | null};
+  [member: string]: any;
+}

@@ -1,0 +1,74 @@
+"""What a branch is run with: the front's settings, by nginx itself, and the units, by systemd's tools."""
+import os
+import re
+import shutil
+import tempfile
+
+from linters.tree import all_files, ending_in, findings_of, output_of
+
+UNITS = (".service", ".socket", ".timer")
+# The folders that the settings name, and the sockets.
+OF_THE_MACHINE = re.compile(r"(?<![\w./-])/(?:etc|run|usr/share|var/lib|var/log)/(?=bank)|(?<=unix:)/run/|/usr/share/(?=tespiorvu)")
+PORT = "0.0.0.0:443"
+A_PORT = "127.0.0.1:44300"
+NO_COMMAND = re.compile(r"Command (\S+) is not executable: No such file")
+# How exposed a unit may be, of 10, by its name; and any other.
+EXPOSURES = {"bank.service": 0.5, "bank-copy.service": 0.7, "bank-certificates.service": 1.1, "bank-night.service": 1.5}
+MOST_EXPOSED = 2.4
+EXPOSURE = re.compile(r"Overall exposure level for (\S+): ([\d.]+)")
+
+
+def moved(text: str, room: str) -> str:
+    """Settings whose folders are those of a temporary one."""
+    return OF_THE_MACHINE.sub(lambda it: room + it[0], text).replace(PORT, A_PORT)
+
+
+def nginx(top: str) -> list[str]:
+    """What nginx says of the front's settings, over new certificates."""
+    settings = os.path.join(top, "branch/front")
+    if not os.path.isdir(settings):
+        return []
+    with tempfile.TemporaryDirectory(prefix="bank-front-") as room:
+        wrong = findings_of([os.path.join(top, "branch/certificates"), "begin", os.path.join(room, "ca"), "localhost"], top)
+        if wrong:
+            return wrong
+        folder = os.path.join(room, "etc/bank-front")
+        shutil.copytree(os.path.join(room, "ca/front"), folder)
+        for name in os.listdir(settings):
+            with open(os.path.join(settings, name), encoding="utf-8") as file:
+                text = file.read()
+            with open(os.path.join(folder, name), "w", encoding="utf-8") as file:
+                file.write(moved(text, room))
+        for it in ("run/bank-front", "var/log/bank-front"):
+            os.makedirs(os.path.join(room, it))
+        with open(os.path.join(folder, "origins.map"), "a", encoding="utf-8"):
+            pass
+        _, lines = output_of(["nginx", "-t", "-q", "-p", room, "-c", f"{folder}/nginx.conf", "-e", "stderr"], top)
+    # (how many files a login may open is nothing of the settings)
+    return [it.replace(room, "") for it in lines if "open file resource limit" not in it]
+
+
+def is_brought(top: str, line: str) -> bool:
+    """Whether a line says no more than that a command is not installed here which the top has."""
+    missing = NO_COMMAND.search(line)
+    names = {os.path.basename(it) for it in all_files(top)} if missing else set()
+    return missing is not None and os.path.basename(missing[1]) in names
+
+
+def verify(top: str) -> list[str]:
+    """What systemd finds in units: names that it doesn't know, values that it can't read, commands that are nowhere."""
+    units = ending_in(top, *UNITS)
+    lines = output_of(["systemd-analyze", "verify", "--man=no", *units], top)[1] if units else []
+    return [it for it in lines if not is_brought(top, it)]
+
+
+def exposure(top: str) -> list[str]:
+    """The services that are more exposed than they may be, by systemd's own measure."""
+    found = []
+    for path in ending_in(top, ".service"):
+        _, lines = output_of(["systemd-analyze", "security", "--offline=true", "--no-pager", path], top)
+        level = EXPOSURE.search(lines[-1]) if lines else None
+        most = EXPOSURES.get(os.path.basename(path), MOST_EXPOSED)
+        if not level or float(level[2]) > most:
+            found.append(f"{path}: the exposure is {level[2] if level else 'not reported'}, at most {most} may be")
+    return found
