@@ -6,7 +6,7 @@ import tempfile
 from linters.tree import findings_of, output_of, python_files
 
 # What has modules, and where else each looks for them. (Two of them may have modules of one name.)
-ROOTS = {"tools": [], "branch": [], "desk": ["desk/checks", "branch"]}
+ROOTS: dict[str, list[str]] = {"tools": [], "branch": [], "desk": ["desk/checks", "branch"]}
 PLACE = re.compile(r"([^:]+):(\d+):")
 
 

@@ -5,7 +5,17 @@ sentence of docs/RULES.md, and what an operation leaves is judged over the World
 the program with its own.
 """
 import re
-from typing import NamedTuple
+from collections.abc import Iterable, Mapping, Sequence
+from typing import NamedTuple, Protocol, TypedDict, TypeVar, cast
+
+# The lowest and the highest value of a number; what a member of a body is: such a number, or what else, by a name.
+Range = tuple[int, int]
+Form = Range | str
+# A kind with a key, and a kind with the lowest and the highest key.
+Item = tuple[str, int]
+Interval = tuple[str, int, int]
+# The members of a reply.
+Members = Mapping[str, int | str]
 
 BADGES = {1: "olga", 2: "carl", 3: "cora", 7: "tess", 8: "tom", 9: "sue"}
 NAMES = {1: "Olga", 2: "Carl", 3: "Cora", 7: "Tess", 8: "Tom", 9: "Sue"}
@@ -42,7 +52,7 @@ COUNT = (1, 1_000)
 MOMENT_OF_TRIPLE = (0, MOST_MOMENT)
 
 # The members of each operation, and their ranges.
-OPERATIONS = {
+OPERATIONS: dict[str, dict[str, Form]] = {
     "post": {"account": KEY, "branch": KEY, "delta": DELTA, "teller": KEY},
     "transfer": {"amount": AMOUNT, "branch": KEY, "source": KEY, "target": KEY, "teller": KEY},
     "correct": {"account": KEY, "branch": KEY, "delta": DELTA, "entry": KEY, "other": KEY_OR_NONE, "teller": KEY},
@@ -50,7 +60,7 @@ OPERATIONS = {
     "drawer-off": {"branch": KEY, "counted": (0, MOST_CENTS), "teller": KEY},
     "move-cash": {"amount": (1, MOST_KEY), "branch": KEY, "source": KEY_OR_NONE, "target": KEY_OR_NONE},
     "new-account": {"account": KEY, "branch": KEY, "floor": (-MOST_KEY, 0)},
-    "release": {"beneficiary": USER, "operation": None},
+    "release": {"beneficiary": USER, "operation": "operation"},
     "balance": {"account": KEY},
     "statement": {"account": KEY, "count": COUNT, "start": KEY},
     "accounts": {"after": KEY_OR_NONE, "count": COUNT},
@@ -64,7 +74,7 @@ RELEASABLE = {"post", "transfer", "correct", "drawer-on", "move-cash"}
 TAKES_SLIP = {"post", "transfer", "correct", "drawer-on", "drawer-off", "move-cash", "new-account", "release", "close-day"}
 
 # The members of each command of the policy; the range of a number, or what else the member is.
-COMMANDS = {
+COMMANDS: dict[str, dict[str, Form]] = {
     "define-set": {"members": "members", "set": KEY},
     "certify": {"procedure": "procedure", "set": KEY},
     "withdraw": {"procedure": "procedure", "set": KEY},
@@ -77,8 +87,71 @@ COMMANDS = {
     "restore": {"user": USER},
 }
 # What a grant has beside them: both, or neither.
-OF_MOMENTS = {"first": MOMENT_OF_TRIPLE, "last": MOMENT_OF_TRIPLE}
+OF_MOMENTS: dict[str, Form] = {"first": MOMENT_OF_TRIPLE, "last": MOMENT_OF_TRIPLE}
 OF_OFFICERS = {"appoint", "dismiss", "enrol", "suspend", "restore"}
+
+
+class Body(TypedDict, total=False):
+    """The members of bodies, of operations and of commands: `is_operation` and `is_command` say whether one has its own."""
+
+    account: int
+    after: int
+    amount: int
+    beneficiary: int
+    branch: int
+    cash: int
+    count: int
+    counted: int
+    delta: int
+    entry: int
+    first: int
+    floor: int
+    last: int
+    limit: int
+    members: list[list[int]]
+    name: str
+    officer: bool
+    operation: "Body"
+    other: int
+    procedure: str
+    set: int
+    source: int
+    start: int
+    target: int
+    teller: int
+    user: int
+
+
+class Question(Protocol):
+    """A request as a bank reads it: of a kind, by a user, at a moment, in a session, which may name a release and bear a slip."""
+
+    @property
+    def kind(self) -> str:
+        ...
+
+    @property
+    def user(self) -> int:
+        ...
+
+    @property
+    def session(self) -> int:
+        ...
+
+    @property
+    def body(self) -> Body:
+        ...
+
+    @property
+    def release(self) -> int:
+        ...
+
+    @property
+    def moment(self) -> int:
+        ...
+
+    @property
+    def slip(self) -> int:
+        ...
 
 
 class Entry(NamedTuple):
@@ -124,71 +197,69 @@ class Triple(NamedTuple):
     first: int = 0
     last: int = MOST_MOMENT
 
-    def counts_at(self, moment):
+    def counts_at(self, moment: int) -> bool:
         return self.first <= moment <= self.last
 
 
 class Release(NamedTuple):
     giver: int
     day: int
-    operation: dict
+    operation: Body
 
 
 class Slip(NamedTuple):
     """What a user's slip was taken for, and the members of the reply."""
 
     kind: str
-    body: dict
-    told: dict
+    body: Body
+    told: Members
 
 
 # ---- bodies
 
 
-def is_whole(value, low, high):
+def is_whole(value: object, low: int, high: int) -> bool:
     """Whether a value of JSON is a whole number in this range."""
     return type(value) is int and low <= value <= high
 
 
-def is_member_of_set(value):
+def is_member_of_set(value: object) -> bool:
     """Whether a value is an interval of a set: a kind, the lowest and the highest key."""
     if type(value) is not list or len(value) != 3 or not is_whole(value[0], 1, len(KINDS)):
         return False
     return all(is_whole(it, *KEY) for it in value[1:]) and value[1] <= value[2]
 
 
-def fits(value, form):
-    """Whether a value is of this form, which is a range, or a name for something else."""
+def fits(value: object, form: Form) -> bool:
+    """Whether a value is of this form."""
+    if isinstance(form, tuple):
+        return is_whole(value, *form)
     if form == "members":
         return type(value) is list and 1 <= len(value) <= 32 and all(map(is_member_of_set, value))
     if form == "procedure":
         return value in PROCEDURES
     if form == "name":
         return type(value) is str and re.fullmatch(r"[ -~]{1,20}", value) is not None
-    if form == "truth":
-        return type(value) is bool
-    return is_whole(value, *form)
+    return is_releasable(value) if form == "operation" else type(value) is bool
 
 
-def is_operation(procedure, body):
+def is_operation(procedure: str, body: object) -> bool:
     """Whether the body states an operation of this procedure."""
     forms = OPERATIONS[procedure]
     if type(body) is not dict or set(body) != set(forms):
         return False
-    if procedure == "release":
-        return is_whole(body["beneficiary"], *USER) and is_releasable(body["operation"])
     one, other = APART.get(procedure, (None, None))
     return all(fits(body[it], forms[it]) for it in forms) and (one is None or body[one] != body[other])
 
 
-def is_releasable(value):
+def is_releasable(value: object) -> bool:
     """Whether a value is an operation that a release may be for, with its procedure."""
     if type(value) is not dict or value.get("procedure") not in RELEASABLE:
         return False
     return is_operation(value["procedure"], {name: it for name, it in value.items() if name != "procedure"})
 
 
-def is_command(command, body):
+def is_command(command: str, body: object) -> bool:
     """Whether the body states this command of the policy."""
     if type(body) is not dict:
         return False
@@ -199,14 +270,37 @@ def is_command(command, body):
     return not has_moments or body["first"] <= body["last"]
 
 
-# ---- what an operation touches and comes to
+def with_members(body: Body, more: Body) -> Body:
+    """A body with some more members, or others."""
+    merged = body.copy()
+    merged.update(more)
+    return merged
 
 
-def drawer_items(teller):
+def without_member(body: Body, name: str) -> Body:
+    """A body without a member."""
+    return cast(Body, {it: value for it, value in body.items() if it != name})
+
+
+def numbers_in(body: Body, names: Iterable[str]) -> list[int]:
+    """The numbers that a body has by these names, all of which it has."""
+    numbers = cast(Mapping[str, int], body)
+    return [numbers[it] for it in names]
+
+
+def numbers_of(body: Body, names: Iterable[str]) -> list[int]:
+    """The numbers that a body has by these names, if it has them, but for 0."""
+    return [it for it in numbers_in(body, [it for it in names if it in body]) if it]
+
+
+# ---- what an operation touches, and its amount
+
+
+def drawer_items(teller: int) -> list[Item]:
     return [("teller", teller), ("drawer", teller)]
 
 
-def touched(procedure, body):
+def touched(procedure: str, body: Body) -> list[Item]:
     """The items that an operation touches, each a kind and a key."""
     if procedure == "release":
         return touched(body["operation"]["procedure"], body["operation"])
@@ -227,19 +321,17 @@ def touched(procedure, body):
     return [*accounts, *branch, ("history", body["branch"]), *drawer_items(body["teller"])]
 
 
-def accounts_of(procedure, body):
+def accounts_of(procedure: str, body: Body) -> list[int]:
     """The accounts that an operation names."""
-    names = {"transfer": ["source", "target"], "correct": ["account", "other"]}.get(procedure, ["account"])
-    return [body[it] for it in names if body.get(it)]
+    return numbers_of(body, {"transfer": ["source", "target"], "correct": ["account", "other"]}.get(procedure, ["account"]))
 
 
-def tellers_of(body):
+def tellers_of(body: Body) -> list[int]:
     """The tellers that an operation names; of a move of cash those whose drawers it is between."""
-    names = ["source", "target"] if "teller" not in body and "source" in body else ["teller"]
-    return [body[it] for it in names if body.get(it)]
+    return numbers_of(body, ["source", "target"] if "teller" not in body and "source" in body else ["teller"])
 
 
-def amount_of(procedure, body):
+def amount_of(procedure: str, body: Body) -> int:
     """What a limit is compared with."""
     if procedure == "release":
         return amount_of(body["operation"]["procedure"], body["operation"])
@@ -258,122 +350,128 @@ def amount_of(procedure, body):
 class Bank:
     """The sample bank, with two drawers put on and a session of each user open."""
 
-    def __init__(self):
+    def __init__(self) -> None:
         self.sessions = {user: 1 for user in BADGES}
         self.open = set(BADGES)
         # the name of each
         self.users = dict(NAMES)
         self.officers = {1}
-        self.suspended = set()
+        self.suspended: set[int] = set()
         self.certifiers = {(user, procedure) for user in (2, 3) for procedure in PROCEDURES}
         self.sets = opened_sets()
         self.relations = opened_relations()
         self.triples = opened_triples()
         # by user and number
-        self.releases = {}
-        self.used = set()
+        self.releases: dict[tuple[int, int], Release] = {}
+        self.used: set[tuple[int, int]] = set()
         # by user and number, too
-        self.slips = {}
+        self.slips: dict[tuple[int, int], Slip] = {}
         # the account's home, opening and floor; the teller's branch and opening; the branch's opening and cash
         self.accounts = {101: (1, 50_000, 0), 102: (1, 0, 0), 201: (2, 30_000, 0)}
         self.tellers = {11: (1, 60_000), 12: (1, 0), 21: (2, 20_000)}
         self.branches = {1: (60_000, 100_000), 2: (20_000, 50_000)}
         self.days = {1: 1, 2: 1}
-        self.entries = []
-        self.lines = [
+        self.entries: Sequence[Entry] = []
+        self.lines: Sequence[Line] = [
             *(Line(1, 1, 0, -40_000, "on", 0, 1, 7), Line(1, 2, 11, 40_000, "on", 0, 1, 7)),
             *(Line(1, 3, 0, -5_000, "on", 0, 1, 8), Line(1, 4, 12, 5_000, "on", 0, 1, 8)),
         ]
-        self.proofs = []
+        self.proofs: Sequence[Proof] = []
         # how often the policy was changed
         self.version = 0
 
     # -- what is added to the rows
 
-    def add_entry(self, entry):
+    def add_entry(self, entry: Entry) -> None:
         """Adds an entry."""
         self.entries = [*self.entries, entry]
 
-    def add_line(self, line):
+    def add_line(self, line: Line) -> None:
         """Adds a cash line."""
         self.lines = [*self.lines, line]
 
-    def add_slip(self, user, number, slip):
+    def add_slip(self, user: int, number: int, slip: Slip) -> None:
         """Adds a slip of a user's."""
         self.slips = {**self.slips, (user, number): slip}
 
     # -- numbers of rows
 
-    def entry_count(self, branch):
+    def entry_count(self, branch: int) -> int:
         return len(self.entries_of(branch))
 
-    def turn_count(self, account):
+    def turn_count(self, account: int) -> int:
         return len(self.turns_of(account))
 
-    def line_count(self, branch):
+    def line_count(self, branch: int) -> int:
         return sum(it.branch == branch for it in self.lines)
 
-    def slip_count(self, user):
+    def slip_count(self, user: int) -> int:
         return sum(who == user for who, _ in self.slips)
 
     # -- sums over the rows
 
-    def balance(self, account):
+    def balance(self, account: int) -> int:
         return self.accounts[account][1] + sum(it.delta for it in self.entries if it.account == account)
 
-    def teller_balance(self, teller):
+    def teller_balance(self, teller: int) -> int:
         return self.tellers[teller][1] + sum(it.delta for it in self.entries if it.teller == teller)
 
-    def branch_balance(self, branch):
+    def branch_balance(self, branch: int) -> int:
         return self.branches[branch][0] + self.history(branch)
 
-    def history(self, branch):
+    def history(self, branch: int) -> int:
         return sum(it.delta for it in self.entries_of(branch))
 
-    def cash(self, branch, place):
+    def cash(self, branch: int, place: int) -> int:
         """The cash at a place of a branch: a teller's drawer, or the vault, which is 0."""
         opening = 0 if place else self.branches[branch][1]
         return opening + sum(it.amount for it in self.lines if (it.branch, it.place) == (branch, place))
 
-    def lines_total(self, branch, form):
+    def lines_total(self, branch: int, form: str) -> int:
         return sum(it.amount for it in self.lines if (it.branch, it.form) == (branch, form))
 
-    def drawers_total(self, branch):
+    def drawers_total(self, branch: int) -> int:
         return sum(it.amount for it in self.lines if it.branch == branch and it.place)
 
-    def holder(self, teller):
+    def holder(self, teller: int) -> int | None:
         """Who holds the drawer: who put it on last, where it was not put off since."""
         last = next((it for it in reversed(self.lines) if it.place == teller and it.form in ("on", "off")), None)
         return last.user if last and last.form == "on" else None
 
-    def entries_of(self, branch):
+    def entries_of(self, branch: int) -> list[Entry]:
         return [it for it in self.entries if it.branch == branch]
 
-    def turns_of(self, account):
+    def turns_of(self, account: int) -> list[Entry]:
         """The entries of an account, in the order of their turns."""
         return [it for it in self.entries if it.account == account]
 
-    def entry(self, branch, number):
+    def entry(self, branch: int, number: int) -> Entry | None:
         return next((it for it in self.entries_of(branch) if it.number == number), None)
 
-    def is_undone(self, entry):
+    def named_entry(self, branch: int, number: int) -> Entry:
+        """An entry that has to be there."""
+        found = self.entry(branch, number)
+        if found is None:
+            raise LookupError(f"branch {branch} has no entry {number}")
+        return found
+
+    def is_undone(self, entry: Entry) -> bool:
         return any(it.undoes == entry.number for it in self.entries_of(entry.branch))
 
-    def branch_of(self, teller):
+    def branch_of(self, teller: int) -> int:
         return self.tellers[teller][0]
 
-    def drawers_of(self, user):
+    def drawers_of(self, user: int) -> list[int]:
         """The drawers that the user holds."""
         return sorted(it for it in self.tellers if self.holder(it) == user)
 
     # -- the policy
 
-    def holds(self, number, items):
+    def holds(self, number: int, items: Iterable[Item]) -> bool:
         """Whether a set has all these items, each in some interval of its kind."""
-        members = self.sets.get(number, [])
-        return all(any(kind == k and low <= key <= high for k, low, high in members) for kind, key in items)
+        return holds(self.sets, number, items)
 
-    def sets_of(self, user, procedure, moment):
+    def sets_of(self, user: int, procedure: str, moment: int) -> list[tuple[int, int]]:
         """The sets of the user's triples for a procedure that are valid at a moment, each with the triple's limit."""
         return [
             (number, triple.limit)
@@ -381,45 +479,54 @@ class Bank:
             if (who, what) == (user, procedure) and triple.counts_at(moment)
         ]
 
-    def limits(self, user, procedure, items, moment):
+    def limits(self, user: int, procedure: str, items: list[Item], moment: int) -> list[int]:
         """The limits of the user's triples for a procedure that are valid at a moment, each of which has all these items."""
         return [limit for number, limit in self.sets_of(user, procedure, moment) if self.holds(number, items)]
 
-    def users_of(self, procedure):
+    def users_of(self, procedure: str) -> list[int]:
         """Those who have a triple for the procedure, whatever its moments."""
         return sorted({user for user, what, _ in self.triples if what == procedure})
 
-    def makes(self, user, procedure):
+    def makes(self, user: int, procedure: str) -> bool:
         """Whether the user is a certifier of the procedure, or made one of its relations."""
         made = any(what == procedure and by == user for (what, _), by in self.relations.items())
         return made or (user, procedure) in self.certifiers
 
-    def slip_of(self, request):
+    def slip_of(self, request: Question) -> Slip | None:
         """What the slip that a request bears was taken for, or none where it bears none or the user has it not."""
         return self.slips.get((request.user, request.slip)) if request.kind in TAKES_SLIP else None
 
-    def counts(self, request):
-        """Whether the release that is named gives leave for the operation."""
-        leave = self.releases.get((request.user, request.release))
-        if not leave or (request.user, request.release) in self.used:
+    def counts(self, request: Question) -> bool:
+        """Whether the release that is named authorizes the operation."""
+        given = self.releases.get((request.user, request.release))
+        if not given or (request.user, request.release) in self.used:
             return False
         items, amount = touched(request.kind, request.body), amount_of(request.kind, request.body)
-        is_given = any(amount <= it for it in self.limits(leave.giver, "release", items, request.moment))
-        is_of_another = leave.giver != request.user and leave.giver not in self.suspended
-        names_it = leave.operation == {"procedure": request.kind, **request.body}
-        return names_it and leave.day == self.days.get(request.body["branch"]) and is_of_another and is_given
+        is_given = any(amount <= it for it in self.limits(given.giver, "release", items, request.moment))
+        is_of_another = given.giver != request.user and given.giver not in self.suspended
+        names_it = given.operation == with_members({"procedure": request.kind}, request.body)
+        return names_it and given.day == self.days.get(request.body["branch"]) and is_of_another and is_given
 
-    def is_known(self, user, session):
+    def is_known(self, user: int, session: int) -> bool:
         """Whether the user is there, not suspended, with this session open."""
         return user in self.open and user not in self.suspended and self.sessions.get(user) == session
 
-    def is_within(self, request):
+    def is_within(self, request: Question) -> bool:
         """Whether a triple of the user lets them do it."""
         items, amount = touched(request.kind, request.body), amount_of(request.kind, request.body)
         return any(amount <= it for it in self.limits(request.user, request.kind, items, request.moment))
 
 
-def opened_sets():
+AnyBank = TypeVar("AnyBank", bound=Bank)
+
+
+def holds(sets: Mapping[int, list[Interval]], number: int, items: Iterable[Item]) -> bool:
+    """Whether one of these sets has all these items, each in some interval of its kind."""
+    members = sets.get(number, [])
+    return all(any(kind == k and low <= key <= high for k, low, high in members) for kind, key in items)
+
+
+def opened_sets() -> dict[int, list[Interval]]:
     """The sets of the sample, each a list of a kind with its lowest and its highest key."""
     within = [("teller", 11, 12), ("branch", 1, 1), ("history", 1, 1), ("drawer", 11, 12)]
     # (their members stand in the order in which the listing has them)
@@ -432,7 +539,7 @@ def opened_sets():
     }
 
 
-def opened_relations():
+def opened_relations() -> dict[tuple[str, int], int]:
     """Who certified each procedure on each set."""
     certified = {
         1: "post transfer new-account release balance",
@@ -444,7 +551,7 @@ def opened_relations():
     return {(procedure, number): 2 for number, names in certified.items() for procedure in names.split()}
 
 
-def opened_triples():
+def opened_triples() -> dict[tuple[int, str, int], Triple]:
     """The triple of each user for a procedure on a set."""
     granted = {
         7: "post 2 999999, transfer 3 50000, transfer 4 50000, correct 2 999999, drawer-on 2 100000, drawer-off 2 0, "
@@ -453,5 +560,5 @@ def opened_triples():
         "drawer-off 2 0",
         9: "new-account 1 0, release 1 999999, proof 2 0, close-day 2 0",
     }
-    rows = [(user, *row.split()) for user, text in granted.items() for row in text.split(",")]
-    return {(user, procedure, int(number)): Triple(int(limit)) for user, procedure, number, limit in rows}
+    rows = [(user, row.split()) for user, text in granted.items() for row in text.split(",")]
+    return {(user, procedure, int(number)): Triple(int(limit)) for user, (procedure, number, limit) in rows}

@@ -3,12 +3,19 @@ import os
 import re
 import subprocess
 from collections import Counter
+from collections.abc import Callable, Iterable, Sequence
 from concurrent.futures import ProcessPoolExecutor
+from random import Random
 
 from model.answers import is_allowed
-from model.bank import BADGES, COMMANDS, OPERATIONS, RULES
+from model.bank import BADGES, COMMANDS, OPERATIONS, RULES, Bank, Body, without_member
 from model.requests import DRAWN, Request, again, any_slip, slips_of, spoiled
 from sample_file import Wrong, require_sound, run_words
+
+# How often each reply was given, by its status or the rule that denies, by `report` and by `again`.
+Counts = Counter[str | int]
+# The paths of programs, and of the sample bank in a file.
+Programs = tuple[str, ...]
 
 SECONDS = 240
 
@@ -56,17 +63,17 @@ DENIED = re.compile(rb'\r\n\r\n\{"name":"([a-z ]+)","rule":\d+\}')
 REPORT = b"\r\nContent-Type: text/plain\r\n"
 
 
-def of_kind(bank, kind, rng, moment):
+def of_kind(bank: Bank, kind: str, rng: Random, moment: int) -> Request:
     """A request of this kind at a moment, as it is drawn first."""
-    user, body, release = rng.choice(list(BADGES)), {}, 0
+    user, release = rng.choice(list(BADGES)), 0
+    body: Body = {}
     if kind == "slip again":
         user = rng.choice([it for it in BADGES if slips_of(bank, it)] or [user])
         return again(bank, user, rng, moment) or of_kind(bank, "balance", rng, moment)
-    given = [(key, leave.operation) for key, leave in bank.releases.items() if key[0] in BADGES and key not in bank.used]
+    given = [(key, it.operation) for key, it in bank.releases.items() if key[0] in BADGES and key not in bank.used]
     if kind == "use of a release" and given:
         (user, release), operation = rng.choice(given)
-        body = dict(operation)
-        kind = body.pop("procedure")
+        kind, body = operation["procedure"], without_member(operation, "procedure")
     elif kind == "session":
         user = rng.choice([it for it in BADGES if it not in bank.open] or list(BADGES))
     elif kind in COMMANDS:
@@ -78,7 +85,7 @@ def of_kind(bank, kind, rng, moment):
     return Request(bank, kind, user, body, release, moment, any_slip(bank, user, rng))
 
 
-def drawn(bank, rng, moment):
+def drawn(bank: Bank, rng: Random, moment: int) -> Request:
     """A request at a moment, most often one that is allowed."""
     kinds = rng.choices(list(WEIGHTS), list(WEIGHTS.values()), k=KINDS_TRIED)
     if rng.random() < ANY:
@@ -94,7 +101,7 @@ def drawn(bank, rng, moment):
     return next(allowed, of_kind(bank, "session", rng, moment))
 
 
-def count(told, status, reply, is_again):
+def count(told: Counts, status: int, reply: bytes, is_again: bool) -> None:
     """Counts a reply, which may be one that was given before."""
     denied = DENIED.search(reply)
     told[denied[1].decode() if denied else status] += 1
@@ -105,17 +112,17 @@ def count(told, status, reply, is_again):
 class Part:
     """What is sent at one moment of a stream, and the replies of the model."""
 
-    def __init__(self, moment):
+    def __init__(self, moment: int) -> None:
         self.moment = moment
-        self.sent = []
-        self.replies = []
+        self.sent: list[bytes] = []
+        self.replies: list[bytes] = []
 
-    def add(self, request, reply):
+    def add(self, request: Request, reply: bytes) -> None:
         self.sent.append(request.message())
         self.replies.append(reply)
 
 
-def compare(store, words, part):
+def compare(store: str, words: list[str], part: Part) -> None:
     """Sends what a stream has at a moment to a store, which has to write its replies."""
     sent, replies = part.sent, part.replies
     run = subprocess.run(words, input=b"".join(sent), capture_output=True, timeout=SECONDS, check=False)
@@ -125,14 +132,14 @@ def compare(store, words, part):
         raise Wrong(f"{store}: {first_difference(run.stdout, sent, replies)}")
 
 
-def compare_file(name, program, file, parts):
+def compare_file(name: str, program: str, file: str, parts: Iterable[Part]) -> None:
     """Sends the parts of a stream to a bank in a file, each by a run of its moment. `check` has to find its books sound then."""
     for part in parts:
         compare(name, [program, *run_words(file, part.moment)], part)
     require_sound(program, file)
 
 
-def first_difference(wrote, sent, replies):
+def first_difference(wrote: bytes, sent: list[bytes], replies: list[bytes]) -> str:
     """The first message that was answered otherwise."""
     for message, reply in zip(sent, replies):
         if not wrote.startswith(reply):
@@ -141,17 +148,17 @@ def first_difference(wrote, sent, replies):
     return f"it wrote {wrote[:200]!r} after the last reply"
 
 
-def judged(compared, programs, seed):
+def judged(compared: Callable[[Programs, str], Counts], programs: Programs, seed: str) -> tuple[Counts, str | None]:
     """How often each reply was given in a stream, and what was wrong."""
     try:
         return compared(programs, seed), None
     except (Wrong, OSError, LookupError, TypeError, ValueError, subprocess.TimeoutExpired) as why:
-        return Counter(), repr(why)
+        return Counts(), repr(why)
 
 
-def judged_all(compared, programs, seeds):
+def judged_all(compared: Callable[[Programs, str], Counts], programs: Programs, seeds: Sequence[str]) -> tuple[Counts, int]:
     """How often each reply was given in all streams, and how many streams failed. Each that did is printed."""
-    told, failed = Counter(), 0
+    told, failed = Counts(), 0
     with ProcessPoolExecutor(len(os.sched_getaffinity(0))) as pool:
         for seed, (replies, why) in zip(seeds, pool.map(judged, [compared] * len(seeds), [programs] * len(seeds), seeds)):
             told += replies
@@ -161,7 +168,7 @@ def judged_all(compared, programs, seeds):
     return told, failed
 
 
-def are_allowed(told, requests):
+def are_allowed(told: Counts, requests: int) -> bool:
     """Prints how often each reply was given, and whether half of the requests were allowed."""
     allowed = told[200]
     kinds = f"{told['report']} reports and {told['again']} answers given again"

@@ -2,9 +2,11 @@
 reason."""
 import re
 from collections import Counter
+from collections.abc import Iterator
 
 from model.bank import COMMANDS, OPERATIONS, RULES
-from simulation.messages import failure
+from simulation.ledger import LongBank
+from simulation.messages import Message, failure
 from simulation.table_rows import rows_of_bank
 
 DENIED = re.compile(rb'\r\n\r\n\{"name":"[a-z ]+","rule":(\d+)\}')
@@ -38,7 +40,7 @@ PREPARED = {
 }
 
 
-def wanted():
+def wanted() -> Iterator[str]:
     """The name of each thing that has to occur."""
     yield from (f"rule {number} {name}" for number, name in enumerate(RULES, 1))
     yield from (f"operation {it}" for it in OPERATIONS)
@@ -57,14 +59,14 @@ NAMES = {"session": "session opened", "end": "session ended", "listing": "listin
 class Seen:
     """How often each thing occurred."""
 
-    def __init__(self):
-        self.counts = Counter()
+    def __init__(self) -> None:
+        self.counts: Counter[str] = Counter()
 
-    def add(self, name, count=1):
+    def add(self, name: str, count: int = 1) -> None:
         """Something occurred."""
         self.counts[name] += count
 
-    def add_reply(self, message, reply):
+    def add_reply(self, message: Message, reply: bytes) -> None:
         """A reply came."""
         self.counts["requests"] += 1
         self.counts[f"status {reply[9:12].decode()}"] += 1
@@ -78,22 +80,22 @@ class Seen:
             kind = message.asked.kind
             self.counts[NAMES.get(kind) or f"{'command' if kind in COMMANDS else 'operation'} {kind}"] += 1
 
-    def add_exit(self, status, errors):
+    def add_exit(self, status: int, errors: bytes) -> None:
         """A program ended."""
         named = {-9: "killed", -15: "terminated"}
         line = errors.decode(errors="replace").strip()
         line = f"{line.split(':')[0]}: .." if status == 1 else line
         self.counts[f"exit {named.get(status) or (f'{status} {line}' if status in (1, 3) else status)}"] += 1
 
-    def add_bank(self, bank):
+    def add_bank(self, bank: LongBank) -> None:
         """A life ended with this bank."""
         rows = rows_of_bank(bank)
         for name, place, table in (("entry", 9, "entries"), ("line", 4, "lines")):
             for form, count in Counter(row[place] for row in rows[table]).items():
-                self.counts[f"{name} {FORMS[name][form]}"] += count
+                self.counts[f"{name} {FORMS[name][int(form)]}"] += count
         self.counts["release used"] += len(bank.used)
 
-    def table(self):
+    def table(self) -> tuple[list[str], list[str]]:
         """The lines of the table, and the names of what is missing."""
         missing = [it for it in wanted() if not self.counts[it] and it not in PREPARED]
         lines = [f"{self.counts[it]:9} {it}" + (f" (a prepared file: {PREPARED[it]})" if it in PREPARED else "") for it in wanted()]

@@ -5,20 +5,29 @@ import shutil
 import socket
 import sqlite3
 import tempfile
+from collections.abc import Callable
+from random import Random
+from typing import TYPE_CHECKING
 
-from faults.earlier_files import CARRIED, EARLIER_VERSIONS, OTHER, Tables, make_earlier_file
+from faults.earlier_files import CARRIED, EARLIER_VERSIONS, OTHER, SchemaVersion, Tables, make_earlier_file
 from page_sums import RESERVED_AT, SUM, says_sums
 from sample_file import Wrong
 from serving import HOST
 from simulation.machine import CHANGES, HALF_AND_KILLED, KILLED, KILLED_AFTER
 from simulation.table_rows import first_difference, rows_of_file
 
+if TYPE_CHECKING:
+    from simulation.life import Life
+
+# What spoils the text of a list.
+Spoil = Callable[[str], str]
+
 OPENED = "bank_that_is_opened"
 # The bit by which a file says that its pages end in sums.
 NO_SUMS = 8 * RESERVED_AT + SUM.bit_length() - 1
 
 
-def earlier_version(rng):
+def earlier_version(rng: Random) -> SchemaVersion:
     """An earlier schema version."""
     return rng.choice(EARLIER_VERSIONS)
 
@@ -26,9 +35,8 @@ def earlier_version(rng):
 # ---- a file of an earlier version
 
 
-def made_earlier(life):
+def make_earlier(life: "Life", version: SchemaVersion) -> None:
     """Makes the bank's file one of an earlier version: its tables, with the same rows."""
-    version = life.version
     with tempfile.TemporaryDirectory(dir=life.room) as room:
         schema = Tables(make_earlier_file(version.suite(), OPENED, room)[0]).schema
     rows = rows_of_file(life.file, life.room)
@@ -46,11 +54,11 @@ def made_earlier(life):
         connection.close()
 
 
-def upgrade(life):
-    """Migrates the file, which a kill or a loss of power may befall."""
+def upgrade(life: "Life", version: SchemaVersion) -> None:
+    """Has the file be one of an earlier version and migrates it, which a kill or a loss of power may befall."""
     rng, machine = life.rng, life.machine
-    made_earlier(life)
-    life.fault = f"an upgrade of {life.version.name}"
+    make_earlier(life, version)
+    life.fault = f"an upgrade of {version.name}"
     before = rows_of_file(life.file, life.room)
     words = [life.program, "upgrade", life.file]
     for _ in range(rng.randint(0, 3)):
@@ -76,7 +84,7 @@ def upgrade(life):
 # ---- what is refused
 
 
-def spoiled_lists(life, name, spoil):
+def spoiled_lists(life: "Life", name: str, spoil: Spoil) -> tuple[str, list[str]]:
     """The opening lists, one of which is spoiled, and a file that is not there."""
     folder = tempfile.mkdtemp(dir=life.room)
     lists = os.path.join(folder, "lists")
@@ -89,7 +97,7 @@ def spoiled_lists(life, name, spoil):
     return folder, ["init", os.path.join(folder, "bank"), lists]
 
 
-def refuse_lists(life, name, spoil, begin):
+def refuse_lists(life: "Life", name: str, spoil: Spoil, begin: bytes) -> None:
     """Has opening lists refused by a line that begins so."""
     folder, words = spoiled_lists(life, name, spoil)
     said = life.machine.ended([life.program, *words], life.file, 120)
@@ -99,23 +107,23 @@ def refuse_lists(life, name, spoil, begin):
         raise Wrong(f"init of spoiled lists ended with {said!r}")
 
 
-def bad_record(life):
+def bad_record(life: "Life") -> None:
     """A record of a list."""
     refuse_lists(life, "accounts.csv", lambda text: text + "x,1,0,0\n", b"lists: accounts.csv, record ")
 
 
-def bad_sums(life):
+def bad_sums(life: "Life") -> None:
     """Sums that differ."""
     branch = next(iter(life.opening.bank.branches))
     refuse_lists(life, "accounts.csv", lambda text: text + f"{free_account(life)},{branch},1,0\n", b"books: condition A")
 
 
-def free_account(life):
+def free_account(life: "Life") -> int:
     """The number of an account that is not there at the opening."""
     return next(it for it in range(2, 10_000) if it not in life.opening.bank.accounts)
 
 
-def bad_policy(life):
+def bad_policy(life: "Life") -> None:
     """An officer who has a triple."""
     officer = life.opening.staff.officers[0]
     has_moments = any(it != type(it)(it.limit) for it in life.opening.bank.triples.values())
@@ -123,7 +131,7 @@ def bad_policy(life):
     refuse_lists(life, "triples.csv", lambda text: text + row, b"policy: ")
 
 
-def refuse(life, words, status, line):
+def refuse(life: "Life", words: list[str], status: int, line: bytes | None) -> None:
     """Has arguments or a file refused."""
     said = life.machine.ended([life.program, *words], life.file, 120)
     life.seen.add_exit(said[0], said[2])
@@ -131,17 +139,17 @@ def refuse(life, words, status, line):
         raise Wrong(f"{words!r} ended with {said!r}; due is {status}, {line!r}")
 
 
-def make_over(life):
+def make_over(life: "Life") -> None:
     """A bank is made where one is."""
     refuse(life, ["init", life.file, os.path.join(life.room, "lists")], 3, b"file: not empty\n")
 
 
-def check_nothing(life):
+def check_nothing(life: "Life") -> None:
     """A file that is not there is checked."""
     refuse(life, ["check", os.path.join(life.room, "none")], 3, b"file: not read\n")
 
 
-def check_another(life):
+def check_another(life: "Life") -> None:
     """Another database is checked."""
     path = os.path.join(life.room, "another")
     if not os.path.exists(path):
@@ -152,17 +160,17 @@ def check_another(life):
     refuse(life, ["check", path], 3, b"file: not a bank\n")
 
 
-def upgrade_again(life):
+def upgrade_again(life: "Life") -> None:
     """A bank of the present version is migrated."""
     refuse(life, ["upgrade", life.file], 3, b"file: other version\n")
 
 
-def bad_arguments(life):
+def bad_arguments(life: "Life") -> None:
     """Arguments that are none."""
     refuse(life, ["serve", life.file, "--port", "0"], 2, None)
 
 
-def port_of_another(life):
+def port_of_another(life: "Life") -> None:
     """A port that another program has."""
     with socket.socket() as other:
         other.bind((HOST, 0))
@@ -171,7 +179,7 @@ def port_of_another(life):
         refuse(life, words, 3, b"stream: broken\n")
 
 
-def flip(life):
+def flip(life: "Life") -> None:
     """A bit of a copy is flipped while nothing serves it, which has to be reported where its pages end in sums. Of a copy that
     then says that they don't, the rows are the same."""
     life.fault = "a bit that is flipped"
@@ -193,7 +201,7 @@ def flip(life):
         raise Wrong(f"bit {at % 8} of byte {at // 8} of {len(text)} is flipped, and check said {said!r}")
 
 
-def require_same(life, path):
+def require_same(life: "Life", path: str) -> None:
     """Goes through where a copy holds the rows of the file."""
     wrong = first_difference(rows_of_file(path, life.room), rows_of_file(life.file, life.room))
     if wrong:
@@ -203,7 +211,7 @@ def require_same(life, path):
 ERRANDS = (bad_record, bad_sums, bad_policy, make_over, check_nothing, check_another, upgrade_again, bad_arguments, port_of_another)
 
 
-def one(life):
+def one(life: "Life") -> None:
     """One of them, after which the bank is as it was."""
     trial = life.rng.choice(ERRANDS)
     life.fault = f"an errand: {trial.__name__}"

@@ -1,9 +1,11 @@
 """What fails in a part of a day, as it is drawn, and what must hold then: the program is killed, power is lost, calls
 to the disk fail, memory is refused."""
 import errno
-from typing import NamedTuple
+from random import Random
+from typing import TYPE_CHECKING, NamedTuple
 
 from sample_file import Wrong
+from simulation.explained import State
 from simulation.machine import (
     CHANGES,
     FAILS_ON,
@@ -19,7 +21,10 @@ from simulation.machine import (
     SYNCS,
     WRITES,
 )
-from simulation.program import ByCounter, ByRun, ByServe
+from simulation.program import ByCounter, ByRun, ByServe, Way
+
+if TYPE_CHECKING:
+    from simulation.life import Agenda, Life
 
 # How often each is drawn, and how many calls pass at most before it, from when it is armed.
 WEIGHTS = {
@@ -62,14 +67,14 @@ class Plan(NamedTuple):
     """What fails, and how the program runs meanwhile."""
 
     name: str
-    way: type
+    way: Way
 
-    def is_traced(self):
+    def is_traced(self) -> bool:
         """Whether each call to the disk is kept."""
         return self.name == "a loss of power"
 
 
-def drawn(rng, has, is_evening=False):
+def drawn(rng: Random, has: set[str], is_evening: bool = False) -> Plan:
     """A plan, by the commands that the program has. In the evening all drawers are put off, which few faults disturb."""
     name = rng.choices(list(WEIGHTS), list(WEIGHTS.values()))[0]
     if is_evening and rng.random() < 0.5:
@@ -82,7 +87,7 @@ def drawn(rng, has, is_evening=False):
     return Plan(name, ByCounter if "counter" in has and way < BY_COUNTER else ByServe)
 
 
-def arm(life, plan):
+def arm(life: "Life", plan: Plan) -> None:
     """Has it fail, some calls from now."""
     machine, rng = life.machine, life.rng
     after = rng.randint(1, MOST_CALLS)
@@ -99,7 +104,7 @@ def arm(life, plan):
         machine.arm_memory(rng.randint(1, MOST_MEMORY_CALLS), rng.choice((1, 1, 1, 5, 50)))
 
 
-def segment(life, agenda, plan):
+def segment(life: "Life", agenda: "Agenda", plan: Plan) -> None:
     """Has the agenda asked for while a plan fails. What is left of it then is asked for by a program that nothing
     befalls."""
     life.fault = f"{plan.name}, by {plan.way.name}"
@@ -122,7 +127,7 @@ def segment(life, agenda, plan):
     return end(life, plan)
 
 
-def begin(life, plan):
+def begin(life: "Life", plan: Plan) -> None:
     """Starts the program, once more where that failed."""
     life.machine.disarm()
     life.machine.set(disk_fired=0, memory_fired=0)
@@ -139,7 +144,7 @@ def begin(life, plan):
         raise Wrong(f"it said {life.running.line!r} first, and ended with {life.running.ended()!r}")
 
 
-def fail_start(life, way):
+def fail_start(life: "Life", way: Way) -> None:
     """Has a start fail: it ends with its line and changes nothing, or it serves. Then it is started anew."""
     machine, rng = life.machine, life.rng
     if rng.random() < 0.4:
@@ -147,32 +152,32 @@ def fail_start(life, way):
     else:
         ways = rng.choice((FAILS_ONCE, FAILS_ON, KILLED))
         machine.arm_disk(rng.randint(1, MOST_START_CALLS), ways, READS | OPENS | CHANGES, errno.EIO)
-    life.start(way)
-    if not life.running.is_ready():
-        status, errors = life.running.ended()
+    running = life.start(way)
+    if not running.is_ready():
+        status, errors = running.ended()
         is_killed = machine.get("disk_way") == KILLED and status == -9
         fired = machine.get("disk_fired") or machine.get("memory_fired")
         if not fired or not (is_killed or (status == 3 and errors in LINES)):
             raise Wrong(f"a start that failed ended with {status}, {errors!r}")
         life.seen.add_exit(status, errors)
         life.seen.add("starts that failed")
-        life.running = None
+        life.serving = None
         machine.disarm()
         machine.set(disk_fired=0, memory_fired=0)
         life.require_rows("after a start that failed")
-        life.start(way)
-        if not life.running.is_ready():
-            raise Wrong(f"it said {life.running.line!r} first, and ended with {life.running.ended()!r}")
+        running = life.start(way)
+        if not running.is_ready():
+            raise Wrong(f"it said {running.line!r} first, and ended with {running.ended()!r}")
 
 
-def count_fired(life, plan):
+def count_fired(life: "Life", plan: Plan) -> None:
     """Counts what failed."""
     life.seen.add(plan.name, int(life.machine.get("disk_fired") > 0 or life.machine.get("memory_fired") > 0))
     life.seen.add("calls for memory refused", life.machine.get("memory_fired"))
     life.seen.add("calls to the disk that failed", life.machine.get("disk_fired"))
 
 
-def recover(life, plan, states):
+def recover(life: "Life", plan: Plan, states: list[State]) -> None:
     """Looks at what is left of a program that ended, or whose store stopped."""
     count_fired(life, plan)
     life.running.let_go()
@@ -181,7 +186,7 @@ def recover(life, plan, states):
     life.seen.add_exit(status, errors)
     if is_dead and status != -9 and not (status == 3 and errors in LINES):
         raise Wrong(f"it ended with {status}, {errors!r}")
-    life.running = None
+    life.serving = None
     life.machine.disarm()
     life.lose_power()
     life.resolve(states)
@@ -190,7 +195,7 @@ def recover(life, plan, states):
         life.back_up()
 
 
-def end(life, plan):
+def end(life: "Life", plan: Plan) -> None:
     """Ends the program as it is ended each day, or by a kill or a loss of power while it is idle."""
     count_fired(life, plan)
     life.running.let_go()
@@ -210,20 +215,20 @@ def end(life, plan):
     if found not in due and not (fired and (found[0] == -9 or found[0] in (0, 3) and found[1] in LINES | {b""})):
         raise Wrong(f"it ended with {found!r}; due is {due!r}")
     life.seen.add_exit(*found)
-    life.running = None
+    life.serving = None
     life.machine.disarm()
     life.lose_power()
     if plan.name != "nothing" or life.rng.random() < READ_AT_END:
         life.require_rows("at the end of a run")
 
 
-def end_counted(life, agenda):
+def end_counted(life: "Life", agenda: "Agenda") -> None:
     """Ends a program that has counted its messages, and goes on by another one."""
     life.running.let_go()
     found = life.running.ended()
     if found != (0, b""):
         raise Wrong(f"it had counted its messages, and ended with {found!r}")
     life.seen.add_exit(*found)
-    life.running = None
+    life.serving = None
     life.require_rows("once it has counted its messages")
     segment(life, agenda, Plan("nothing", ByServe))

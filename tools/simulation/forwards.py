@@ -1,9 +1,13 @@
 """A year that is closed: a new file opens with the balances of the old one, and with empty books."""
 import os
+from typing import TYPE_CHECKING
 
 from sample_file import ENDINGS, Wrong
-from simulation.ledger import Ledger
+from simulation.ledger import Ledger, LongBank
 from simulation.machine import CHANGES, KILLS
+
+if TYPE_CHECKING:
+    from simulation.life import Life
 
 SECONDS = 120
 CARRIED, NOT_EMPTY = (0, b"carried forward\n", b""), (3, b"", b"file: not empty\n")
@@ -11,17 +15,17 @@ CARRIED, NOT_EMPTY = (0, b"carried forward\n", b""), (3, b"", b"file: not empty\
 SUMS, KILLED, MOST_CALLS = 0.7, 0.5, 60
 
 
-def open_branches(bank):
+def open_branches(bank: LongBank) -> list[int]:
     """The branches that are not closed: which have an entry, a cash line or a release of their present day, or a drawer
     that is held or has cash."""
     ledger = bank.ledger
-    found = {row[0] for rows in ledger.entry_rows.values() for row in rows[-1:] if row[7] == bank.days[row[0]]}
-    found |= {row[0] for rows in ledger.line_rows.values() for row in rows[-1:] if row[6] == bank.days[row[0]]}
+    found = {it for it, rows in ledger.entry_rows.items() for row in rows[-1:] if row[7] == bank.days[it]}
+    found |= {it for it, rows in ledger.line_rows.items() for row in rows[-1:] if row[6] == bank.days[it]}
     found |= {it.operation["branch"] for it in bank.releases.values() if it.day == bank.days[it.operation["branch"]]}
     return sorted(found | {branch for it, (branch, _) in bank.tellers.items() if bank.holder(it) or bank.cash(branch, it)})
 
 
-def opened_anew(bank):
+def opened_anew(bank: LongBank) -> LongBank:
     """The bank of the next year."""
     made = bank.copied()
     made.accounts = {it: (home, bank.balance(it), floor) for it, (home, _, floor) in bank.accounts.items()}
@@ -33,13 +37,13 @@ def opened_anew(bank):
     return made
 
 
-def words_of_forward(life, new):
+def words_of_forward(life: "Life", new: str) -> list[str]:
     """The arguments that close the year, some of which ask for sums of pages."""
     sums = ["--sums"] if "sums" in life.has and life.rng.random() < SUMS else []
     return ["forward", life.file, new, *sums]
 
 
-def is_killed(life, words):
+def is_killed(life: "Life", words: list[str]) -> bool:
     """Whether the closing of the year was killed, at a call to the disk."""
     life.machine.arm_disk(life.rng.randint(1, MOST_CALLS), life.rng.choice(KILLS), CHANGES)
     said = life.machine.ended([life.program, *words], life.file, SECONDS)
@@ -50,7 +54,7 @@ def is_killed(life, words):
     return said != CARRIED
 
 
-def close_year(life, words):
+def close_year(life: "Life", words: list[str]) -> None:
     """Makes the new file, which a kill may befall: then it holds no bank, and the same arguments make it, or the whole one."""
     due = [CARRIED]
     if life.rng.random() < KILLED:
@@ -63,7 +67,7 @@ def close_year(life, words):
         raise Wrong(f"forward ended with {said!r}")
 
 
-def forward(life):
+def forward(life: "Life") -> None:
     """Closes the year, where all is closed; else that is refused."""
     life.fault = "the closing of a year"
     new = os.path.join(life.room, "next")

@@ -8,11 +8,16 @@ import mmap
 import os
 import struct
 import subprocess
+from random import Random
+from typing import BinaryIO
 
 from faults.disk_calls import calls_in
 from faults.disk_states import Disk
 from preload import preloaded
 from sample_file import ENDINGS
+
+# How a run ends: its status, and what it wrote on both streams.
+Ended = tuple[int, bytes, bytes]
 
 # The numbers of the block, as machine.c has them.
 NUMBERS = (
@@ -31,7 +36,7 @@ SUBSETS = 3
 class Machine:
     """A machine, whose block and library stand in a folder."""
 
-    def __init__(self, folder):
+    def __init__(self, folder: str) -> None:
         self.folder = folder
         self.library = preloaded("simulation/machine.c", folder, "-fno-builtin")
         self.path = os.path.join(folder, "block")
@@ -39,61 +44,70 @@ class Machine:
             file.write(bytes(8 * len(NUMBERS)))
             file.flush()
             self.block = mmap.mmap(file.fileno(), 8 * len(NUMBERS))
-        self.trace = None
-        self.before = None
+        # while power can be lost: each call to the disk, and what the files held before
+        self.trace: BinaryIO | None = None
+        self.before: Disk | None = None
 
-    def set(self, **numbers):
+    def set(self, **numbers: int) -> None:
         """Sets numbers of the block."""
         for name, it in numbers.items():
             struct.pack_into("q", self.block, 8 * NUMBERS.index(name), it)
 
-    def get(self, name):
+    def get(self, name: str) -> int:
         """A number of the block."""
-        return struct.unpack_from("q", self.block, 8 * NUMBERS.index(name))[0]
+        return int(struct.unpack_from("q", self.block, 8 * NUMBERS.index(name))[0])
 
-    def arm_disk(self, after, way, kinds, error=0):
+    def arm_disk(self, after: int, way: int, kinds: int, error: int = 0) -> None:
         """Has a call to the disk not be made as it is asked for, so many from now."""
         self.set(disk_way=way, disk_kinds=kinds, disk_error=error, disk_fired=0, disk_after=after)
 
-    def arm_memory(self, after, count):
+    def arm_memory(self, after: int, count: int) -> None:
         """Has calls for memory refused, the first so many from now."""
         self.set(memory_count=count, memory_fired=0, memory_after=after)
 
-    def disarm(self):
+    def disarm(self) -> None:
         """Nothing fails from now on."""
         self.set(disk_after=0, memory_after=0, waits_part=1)
 
-    def environment(self, trace):
+    def environment(self, trace: int | None) -> dict[str, str]:
         """The environment of a program on this machine."""
         found = {"PATH": "/usr/local/bin:/usr/bin:/bin", "LANG": "C.UTF-8", "LD_PRELOAD": self.library, "MACHINE_BLOCK": self.path}
         return found | ({"MACHINE_TRACE": str(trace)} if trace is not None else {})
 
-    def start(self, arguments, file, is_traced=False, **pipes):
-        """Starts a program. Where it is traced, power can be lost: what the files hold, and each call from now on, is
+    def start(self, arguments: list[str], file: str, is_traced: bool = False) -> subprocess.Popen[bytes]:
+        """Starts a program, with pipes. If it is traced, power can be lost: what the files hold, and each call from now on, is
         kept."""
-        if not is_traced:
-            self.trace = None
-            return subprocess.Popen(arguments, bufsize=0, env=self.environment(None), **pipes)
-        self.before = Disk(file)
-        self.trace = open(os.path.join(self.folder, "trace"), "w+b")
-        kept = self.trace.fileno()
-        return subprocess.Popen(arguments, bufsize=0, env=self.environment(kept), pass_fds=[kept], **pipes)
+        self.trace, kept = None, None
+        if is_traced:
+            self.before = Disk(file)
+            self.trace = open(os.path.join(self.folder, "trace"), "w+b")
+            kept = self.trace.fileno()
+        return subprocess.Popen(
+            arguments,
+            bufsize=0,
+            env=self.environment(kept),
+            pass_fds=() if kept is None else [kept],
+            stdin=subprocess.PIPE,
+            stdout=subprocess.PIPE,
+            stderr=subprocess.PIPE,
+        )
 
-    def ended(self, arguments, file, seconds, given=b"", is_traced=False):
+    def ended(self, arguments: list[str], file: str, seconds: int, given: bytes = b"", is_traced: bool = False) -> Ended:
         """How a run on this machine ends: its status, and what it writes to both streams."""
-        pipes = dict.fromkeys(("stdin", "stdout", "stderr"), subprocess.PIPE)
-        with self.start(arguments, file, is_traced, **pipes) as run:
+        with self.start(arguments, file, is_traced) as run:
             try:
                 output, errors = run.communicate(given, seconds)
             finally:
                 run.kill()
         return run.returncode, output, errors
 
-    def lose_power(self, file, rng):
+    def lose_power(self, file: str, rng: Random) -> str:
         """Leaves in the files what a disk may hold after the calls that were made: says which of its states that is."""
+        if self.trace is None or self.before is None:
+            raise LookupError("no call to the disk was kept")
+        disk = self.before
         with self.trace as trace:
             trace.seek(0)
-            disk = self.before
             for call in calls_in(trace.read()):
                 disk.make(call)
         self.trace = None
@@ -107,9 +121,9 @@ class Machine:
         return ", ".join(f"bank{ending} of {len(text)} bytes" for ending, text in state.items())
 
 
-def chosen_state(disk, rng):
+def chosen_state(disk: Disk, rng: Random) -> dict[str, bytes]:
     """What the files hold once power is lost: of each what was synced, what was written, or a part of what came between."""
-    state = {}
+    state: dict[str, bytes] = {}
     for ending, held in disk.held.items():
         ways = list(held.ways())
         for _ in range(SUBSETS if held.since else 0):

@@ -3,7 +3,10 @@ import json
 import re
 
 from model.answers import answer
-from model.bank import COMMANDS, OPERATIONS
+from model.bank import COMMANDS, OPERATIONS, AnyBank, Body
+
+# The user whose badge is nobody's.
+NOBODY = 0
 
 STATUS = {
     1: "400 Bad Request",
@@ -22,9 +25,9 @@ END_OF_HEAD = b"\r\n\r\n"
 
 
 class Asked:
-    """A request of a kind by a user at a moment, in a session; of no user where nobody has the badge."""
+    """A request of a kind by a user at a moment, in a session; of NOBODY if nobody has the badge."""
 
-    def __init__(self, kind, user, session, body, release=0, slip=0):
+    def __init__(self, kind: str, user: int, session: int, body: Body, release: int = 0, slip: int = 0) -> None:
         self.kind = kind
         self.user = user
         self.session = session
@@ -34,7 +37,7 @@ class Asked:
         self.moment = 0
 
 
-def target_of(kind):
+def target_of(kind: str) -> str:
     """The method and the path that ask for a kind."""
     if kind == "listing":
         return "GET /policy"
@@ -43,7 +46,7 @@ def target_of(kind):
     return "POST /policy/" + kind if kind in COMMANDS else "POST /" + kind
 
 
-def fields_of(asked, badge):
+def fields_of(asked: Asked, badge: str) -> list[str]:
     """The field lines of a request."""
     numbers = {"Session": asked.session, "Release": asked.release, "Slip": asked.slip}
     badges = [f"Bank-Badge: {badge}"] if badge else []
@@ -53,7 +56,7 @@ def fields_of(asked, badge):
 class Message:
     """What a client sends: a request, or a message with a fault M1 to M6 that the head or the fields have."""
 
-    def __init__(self, asked, badge, fault=0, head=None, closes=False):
+    def __init__(self, asked: Asked, badge: str, fault: int = 0, head: bytes | None = None, closes: bool = False) -> None:
         self.asked, self.badge, self.fault = asked, badge, fault
         self.closes = closes or 1 <= fault <= 4
         self.has_body = head is None or not head.startswith(b"HEAD ")
@@ -61,19 +64,19 @@ class Message:
         # whether it was sent before
         self.was_sent = False
 
-    def made(self):
+    def made(self) -> bytes:
         """The bytes of a request."""
         body = json.dumps(self.asked.body).encode() if self.asked.body else b""
         lines = [f"{target_of(self.asked.kind)} HTTP/1.1", "Host: bank", *fields_of(self.asked, self.badge)]
         lines += ["Connection: close"] if self.closes else []
         return ("\r\n".join([*lines, f"Content-Length: {len(body)}"]) + "\r\n\r\n").encode() + body
 
-    def renew(self, session):
+    def renew(self, session: int) -> None:
         """Has it name another session, and not end its connection."""
         self.asked.session, self.closes = session, False
         self.given = self.made()
 
-    def due(self, bank, moment):
+    def due(self, bank: AnyBank, moment: int) -> tuple[AnyBank, bytes]:
         """The bank after the message at a moment, and the reply."""
         if self.fault:
             text = b'{"fault":"M%d"}' % self.fault
@@ -85,18 +88,18 @@ class Message:
             bank = bank if self.asked.kind in READS else after
         return bank, with_close(reply) if self.closes else reply
 
-    def is_again(self):
+    def is_again(self) -> bool:
         """Whether its client sends it again where no reply came."""
-        return not self.fault and self.asked.slip and self.asked.user is not None
+        return not self.fault and self.asked.slip > 0 and self.asked.user != NOBODY
 
 
-def with_close(reply):
+def with_close(reply: bytes) -> bytes:
     """A reply after which the connection ends."""
     head, _, body = reply.partition(END_OF_HEAD)
     return head + b"\r\n" + CLOSE + b"\r\n" + body
 
 
-def size_of(got, has_body):
+def size_of(got: bytes, has_body: bool) -> int | None:
     """How many bytes the first reply has in these, or none where it is not whole."""
     head, end, body = got.partition(END_OF_HEAD)
     length = LENGTH.search(head + b"\r\n") if end else None
@@ -106,7 +109,7 @@ def size_of(got, has_body):
     return size if len(got) >= size else None
 
 
-def failure(reply):
+def failure(reply: bytes) -> int:
     """The number of the fault F that a reply has, or 0."""
     found = FAILED.match(reply)
     return int(found[1]) if found else 0

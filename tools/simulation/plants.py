@@ -15,25 +15,25 @@ WAIT = 0.05
 class Passed:
     """A connection that is passed on: its client, and what came for it."""
 
-    def __init__(self, client, server):
+    def __init__(self, client: socket.socket, server: socket.socket) -> None:
         self.client, self.server = client, server
         self.got = b""
         self.is_over = threading.Event()
-        self.partner = None
+        self.partner: Passed | None = None
 
 
 class Crossing:
     """A proxy of a port. Of two connections that stand at once it gives the replies of each to the other."""
 
-    def __init__(self, port):
+    def __init__(self, port: int) -> None:
         self.served = port
         self.port = free_port()
         self.listener = socket.create_server((HOST, self.port))
         self.lock = threading.Lock()
-        self.open = []
+        self.open: list[Passed] = []
         threading.Thread(target=self.accept, daemon=True).start()
 
-    def accept(self):
+    def accept(self) -> None:
         """Passes on each connection that comes."""
         with contextlib.suppress(OSError):
             while True:
@@ -47,7 +47,7 @@ class Crossing:
                 threading.Thread(target=pass_on, args=(client, passed.server), daemon=True).start()
                 threading.Thread(target=self.give_back, args=(passed,), daemon=True).start()
 
-    def give_back(self, passed):
+    def give_back(self, passed: Passed) -> None:
         """Gives a client what comes for it, or what comes for its partner."""
         with contextlib.suppress(OSError):
             first = passed.server.recv(PIECE)
@@ -59,21 +59,22 @@ class Crossing:
                 passed.client.sendall(first)
                 pass_on(passed.server, passed.client)
                 return
-            self.cross(passed, first)
-
-    def cross(self, passed, first):
-        """Takes all that comes for a client, and gives it what came for its partner."""
-        passed.got = first
-        with contextlib.suppress(OSError):
-            while piece := passed.server.recv(PIECE):
-                passed.got += piece
-        passed.is_over.set()
-        passed.partner.is_over.wait(SECONDS)
-        passed.client.sendall(passed.partner.got)
-        passed.client.close()
+            cross(passed, passed.partner, first)
 
 
-def pass_on(source, target):
+def cross(passed: Passed, partner: Passed, first: bytes) -> None:
+    """Takes all that comes for a client, and gives it what came for its partner."""
+    passed.got = first
+    with contextlib.suppress(OSError):
+        while piece := passed.server.recv(PIECE):
+            passed.got += piece
+    passed.is_over.set()
+    partner.is_over.wait(SECONDS)
+    passed.client.sendall(partner.got)
+    passed.client.close()
+
+
+def pass_on(source: socket.socket, target: socket.socket) -> None:
     """Passes on all bytes."""
     with contextlib.suppress(OSError):
         while piece := source.recv(PIECE):

@@ -6,10 +6,14 @@ import select
 import socket
 import subprocess
 import time
+from collections.abc import Sequence
+from typing import IO
 
 from sample_file import Wrong
 from serving import HOST, listening
-from simulation.messages import size_of
+from simulation.machine import Machine
+from simulation.messages import Message, size_of
+from simulation.plants import Crossing
 
 SECONDS = 120
 PIECE = 1 << 16
@@ -30,17 +34,17 @@ class Talk:
     """What a client says on one connection, in which manner, and what it gets: whole replies, and a beginning of the
     next one."""
 
-    def __init__(self, messages, manner="plain"):
+    def __init__(self, messages: list[Message], manner: str = "plain") -> None:
         self.messages = messages
         self.manner = manner
-        self.replies = []
+        self.replies: list[bytes] = []
         self.rest = b""
 
-    def given(self):
+    def given(self) -> bytes:
         """What is sent."""
         return b"".join(it.given for it in self.messages) + (HALF if self.manner in ("half", "reset", "silent") else b"")
 
-    def take(self, piece):
+    def take(self, piece: bytes) -> None:
         """Takes bytes that came."""
         self.rest += piece
         while len(self.replies) < len(self.messages):
@@ -50,52 +54,95 @@ class Talk:
             self.replies.append(self.rest[:size])
             self.rest = self.rest[size:]
 
-    def is_answered(self):
+    def is_answered(self) -> bool:
         return len(self.replies) == len(self.messages)
 
-    def ends_connection(self):
+    def ends_connection(self) -> bool:
         return bool(self.messages) and self.messages[-1].closes
 
-    def pairs(self):
+    def pairs(self) -> list[tuple[Message, bytes | None]]:
         """Each message with its reply, or None."""
         return list(zip(self.messages, [*self.replies, *[None] * (len(self.messages) - len(self.replies))]))
 
 
-def words_of_badges(file, badges):
+def words_of_badges(file: str, badges: str) -> list[str]:
     """The arguments that name a bank and its badges."""
     return [file, "--badges", badges]
 
 
-def commands_of(program):
+def commands_of(program: str) -> set[str]:
     """The commands of the program, and whether `init` keeps sums of pages."""
-    said = [subprocess.run([program, *it, "--help"], capture_output=True, timeout=SECONDS, check=False).stdout for it in ([], ["init"])]
-    found = {it for it in ("counter", "forward") if re.search(rb"^ +%s\b" % it.encode(), said[0], re.MULTILINE)}
-    return found | ({"sums"} if b"--sums" in said[1] else set())
+    said, said_of_init = (help_of(it) for it in ([program], [program, "init"]))
+    found = {it for it in ("counter", "forward") if re.search(rb"^ +%s\b" % it.encode(), said, re.MULTILINE)}
+    return found | ({"sums"} if b"--sums" in said_of_init else set())
+
+
+def help_of(arguments: list[str]) -> bytes:
+    """What a program prints with --help."""
+    return subprocess.run([*arguments, "--help"], capture_output=True, timeout=SECONDS, check=False).stdout
+
+
+def input_of(run: subprocess.Popen[bytes]) -> IO[bytes]:
+    """The input of a run."""
+    if run.stdin is None:
+        raise LookupError("the input has ended")
+    return run.stdin
+
+
+def output_of(run: subprocess.Popen[bytes]) -> IO[bytes]:
+    """The output of a run."""
+    if run.stdout is None:
+        raise LookupError("the output is not read")
+    return run.stdout
 
 
 class Running:
-    """A program that runs on a machine."""
+    """A program that runs on a machine, by a command of this name; its first line, and a connection to it that is kept."""
 
-    def __init__(self, machine, arguments, file, is_traced):
-        pipes = dict.fromkeys(("stdin", "stdout", "stderr"), subprocess.PIPE)
+    name = ""
+    line = b""
+    kept: socket.socket | None = None
+
+    def __init__(self, machine: Machine, arguments: list[str], file: str, is_traced: bool) -> None:
         self.machine = machine
-        self.run = machine.start(arguments, file, is_traced, **pipes)
+        self.run = machine.start(arguments, file, is_traced)
 
-    def is_dead(self):
+    def is_ready(self) -> bool:
+        """Whether it takes messages."""
+        return not self.is_dead()
+
+    def converse(self, talks: Sequence[Talk], keeps: bool = False) -> None:
+        """Has clients talk. The last one's connection is kept if that is asked for."""
+        raise NotImplementedError
+
+    def let_go(self) -> None:
+        """Ends a connection that was kept."""
+        if self.kept:
+            self.kept.close()
+            self.kept = None
+
+    def input_ended(self, given: bytes = b"") -> tuple[int, bytes]:
+        """Sends a last piece and ends the input: the status and what was written on standard error."""
+        with contextlib.suppress(BrokenPipeError), input_of(self.run) as last:
+            last.write(given)
+        self.run.stdin = None
+        return self.ended()
+
+    def is_dead(self) -> bool:
         """Whether it has ended."""
         return self.run.poll() is not None
 
-    def killed(self):
+    def killed(self) -> tuple[int, bytes]:
         """Kills it, and returns its status and what it wrote on standard error."""
         self.run.kill()
         return self.ended()
 
-    def terminated(self):
+    def terminated(self) -> tuple[int, bytes]:
         """Ends it by the signal that a supervisor sends."""
         self.run.terminate()
         return self.ended()
 
-    def ended(self):
+    def ended(self) -> tuple[int, bytes]:
         """Its status and what it wrote on standard error, once it has ended."""
         try:
             _, errors = self.run.communicate(timeout=SECONDS)
@@ -111,33 +158,41 @@ class ByServe(Running):
 
     name = "serve"
 
-    def __init__(self, machine, program, file, badges, moment, is_traced=False, requests=MOST_REQUESTS):
-        def start(port):
+    def __init__(
+        self,
+        machine: Machine,
+        program: str,
+        file: str,
+        badges: str,
+        moment: int,
+        is_traced: bool = False,
+        requests: int = MOST_REQUESTS,
+    ) -> None:
+        def start(port: int) -> subprocess.Popen[bytes]:
             self.port = port
             word, *more = self.arguments(requests)
             Running.__init__(self, machine, [program, word, *words_of_badges(file, badges), *more], file, is_traced)
             return self.run
 
-        self.proxy = None
-        self.kept = None
+        self.proxy: Crossing | None = None
         machine.set(moment=moment)
         self.port, self.run, self.line = listening(start)
 
-    def arguments(self, requests):
+    def arguments(self, requests: int) -> list[str]:
         """The command and its arguments but for the file and the badges."""
         return ["serve", "--port", str(self.port), "--requests", str(requests)]
 
-    def is_ready(self):
+    def is_ready(self) -> bool:
         """Whether it listens."""
         return self.line == b"listening %d\n" % self.port
 
-    def connected(self):
+    def connected(self) -> socket.socket:
         """A client's socket."""
         client = socket.create_connection((HOST, self.proxy.port if self.proxy else self.port), SECONDS)
         client.setsockopt(socket.IPPROTO_TCP, socket.TCP_NODELAY, 1)
         return client
 
-    def converse(self, talks, keeps=False):
+    def converse(self, talks: Sequence[Talk], keeps: bool = False) -> None:
         """Has clients talk, the first of whom goes on with a connection that was kept. The last is kept where that is
         asked for."""
         clients = []
@@ -158,10 +213,10 @@ class ByServe(Running):
             self.hear_out(client, talk, keeps)
         self.machine.set(waits_part=1)
 
-    def outwait(self, client, talk):
+    def outwait(self, client: socket.socket, talk: Talk) -> None:
         """Has the time pass that a silent client is given: its waits are shorter already."""
 
-    def hear_out(self, client, talk, keeps):
+    def hear_out(self, client: socket.socket | None, talk: Talk, keeps: bool) -> None:
         """Takes what a client gets, and ends its connection or keeps it."""
         if client is None:
             return
@@ -175,14 +230,8 @@ class ByServe(Running):
             client.setsockopt(socket.SOL_SOCKET, socket.SO_LINGER, RESET)
         client.close()
 
-    def let_go(self):
-        """Ends a connection that was kept."""
-        if self.kept:
-            self.kept.close()
-            self.kept = None
 
-
-def say(client, talk):
+def say(client: socket.socket, talk: Talk) -> None:
     """Sends what a client says in its manner."""
     given = talk.given()
     if talk.manner == "bytes":
@@ -197,13 +246,13 @@ def say(client, talk):
         client.sendall(given)
 
 
-def end_writing(client):
+def end_writing(client: socket.socket) -> None:
     """Says that no more comes, where the connection still stands."""
     with contextlib.suppress(OSError):
         client.shutdown(socket.SHUT_WR)
 
 
-def hear(client, talk, is_kept):
+def hear(client: socket.socket, talk: Talk, is_kept: bool) -> None:
     """Takes what comes until the connection ends, or all is answered where it is kept."""
     with contextlib.suppress(ConnectionError):
         while not (is_kept and talk.is_answered()):
@@ -221,10 +270,10 @@ class ByCounter(ByServe):
 
     name = "counter"
 
-    def arguments(self, _requests):
+    def arguments(self, requests: int) -> list[str]:
         return ["counter", "--port", str(self.port), "--until-input-ends"]
 
-    def outwait(self, client, talk):
+    def outwait(self, client: socket.socket, talk: Talk) -> None:
         """Has the running clock go on by more than a client is given for a message, until the connection ends: on a busy
         machine the message may come late, and its time begins then."""
         until = time.monotonic() + SECONDS
@@ -237,44 +286,39 @@ class ByCounter(ByServe):
                 return
             talk.take(piece)
 
-    def input_ended(self):
-        """Ends the input: the status and what was written on standard error."""
-        self.run.stdin.close()
-        self.run.stdin = None
-        return self.ended()
-
 
 class ByRun(Running):
     """`run` over a file."""
 
     name = "run"
 
-    def __init__(self, machine, program, file, badges, moment, is_traced=False):
+    def __init__(
+        self,
+        machine: Machine,
+        program: str,
+        file: str,
+        badges: str,
+        moment: int,
+        is_traced: bool = False,
+        requests: int = MOST_REQUESTS,
+    ) -> None:
         self.moment = moment
         super().__init__(machine, [program, "run", *words_of_badges(file, badges), "--moment", str(moment)], file, is_traced)
 
-    def converse(self, talks, keeps=False):
+    def converse(self, talks: Sequence[Talk], keeps: bool = False) -> None:
         """Has one client talk after the other."""
         for talk in talks:
             with contextlib.suppress(BrokenPipeError):
-                self.run.stdin.write(b"".join(it.given for it in talk.messages))
+                input_of(self.run).write(b"".join(it.given for it in talk.messages))
             while not talk.is_answered():
-                if not select.select([self.run.stdout], [], [], SECONDS)[0]:
+                if not select.select([output_of(self.run)], [], [], SECONDS)[0]:
                     raise Wrong(f"no reply came within {SECONDS} seconds")
-                piece = os.read(self.run.stdout.fileno(), PIECE)
+                piece = os.read(output_of(self.run).fileno(), PIECE)
                 if not piece:
                     self.run.wait(SECONDS)
                     return
                 talk.take(piece)
 
-    def let_go(self):
-        """Nothing is kept."""
 
-    def input_ended(self, given=b""):
-        """Sends a last piece and ends the input: the status and what was written on standard error."""
-        with contextlib.suppress(BrokenPipeError):
-            self.run.stdin.write(given)
-        with contextlib.suppress(BrokenPipeError):
-            self.run.stdin.close()
-        self.run.stdin = None
-        return self.ended()
+# How a program is run, by its command.
+Way = type[ByServe] | type[ByRun]

@@ -5,46 +5,50 @@ import os
 import shutil
 import sqlite3
 import time
+from collections.abc import Mapping
 
 from faults.earlier_files import VERSION
-from model.bank import KINDS
+from model.bank import KINDS, Bank, Release
 from sample_file import ENDINGS
-from simulation.ledger import FORMS, NUMBER_OF, form_of, members_of, slip_row
+from simulation.ledger import NUMBER_OF, Ledger, LongBank, Row, form_of, line_row, members_of, slip_row
+
+# The rows of each table.
+Tables = dict[str, list[Row]]
 
 TABLES = (
     "bank users sets members relations grants certifiers branches tellers accounts entries lines proofs releases slips slip_counts"
 ).split()
 
 
-def rows_by_branch(kept, more):
+def rows_by_branch(kept: Mapping[int, list[Row]], more: list[Row]) -> list[Row]:
     """Rows that are kept by their branches, in order, with some more."""
     rows = [row for branch in sorted(kept) for row in kept[branch]]
     return sorted([*rows, *more]) if more else rows
 
 
-def entry_rows(bank):
-    """The rows of entries. Those that the bank adds to its ledger are put into one of their own."""
-    more, balances = [], {}
+def entry_rows(bank: Bank, ledger: Ledger) -> list[Row]:
+    """The rows of entries: those of the ledger, and those that the bank adds to it."""
+    more: list[Row] = []
+    balances: dict[int, int] = {}
     for it in bank.entries:
-        before = balances.get(it.account, bank.accounts[it.account][1] + bank.ledger.of_account[it.account])
+        before = balances.get(it.account, bank.accounts[it.account][1] + ledger.of_account[it.account])
         balances[it.account] = before + it.delta
         more.append((*it[:9], form_of(it), it.partner, it.undoes, balances[it.account]))
-    return rows_by_branch(bank.ledger.entry_rows, more)
+    return rows_by_branch(ledger.entry_rows, more)
 
 
-def line_rows(bank):
+def line_rows(bank: Bank, ledger: Ledger) -> list[Row]:
     """The rows of cash lines."""
-    more = [(it.branch, it.number, it.place, it.amount, FORMS[it.form], it.moment, it.day, it.user) for it in bank.lines]
-    return rows_by_branch(bank.ledger.line_rows, more)
+    return rows_by_branch(ledger.line_rows, [line_row(it) for it in bank.lines])
 
 
-def slip_rows(bank):
+def slip_rows(bank: Bank, ledger: Ledger) -> list[Row]:
     """The rows of slips."""
-    more = [slip_row(*key, slip) for key, slip in bank.slips.items()]
-    return sorted([*bank.ledger.slip_rows.values(), *more])
+    more = [slip_row(user, number, slip) for (user, number), slip in bank.slips.items()]
+    return sorted([*ledger.slip_rows.values(), *more])
 
 
-def branch_row(bank, branch):
+def branch_row(bank: Bank, branch: int) -> Row:
     """The row of a branch."""
     opening, cash = bank.branches[branch]
     kept = (bank.branch_balance(branch), bank.cash(branch, 0), bank.entry_count(branch), bank.line_count(branch))
@@ -53,22 +57,27 @@ def branch_row(bank, branch):
     return (branch, opening, cash, bank.days[branch], *kept, homes, *totals)
 
 
-def release_row(bank, key, release):
+def release_row(bank: Bank, key: tuple[int, int], release: Release) -> Row:
     """The row of a release."""
-    body = {name: it for name, it in release.operation.items() if name != "procedure"}
-    kind = release.operation["procedure"]
-    return (*key, release.giver, body["branch"], release.day, NUMBER_OF[kind], *members_of(kind, body), int(key in bank.used))
+    operation, kind = release.operation, release.operation["procedure"]
+    members = members_of(kind, operation)
+    return (*key, release.giver, operation["branch"], release.day, NUMBER_OF[kind], *members, int(key in bank.used))
 
 
-def user_row(bank, user):
+def user_row(bank: Bank, user: int) -> Row:
     """The row of a user."""
     of_releases = sum(who == user for who, _ in bank.releases)
     flags = (int(user in bank.officers), int(user in bank.suspended))
     return (user, bank.users[user], *flags, bank.sessions[user], int(user in bank.open), of_releases)
 
 
-def rows_of_bank(bank):
-    """The rows of each table, in the order of their keys."""
+def rows_of_bank(bank: LongBank) -> Tables:
+    """The rows of each table of a bank over a ledger, in the order of their keys."""
+    return rows_over(bank, bank.ledger)
+
+
+def rows_over(bank: Bank, ledger: Ledger) -> Tables:
+    """The rows of each table of a bank, whose entries, cash lines and slips come after those of a ledger."""
     placed = ((number, *it) for number, found in bank.sets.items() for it in enumerate(found, 1))
     members = [(number, place, KINDS.index(kind) + 1, low, high) for number, place, (kind, low, high) in placed]
     return {
@@ -82,22 +91,22 @@ def rows_of_bank(bank):
         "branches": [branch_row(bank, it) for it in sorted(bank.branches)],
         "tellers": [teller_row(bank, it) for it in sorted(bank.tellers)],
         "accounts": [account_row(bank, it) for it in sorted(bank.accounts)],
-        "entries": entry_rows(bank),
-        "lines": line_rows(bank),
+        "entries": entry_rows(bank, ledger),
+        "lines": line_rows(bank, ledger),
         "proofs": sorted(tuple(it) for it in bank.proofs),
         "releases": sorted(release_row(bank, key, it) for key, it in bank.releases.items()),
-        "slips": slip_rows(bank),
+        "slips": slip_rows(bank, ledger),
         "slip_counts": [(it, bank.slip_count(it)) for it in sorted(bank.users)],
     }
 
 
-def teller_row(bank, teller):
+def teller_row(bank: Bank, teller: int) -> Row:
     """The row of a teller."""
     branch, opening = bank.tellers[teller]
     return (teller, branch, opening, bank.teller_balance(teller), bank.cash(branch, teller), bank.holder(teller) or 0)
 
 
-def account_row(bank, account):
+def account_row(bank: Bank, account: int) -> Row:
     """The row of an account."""
     home, opening, floor = bank.accounts[account]
     return (account, home, opening, floor, bank.balance(account), bank.turn_count(account))
@@ -107,7 +116,7 @@ def account_row(bank, account):
 TICK = 20_000_000
 
 
-def changes_of(file):
+def changes_of(file: str) -> list[tuple[int, int]]:
     """When a file and its log were last changed, and how long they are; none of one that is not there."""
     found = []
     for it in ENDINGS:
@@ -116,7 +125,7 @@ def changes_of(file):
     return [(it.st_mtime_ns, it.st_size) for it in found]
 
 
-def copy_together(file, copy):
+def copy_together(file: str, copy: str) -> None:
     """Copies a file and its log as they are at one time: a program that ends may just take the log into the file."""
     while True:
         before = changes_of(file)
@@ -134,7 +143,7 @@ def copy_together(file, copy):
             return
 
 
-def rows_of_file(file, room):
+def rows_of_file(file: str, room: str) -> Tables:
     """The rows of each table in a file and its log, of which a copy is read."""
     copy = os.path.join(room, "read")
     copy_together(file, copy)
@@ -147,7 +156,7 @@ def rows_of_file(file, room):
     return {it: sorted(found) for it, found in rows.items()}
 
 
-def first_difference(found, wanted):
+def first_difference(found: Tables, wanted: Tables) -> str | None:
     """The first table and row that differ, as text, or None."""
     for name in sorted({*found, *wanted}, key=lambda it: (TABLES.index(it) if it in TABLES else len(TABLES), it)):
         if found.get(name) != wanted.get(name):
