@@ -1,4 +1,5 @@
 """Random requests as tools draw them, sent to the built programs, whose replies are compared with those of the reference model."""
+import argparse
 import os
 import re
 import subprocess
@@ -61,6 +62,21 @@ DRAWS = 20
 # What stands in a reply that denies, and in one that is a report.
 DENIED = re.compile(rb'\r\n\r\n\{"name":"([a-z ]+)","rule":\d+\}')
 REPORT = b"\r\nContent-Type: text/plain\r\n"
+
+
+def absolute(path: str) -> str:
+    """A path from the root on."""
+    return os.path.abspath(path)
+
+
+def arguments(description: str | None, streams: int, **programs: str) -> argparse.Namespace:
+    """What the command line says: how many streams, by which seed, and over which programs; or else these, and the seed 1."""
+    reader = argparse.ArgumentParser(description=description, formatter_class=argparse.RawDescriptionHelpFormatter)
+    reader.add_argument("streams", metavar="N", nargs="?", type=int, default=streams)
+    reader.add_argument("seed", metavar="SEED", nargs="?", type=int, default=1)
+    for name, program in programs.items():
+        reader.add_argument(name, metavar=name.upper(), nargs="?", type=absolute, default=program)
+    return reader.parse_args()
 
 
 def of_kind(bank: Bank, kind: str, rng: Random, moment: int) -> Request:
