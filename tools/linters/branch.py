@@ -8,7 +8,7 @@ from linters.tree import all_files, ending_in, findings_of, output_of
 
 UNITS = (".service", ".socket", ".timer")
 # The folders that the settings name, and the sockets.
-OF_THE_MACHINE = re.compile(r"(?<![\w./-])/(?:etc|run|usr/share|var/lib|var/log)/(?=bank)|(?<=unix:)/run/|/usr/share/(?=tespiorvu)")
+OF_THE_MACHINE = re.compile(r"(?<![\w./-])/(?:etc|run|usr/share|var/lib|var/log)/(?=bank|tespiorvu)")
 PORT = "0.0.0.0:443"
 A_PORT = "127.0.0.1:44300"
 NO_COMMAND = re.compile(r"Command (\S+) is not executable: No such file")
@@ -33,11 +33,12 @@ def nginx(top: str) -> list[str]:
         if wrong:
             return wrong
         folder = os.path.join(room, "etc/bank-front")
-        shutil.copytree(os.path.join(room, "ca/front"), folder)
-        for name in os.listdir(settings):
-            with open(os.path.join(settings, name), encoding="utf-8") as file:
+        for it in (os.path.join(room, "ca/front"), settings):
+            shutil.copytree(it, folder, dirs_exist_ok=True)
+        for path in (os.path.join(folder, it) for it in ending_in(folder, ".conf")):
+            with open(path, encoding="utf-8") as file:
                 text = file.read()
-            with open(os.path.join(folder, name), "w", encoding="utf-8") as file:
+            with open(path, "w", encoding="utf-8") as file:
                 file.write(moved(text, room))
         for it in ("run/bank-front", "var/log/bank-front"):
             os.makedirs(os.path.join(room, it))

@@ -1,12 +1,10 @@
-"""The teller's page: names and style by eslint, types by tsc. desk/ has the settings of both, and the shapes that are passed around."""
+"""The teller's page: names and style by eslint, types by tsc. desk/ has the settings of both, and shapes that modules pass."""
 import os
-import re
 
 from linters.tree import ending_in, findings_of, output_of
 
 # Debian's libraries of node, which a node of another origin looks for elsewhere.
 LIBRARIES = "/usr/share/nodejs:/usr/lib/nodejs"
-FINDING = re.compile(r"\S+\(\d+,\d+\): ")
 
 
 def eslint(top: str) -> list[str]:

@@ -2,6 +2,7 @@
 import os
 import shutil
 from collections.abc import Callable
+from functools import partial
 from typing import NamedTuple
 
 from linters import branch, page, python, shell
@@ -30,7 +31,7 @@ class Plant(NamedTuple):
 
 LINTERS = (
     Linter("pyflakes", "pyflakes3", "pyflakes3", python.pyflakes),
-    Linter("mypy", "mypy", "mypy", python.mypy),
+    *(Linter(f"mypy {it}", "mypy", "mypy", partial(python.mypy, it)) for it in python.ROOTS),
     Linter("shellcheck", "shellcheck", "shellcheck", shell.shellcheck),
     Linter("eslint", "eslint", "eslint", page.eslint),
     Linter("tsc", "tsc", "node-typescript", page.tsc),
@@ -45,18 +46,42 @@ ESLINT, TSC = ("desk/.eslintrc.json",), ("desk/tsconfig.json", "desk/shapes.d.ts
 FRONT = ("branch/front", "branch/certificates")
 
 PLANTS = (
-    Plant("pyflakes", "a name that is not used", "tools/planted", "#!/usr/bin/env python3\nimport os\n", "'os' imported but unused"),
+    Plant(
+        *("pyflakes", "a name that is not used", "tools/planted"),
+        *("#!/usr/bin/env python3\nimport os\n", "'os' imported but unused"),
+    ),
     Plant("pyflakes", "a name that is nowhere", "tools/planted.py", "print(ammount)\n", "undefined name 'ammount'"),
-    Plant("mypy", "a wrong type", "tools/planted", "#!/usr/bin/env python3\ncents: int = '5'\n", "tools/planted:2: error: Incompatible types", MYPY),
-    Plant("mypy", "no type, where all have one", "tools/model/planted.py", "def doubled(it):\n    return 2 * it\n", "missing a type annotation", MODEL),
+    Plant(
+        *("mypy tools", "a wrong type", "tools/planted", "#!/usr/bin/env python3\ncents: int = '5'\n"),
+        *("tools/planted:2: error: Incompatible types", MYPY),
+    ),
+    Plant(
+        *("mypy tools", "no type, where all have one", "tools/model/planted.py", "def doubled(it):\n    return 2 * it\n"),
+        *("missing a type annotation", MODEL),
+    ),
     Plant("shellcheck", "a variable without quotes", "branch/planted", '#!/bin/sh\nfolder="$1"\nrm -r $folder\n', "SC2086"),
     Plant("eslint", "a name that is nowhere", SCRIPT, "export const due = () => ammount;\n", "'ammount' is not defined", ESLINT),
     Plant("eslint", "a name that is not used", SCRIPT, "const due = 5;\n", "'due' is assigned a value but never used", ESLINT),
-    Plant("tsc", "a wrong type", SCRIPT, "/** @param {number} cents */\nexport const due = cents => cents.trim();\n", "Property 'trim'", TSC),
-    Plant("tsc", "a member that a reply has not", SCRIPT, "/** @param {BankReply} it */\nexport const f = it => it.code;\n", "Property 'code'", TSC),
-    Plant("nginx -t", "a setting that is none", "branch/front/nginx.conf", "client_body_size 5;\n", 'unknown directive "client_body_size"', FRONT),
-    Plant("systemd-analyze verify", "a setting that is none", SERVICE, "[Service]\nExecStart=/bin/true\nPrivateNet=yes\n", "Unknown key"),
-    Plant("systemd-analyze security", "a service with all rights", SERVICE, "[Service]\nExecStart=/bin/true\n", "the exposure is 9"),
+    Plant(
+        *("tsc", "a wrong type", SCRIPT, "/** @param {number} cents */\nexport const due = cents => cents.trim();\n"),
+        *("Property 'trim'", TSC),
+    ),
+    Plant(
+        *("tsc", "a member that a reply has not", SCRIPT, "/** @param {BankReply} it */\nexport const due = it => it.code;\n"),
+        *("Property 'code'", TSC),
+    ),
+    Plant(
+        *("nginx -t", "a setting that is none", "branch/front/nginx.conf", "client_body_size 5;\n"),
+        *('unknown directive "client_body_size"', FRONT),
+    ),
+    Plant(
+        *("systemd-analyze verify", "a setting that is none", SERVICE, "[Service]\nExecStart=/bin/true\nPrivateNet=yes\n"),
+        "Unknown key",
+    ),
+    Plant(
+        *("systemd-analyze security", "a service with all rights", SERVICE, "[Service]\nExecStart=/bin/true\n"),
+        "the exposure is 9",
+    ),
 )
 
 

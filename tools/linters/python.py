@@ -35,8 +35,8 @@ def linked_scripts(top: str, scripts: list[str], room: str) -> dict[str, str]:
     return links
 
 
-def mypy_of(top: str, root: str, more: list[str]) -> list[str]:
-    """What mypy finds in a folder of the top, strictly where tools/mypy.ini says so."""
+def mypy(root: str, top: str) -> list[str]:
+    """What mypy finds in one of these folders, strictly if tools/mypy.ini says so."""
     files = [it for it in python_files(top) if it.startswith(root + "/")]
     if not files:
         return []
@@ -44,13 +44,8 @@ def mypy_of(top: str, root: str, more: list[str]) -> list[str]:
     with tempfile.TemporaryDirectory(prefix="bank-mypy-") as room:
         links = linked_scripts(top, [it for it in files if it not in modules], room)
         arguments = ["mypy", "--config-file", "tools/mypy.ini", "--cache-dir", os.path.join(room, "cache")]
-        search = ":".join(os.path.join(top, it) for it in [root, *more])
+        search = ":".join(os.path.join(top, it) for it in [root, *ROOTS[root]])
         status, lines = output_of([*arguments, *modules, *links], top, MYPYPATH=search)
     for link, path in links.items():
         lines = [it.replace(os.path.relpath(link, top), path).replace(link, path) for it in lines]
     return [it for it in lines if ": note: " not in it] if status else []
-
-
-def mypy(top: str) -> list[str]:
-    """What mypy finds."""
-    return [line for root, more in ROOTS.items() for line in mypy_of(top, root, more)]
