@@ -42,5 +42,5 @@ balance_is_form form = record {
   denies_no_more = λ by w checks proper judged books. balance_passes w form checks judged;
   moves = none_within 0;
   cash = λ is by w branch place. no_amount 0;
-  asked = λ by w judged. tt;
+  asked = λ by w judged. record { asked = refl; bear = tt; days = tt };
 }

@@ -1,10 +1,7 @@
 -- The laws of a day that is closed.
-use Rattle.std.specs.List.{AllByRecursion}
-use Rattle.bank_meaning.specs.AskedRows.{Bears}
 use Rattle.bank_meaning.proofs.AskedRows.{is_home}
 use Rattle.bank_books.specs.declared.rows.Branch.{Branch}
 use Rattle.bank_books.specs.declared.signature.Signature.{Signature}
-use Rattle.bank_meaning.specs.CloseDay.{IsCloseDayAsked}
 use Rattle.bank_books.specs.Balances.{branch_deltas}
 use Rattle.std.specs.Option.{option_map_or}
 use Rattle.std.proofs.Common.{pos, ap}
@@ -18,12 +15,12 @@ use Rattle.bank_books.specs.declared.row_write.RowWrite.TheVariants as write
 use Rattle.bank_books.specs.declared.rows.Proof.{Proof}
 use Rattle.bank_meaning.proofs.AmountParts.{no_amount, placed}
 use Rattle.bank_meaning.proofs.BookChanges.{by_row}
-use Rattle.bank_meaning.proofs.IsForm.{IsForm}
+use Rattle.bank_meaning.proofs.IsForm.{AreWritten, IsForm}
 use Rattle.bank_meaning.proofs.JudgedParts.{NoneDenies, branch_of_ledger, no_holder}
 use Rattle.bank_meaning.proofs.KeptOrder.{in_order_all_written}
 use Rattle.bank_meaning.proofs.NoMoves.{none_within}
 use Rattle.bank_meaning.proofs.Steps.{IsStep, none_more, passes, plus_zero}
-use Rattle.bank_meaning.specs.CloseDay.{IsCloseDayJudged}
+use Rattle.bank_meaning.specs.CloseDay.{IsCloseDayJudged, IsProofOf}
 use Rattle.bank_meaning.specs.Moves.{moves_nothing}
 use Rattle.bank_meaning.specs.Sums.{PassesChecks}
 use Rattle.bank_meaning.specs.declared.who.Who.{Who}
@@ -36,7 +33,7 @@ use Rattle.certify.proofs.SomeRows.{none_passes, all_of}
 use Rattle.counter_ops.specs.declared.close_day.CloseDay.{CloseDay}
 use Rattle.counter_ops.specs.declared.op.Op.TheVariants as op
 use Rattle.drawers.proofs.AllowedClose as close_allowed
-use Rattle.drawers.specs.CloseDay.{close_day_changes, close_day_effect, closing_rows, first_against_close_day}
+use Rattle.drawers.specs.CloseDay.{close_day_changes, close_day_effect, closing_rows, day_proof, first_against_close_day}
 use Rattle.keyed_rows.proofs.Rows.{Contains-map, Contains-map_source, found_row}
 use Rattle.rule_tests.specs.BranchParts.{ledger_of}
 use Rattle.rule_tests.specs.declared.ledger.Ledger.{Ledger}
@@ -92,28 +89,30 @@ is_false : (b : Bool) → b ≢ true → b ≡ false
 is_false false is = refl
 is_false true is = absurd (is refl)
 
+not_next : (day : ℕ) → day ≢ day + 1
+not_next day same = omega arith
+
 close_day_asked : (by : Signature) (w : WorldLists) (form : CloseDay) → IsCloseDayJudged w form
-    → AllByRecursion (λ row. Bears w by.user by.moment row × IsCloseDayAsked w form row) (close_day_changes (closing_rows w form) form)
+    → AreWritten (op.CloseDay form) by w (close_day_changes (closing_rows w form) form)
 close_day_asked by w form judged =
     let branch : Branch = judged.branch.0 in
     let home = is_home w form.branch branch judged.branch.1 in
     let found = sym judged.branch.1 in
-    subst (AllByRecursion (λ row. Bears w by.user by.moment row × IsCloseDayAsked w form row)) (sym (close_allowed.changes_are w form (record { branch = branch; branch_is = judged.branch.1 }))) (
-      (
-        home.day,
-        record {
-          branch = refl;
-          entries = ap (λ key. entry_count key w.entries) home.key;
-          balance =
-              ap (λ key. branch.opening +ℤ branch_deltas key w.entries) home.key
-              ∙ ap (λ (o : Option Branch). option_map_or (λ r. r.opening) o (pos 0) +ℤ branch_deltas form.branch w.entries) found;
-          cash =
-              ap (λ key. branch.cash +ℤ place_cash key 0 w.lines) home.key
-              ∙ ap (λ (o : Option Branch). option_map_or (λ r. r.cash) o (pos 0) +ℤ place_cash form.branch 0 w.lines) found;
-        },
-      ),
-      ((tt, (refl, ap (option_map (λ day. day + 1)) home.day)), tt),
-    )
+    let proof : IsProofOf w form (day_proof (ledger_of (branch_record_of w branch)) (branch_record_of w branch).vault form) = record {
+      branch = refl;
+      entries = ap (λ key. entry_count key w.entries) home.key;
+      balance =
+          ap (λ key. branch.opening +ℤ branch_deltas key w.entries) home.key
+          ∙ ap (λ (o : Option Branch). option_map_or (λ r. r.opening) o (pos 0) +ℤ branch_deltas form.branch w.entries) found;
+      cash =
+          ap (λ key. branch.cash +ℤ place_cash key 0 w.lines) home.key
+          ∙ ap (λ (o : Option Branch). option_map_or (λ r. r.cash) o (pos 0) +ℤ place_cash form.branch 0 w.lines) found;
+    } in
+    subst (AreWritten (op.CloseDay form) by w) (sym (close_allowed.changes_are w form (record { branch = branch; branch_is = judged.branch.1 }))) (record {
+      asked = (proof, refl, ap (option_map (λ day. day + 1)) home.day);
+      bear = (home.day, (tt, tt));
+      days = (refl, (branch, judged.branch.1, not_next branch.day));
+    })
 
 close_day_judged : (w : WorldLists) (who : Who) (moment : ℕ) (form : CloseDay) → NoneDenies w who moment (op.CloseDay form) → IsCloseDayJudged w form
 close_day_judged w who moment form none =

@@ -1,8 +1,7 @@
 -- The laws of a correction.
-use Rattle.std.specs.List.{AllByRecursion}
-use Rattle.bank_meaning.specs.AskedRows.{Bears, entry_says, line_says}
+use Rattle.bank_meaning.specs.AskedRows.{entry_says, line_says}
 use Rattle.bank_meaning.proofs.AskedRows.{is_home, numbered, partnered}
-use Rattle.bank_meaning.specs.Correct.{IsCorrectAsked, IsUndoing, undoing_says}
+use Rattle.bank_meaning.specs.Correct.{AreUndoing, undoing_says}
 use Rattle.bank_books.specs.Balances.{entry_count}
 use Rattle.bank_books.specs.declared.rows.CashLine.{CashLine}
 use Rattle.std.proofs.Common.{ap₂}
@@ -18,7 +17,7 @@ use Rattle.bank_books.specs.declared.rows.EntryForm.{EntryForm}
 use Rattle.bank_books.specs.declared.signature.Signature.{Signature}
 use Rattle.bank_meaning.proofs.AmountParts.{abs_of_neg, if_added, no_amount, one_line, out_in, placed}
 use Rattle.bank_meaning.proofs.BookChanges.{AreOfBooks, by_row}
-use Rattle.bank_meaning.proofs.IsForm.{IsForm}
+use Rattle.bank_meaning.proofs.IsForm.{AreWritten, IsForm}
 use Rattle.bank_meaning.proofs.JudgedParts.{NoneDenies, branch_of_ledger, drawer_covered, holds_drawer, keeps_floor}
 use Rattle.bank_meaning.proofs.Shares.{cash_alone, legs_cancel, legs_count, one_alone, one_counts, two_alone}
 use Rattle.bank_meaning.proofs.Steps.{IsStep, IsSumOf, passes, plan_step}
@@ -252,7 +251,7 @@ other_floor_of w c known keeps some =
     (subst (λ b. account_keeps_floor (if b then None else account_record w c.other) c.delta ≡ true) of keeps)
 
 correct_asked : (by : Signature) (w : WorldLists) (c : Correct) → IsCorrectJudged w by.user c
-    → AllByRecursion (λ row. Bears w by.user by.moment row × IsCorrectAsked w c row) (correct_changes (correct_rows w c) c by)
+    → AreWritten (op.Correct c) by w (correct_changes (correct_rows w c) c by)
 correct_asked by w c judged =
     let named = judged.named in
     let home = is_home w c.branch judged.branch judged.branch_there in
@@ -275,11 +274,12 @@ correct_asked by w c judged =
           let l : CashLine = undoing_line (cash_book_of (branch_record_of w judged.branch)) c by in
           let entered = numbered w (entry_says e) 1 judged.branch.branch c.branch home.key
           ∙ ap₂ (λ a d. undoing_says c a (neg_ℤ d) (entry_count c.branch w.entries + 1) 0 c.entry) (sym named.account) (sym named.delta) in
-          let entry : IsCorrectAsked w c (write.Entry e) = (judged.row, judged.there, subst (λ f. IsUndoing w c judged.row f (write.Entry e)) of_form entered) in
           let paid = ap (λ d. record (line_says l) { amount = neg_ℤ d }) (sym named.delta) in
-          let line : IsCorrectAsked w c (write.Line l) = (judged.row, judged.there, subst (λ f. IsUndoing w c judged.row f (write.Line l)) of_form paid) in
-          subst (AllByRecursion (λ row. Bears w by.user by.moment row × IsCorrectAsked w c row)) (sym (correct_allowed.changes_of_post w c there by post))
-          (((refl, refl, home.day), entry), (((refl, refl, home.day), line), tt))
+          subst (AreWritten (op.Correct c) by w) (sym (correct_allowed.changes_of_post w c there by post)) (record {
+            asked = (judged.row, judged.there, subst (λ f. AreUndoing w c judged.row f (write.Entry e ∷ write.Line l ∷ [])) of_form (entered, paid));
+            bear = ((refl, refl, home.day), ((refl, refl, home.day), tt));
+            days = tt;
+          })
       | inr legs ↦
           let some = eqb-false c.other 0 legs in
           let of_form = sym (named.of_transfer some) in
@@ -291,13 +291,13 @@ correct_asked by w c judged =
           let n = entry_count c.branch w.entries in
           let entered = partnered w (entry_says e) 1 2 judged.branch.branch c.branch home.key
           ∙ ap₂ (λ a d. undoing_says c a (neg_ℤ d) (n + 1) (n + 2) c.entry) (sym named.account) (sym named.delta) in
-          let first : IsCorrectAsked w c (write.Entry e) = (judged.row, judged.there, subst (λ f. IsUndoing w c judged.row f (write.Entry e)) of_form (inl entered)) in
           let also_entered = partnered w (entry_says o) 2 1 judged.branch.branch c.branch home.key
           ∙ ap₂ (λ a d. undoing_says c a d (n + 2) (n + 1) judged.row.partner) (sym leg.1.1) (sym named.delta) in
-          let second : IsCorrectAsked w c (write.Entry o) =
-          (judged.row, judged.there, subst (λ f. IsUndoing w c judged.row f (write.Entry o)) of_form (inr (leg.0, leg.1.0, also_entered))) in
-          subst (AllByRecursion (λ row. Bears w by.user by.moment row × IsCorrectAsked w c row)) (sym (correct_allowed.changes_of_legs w c there also by legs))
-          (((refl, refl, home.day), first), (((refl, refl, home.day), second), tt))
+          subst (AreWritten (op.Correct c) by w) (sym (correct_allowed.changes_of_legs w c there also by legs)) (record {
+            asked = (judged.row, judged.there, subst (λ f. AreUndoing w c judged.row f (write.Entry e ∷ write.Entry o ∷ [])) of_form (entered, (leg.0, leg.1.0, also_entered)));
+            bear = ((refl, refl, home.day), ((refl, refl, home.day), tt));
+            days = tt;
+          })
     ]
 
 correct_judged : (w : WorldLists) (who : Who) (moment : ℕ) (c : Correct) → NoneDenies w who moment (op.Correct c) → IsCorrectJudged w (asker who) c

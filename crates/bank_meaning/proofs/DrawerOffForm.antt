@@ -1,8 +1,6 @@
 -- The laws of a drawer that is put off.
-use Rattle.std.specs.List.{AllByRecursion}
-use Rattle.bank_meaning.specs.AskedRows.{Bears}
 use Rattle.bank_meaning.proofs.AskedRows.{is_home}
-use Rattle.bank_meaning.specs.DrawerOff.{IsDrawerOffAsked, off_says}
+use Rattle.bank_meaning.specs.DrawerOff.{off_says}
 use Rattle.bank_books.specs.Cash.{place_cash}
 use Rattle.bank_books.specs.Keys.{teller_key}
 use Rattle.bank_books.specs.declared.rows.LineForm.TheVariants as line_form
@@ -10,7 +8,7 @@ use Rattle.bank_books.specs.declared.rows.Teller.{Teller}
 use Rattle.drawers.proofs.DrawerThere.{AreThere}
 use Rattle.drawers.specs.DrawerOff.{drawer_off_changes}
 use Rattle.keyed_rows.proofs.Rows.{found_row}
-use Rattle.std.proofs.Common.{ap₂, inl, inr}
+use Rattle.std.proofs.Common.{ap₂}
 use Rattle.bank_books.specs.Books.{Books}
 use Rattle.bank_books.specs.Effects.{applied}
 use Rattle.bank_books.specs.Records.{branch_record, teller_record, teller_record_of, branch_record_of}
@@ -20,7 +18,7 @@ use Rattle.bank_books.specs.declared.row_write.RowWrite.TheVariants as write
 use Rattle.bank_books.specs.declared.rows.Branch.{Branch}
 use Rattle.bank_books.specs.declared.signature.Signature.{Signature}
 use Rattle.bank_meaning.proofs.BookChanges.{by_row}
-use Rattle.bank_meaning.proofs.IsForm.{IsForm}
+use Rattle.bank_meaning.proofs.IsForm.{AreWritten, IsForm}
 use Rattle.bank_meaning.proofs.JudgedParts.{NoneDenies, branch_of_book, holds_drawer}
 use Rattle.bank_meaning.proofs.NoMoves.{none_within}
 use Rattle.bank_meaning.proofs.Shares.{no_cash_entry, two_none}
@@ -80,19 +78,21 @@ puts_off w form by checks proper signed is =
     (subst Books effect (off_allowed.drawer_off_keeps_books w form by checks.books signed proper is)))
 
 drawer_off_asked : (by : Signature) (w : WorldLists) (form : DrawerOff) → IsDrawerOffJudged w by.user form
-    → AllByRecursion (λ row. Bears w by.user by.moment row × IsDrawerOffAsked w form row) (drawer_off_changes (drawer_rows w form.teller form.branch) form by)
+    → AreWritten (op.DrawerOff form) by w (drawer_off_changes (drawer_rows w form.teller form.branch) form by)
 drawer_off_asked by w form judged =
     let home = is_home w form.branch judged.branch.0 judged.branch.1 in
     let row : Teller = judged.drawer.row in
     let there : AreThere w form.teller form.branch =
     record { holder = row; holder_is = judged.drawer.there; home = judged.branch.0; home_is = judged.branch.1 } in
-    subst (AllByRecursion (λ row. Bears w by.user by.moment row × IsDrawerOffAsked w form row)) (sym (off_allowed.changes_are w form there by)) (
-      (
-        (refl, refl, home.day),
-        inl (ap₂ (λ b t. off_says form form.teller (form.counted +ℤ neg_ℤ (place_cash b t w.lines)) line_form.Difference) judged.drawer.of_branch (found_row teller_key form.teller w.tellers row judged.drawer.there).1),
-      ),
-      (((refl, refl, home.day), inr (inl refl)), (((refl, refl, home.day), inr (inr refl)), tt)),
-    )
+    subst (AreWritten (op.DrawerOff form) by w) (sym (off_allowed.changes_are w form there by)) (record {
+      asked = (
+        ap₂ (λ b t. off_says form form.teller (form.counted +ℤ neg_ℤ (place_cash b t w.lines)) line_form.Difference) judged.drawer.of_branch (found_row teller_key form.teller w.tellers row judged.drawer.there).1,
+        refl,
+        refl,
+      );
+      bear = ((refl, refl, home.day), ((refl, refl, home.day), ((refl, refl, home.day), tt)));
+      days = tt;
+    })
 
 drawer_off_judged : (w : WorldLists) (who : Who) (moment : ℕ) (form : DrawerOff) → NoneDenies w who moment (op.DrawerOff form) → IsDrawerOffJudged w (asker who) form
 drawer_off_judged w who moment form none =

@@ -1,10 +1,6 @@
 -- The laws of a drawer that is put on.
-use Rattle.std.specs.List.{AllByRecursion}
-use Rattle.bank_meaning.specs.AskedRows.{Bears}
 use Rattle.bank_meaning.proofs.AskedRows.{is_home}
-use Rattle.bank_meaning.specs.DrawerOn.{IsDrawerOnAsked}
 use Rattle.drawers.proofs.DrawerThere.{AreThere}
-use Rattle.std.proofs.Common.{inl, inr}
 use Rattle.bank_books.specs.Balances.{teller_row}
 use Rattle.bank_books.specs.Books.{Books}
 use Rattle.bank_books.specs.Cash.{holder_of}
@@ -17,7 +13,7 @@ use Rattle.bank_books.specs.declared.rows.Branch.{Branch}
 use Rattle.bank_books.specs.declared.signature.Signature.{Signature}
 use Rattle.bank_meaning.proofs.AmountParts.{no_amount, placed, two_lines}
 use Rattle.bank_meaning.proofs.BookChanges.{by_row}
-use Rattle.bank_meaning.proofs.IsForm.{IsForm}
+use Rattle.bank_meaning.proofs.IsForm.{AreWritten, IsForm}
 use Rattle.bank_meaning.proofs.JudgedParts.{NoneDenies, a_teller, at_row, branch_of_book, has_drawer, no_holder, vault_covered}
 use Rattle.bank_meaning.proofs.NoMoves.{none_within}
 use Rattle.bank_meaning.proofs.Shares.{two_none}
@@ -94,13 +90,13 @@ free_drawer w teller branch known of free =
     has_drawer w teller branch None t (no_holder (holder_of w.lines t.row.teller) (at_row (teller_record_of w) drawer_is_held (teller_row teller w.tellers) t.row false t.there free))
 
 drawer_on_asked : (by : Signature) (w : WorldLists) (form : DrawerOn) → IsDrawerOnJudged w form
-    → AllByRecursion (λ row. Bears w by.user by.moment row × IsDrawerOnAsked form row) (drawer_on_changes (drawer_rows w form.teller form.branch) form by)
+    → AreWritten (op.DrawerOn form) by w (drawer_on_changes (drawer_rows w form.teller form.branch) form by)
 drawer_on_asked by w form judged =
     let home = is_home w form.branch judged.branch.0 judged.branch.1 in
     let there : AreThere w form.teller form.branch =
     record { holder = judged.drawer.row; holder_is = judged.drawer.there; home = judged.branch.0; home_is = judged.branch.1 } in
-    subst (AllByRecursion (λ row. Bears w by.user by.moment row × IsDrawerOnAsked form row)) (sym (on_allowed.changes_are w form there by))
-    (((refl, refl, home.day), inl refl), (((refl, refl, home.day), inr refl), tt))
+    subst (AreWritten (op.DrawerOn form) by w) (sym (on_allowed.changes_are w form there by))
+    (record { asked = (refl, refl); bear = ((refl, refl, home.day), ((refl, refl, home.day), tt)); days = tt })
 
 drawer_on_judged : (w : WorldLists) (who : Who) (moment : ℕ) (form : DrawerOn) → NoneDenies w who moment (op.DrawerOn form) → IsDrawerOnJudged w form
 drawer_on_judged w who moment form none =

@@ -1,13 +1,14 @@
 -- The laws of one request and of lists of them, as one record.
-use Rattle.std.proofs.Common.{◌≡◌, ◌≢◌, ◌↔◌, ℕ, ◌<◌, zero, suc, true, List, [], ◌∷◌, Some, None, take, ap, arith, sym, subst, ◌∙◌, add-one}
-use Rattle.std.specs.Prelude.{slice_get}
+use Rattle.std.proofs.Common.{◌≡◌, ◌≢◌, ◌↔◌, ℕ, ◌<◌, zero, suc, true, List, [], ◌∷◌, Some, None, take, ap, ap₂, ◌&&◌, arith, sym, subst, ◌∙◌, add-one}
+use Rattle.std.specs.Prelude.{is_none, slice_get}
 use Rattle.std.proofs.lemmas.List.Elements.{All-head, All-tail}
 use Rattle.bank_books.specs.WorldLists.{WorldLists}
 use Rattle.store_rows.specs.Status.{after_mark}
 use Rattle.bank_meaning.specs.Headline.{Headline, IsMadeRightly, IsTreatedRightly}
 use Rattle.bank_meaning.specs.Laws.{IsHeld}
+use Rattle.bank_meaning.specs.Recorded.{RowsAreAsked}
 use Rattle.bank_meaning.specs.Repeats.{IsKeptReply}
-use Rattle.bank_meaning.specs.Requests.{effect, executes, first, reply_text}
+use Rattle.bank_meaning.specs.Requests.{effect, executes, first, repeated, reply_text}
 use Rattle.bank_meaning.specs.Run.{Marked, after_request, if_allowed, is_accepted, step, told, told_again, unless_repeated, world_after}
 use Rattle.bank_meaning.specs.Slips.{slip_named}
 use Rattle.bank_meaning.specs.Sums.{AreProper, IsProper, PassesChecks}
@@ -22,6 +23,7 @@ use Rattle.bank_meaning.proofs.FirstRule.{first_by_place}
 use Rattle.bank_meaning.proofs.JudgedPolicy.{allowed_exactly_when_held}
 use Rattle.bank_meaning.proofs.KeptReplies.{replies_are_kept}
 use Rattle.bank_meaning.proofs.LastWord.{last_word}
+use Rattle.bank_meaning.proofs.Recorded.{rows_say_what_was_asked}
 use Rattle.bank_meaning.proofs.RunSums.{sums_always_agree}
 
 -- ---- one request
@@ -44,6 +46,9 @@ made_rightly w q checks proper = record {
   held = λ x same. subst (λ r. first w r ≡ None ↔ IsHeld w x) (sym same) (allowed_exactly_when_held w x);
   judged = λ x same is. books_are_judged w x (subst (λ r. first w r ≡ None) same is);
   within = λ x same. amounts_bound w x checks (subst IsProper same proper);
+  added = λ x same fresh allowed.
+      let accepted = ap₂ (λ o r. is_none o && is_none r) (ap (repeated w) (sym same) ∙ fresh) (ap (first w) (sym same) ∙ allowed) in
+      subst (λ r. RowsAreAsked w (step w r) x) (sym same) ((rows_say_what_was_asked w x checks (subst IsProper same proper)).accepted accepted);
   apart = λ x same is. no_one_executes_what_he_certifies w x checks.separated (subst (λ r. first w r ≡ None) same is);
   commanded = λ c asks is. (commands_are_judged w).command q c asks is;
   listed = λ asks is. (commands_are_judged w).listing q asks is;

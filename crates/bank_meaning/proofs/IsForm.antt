@@ -8,6 +8,7 @@ use Rattle.bank_terms.specs.declared.rule.Rule.TheVariants as rule
 use Rattle.bank_books.specs.Books.{Books}
 use Rattle.bank_books.specs.SlipRow.{SlipRow}
 use Rattle.bank_books.specs.WorldLists.{WorldLists}
+use Rattle.bank_books.specs.declared.row_write.RowWrite.{RowWrite}
 use Rattle.bank_books.specs.declared.signature.Signature.{Signature}
 use Rattle.counter_ops.specs.Op.{procedure_of}
 use Rattle.counter_ops.specs.Operations.{IsOp}
@@ -24,6 +25,7 @@ use Rattle.bank_meaning.specs.Operations.{form_of, is_report, meaning_of, moves_
 use Rattle.bank_meaning.specs.PolicyRules.{asker}
 use Rattle.bank_meaning.specs.Sums.{PassesChecks}
 use Rattle.bank_meaning.specs.declared.who.Who.{Who}
+use Rattle.bank_meaning.proofs.AddedRows.{IsDayLast}
 use Rattle.bank_meaning.proofs.AmountParts.{placed}
 use Rattle.bank_meaning.proofs.BookChanges.{AreOfBooks}
 use Rattle.bank_meaning.proofs.JudgedParts.{NoneDenies}
@@ -35,7 +37,7 @@ use Rattle.bank_meaning.specs.AskedRows.{Bears}
 abbrev pub on_commands : List Rule
 on_commands = rule.Officer ∷ rule.Certifier ∷ rule.Separation ∷ rule.PolicyUnknown ∷ rule.PolicyState ∷ []
 
--- it comes to nothing and changes nothing
+-- its amount is 0, and it changes nothing
 pub record IsQuestion (o : Op) : Type 0 where
   pub nothing : amount o ≡ 0
   pub silent : (rows : (form_of o).Rows) (by : Signature) → (form_of o).changes rows by ≡ []
@@ -45,6 +47,12 @@ pub record AreWithin (most : ℕ) (m : Moves) : Type 0 where
   pub branches : (key : ℕ) → unsigned_abs (m.branches key) ≤ most
   pub tellers : (key : ℕ) → unsigned_abs (m.tellers key) ≤ most
   pub accounts : (key : ℕ) → unsigned_abs (m.accounts key) ≤ most
+
+-- These rows were asked for, and bear who asks, when and on which day; a day is the last of them, and not the present one.
+pub record AreWritten (o : Op) (by : Signature) (w : WorldLists) (rows : List RowWrite) : Type 0 where
+  pub asked : (form_of o).AreAsked w rows
+  pub bear : AllByRecursion (Bears w by.user by.moment) rows
+  pub days : IsDayLast w.branches rows
 
 pub record IsForm (o : Op) : Type 0 where
   -- it is what its form says
@@ -67,5 +75,5 @@ pub record IsForm (o : Op) : Type 0 where
   -- its amount bounds what it moves, and the cash of each place
   pub moves : AreWithin (amount o) (moves_of o)
   pub cash : is_drawer_off o ≡ false → (by : Signature) (w : WorldLists) (branch place : ℕ) → unsigned_abs (placed branch place (changed_by (form_of o) by w)) ≤ amount o
-  -- each row that it writes bears who asks, when and on which day, and says what was asked
-  pub asked : (by : Signature) (w : WorldLists) → (form_of o).IsJudged w by.user → AllByRecursion (λ row. Bears w by.user by.moment row × (form_of o).IsAsked w row) (changed_by (form_of o) by w)
+  -- and then the rows that it writes are those that were asked for
+  pub asked : (by : Signature) (w : WorldLists) → (form_of o).IsJudged w by.user → AreWritten o by w (changed_by (form_of o) by w)

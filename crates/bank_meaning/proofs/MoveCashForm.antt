@@ -5,17 +5,13 @@ use Rattle.bank_books.specs.Cash.{holder_of, place_cash, vault_opening}
 use Rattle.bank_books.specs.Effects.{applied}
 use Rattle.bank_books.specs.Records.{branch_record, teller_record, teller_record_of, branch_record_of}
 use Rattle.bank_books.specs.WorldLists.{WorldLists}
-use Rattle.std.specs.List.{AllByRecursion}
-use Rattle.bank_meaning.specs.AskedRows.{Bears}
 use Rattle.bank_meaning.proofs.AskedRows.{is_home}
-use Rattle.bank_meaning.specs.MoveCash.{IsMoveAsked}
-use Rattle.std.proofs.Common.{inl, inr}
 use Rattle.bank_books.specs.declared.row_write.RowWrite.TheVariants as write
 use Rattle.bank_books.specs.declared.rows.Branch.{Branch}
 use Rattle.bank_books.specs.declared.signature.Signature.{Signature}
 use Rattle.bank_meaning.proofs.AmountParts.{no_amount, placed, two_lines}
 use Rattle.bank_meaning.proofs.BookChanges.{by_row}
-use Rattle.bank_meaning.proofs.IsForm.{IsForm}
+use Rattle.bank_meaning.proofs.IsForm.{AreWritten, IsForm}
 use Rattle.bank_meaning.proofs.JudgedParts.{NoneDenies, a_teller, at_row, branch_of_book, drawer_covered, has_drawer, holds_drawer, vault_covered}
 use Rattle.bank_meaning.proofs.NoMoves.{none_within}
 use Rattle.bank_meaning.proofs.Shares.{two_none}
@@ -158,11 +154,11 @@ source_held w user m passed some =
     (subst (λ b. drawer_is_held_by (if b then teller_at w m.target else teller_at w m.source) user ≡ true) is passed.held)
 
 move_asked : (by : Signature) (w : WorldLists) (m : MoveCash) → IsMoveJudged w by.user m
-    → AllByRecursion (λ row. Bears w by.user by.moment row × IsMoveAsked m row) (move_changes (move_rows w m) m by)
+    → AreWritten (op.MoveCash m) by w (move_changes (move_rows w m) m by)
 move_asked by w m judged =
     let home = is_home w m.branch judged.branch.0 judged.branch.1 in
-    subst (AllByRecursion (λ row. Bears w by.user by.moment row × IsMoveAsked m row)) (sym (move_allowed.changes_are w m (record { home = judged.branch.0; home_is = judged.branch.1 }) by))
-    (((refl, refl, home.day), inl refl), (((refl, refl, home.day), inr refl), tt))
+    subst (AreWritten (op.MoveCash m) by w) (sym (move_allowed.changes_are w m (record { home = judged.branch.0; home_is = judged.branch.1 }) by))
+    (record { asked = (refl, refl); bear = ((refl, refl, home.day), ((refl, refl, home.day), tt)); days = tt })
 
 move_judged : (w : WorldLists) (who : Who) (moment : ℕ) (m : MoveCash) → NoneDenies w who moment (op.MoveCash m) → IsMoveJudged w (asker who) m
 move_judged w who moment m none =

@@ -92,5 +92,5 @@ new_account_is_form form = record {
   denies_no_more = λ by w checks proper judged books. new_account_passes w form judged books;
   moves = none_within _;
   cash = λ is by w branch place. no_amount _;
-  asked = λ by w judged. ((tt, refl), tt);
+  asked = λ by w judged. record { asked = refl; bear = (tt, tt); days = tt };
 }

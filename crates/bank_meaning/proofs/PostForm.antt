@@ -1,10 +1,8 @@
 -- The laws of a post.
-use Rattle.std.specs.List.{AllByRecursion}
-use Rattle.bank_meaning.specs.AskedRows.{Bears, entry_says}
+use Rattle.bank_meaning.specs.AskedRows.{entry_says}
 use Rattle.bank_meaning.proofs.AskedRows.{is_home, numbered}
 use Rattle.bank_books.specs.declared.rows.Branch.{Branch}
 use Rattle.bank_books.specs.declared.rows.Entry.{Entry}
-use Rattle.bank_meaning.specs.Post.{IsPostAsked}
 use Rattle.bank_books.specs.Books.{Books}
 use Rattle.bank_books.specs.Effects.{applied, written}
 use Rattle.bank_books.specs.Records.{account_record, account_record_of, branch_record, branch_record_of, teller_record}
@@ -14,7 +12,7 @@ use Rattle.bank_books.specs.declared.row_write.RowWrite.TheVariants as write
 use Rattle.bank_books.specs.declared.signature.Signature.{Signature}
 use Rattle.bank_meaning.proofs.AmountParts.{abs_itself, if_added, no_amount, one_line, placed}
 use Rattle.bank_meaning.proofs.BookChanges.{by_row}
-use Rattle.bank_meaning.proofs.IsForm.{IsForm}
+use Rattle.bank_meaning.proofs.IsForm.{AreWritten, IsForm}
 use Rattle.bank_meaning.proofs.JudgedParts.{NoneDenies, branch_of_ledger, drawer_covered, holds_drawer, keeps_floor}
 use Rattle.bank_meaning.proofs.Shares.{cash_alone, one_alone, one_counts}
 use Rattle.bank_meaning.proofs.Steps.{IsStep, IsSumOf, plan_step}
@@ -73,7 +71,7 @@ post_lines w post by branch place = go (post_rows w post).account (post_rows w p
     go None l k = no_amount (unsigned_abs post.delta)
 
 post_asked : (by : Signature) (w : WorldLists) (post : Post) → IsPostJudged w by.user post
-    → AllByRecursion (λ row. Bears w by.user by.moment row × IsPostAsked w post row) (post_changes (post_rows w post) post by)
+    → AreWritten (op.Post post) by w (post_changes (post_rows w post) post by)
 post_asked by w post judged =
     let branch : Branch = judged.branch.0 in
     let home = is_home w post.branch branch judged.branch.1 in
@@ -86,8 +84,11 @@ post_asked by w post judged =
       branch_is = judged.branch.1;
     } in
     let e : Entry = post_entry (account_record_of w judged.floor.row) (ledger_of (branch_record_of w branch)) post by in
-    subst (AllByRecursion (λ row. Bears w by.user by.moment row × IsPostAsked w post row)) (sym (allowed.changes_are w post there by))
-    (((refl, refl, home.day), numbered w (entry_says e) 1 branch.branch post.branch home.key), (((refl, refl, home.day), refl), tt))
+    subst (AreWritten (op.Post post) by w) (sym (allowed.changes_are w post there by)) (record {
+      asked = (numbered w (entry_says e) 1 branch.branch post.branch home.key, refl);
+      bear = ((refl, refl, home.day), ((refl, refl, home.day), tt));
+      days = tt;
+    })
 
 post_judged : (w : WorldLists) (who : Who) (moment : ℕ) (post : Post) → NoneDenies w who moment (op.Post post) → IsPostJudged w (asker who) post
 post_judged w who moment post none =

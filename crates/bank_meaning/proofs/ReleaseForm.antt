@@ -5,11 +5,8 @@ use Rattle.bank_books.specs.Cash.{cash_entry_total}
 use Rattle.bank_books.specs.Effects.{written}
 use Rattle.bank_books.specs.Records.{branch_record, release_count, branch_record_of}
 use Rattle.bank_books.specs.WorldLists.{WorldLists}
-use Rattle.std.specs.List.{AllByRecursion}
-use Rattle.bank_meaning.specs.AskedRows.{Bears}
 use Rattle.bank_meaning.proofs.AskedRows.{is_home}
 use Rattle.bank_books.specs.declared.rows.Branch.{Branch}
-use Rattle.bank_meaning.specs.Release.{IsReleaseAsked}
 use Rattle.bank_books.specs.Records.{branch_record_of}
 use Rattle.bank_policy.specs.declared.rows.User.{User}
 use Rattle.std.proofs.Common.{ap₂}
@@ -19,7 +16,7 @@ use Rattle.bank_books.specs.declared.signature.Signature.{Signature}
 use Rattle.bank_meaning.proofs.AmountParts.{no_amount, placed}
 use Rattle.bank_meaning.proofs.BookChanges.{by_row}
 use Rattle.bank_meaning.proofs.GivenRelease as release_given
-use Rattle.bank_meaning.proofs.IsForm.{IsForm}
+use Rattle.bank_meaning.proofs.IsForm.{AreWritten, IsForm}
 use Rattle.bank_meaning.proofs.JudgedParts.{NoneDenies, branch_there}
 use Rattle.bank_meaning.proofs.KeptOrder.{in_order_written}
 use Rattle.bank_meaning.proofs.NoMoves.{none_within}
@@ -81,13 +78,13 @@ release_lines w form by branch place = go (release_rows w form).given (release_r
     go None today = no_amount (amount_of_releasable form.operation)
 
 release_asked : (by : Signature) (w : WorldLists) (form : Release) → IsReleaseJudged w by.user form
-    → AllByRecursion (λ row. Bears w by.user by.moment row × IsReleaseAsked form row) (release_changes (release_rows w form) form by)
+    → AreWritten (op.Release form) by w (release_changes (release_rows w form) form by)
 release_asked by w form judged =
     let home = is_home w (branch_of form.operation) judged.branch.0 judged.branch.1 in
     let changes = ap₂ (λ (user : Option User) (branch : Option Branch).
     release_changes (record { given = option_map (λ u. u.releases) (option_map (user_record_of w) user); today = option_map (λ b. b.row.day) (option_map (branch_record_of w) branch) }) form by) judged.there judged.branch.1 in
-    subst (AllByRecursion (λ row. Bears w by.user by.moment row × IsReleaseAsked form row)) (sym changes)
-    (((refl, judged.other, home.day), record { user = refl; branch = refl; operation = refl; unused = refl }), tt)
+    subst (AreWritten (op.Release form) by w) (sym changes)
+    (record { asked = record { user = refl; branch = refl; operation = refl; unused = refl }; bear = ((refl, judged.other, home.day), tt); days = tt })
 
 release_judged : (w : WorldLists) (who : Who) (moment : ℕ) (form : Release) → NoneDenies w who moment (op.Release form) → IsReleaseJudged w (asker who) form
 release_judged w who moment form none =

@@ -32,5 +32,5 @@ statement_is_form form = record {
   denies_no_more = λ by w checks proper judged books. statement_passes w form judged;
   moves = none_within 0;
   cash = λ is by w branch place. no_amount 0;
-  asked = λ by w judged. tt;
+  asked = λ by w judged. record { asked = refl; bear = tt; days = tt };
 }

@@ -1,9 +1,6 @@
 -- The laws of a transfer.
-use Rattle.std.specs.List.{AllByRecursion}
-use Rattle.bank_meaning.specs.AskedRows.{Bears, entry_says}
+use Rattle.bank_meaning.specs.AskedRows.{entry_says}
 use Rattle.bank_meaning.proofs.AskedRows.{is_home, partnered}
-use Rattle.bank_meaning.specs.Transfer.{IsTransferAsked}
-use Rattle.std.proofs.Common.{inl, inr}
 use Rattle.bank_books.specs.Books.{Books}
 use Rattle.bank_books.specs.Effects.{applied, written}
 use Rattle.bank_books.specs.Records.{account_record, account_record_of, branch_record, branch_record_of, teller_record}
@@ -15,7 +12,7 @@ use Rattle.bank_books.specs.declared.rows.Entry.{Entry}
 use Rattle.bank_books.specs.declared.signature.Signature.{Signature}
 use Rattle.bank_meaning.proofs.AmountParts.{no_amount, out_in, placed}
 use Rattle.bank_meaning.proofs.BookChanges.{by_row}
-use Rattle.bank_meaning.proofs.IsForm.{IsForm}
+use Rattle.bank_meaning.proofs.IsForm.{AreWritten, IsForm}
 use Rattle.bank_meaning.proofs.JudgedParts.{NoneDenies, branch_of_ledger, holds_drawer, keeps_floor}
 use Rattle.bank_meaning.proofs.Shares.{legs_cancel, legs_count, two_alone}
 use Rattle.bank_meaning.proofs.Steps.{IsStep, IsSumOf, plan_step}
@@ -71,7 +68,7 @@ transfer_lines w t by branch place = go (transfer_rows w t).source (transfer_row
     go None o l = no_amount t.amount
 
 transfer_asked : (by : Signature) (w : WorldLists) (transfer : Transfer) → IsTransferJudged w by.user transfer
-    → AllByRecursion (λ row. Bears w by.user by.moment row × IsTransferAsked w transfer row) (transfer_changes (transfer_rows w transfer) transfer by)
+    → AreWritten (op.Transfer transfer) by w (transfer_changes (transfer_rows w transfer) transfer by)
 transfer_asked by w transfer judged =
     let branch : Branch = judged.branch.0 in
     let home = is_home w transfer.branch branch judged.branch.1 in
@@ -88,10 +85,11 @@ transfer_asked by w transfer judged =
     let ledger : Ledger = ledger_of (branch_record_of w branch) in
     let first : Entry = first_leg (account_record_of w judged.source.row) ledger transfer by in
     let second : Entry = second_leg (account_record_of w judged.target.row) ledger transfer by in
-    subst (AllByRecursion (λ row. Bears w by.user by.moment row × IsTransferAsked w transfer row)) (sym (transfer_allowed.changes_are w transfer there by)) (
-      ((refl, refl, home.day), inl (partnered w (entry_says first) 1 2 branch.branch transfer.branch home.key)),
-      (((refl, refl, home.day), inr (partnered w (entry_says second) 2 1 branch.branch transfer.branch home.key)), tt),
-    )
+    subst (AreWritten (op.Transfer transfer) by w) (sym (transfer_allowed.changes_are w transfer there by)) (record {
+      asked = (partnered w (entry_says first) 1 2 branch.branch transfer.branch home.key, partnered w (entry_says second) 2 1 branch.branch transfer.branch home.key);
+      bear = ((refl, refl, home.day), ((refl, refl, home.day), tt));
+      days = tt;
+    })
 
 transfer_judged : (w : WorldLists) (who : Who) (moment : ℕ) (transfer : Transfer) → NoneDenies w who moment (op.Transfer transfer) → IsTransferJudged w (asker who) transfer
 transfer_judged w who moment transfer none =

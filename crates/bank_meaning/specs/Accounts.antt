@@ -5,7 +5,7 @@ use Rattle.counter_ops.specs.declared.accounts.Accounts.{Accounts}
 use Rattle.reports.specs.Listing.{report_text}
 use Rattle.reports.specs.declared.listing.Listing.{Listing}
 use Rattle.reports.specs.declared.listing.Listing.TheVariants as listing
-use Rattle.std.specs.Prelude.{ℕ, List, [], true, ⊤}
+use Rattle.std.specs.Prelude.{◌≡◌, ℕ, List, [], true, ⊤}
 use Rattle.bank_meaning.specs.Form.{Form, said_by}
 use Rattle.bank_meaning.specs.Moves.{moves_nothing}
 use Rattle.bank_meaning.specs.Meaning.{Meaning, plain}
@@ -25,7 +25,7 @@ accounts_form form = record {
   is_report = true;
   moves = moves_nothing;
   IsJudged = λ w user. ⊤;
-  IsAsked = λ w row. ⊥;
+  AreAsked = λ w rows. rows ≡ [];
 }
 
 abbrev pub accounts_meaning : Accounts → Signature → WorldLists → Meaning

@@ -1,5 +1,5 @@
 -- The question for a balance: the rules of the books against it, its reply and its meaning. It changes nothing.
-use Rattle.std.specs.Prelude.{ℕ, ℤ, Bool, false, not, is_none, List, [], ◌∷◌, ◌++◌, codes, Option}
+use Rattle.std.specs.Prelude.{◌≡◌, ℕ, ℤ, Bool, false, not, is_none, List, [], ◌∷◌, ◌++◌, codes, Option}
 use Rattle.std.specs.Option.{option_map_or}
 use Rattle.std.specs.Fmt.{signed_decimal}
 use Rattle.serde_json.specs.Data.{Data, object, member, no_members}
@@ -45,7 +45,7 @@ balance_form form = record {
   is_report = false;
   moves = moves_nothing;
   IsJudged = λ w user. HasAccount w form.account;
-  IsAsked = λ w row. ⊥;
+  AreAsked = λ w rows. rows ≡ [];
 }
 
 abbrev pub balance_meaning : Balance → WorldLists → Meaning

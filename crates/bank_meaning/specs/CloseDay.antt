@@ -6,7 +6,7 @@ use Rattle.bank_books.specs.Cash.{cash_of}
 use Rattle.bank_books.specs.declared.rows.Proof.{Proof}
 use Rattle.bank_meaning.specs.AskedRows.{today}
 use Rattle.std.specs.Prelude.{◌+◌, Some, option_map}
-use Rattle.std.specs.Prelude.{ℕ, List, [], ◌++◌, codes, decimal}
+use Rattle.std.specs.Prelude.{ℕ, List, [], ◌∷◌, ◌++◌, codes, decimal}
 use Rattle.std.specs.Option.{option_map_or}
 use Rattle.std.specs.Fmt.{signed_decimal}
 use Rattle.serde_json.specs.Data.{Data, object, member, no_members}
@@ -45,10 +45,9 @@ pub record IsProofOf (w : WorldLists) (form : CloseDay) (p : Proof) : Type 0 whe
   pub cash : p.cash ≡ cash_of w form.branch 0
 
 -- the proof of the day, and the branch on its next day
-abbrev pub IsCloseDayAsked : WorldLists → CloseDay → RowWrite → Type 0
-IsCloseDayAsked w form (write.Proof p) = IsProofOf w form p
-IsCloseDayAsked w form (write.Day d) = (d.branch ≡ form.branch) × (option_map (λ day. day + 1) (today w form.branch) ≡ Some d.day)
-IsCloseDayAsked w form _ = ⊥
+abbrev pub AreCloseDayAsked : WorldLists → CloseDay → List RowWrite → Type 0
+AreCloseDayAsked w form (write.Proof p ∷ write.Day d ∷ []) = IsProofOf w form p × (d.branch ≡ form.branch) × (option_map (λ day. day + 1) (today w form.branch) ≡ Some d.day)
+AreCloseDayAsked w form _ = ⊥
 
 -- nobody holds a drawer of the branch
 pub record IsCloseDayJudged (w : WorldLists) (form : CloseDay) : Type 0 where
@@ -66,7 +65,7 @@ close_day_form form = record {
   is_report = false;
   moves = moves_nothing;
   IsJudged = λ w user. IsCloseDayJudged w form;
-  IsAsked = λ w row. IsCloseDayAsked w form row;
+  AreAsked = λ w rows. AreCloseDayAsked w form rows;
 }
 
 abbrev pub close_day_meaning : CloseDay → WorldLists → Meaning

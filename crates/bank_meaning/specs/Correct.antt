@@ -5,8 +5,8 @@ use Rattle.bank_books.specs.declared.row_write.RowWrite.{RowWrite}
 use Rattle.bank_books.specs.declared.row_write.RowWrite.TheVariants as write
 use Rattle.bank_books.specs.declared.rows.LineForm.TheVariants as line_form
 use Rattle.bank_books.specs.declared.rows.EntryForm.{EntryForm}
-use Rattle.std.specs.Prelude.{◌⊎◌, ◌+◌}
-use Rattle.std.specs.Prelude.{ℕ, List, []}
+use Rattle.std.specs.Prelude.{◌+◌}
+use Rattle.std.specs.Prelude.{ℕ, List, [], ◌∷◌}
 use Rattle.std.specs.Option.{option_map_or}
 use Rattle.bank_books.specs.WorldLists.{WorldLists}
 use Rattle.bank_books.specs.declared.signature.Signature.{Signature}
@@ -86,20 +86,19 @@ undoing_says correct account delta number partner undoes = record {
 }
 
 -- An entry of this form is undone by minus its delta: a post with its cash, and the leg of a transfer with the other leg, by two that are each the other's partner.
-abbrev pub IsUndoing : WorldLists → Correct → Entry → EntryForm → RowWrite → Type 0
-IsUndoing w correct named entry_form.Post (write.Entry e) =
-    entry_says e ≡ undoing_says correct named.account (neg_ℤ named.delta) (entry_count correct.branch w.entries + 1) 0 correct.entry
-IsUndoing w correct named entry_form.Post (write.Line l) =
-    line_says l ≡ record { branch = correct.branch; place = correct.teller; amount = neg_ℤ named.delta; form = line_form.CashEntry }
-IsUndoing w correct named entry_form.TransferLeg (write.Entry e) =
+abbrev pub AreUndoing : WorldLists → Correct → Entry → EntryForm → List RowWrite → Type 0
+AreUndoing w correct named entry_form.Post (write.Entry e ∷ write.Line l ∷ []) =
+    (entry_says e ≡ undoing_says correct named.account (neg_ℤ named.delta) (entry_count correct.branch w.entries + 1) 0 correct.entry)
+    × (line_says l ≡ record { branch = correct.branch; place = correct.teller; amount = neg_ℤ named.delta; form = line_form.CashEntry })
+AreUndoing w correct named entry_form.TransferLeg (write.Entry first ∷ write.Entry second ∷ []) =
     let n = entry_count correct.branch w.entries in
-    (entry_says e ≡ undoing_says correct named.account (neg_ℤ named.delta) (n + 1) (n + 2) correct.entry)
-    ⊎ ((leg : Entry) × (entry w correct.branch named.partner ≡ Some leg) × (entry_says e ≡ undoing_says correct leg.account named.delta (n + 2) (n + 1) named.partner))
-IsUndoing w correct named _ _ = ⊥
+    (entry_says first ≡ undoing_says correct named.account (neg_ℤ named.delta) (n + 1) (n + 2) correct.entry)
+    × ((leg : Entry) × (entry w correct.branch named.partner ≡ Some leg) × (entry_says second ≡ undoing_says correct leg.account named.delta (n + 2) (n + 1) named.partner))
+AreUndoing w correct named _ _ = ⊥
 
 -- the entry that is named is undone
-abbrev pub IsCorrectAsked : WorldLists → Correct → RowWrite → Type 0
-IsCorrectAsked w correct row = (named : Entry) × (entry w correct.branch correct.entry ≡ Some named) × IsUndoing w correct named named.form row
+abbrev pub AreCorrectAsked : WorldLists → Correct → List RowWrite → Type 0
+AreCorrectAsked w correct rows = (named : Entry) × (entry w correct.branch correct.entry ≡ Some named) × AreUndoing w correct named named.form rows
 
 -- all that it is
 abbrev pub correct_form : Correct → Form
@@ -112,7 +111,7 @@ correct_form correct = record {
   is_report = false;
   moves = correct_moves correct;
   IsJudged = λ w user. IsCorrectJudged w user correct;
-  IsAsked = λ w row. IsCorrectAsked w correct row;
+  AreAsked = λ w rows. AreCorrectAsked w correct rows;
 }
 
 abbrev pub correct_meaning : Correct → Signature → WorldLists → Meaning

@@ -5,8 +5,8 @@ use Rattle.bank_books.specs.declared.row_write.RowWrite.TheVariants as write
 use Rattle.bank_books.specs.declared.rows.LineForm.TheVariants as line_form
 use Rattle.bank_books.specs.Cash.{place_cash}
 use Rattle.bank_books.specs.declared.rows.LineForm.{LineForm}
-use Rattle.std.specs.Prelude.{ℤ, neg_ℤ, ◌+ℤ◌, ◌≡◌, ◌⊎◌}
-use Rattle.std.specs.Prelude.{ℕ, List, [], ◌++◌, codes, decimal}
+use Rattle.std.specs.Prelude.{ℤ, neg_ℤ, ◌+ℤ◌, ◌≡◌}
+use Rattle.std.specs.Prelude.{ℕ, List, [], ◌∷◌, ◌++◌, codes, decimal}
 use Rattle.std.specs.Option.{option_map_or}
 use Rattle.std.specs.Fmt.{signed_decimal}
 use Rattle.serde_json.specs.Data.{Data, object, member, no_members}
@@ -44,11 +44,12 @@ abbrev pub off_says : DrawerOff → ℕ → ℤ → LineForm → LineSays
 off_says form place amount kind = record { branch = form.branch; place = place; amount = amount; form = kind }
 
 -- what the count differs by from the cash of the drawer, and what was counted, out of the drawer and into the vault
-abbrev pub IsDrawerOffAsked : WorldLists → DrawerOff → RowWrite → Type 0
-IsDrawerOffAsked w form (write.Line l) =
-    (line_says l ≡ off_says form form.teller (form.counted +ℤ neg_ℤ (place_cash form.branch form.teller w.lines)) line_form.Difference)
-    ⊎ ((line_says l ≡ off_says form form.teller (neg_ℤ form.counted) line_form.Off) ⊎ (line_says l ≡ off_says form 0 form.counted line_form.Off))
-IsDrawerOffAsked w form _ = ⊥
+abbrev pub AreDrawerOffAsked : WorldLists → DrawerOff → List RowWrite → Type 0
+AreDrawerOffAsked w form (write.Line difference ∷ write.Line drawer ∷ write.Line vault ∷ []) =
+    (line_says difference ≡ off_says form form.teller (form.counted +ℤ neg_ℤ (place_cash form.branch form.teller w.lines)) line_form.Difference)
+    × (line_says drawer ≡ off_says form form.teller (neg_ℤ form.counted) line_form.Off)
+    × (line_says vault ≡ off_says form 0 form.counted line_form.Off)
+AreDrawerOffAsked w form _ = ⊥
 
 -- all that it is
 abbrev pub drawer_off_form : DrawerOff → Form
@@ -61,7 +62,7 @@ drawer_off_form form = record {
   is_report = false;
   moves = moves_nothing;
   IsJudged = λ w user. IsDrawerOffJudged w user form;
-  IsAsked = λ w row. IsDrawerOffAsked w form row;
+  AreAsked = λ w rows. AreDrawerOffAsked w form rows;
 }
 
 abbrev pub drawer_off_meaning : DrawerOff → Signature → WorldLists → Meaning

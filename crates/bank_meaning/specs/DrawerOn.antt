@@ -3,8 +3,8 @@ use Rattle.bank_meaning.specs.AskedRows.{LineSays, line_says}
 use Rattle.bank_books.specs.declared.row_write.RowWrite.{RowWrite}
 use Rattle.bank_books.specs.declared.row_write.RowWrite.TheVariants as write
 use Rattle.bank_books.specs.declared.rows.LineForm.TheVariants as line_form
-use Rattle.std.specs.Prelude.{ℤ, ◌≡◌, ◌⊎◌}
-use Rattle.std.specs.Prelude.{ℕ, List, [], ◌++◌, codes, decimal}
+use Rattle.std.specs.Prelude.{ℤ, ◌≡◌}
+use Rattle.std.specs.Prelude.{ℕ, List, [], ◌∷◌, ◌++◌, codes, decimal}
 use Rattle.std.specs.Option.{option_map_or}
 use Rattle.std.specs.Fmt.{signed_decimal}
 use Rattle.serde_json.specs.Data.{Data, object, member, no_members}
@@ -45,9 +45,9 @@ abbrev pub on_says : DrawerOn → ℕ → ℤ → LineSays
 on_says form place amount = record { branch = form.branch; place = place; amount = amount; form = line_form.On }
 
 -- the cash out of the vault and into the drawer
-abbrev pub IsDrawerOnAsked : DrawerOn → RowWrite → Type 0
-IsDrawerOnAsked form (write.Line l) = (line_says l ≡ on_says form 0 (neg_ℤ (pos form.cash))) ⊎ (line_says l ≡ on_says form form.teller (pos form.cash))
-IsDrawerOnAsked form _ = ⊥
+abbrev pub AreDrawerOnAsked : DrawerOn → List RowWrite → Type 0
+AreDrawerOnAsked form (write.Line vault ∷ write.Line drawer ∷ []) = (line_says vault ≡ on_says form 0 (neg_ℤ (pos form.cash))) × (line_says drawer ≡ on_says form form.teller (pos form.cash))
+AreDrawerOnAsked form _ = ⊥
 
 -- all that it is
 abbrev pub drawer_on_form : DrawerOn → Form
@@ -60,7 +60,7 @@ drawer_on_form form = record {
   is_report = false;
   moves = moves_nothing;
   IsJudged = λ w user. IsDrawerOnJudged w form;
-  IsAsked = λ w row. IsDrawerOnAsked form row;
+  AreAsked = λ w rows. AreDrawerOnAsked form rows;
 }
 
 abbrev pub drawer_on_meaning : DrawerOn → Signature → WorldLists → Meaning

@@ -24,8 +24,8 @@ pub record Form : Type 1 where
   pub moves : Moves
   -- what is so of the rows of a World where no rule denies it to a user, in the terms of a reader
   pub IsJudged : WorldLists → ℕ → Type 0
-  -- what a row that it adds to a World says of what was asked, in the same terms
-  pub IsAsked : WorldLists → RowWrite → Type 0
+  -- which rows were asked to be added to a World, in their order and by what they say, in the same terms
+  pub AreAsked : WorldLists → List RowWrite → Type 0
 
 -- what it changes in a World
 abbrev pub changed_by : Form → Signature → WorldLists → List RowWrite

@@ -14,6 +14,7 @@ use Rattle.bank_meaning.specs.Laws.{IsFirstRule, IsHeld}
 use Rattle.bank_meaning.specs.Meaning.{json}
 use Rattle.bank_meaning.specs.Once.{ActsOnce}
 use Rattle.bank_meaning.specs.PolicyRules.{asker}
+use Rattle.bank_meaning.specs.Recorded.{RowsAreAsked}
 use Rattle.bank_meaning.specs.Repeats.{IsKeptReply}
 use Rattle.bank_meaning.specs.Requests.{effect, executes, first, repeated, reply_text}
 use Rattle.bank_meaning.specs.Run.{Marked, is_accepted, reply, world_after}
@@ -37,6 +38,8 @@ pub record IsMadeRightly (w : WorldLists) (q : Request) (after : WorldLists) : T
   -- and then it is asked for by whom, and where, the books want it; it moves its amount at most
   pub judged : (x : Execution) → q ≡ executes x → first w q ≡ None → IsBooksJudged w x
   pub within : (x : Execution) → q ≡ executes x → IsWithinAmount w x
+  -- what is carried out adds the rows that were asked for, and no others
+  pub added : (x : Execution) → q ≡ executes x → repeated w q ≡ None → first w q ≡ None → RowsAreAsked w after x
   -- Clark and Wilson's rule E4: who executes a procedure does not certify it, and who commands is who may
   pub apart : (x : Execution) → q ≡ executes x → first w q ≡ None → ¬ Certifies w.policy (asker x.who) (procedure_of x.op)
   pub commanded : (c : PolicyOp) → q.asked ≡ asked.Command c → first w q ≡ None → IsCommandJudged w q.who c

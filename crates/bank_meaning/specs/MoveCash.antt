@@ -3,8 +3,8 @@ use Rattle.bank_meaning.specs.AskedRows.{LineSays, line_says}
 use Rattle.bank_books.specs.declared.row_write.RowWrite.{RowWrite}
 use Rattle.bank_books.specs.declared.row_write.RowWrite.TheVariants as write
 use Rattle.bank_books.specs.declared.rows.LineForm.TheVariants as line_form
-use Rattle.std.specs.Prelude.{ℤ, ◌⊎◌}
-use Rattle.std.specs.Prelude.{ℕ, List, [], ◌++◌, codes, decimal}
+use Rattle.std.specs.Prelude.{ℤ}
+use Rattle.std.specs.Prelude.{ℕ, List, [], ◌∷◌, ◌++◌, codes, decimal}
 use Rattle.std.specs.Option.{option_map_or}
 use Rattle.std.specs.Fmt.{signed_decimal}
 use Rattle.serde_json.specs.Data.{Data, object, member, no_members}
@@ -46,9 +46,10 @@ abbrev pub move_says : MoveCash → ℕ → ℤ → LineSays
 move_says move place amount = record { branch = move.branch; place = place; amount = amount; form = line_form.Move }
 
 -- the amount out of the source and into the target
-abbrev pub IsMoveAsked : MoveCash → RowWrite → Type 0
-IsMoveAsked move (write.Line l) = (line_says l ≡ move_says move move.source (neg_ℤ (pos move.amount))) ⊎ (line_says l ≡ move_says move move.target (pos move.amount))
-IsMoveAsked move _ = ⊥
+abbrev pub AreMoveAsked : MoveCash → List RowWrite → Type 0
+AreMoveAsked move (write.Line source ∷ write.Line target ∷ []) =
+    (line_says source ≡ move_says move move.source (neg_ℤ (pos move.amount))) × (line_says target ≡ move_says move move.target (pos move.amount))
+AreMoveAsked move _ = ⊥
 
 -- all that it is
 abbrev pub move_form : MoveCash → Form
@@ -61,7 +62,7 @@ move_form move = record {
   is_report = false;
   moves = moves_nothing;
   IsJudged = λ w user. IsMoveJudged w user move;
-  IsAsked = λ w row. IsMoveAsked move row;
+  AreAsked = λ w rows. AreMoveAsked move rows;
 }
 
 abbrev pub move_meaning : MoveCash → Signature → WorldLists → Meaning

@@ -59,9 +59,9 @@ pub record IsNewAccountJudged (w : WorldLists) (form : NewAccount) : Type 0 wher
   pub new : account_row form.account w.accounts ≡ None
 
 -- the account, with its home and its floor and with nothing in it
-abbrev pub IsNewAccountAsked : NewAccount → RowWrite → Type 0
-IsNewAccountAsked form (write.Account a) = a ≡ record { account = form.account; home = form.branch; opening = pos 0; floor = form.floor }
-IsNewAccountAsked form _ = ⊥
+abbrev pub AreNewAccountAsked : NewAccount → List RowWrite → Type 0
+AreNewAccountAsked form (write.Account a ∷ []) = a ≡ record { account = form.account; home = form.branch; opening = pos 0; floor = form.floor }
+AreNewAccountAsked form _ = ⊥
 
 -- all that it is
 abbrev pub new_account_form : NewAccount → Form
@@ -74,7 +74,7 @@ new_account_form form = record {
   is_report = false;
   moves = moves_nothing;
   IsJudged = λ w user. IsNewAccountJudged w form;
-  IsAsked = λ w row. IsNewAccountAsked form row;
+  AreAsked = λ w rows. AreNewAccountAsked form rows;
 }
 
 abbrev pub new_account_meaning : NewAccount → WorldLists → Meaning

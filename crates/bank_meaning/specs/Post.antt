@@ -1,12 +1,12 @@
 -- A post as an operation: its reply and its meaning. The rows that it is judged on, the rules against it, its effect and what it leaves are those of its plan.
-use Rattle.bank_meaning.specs.AskedRows.{entry_says, line_says}
+use Rattle.bank_meaning.specs.AskedRows.{EntrySays, LineSays, entry_says, line_says}
 use Rattle.bank_books.specs.Balances.{entry_count}
 use Rattle.bank_books.specs.declared.row_write.RowWrite.{RowWrite}
 use Rattle.bank_books.specs.declared.row_write.RowWrite.TheVariants as write
 use Rattle.bank_books.specs.declared.rows.EntryForm.TheVariants as entry_form
 use Rattle.bank_books.specs.declared.rows.LineForm.TheVariants as line_form
 use Rattle.std.specs.Prelude.{◌≡◌, ◌+◌}
-use Rattle.std.specs.Prelude.{ℕ, List, [], ◌++◌, codes, decimal}
+use Rattle.std.specs.Prelude.{ℕ, List, [], ◌∷◌, ◌++◌, codes, decimal}
 use Rattle.std.specs.Option.{option_map_or}
 use Rattle.std.specs.Fmt.{signed_decimal}
 use Rattle.serde_json.specs.Data.{Data, object, member, no_members}
@@ -48,9 +48,9 @@ pub record IsPostJudged (w : WorldLists) (user : ℕ) (post : Post) : Type 0 whe
   pub floor : KeepsFloor w post.account post.delta
   pub cash : DrawerCovers w post.teller post.branch post.delta
 
--- its entry, with its cash
-abbrev pub IsPostAsked : WorldLists → Post → RowWrite → Type 0
-IsPostAsked w post (write.Entry e) = entry_says e ≡ record {
+-- what its entry says, and the line of its cash
+abbrev pub post_says : WorldLists → Post → EntrySays
+post_says w post = record {
   branch = post.branch;
   number = entry_count post.branch w.entries + 1;
   teller = post.teller;
@@ -60,8 +60,14 @@ IsPostAsked w post (write.Entry e) = entry_says e ≡ record {
   partner = 0;
   undoes = 0;
 }
-IsPostAsked w post (write.Line l) = line_says l ≡ record { branch = post.branch; place = post.teller; amount = post.delta; form = line_form.CashEntry }
-IsPostAsked w post _ = ⊥
+
+abbrev pub cash_says : Post → LineSays
+cash_says post = record { branch = post.branch; place = post.teller; amount = post.delta; form = line_form.CashEntry }
+
+-- both of them
+abbrev pub ArePostAsked : WorldLists → Post → List RowWrite → Type 0
+ArePostAsked w post (write.Entry e ∷ write.Line l ∷ []) = (entry_says e ≡ post_says w post) × (line_says l ≡ cash_says post)
+ArePostAsked w post _ = ⊥
 
 -- all that it is
 abbrev pub post_form : Post → Form
@@ -74,7 +80,7 @@ post_form post = record {
   is_report = false;
   moves = post_moves post;
   IsJudged = λ w user. IsPostJudged w user post;
-  IsAsked = λ w row. IsPostAsked w post row;
+  AreAsked = λ w rows. ArePostAsked w post rows;
 }
 
 abbrev pub post_meaning : Post → Signature → WorldLists → Meaning

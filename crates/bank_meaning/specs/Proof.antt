@@ -1,5 +1,5 @@
 -- The question for the proof of a branch: the rules of the books against it, its reply and its meaning. It changes nothing.
-use Rattle.std.specs.Prelude.{Bool, is_none, [], ◌∷◌, List, ℕ, Option}
+use Rattle.std.specs.Prelude.{◌≡◌, Bool, is_none, [], ◌∷◌, List, ℕ, Option}
 use Rattle.std.specs.Option.{option_map_or}
 use Rattle.bank_terms.specs.declared.rule.Rule.{Rule}
 use Rattle.bank_terms.specs.declared.rule.Rule.TheVariants as rule
@@ -39,7 +39,7 @@ proof_form form = record {
   is_report = true;
   moves = moves_nothing;
   IsJudged = λ w user. HasBranch w form.branch;
-  IsAsked = λ w row. ⊥;
+  AreAsked = λ w rows. rows ≡ [];
 }
 
 abbrev pub proof_meaning : Proof → WorldLists → Meaning

@@ -1,5 +1,5 @@
--- That the rows which an operation adds say what was asked, and that it adds no others.
-use Rattle.std.specs.Prelude.{◌≡◌, ◌⊎◌, true, Contains}
+-- That an operation which is carried out adds the rows that were asked for, and no others, and that one which is not changes nothing.
+use Rattle.std.specs.Prelude.{◌≡◌, ◌⊎◌, true, false, None, Some, List, Contains}
 use Rattle.bank_books.specs.SlipRow.{SlipRow}
 use Rattle.bank_books.specs.WorldLists.{WorldLists}
 use Rattle.bank_books.specs.declared.row_write.RowWrite.{RowWrite}
@@ -11,24 +11,36 @@ use Rattle.bank_books.specs.declared.rows.Entry.{Entry}
 use Rattle.bank_books.specs.declared.rows.Proof.{Proof}
 use Rattle.bank_books.specs.declared.rows.Release.{Release}
 use Rattle.counter_ops.specs.Rows.{row_of}
-use Rattle.bank_meaning.specs.AskedRows.{Bears}
+use Rattle.bank_meaning.specs.AskedRows.{Bears, today}
 use Rattle.bank_meaning.specs.Operations.{form_of}
 use Rattle.bank_meaning.specs.PolicyRules.{asker}
 use Rattle.bank_meaning.specs.Requests.{executes, reply_text}
-use Rattle.bank_meaning.specs.Run.{step}
+use Rattle.bank_meaning.specs.Run.{is_accepted, step}
 use Rattle.bank_meaning.specs.Sums.{IsProper, PassesChecks}
 use Rattle.bank_meaning.specs.declared.execution.Execution.{Execution}
 
--- The row bears who asked, when and on which day, and says what was asked.
-abbrev pub IsAsked : WorldLists → Execution → RowWrite → Type 0
-IsAsked w x row = Bears w (asker x.who) x.moment row × (form_of x.op).IsAsked w row
+-- the row is in a World; of a day, that it is the present one of its branch
+abbrev pub IsIn : WorldLists → RowWrite → Type 0
+IsIn w (write.Account a) = Contains w.accounts a
+IsIn w (write.Entry e) = Contains w.entries e
+IsIn w (write.Line l) = Contains w.lines l
+IsIn w (write.Proof p) = Contains w.proofs p
+IsIn w (write.Release r) = Contains w.releases r
+IsIn w (write.Day d) = today w d.branch ≡ Some d.day
+IsIn w _ = ⊥
 
--- a branch that was there, on another day alone
-pub record IsOnAnotherDay (w : WorldLists) (x : Execution) (b : Branch) : Type 0 where
+-- It is there after the operation and was not before, and bears who asked, when and on which day.
+pub record IsNew (w after : WorldLists) (x : Execution) (row : RowWrite) : Type 0 where
+  pub there : IsIn after row
+  pub before : ¬ IsIn w row
+  pub bears : Bears w (asker x.who) x.moment row
+
+-- a branch that was there, on another of these days alone
+pub record IsOnAnotherDay (w : WorldLists) (rows : List RowWrite) (b : Branch) : Type 0 where
   pub before : Branch
   pub there : Contains w.branches before
   pub same : b ≡ record before { day = b.day }
-  pub asked : IsAsked w x (write.Day (record { branch = b.branch; day = b.day }))
+  pub asked : Contains rows (write.Day (record { branch = b.branch; day = b.day }))
 
 -- the release that is named, of the user who asks: used up, and else as it was
 pub record IsUsedUp (w : WorldLists) (x : Execution) (r : Release) : Type 0 where
@@ -45,18 +57,26 @@ pub record IsTaken (w : WorldLists) (x : Execution) (s : SlipRow) : Type 0 where
   pub operation : s.operation ≡ row_of x.op
   pub reply : s.reply ≡ (reply_text w (executes x)).bytes
 
--- Each row that is there after it was there before, or is as asked.
+-- After it: the rows that were asked for are new, and each other row was there before.
 pub record RowsAreAsked (w after : WorldLists) (x : Execution) : Type 0 where
-  pub branches : (b : Branch) → Contains after.branches b → Contains w.branches b ⊎ IsOnAnotherDay w x b
+  pub rows : List RowWrite
+  pub asked : (form_of x.op).AreAsked w rows
+  pub new : (row : RowWrite) → Contains rows row → IsNew w after x row
+  pub branches : (b : Branch) → Contains after.branches b → Contains w.branches b ⊎ IsOnAnotherDay w rows b
   pub tellers : after.tellers ≡ w.tellers
-  pub accounts : (a : Account) → Contains after.accounts a → Contains w.accounts a ⊎ IsAsked w x (write.Account a)
-  pub entries : (e : Entry) → Contains after.entries e → Contains w.entries e ⊎ IsAsked w x (write.Entry e)
-  pub lines : (l : CashLine) → Contains after.lines l → Contains w.lines l ⊎ IsAsked w x (write.Line l)
-  pub proofs : (p : Proof) → Contains after.proofs p → Contains w.proofs p ⊎ IsAsked w x (write.Proof p)
-  pub releases : (r : Release) → Contains after.releases r → Contains w.releases r ⊎ (IsUsedUp w x r ⊎ IsAsked w x (write.Release r))
+  pub accounts : (a : Account) → Contains after.accounts a → Contains w.accounts a ⊎ Contains rows (write.Account a)
+  pub entries : (e : Entry) → Contains after.entries e → Contains w.entries e ⊎ Contains rows (write.Entry e)
+  pub lines : (l : CashLine) → Contains after.lines l → Contains w.lines l ⊎ Contains rows (write.Line l)
+  pub proofs : (p : Proof) → Contains after.proofs p → Contains w.proofs p ⊎ Contains rows (write.Proof p)
+  pub releases : (r : Release) → Contains after.releases r → Contains w.releases r ⊎ (IsUsedUp w x r ⊎ Contains rows (write.Release r))
   pub slips : (s : SlipRow) → Contains after.slips s → Contains w.slips s ⊎ IsTaken w x s
   pub policy : after.policy ≡ w.policy
 
--- of every World that passes both checks, and every proper operation, allowed or not
+-- where it is accepted; else nothing is changed
+pub record IsDoneAsAsked (w : WorldLists) (x : Execution) : Type 0 where
+  pub accepted : is_accepted w (record { request = executes x; mark = None }) ≡ true → RowsAreAsked w (step w (executes x)) x
+  pub not_accepted : is_accepted w (record { request = executes x; mark = None }) ≡ false → step w (executes x) ≡ w
+
+-- of every World that passes both checks, and every proper operation
 abbrev pub RowsSayWhatWasAsked : Type 0
-RowsSayWhatWasAsked = (w : WorldLists) (x : Execution) → PassesChecks w → IsProper (executes x) → RowsAreAsked w (step w (executes x)) x
+RowsSayWhatWasAsked = (w : WorldLists) (x : Execution) → PassesChecks w → IsProper (executes x) → IsDoneAsAsked w x

@@ -88,9 +88,9 @@ pub record IsReleaseOf (form : Release) (r : ReleaseRow) : Type 0 where
   pub operation : r.operation ≡ row_of (op_of form.operation)
   pub unused : r.used ≡ false
 
-abbrev pub IsReleaseAsked : Release → RowWrite → Type 0
-IsReleaseAsked form (write.Release r) = IsReleaseOf form r
-IsReleaseAsked form _ = ⊥
+abbrev pub AreReleaseAsked : Release → List RowWrite → Type 0
+AreReleaseAsked form (write.Release r ∷ []) = IsReleaseOf form r
+AreReleaseAsked form _ = ⊥
 
 -- all that it is
 abbrev pub release_form : Release → Form
@@ -103,7 +103,7 @@ release_form form = record {
   is_report = false;
   moves = moves_nothing;
   IsJudged = λ w user. IsReleaseJudged w user form;
-  IsAsked = λ w row. IsReleaseAsked form row;
+  AreAsked = λ w rows. AreReleaseAsked form rows;
 }
 
 abbrev pub release_meaning : Release → Signature → WorldLists → Meaning

@@ -1,5 +1,5 @@
 -- The question for a statement: the rules of the books against it, its reply and its meaning. It changes nothing.
-use Rattle.std.specs.Prelude.{Bool, is_none, [], ◌∷◌, Option, List}
+use Rattle.std.specs.Prelude.{◌≡◌, Bool, is_none, [], ◌∷◌, Option, List}
 use Rattle.bank_terms.specs.declared.rule.Rule.{Rule}
 use Rattle.bank_terms.specs.declared.rule.Rule.TheVariants as rule
 use Rattle.bank_books.specs.Records.{account_record}
@@ -40,7 +40,7 @@ statement_form form = record {
   is_report = true;
   moves = moves_nothing;
   IsJudged = λ w user. HasAccount w form.account;
-  IsAsked = λ w row. ⊥;
+  AreAsked = λ w rows. rows ≡ [];
 }
 
 abbrev pub statement_meaning : Statement → WorldLists → Meaning

@@ -4,8 +4,8 @@ use Rattle.bank_books.specs.Balances.{entry_count}
 use Rattle.bank_books.specs.declared.row_write.RowWrite.{RowWrite}
 use Rattle.bank_books.specs.declared.row_write.RowWrite.TheVariants as write
 use Rattle.bank_books.specs.declared.rows.EntryForm.TheVariants as entry_form
-use Rattle.std.specs.Prelude.{◌≡◌, ◌⊎◌, ◌+◌}
-use Rattle.std.specs.Prelude.{ℕ, List, [], ◌++◌, codes, decimal}
+use Rattle.std.specs.Prelude.{◌≡◌, ◌+◌}
+use Rattle.std.specs.Prelude.{ℕ, List, [], ◌∷◌, ◌++◌, codes, decimal}
 use Rattle.std.specs.Option.{option_map_or}
 use Rattle.std.specs.Fmt.{signed_decimal}
 use Rattle.serde_json.specs.Data.{Data, object, member, no_members}
@@ -64,12 +64,12 @@ leg_says transfer account delta number partner = record {
 }
 
 -- minus the amount at the source and plus the amount at the target, each the other's partner; and no cash
-abbrev pub IsTransferAsked : WorldLists → Transfer → RowWrite → Type 0
-IsTransferAsked w transfer (write.Entry e) =
+abbrev pub AreTransferAsked : WorldLists → Transfer → List RowWrite → Type 0
+AreTransferAsked w transfer (write.Entry first ∷ write.Entry second ∷ []) =
     let n = entry_count transfer.branch w.entries in
-    (entry_says e ≡ leg_says transfer transfer.source (neg_ℤ (pos transfer.amount)) (n + 1) (n + 2))
-    ⊎ (entry_says e ≡ leg_says transfer transfer.target (pos transfer.amount) (n + 2) (n + 1))
-IsTransferAsked w transfer _ = ⊥
+    (entry_says first ≡ leg_says transfer transfer.source (neg_ℤ (pos transfer.amount)) (n + 1) (n + 2))
+    × (entry_says second ≡ leg_says transfer transfer.target (pos transfer.amount) (n + 2) (n + 1))
+AreTransferAsked w transfer _ = ⊥
 
 -- all that it is
 abbrev pub transfer_form : Transfer → Form
@@ -82,7 +82,7 @@ transfer_form transfer = record {
   is_report = false;
   moves = transfer_moves transfer;
   IsJudged = λ w user. IsTransferJudged w user transfer;
-  IsAsked = λ w row. IsTransferAsked w transfer row;
+  AreAsked = λ w rows. AreTransferAsked w transfer rows;
 }
 
 abbrev pub transfer_meaning : Transfer → Signature → WorldLists → Meaning
