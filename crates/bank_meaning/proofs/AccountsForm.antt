@@ -1,5 +1,5 @@
 -- The laws of a question for accounts: it changes nothing.
-use Rattle.std.proofs.Common.{refl, ap}
+use Rattle.std.proofs.Common.{refl}
 use Rattle.counter_ops.specs.declared.op.Op.TheVariants as op
 use Rattle.counter_ops.specs.declared.accounts.Accounts.{Accounts}
 use Rattle.bank_meaning.proofs.AmountParts.{no_amount}

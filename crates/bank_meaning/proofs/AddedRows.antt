@@ -1,5 +1,5 @@
 -- What changes of the books make of the lists of a World: the rows that they write are new there, and each other row was there before.
-use Rattle.std.proofs.Common.{◌≡◌, ◌≢◌, ℕ, ◌==◌, Bool, true, false, cond, Option, Some, None, List, [], ◌∷◌, map, Contains, ◌⊎◌, inl, inr, refl, ap, arith, sym, subst, ◌∙◌}
+use Rattle.std.proofs.Common.{◌≡◌, ◌≢◌, ℕ, ◌==◌, Bool, true, false, cond, Some, List, [], ◌∷◌, map, Contains, ◌⊎◌, inl, inr, refl, ap, sym, subst, ◌∙◌}
 use Rattle.std.specs.Prelude.{nat_le, option_map, ⊤, if◌then◌else◌}
 use Rattle.std.specs.List.{AllByRecursion, find}
 use Rattle.std.proofs.lemmas.Bool.{eq-eqb, eqb-true, false≢true}
@@ -73,7 +73,7 @@ module _ {T : Type 0} (key : T → ℕ) (rows : WorldLists → List T) (make : T
   added [] w books row there = inl there
   added (c ∷ cs) w books row there = elim (added cs (written c w) books.1 row there) [
     | inl now ↦ either (λ xs. Contains xs row → Contains (rows w) row ⊎ Contains (c ∷ cs) (make row)) c w books.0 (λ was. inl was)
-      (λ new made among. elim (Contains-add_row_cases key new (rows w) row among) [ inl is ↦ inr (subst (λ (d : RowWrite). Contains (c ∷ cs) d) (sym made ∙ ap make is) (Contains-head c cs)) | inr was ↦ inl was ]) now
+        (λ new made among. elim (Contains-add_row_cases key new (rows w) row among) [ inl is ↦ inr (subst (λ (d : RowWrite). Contains (c ∷ cs) d) (sym made ∙ ap make is) (Contains-head c cs)) | inr was ↦ inl was ]) now
     | inr later ↦ inr (Contains-tail c cs (make row) later)
   ]
 

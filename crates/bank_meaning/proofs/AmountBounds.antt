@@ -1,48 +1,23 @@
 -- The amount of an operation bounds what it adds to each balance, and to the cash of each place.
-use Rattle.std.proofs.Common.{◌≡◌, ℕ, ◌≤◌, zero, suc, ℤ, pos, negsuc, neg_ℤ, ◌+ℤ◌, ◌==◌, ◌&&◌, List, [], ◌∷◌, Bool, true, false, not, Option, Some, None, refl, ap, arith, sym, subst, ◌∙◌}
+use Rattle.std.proofs.Common.{◌≡◌, ℕ, ◌≤◌, ℤ, pos, neg_ℤ, ◌+ℤ◌, ◌==◌, List, Bool, true, false, Option, Some, None, refl, arith, sym, subst}
 use Rattle.std.specs.Prelude.{unsigned_abs, if◌then◌else◌}
 use Rattle.std.proofs.lemmas.Int.{ints}
 use Rattle.bank_terms.specs.declared.rule.Rule.{Rule}
 use Rattle.bank_books.specs.Balances.{account_balance, branch_balance, teller_balance}
 use Rattle.bank_books.specs.Cash.{place_cash, vault_opening}
-use Rattle.bank_books.specs.Effects.{all_written, applied, in_full, written}
-use Rattle.bank_books.specs.Keys.{line_key}
-use Rattle.bank_books.specs.Version.{changes_policy, has_version_for, with_version}
+use Rattle.bank_books.specs.Effects.{written}
 use Rattle.bank_books.specs.WorldLists.{WorldLists}
-use Rattle.bank_books.specs.declared.records.AccountRecord.{AccountRecord}
-use Rattle.bank_books.specs.declared.row_write.RowWrite.{RowWrite}
 use Rattle.bank_books.specs.declared.row_write.RowWrite.TheVariants as write
-use Rattle.bank_books.specs.declared.rows.CashLine.{CashLine}
-use Rattle.bank_books.specs.declared.rows.Entry.{Entry}
 use Rattle.bank_books.specs.declared.signature.Signature.{Signature}
 use Rattle.counter_ops.specs.Releasable.{op_of}
 use Rattle.counter_ops.specs.Touched.{amount, amount_of_releasable}
-use Rattle.counter_ops.specs.declared.close_day.CloseDay.{CloseDay}
-use Rattle.counter_ops.specs.declared.correct.Correct.{Correct}
-use Rattle.counter_ops.specs.declared.drawer_on.DrawerOn.{DrawerOn}
-use Rattle.counter_ops.specs.declared.move_cash.MoveCash.{MoveCash}
 use Rattle.counter_ops.specs.declared.op.Op.{Op}
-use Rattle.counter_ops.specs.declared.op.Op.TheVariants as op
-use Rattle.counter_ops.specs.declared.post.Post.{Post}
 use Rattle.counter_ops.specs.declared.releasable.Releasable.{Releasable}
 use Rattle.counter_ops.specs.declared.releasable.Releasable.TheVariants as releasable
-use Rattle.counter_ops.specs.declared.release.Release.{Release}
-use Rattle.counter_ops.specs.declared.transfer.Transfer.{Transfer}
-use Rattle.drawers.specs.CloseDay.{close_day_changes, closing_rows}
-use Rattle.drawers.specs.DrawerOn.{drawer_on_changes}
-use Rattle.drawers.specs.DrawerRows.{drawer_rows}
-use Rattle.drawers.specs.MoveCash.{move_changes, move_rows}
-use Rattle.keyed_rows.proofs.Rows.{total-add_row}
-use Rattle.postings.specs.Correct.{correct_changes, correct_rows, is_of_post, undoing, undoing_legs, undoing_post}
-use Rattle.postings.specs.Post.{post_changes, post_rows}
-use Rattle.postings.specs.Transfer.{transfer_changes, transfer_rows}
-use Rattle.rule_tests.specs.declared.cash_book.CashBook.{CashBook}
-use Rattle.rule_tests.specs.declared.ledger.Ledger.{Ledger}
 use Rattle.bank_meaning.specs.Amounts.{AmountsBound, DifferAtMost, is_drawer_off}
 use Rattle.bank_meaning.specs.Executions.{books_meaning, signature_of}
 use Rattle.bank_meaning.specs.Operations.{form_of, meaning_of}
 use Rattle.bank_meaning.specs.PolicyRules.{asker, grounds, leave_of, used_by}
-use Rattle.bank_meaning.specs.Release.{release_changes, release_rows}
 use Rattle.bank_meaning.specs.Requests.{effect, executes, first, repeated}
 use Rattle.bank_meaning.specs.Run.{Marked, if_allowed, is_accepted, step, unless_repeated}
 use Rattle.bank_meaning.specs.Slips.{slip_named, slip_of}

@@ -9,7 +9,6 @@ use Rattle.bank_books.specs.declared.row_write.RowWrite.{RowWrite}
 use Rattle.bank_books.specs.declared.rows.CashLine.{CashLine}
 use Rattle.bank_meaning.specs.Amounts.{DifferAtMost}
 use Rattle.bank_meaning.specs.Moves.{Moves, moves_nothing}
-use Rattle.counter_ops.specs.Touched.{amount}
 use Rattle.keyed_rows.proofs.Rows.{total-add_row}
 use Rattle.std.proofs.Common.{Bool, List, [], ap, arith, false, neg_ℤ, negsuc, pos, refl, subst, suc, sym, true, zero, ℕ, ℤ, ◌&&◌, ◌+ℤ◌, ◌==◌, ◌∙◌, ◌∷◌, ◌≡◌, ◌≤◌}
 use Rattle.std.proofs.lemmas.Int.{ints}

@@ -17,7 +17,7 @@ use Rattle.counter_ops.specs.declared.op.Op.{Op}
 use Rattle.rule_tests.specs.Denial.{is_denial}
 use Rattle.rule_tests.specs.Signed.{IsSigned}
 use Rattle.bank_meaning.specs.Amounts.{is_drawer_off}
-use Rattle.bank_meaning.specs.Form.{Form, changed_by, said_by}
+use Rattle.bank_meaning.specs.Form.{changed_by, said_by}
 use Rattle.bank_meaning.specs.Meaning.{by_books, json}
 use Rattle.bank_meaning.specs.Moves.{Moves}
 use Rattle.bank_meaning.specs.Once.{with_slips}

@@ -1,10 +1,9 @@
 -- Every request keeps the lists of a World in order.
-use Rattle.std.proofs.Common.{◌≡◌, ◌==◌, ℕ, ◌+◌, Bool, true, false, not, List, [], ◌∷◌, map, Option, Some, None, refl}
+use Rattle.std.proofs.Common.{◌≡◌, ◌==◌, Bool, true, false, not, List, [], ◌∷◌, map, refl}
 use Rattle.std.specs.Prelude.{if◌then◌else◌}
 use Rattle.std.proofs.lemmas.List.Kept.{IsNonDecreasingBy-filter}
 use Rattle.keyed_rows.proofs.AddRow.{IsNonDecreasingBy-add_row}
 use Rattle.keyed_rows.proofs.MadeRows.{IsNonDecreasingBy-made, key-changed}
-use Rattle.bank_terms.specs.declared.rule.Rule.{Rule}
 use Rattle.bank_policy.specs.Policy.{PolicyLists}
 use Rattle.bank_policy.specs.PolicyKeys.{certifier_key, relation_key, relation_number, set_key, triple_key, triple_number, user_key}
 use Rattle.bank_policy.specs.PolicyWrites.{in_session, in_suspension, is_triple_on, policy_written, with_session}
@@ -12,33 +11,13 @@ use Rattle.bank_policy.specs.declared.policy_write.PolicyWrite.{PolicyWrite}
 use Rattle.bank_policy.specs.declared.policy_write.PolicyWrite.TheVariants as change
 use Rattle.bank_policy.specs.declared.policy_write.Session.{Session}
 use Rattle.bank_policy.specs.declared.rows.User.{User}
-use Rattle.bank_books.specs.Effects.{all_written, applied, on_day, used_up, written}
+use Rattle.bank_books.specs.Effects.{all_written, on_day, used_up, written}
 use Rattle.bank_books.specs.Keys.{account_key, branch_key, entry_key, line_key, proof_key, release_key, release_number, slip_key}
-use Rattle.bank_books.specs.SlipRow.{SlipRow}
-use Rattle.bank_books.specs.Version.{changes_policy, has_version_for, with_version}
+use Rattle.bank_books.specs.Version.{with_version}
 use Rattle.bank_books.specs.WorldLists.{WorldLists}
 use Rattle.bank_books.specs.declared.row_write.RowWrite.{RowWrite}
 use Rattle.bank_books.specs.declared.row_write.RowWrite.TheVariants as write
-use Rattle.bank_books.specs.declared.signature.Signature.{Signature}
-use Rattle.certify.specs.Commands.{command_changes}
-use Rattle.counter_ops.specs.declared.op.Op.{Op}
-use Rattle.money.specs.declared.fault.Fault.{Fault}
-use Rattle.store_rows.specs.Status.{after_mark}
-use Rattle.bank_meaning.specs.Executions.{books_meaning, execution_meaning, signature_of}
-use Rattle.bank_meaning.specs.Form.{changed_by}
-use Rattle.bank_meaning.specs.Operations.{form_of, meaning_of}
 use Rattle.bank_meaning.specs.Order.{AreBooksInOrder, IsInOrder, IsPolicyInOrder}
-use Rattle.bank_meaning.specs.PolicyRules.{asker, grounds, leave_of, used_by}
-use Rattle.bank_meaning.specs.Requests.{asked_meaning, effect, first, repeated}
-use Rattle.bank_meaning.specs.Run.{Marked, after_request, if_allowed, unless_repeated}
-use Rattle.bank_meaning.specs.Sessions.{latest, session_of, standing_of_asker}
-use Rattle.bank_meaning.specs.Slips.{slip_named, slip_of}
-use Rattle.bank_meaning.specs.declared.execution.Execution.{Execution}
-use Rattle.bank_meaning.specs.declared.leave.Leave.{Leave}
-use Rattle.bank_meaning.specs.declared.leave.Leave.TheVariants as leave
-use Rattle.bank_meaning.specs.declared.request.Asked.{Asked}
-use Rattle.bank_meaning.specs.declared.request.Asked.TheVariants as asked
-use Rattle.bank_meaning.specs.declared.who.Who.{Who}
 
 -- ---- the policy after one change
 

@@ -1,8 +1,7 @@
 -- An operation leaves the policy and its version as they are, whatever rows it finds.
-use Rattle.std.proofs.Common.{◌≡◌, ℕ, ◌==◌, Bool, true, false, List, [], Option, Some, None, refl, subst, sym}
+use Rattle.std.proofs.Common.{ℕ, ◌==◌, Bool, true, false, subst, sym}
 use Rattle.std.specs.Prelude.{if◌then◌else◌}
-use Rattle.std.specs.Option.{option_map_or}
-use Rattle.bank_books.specs.Effects.{applied, written}
+use Rattle.bank_books.specs.Effects.{written}
 use Rattle.bank_books.specs.WorldLists.{WorldLists}
 use Rattle.bank_books.specs.SlipRow.{SlipRow}
 use Rattle.bank_books.specs.declared.row_write.RowWrite.TheVariants as write

@@ -1,16 +1,11 @@
 -- What a request that no rule denies makes of a World that passes its checks.
-use Rattle.std.proofs.Common.{◌≡◌, ℕ, ◌+◌, ◌≤◌, ℤ, ◌+ℤ◌, [], ◌∷◌, None, refl, ap, arith, sym, subst, ◌∙◌, inl, inr}
+use Rattle.std.proofs.Common.{◌≡◌, ℕ, ◌≤◌, None}
 use Rattle.bank_books.specs.WorldLists.{WorldLists}
-use Rattle.bank_books.specs.declared.signature.Signature.{Signature}
-use Rattle.book_laws.specs.Moves.{with_proof}
 use Rattle.bank_terms.specs.Limits.{max_key}
 use Rattle.counter_ops.specs.Operations.{IsOp}
-use Rattle.rule_tests.specs.Signed.{IsSigned}
 use Rattle.bank_meaning.specs.Executions.{books_meaning, signature_of}
-use Rattle.bank_meaning.specs.Operations.{meaning_of}
 use Rattle.bank_meaning.specs.PolicyRules.{asker, grounds, leave_of}
 use Rattle.bank_meaning.specs.Requests.{effect, executes, first, repeated}
-use Rattle.bank_meaning.specs.Moves.{moves_nothing}
 use Rattle.bank_meaning.specs.Operations.{moves_of}
 use Rattle.bank_meaning.specs.Sums.{IsProper, PassesChecks, moves_of_asked}
 use Rattle.bank_meaning.specs.declared.execution.Execution.{Execution}
@@ -21,7 +16,7 @@ use Rattle.bank_meaning.specs.declared.who.Who.{Who}
 use Rattle.bank_meaning.proofs.AllowedRequest.{allowed_by_books, allowed_user}
 use Rattle.bank_meaning.proofs.CommandSteps.{commands_step}
 use Rattle.bank_meaning.proofs.SessionSteps.{ends_session, opens_session}
-use Rattle.bank_meaning.proofs.Steps.{IsStep, none_more, passes, plan_step, plus_zero, stands}
+use Rattle.bank_meaning.proofs.Steps.{IsStep, stands}
 use Rattle.bank_meaning.proofs.TakenSlip.{taken_step}
 use Rattle.bank_meaning.proofs.UsedRelease.{used_step}
 use Rattle.bank_meaning.proofs.Forms.{law_of}

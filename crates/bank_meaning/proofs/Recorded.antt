@@ -24,7 +24,7 @@ use Rattle.bank_meaning.specs.Form.{changed_by}
 use Rattle.bank_meaning.specs.Laws.{InLimitOrReleased}
 use Rattle.bank_meaning.specs.Operations.{form_of}
 use Rattle.bank_meaning.specs.PolicyRules.{asker, grounds, is_in_limit, leave_of, used_by}
-use Rattle.bank_meaning.specs.Recorded.{IsDoneAsAsked, IsIn, IsTaken, IsUsedUp, RowsAreAsked, RowsSayWhatWasAsked}
+use Rattle.bank_meaning.specs.Recorded.{IsIn, IsTaken, IsUsedUp, RowsAreAsked, RowsSayWhatWasAsked}
 use Rattle.bank_meaning.specs.Requests.{effect, executes, first, repeated}
 use Rattle.bank_meaning.specs.Run.{if_allowed, unless_repeated}
 use Rattle.bank_meaning.specs.Slips.{slip_named, slip_of, taken_by}

@@ -13,8 +13,7 @@ use Rattle.serde_json.specs.Data.{Data, object, member, no_members}
 use Rattle.bank_books.specs.WorldLists.{WorldLists}
 use Rattle.bank_books.specs.declared.signature.Signature.{Signature}
 use Rattle.counter_ops.specs.declared.post.Post.{Post}
-use Rattle.rule_tests.specs.Denial.{is_denial}
-use Rattle.postings.specs.Post.{post_tests, post_effect, post_rows, posted_of}
+use Rattle.postings.specs.Post.{post_tests, post_rows, posted_of}
 use Rattle.postings.specs.declared.post.Posted.{Posted}
 use Rattle.std.specs.Prelude.{pos, ◌==◌, false, if◌then◌else◌}
 use Rattle.postings.specs.Post.{post_changes}

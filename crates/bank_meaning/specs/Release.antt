@@ -15,7 +15,7 @@ use Rattle.bank_books.specs.declared.rows.Release.{Release as ReleaseRow}
 use Rattle.bank_books.specs.declared.row_write.RowWrite.{RowWrite}
 use Rattle.bank_books.specs.declared.row_write.RowWrite.TheVariants as write
 use Rattle.bank_books.specs.declared.signature.Signature.{Signature}
-use Rattle.rule_tests.specs.Denial.{first_denial, is_denial}
+use Rattle.rule_tests.specs.Denial.{first_denial}
 use Rattle.world_reads.specs.PolicyReads.{user_record}
 use Rattle.bank_meaning.specs.Form.{Form, said_by}
 use Rattle.bank_meaning.specs.Moves.{moves_nothing}

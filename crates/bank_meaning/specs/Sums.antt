@@ -1,5 +1,5 @@
 -- What holds along every list of requests: the checks pass, the sums agree, and what is written stays.
-use Rattle.std.specs.Prelude.{ℕ, ℤ, pos, neg_ℤ, ◌≡◌, ◌≤◌, ◌+◌, ◌+ℤ◌, ◌==◌, ◌&&◌, not, ⊤, List, All, map, take, None, if◌then◌else◌}
+use Rattle.std.specs.Prelude.{ℕ, ℤ, neg_ℤ, ◌≡◌, ◌≤◌, ◌+◌, ◌+ℤ◌, ⊤, List, All, map, take, None}
 use Rattle.bank_terms.specs.Limits.{max_key, max_moment}
 use Rattle.std.specs.List.{sum_by}
 use Rattle.keyed_rows.specs.Totals.{total}

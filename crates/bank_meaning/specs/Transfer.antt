@@ -12,8 +12,7 @@ use Rattle.serde_json.specs.Data.{Data, object, member, no_members}
 use Rattle.bank_books.specs.WorldLists.{WorldLists}
 use Rattle.bank_books.specs.declared.signature.Signature.{Signature}
 use Rattle.counter_ops.specs.declared.transfer.Transfer.{Transfer}
-use Rattle.rule_tests.specs.Denial.{is_denial}
-use Rattle.postings.specs.Transfer.{transfer_tests, transfer_effect, transfer_rows, transferred_of}
+use Rattle.postings.specs.Transfer.{transfer_tests, transfer_rows, transferred_of}
 use Rattle.postings.specs.declared.transfer.Transferred.{Transferred}
 use Rattle.std.specs.Prelude.{ℤ, pos, ◌==◌, ◌+ℤ◌, false, if◌then◌else◌}
 use Rattle.postings.specs.Transfer.{given, taken, transfer_changes}

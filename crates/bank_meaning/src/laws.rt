@@ -84,14 +84,15 @@ pub fn amounts_bound()
     ensures { AmountsBound }
 {}
 
-/// Of every World that passes both checks, and of every proper operation, each row that is there after it and was not before says
-/// what was asked. An entry and a cash line bear the user who asked, the moment, and the day that their branch has, with branch,
-/// teller or place, account and amount as asked: a post has no partner and undoes nothing; a transfer takes from the one account and
-/// gives to the other, by legs that are each other's partners; a correction is minus what was brought, and undoes the entry that is
-/// named, and of a transfer the other leg, too. A new account has its home and its floor and nothing in it; the proof of a day that
-/// is closed has the entries of its branch, its balance and the cash of its vault, and the branch is on its next day; a release has
-/// its giver, its beneficiary, its operation and its day, and is unused, and one that is used up is changed in nothing else. No
-/// other row is added.
+/// Of every World that passes both checks, and of every proper operation that is carried out: the rows that were asked for are there
+/// after it and were not before, and each other row was. An entry and a cash line bear the user who asked, the moment, and the day that
+/// their branch has, with branch, teller or place, account and amount as asked: a post adds an entry, with no partner and undoing nothing,
+/// and the line of its cash; a transfer takes from the one account and gives to the other, by legs that are each other's partners; a
+/// correction is minus what was brought, and undoes the entry that is named, and of a transfer the other leg, too; a drawer that is put on
+/// or off and a move of cash have a line at each place, and a count the line of its difference. A new account has its home and its floor
+/// and nothing in it; the proof of a day that is closed has the entries of its branch, its balance and the cash of its vault, and the
+/// branch is on its next day; a release has its giver, its beneficiary, its operation and its day, and is unused, and one that is used up
+/// is changed in nothing else. What is not carried out changes nothing.
 pub fn rows_say_what_was_asked()
     ensures { RowsSayWhatWasAsked }
 {}

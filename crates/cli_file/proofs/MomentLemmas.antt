@@ -9,7 +9,7 @@ use Rattle.sqlite.specs.Held.{Held}
 use Rattle.sqlite.specs.State.{HasCleanDisk}
 use Rattle.money.specs.declared.fault.Fault.{Fault}
 use Rattle.bank_books.specs.WorldLists.{WorldLists}
-use Rattle.bank_meaning.specs.Run.{Marked, step, world_after}
+use Rattle.bank_meaning.specs.Run.{Marked}
 use Rattle.bank_meaning.specs.declared.request.Request.{Request}
 use Rattle.http_heads.specs.declared.fault.MessageFault.{MessageFault}
 use Rattle.store_rows.specs.Status.{Status}

@@ -1,5 +1,5 @@
 -- What a connection holds that was opened over an image.
-use Rattle.std.proofs.Common.{◌≡◌, ◌≢◌, ◌⊎◌, inl, inr, arith, sym, subst, IsTrue, Ok}
+use Rattle.std.proofs.Common.{◌≡◌, ◌≢◌, inl, inr, arith, sym, subst, IsTrue, Ok}
 use Rattle.std.proofs.Math.Logic.{∥∥₁_elim}
 use Rattle.sqlite_disk.specs.declared.Disk.{Ghosts}
 use Rattle.sqlite_disk.specs.declared.Files.{Files}

@@ -1,5 +1,5 @@
 -- What an open finds in a file that says that its pages end in sums.
-use Rattle.std.proofs.Common.{◌≡◌, ◌≢◌, ◌⊎◌, ◌≤◌, ◌<◌, ◌+◌, ◌-◌, ◌*◌, ◌%◌, ◌∙◌, ℕ, true, false, inl, inr, arith, List, [], length, take, slice_index, Option, Some, None, unwrap_or, cond, eqb, refl, sym, ap, ap₂, subst, subst₂, get_or-take, length-take-le, le-ltb, take_all, zero-add}
+use Rattle.std.proofs.Common.{◌≡◌, ◌⊎◌, ◌≤◌, ◌<◌, ◌+◌, ◌-◌, ◌*◌, ◌%◌, ◌∙◌, ℕ, true, false, inl, inr, arith, List, [], length, take, slice_index, Option, Some, None, unwrap_or, cond, eqb, refl, sym, ap, ap₂, subst, subst₂, get_or-take, length-take-le, le-ltb, take_all, zero-add}
 use Rattle.std.proofs.lemmas.List.{get_or_past}
 use Rattle.std.proofs.lemmas.Bool.{cases_Bool, cases_lt}
 use Rattle.std.proofs.Math.Logic.{∥∥₁_elim, ∥∥₁_map}
@@ -11,7 +11,7 @@ use Rattle.sqlite_pool.specs.File.{IsSoundFile, header_in}
 use Rattle.sqlite_pool.specs.Stored.{Adopts, is_among, reserved, sealed, stored_size, trimmed}
 use Rattle.sqlite_pool.specs.StoredLaws.{trimmed_some}
 use Rattle.sqlite_pool.proofs.ProbeLemmas.{reserved_word, size_by_log}
-use Rattle.sqlite_wal.specs.Format.{be32, part}
+use Rattle.sqlite_wal.specs.Format.{part}
 use Rattle.sqlite_wal.specs.PageSize.{size_in_file}
 use Rattle.sqlite_wal.specs.Recovery.{AreFramesOf, Image, IsIgnored, Pages, pages_after}
 use Rattle.sqlite_wal.specs.Recovery as raw
@@ -19,7 +19,7 @@ use Rattle.sqlite_wal.proofs.AppendLemmas.{page_from_pages, some_value}
 use Rattle.sqlite_wal.proofs.PartLemmas.{part_within, slice_index-part}
 use Rattle.sqlite_wal.proofs.RecoveryLemmas.{recovers_once, replays_once}
 use Rattle.sqlite.specs.declared.FileStore.{FileStore}
-use Rattle.sqlite.specs.Files.{HoldsDatabase, file_state}
+use Rattle.sqlite.specs.Files.{HoldsDatabase}
 use Rattle.sqlite.specs.Held.{Held}
 use Rattle.cli_file.specs.Laws.{OpensUndamaged, OpensWithItsSums}
 use Rattle.cli_file.specs.Sums.{EachEndsInSum, EndsInSum, SaysItsSums}

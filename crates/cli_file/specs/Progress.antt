@@ -1,5 +1,5 @@
 -- What is shown on a terminal while an action goes on, where there is one.
-use Rattle.std.specs.Prelude.{◌≡◌, ⊤, ℕ, List, Option, Some, None}
+use Rattle.std.specs.Prelude.{◌≡◌, ℕ, List, Option, Some, None}
 use Rattle.money.specs.Counted.{stream_of}
 use Rattle.money.specs.declared.tallied.Tallied.{Tallied}
 use Rattle.exit_lines.specs.Streams.{IsWritten, stream_at}

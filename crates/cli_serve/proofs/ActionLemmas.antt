@@ -1,5 +1,5 @@
 -- What an action comes to where its file is not opened.
-use Rattle.std.proofs.Common.{◌≡◌, ℕ, List, Err, inr, refl}
+use Rattle.std.proofs.Common.{ℕ, List, Err, inr, refl}
 use Rattle.sqlite_disk.specs.declared.Disk.{Ghosts}
 use Rattle.sqlite_wal.specs.Recovery.{Image}
 use Rattle.exit_lines.specs.Streams.{Stream, Streams}

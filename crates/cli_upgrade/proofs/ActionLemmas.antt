@@ -1,5 +1,5 @@
 -- What an action comes to where its file is not opened.
-use Rattle.std.proofs.Common.{◌≡◌, Err}
+use Rattle.std.proofs.Common.{Err}
 use Rattle.sqlite_disk.specs.declared.Disk.{Ghosts}
 use Rattle.sqlite_wal.specs.Recovery.{Image}
 use Rattle.cli_file.specs.Unopened.{IsUnopenedFor}

@@ -1,4 +1,4 @@
-use Rattle.std.proofs.Common.{◌≤◌, arith, length, refl}
+use Rattle.std.proofs.Common.{◌≤◌, arith, length}
 use Rattle.cli_file.proofs.TextLemmas.{text_known}
 use Rattle.cli_file.proofs.texts.bytes_of.Goals as goal
 

@@ -1,7 +1,4 @@
-use Rattle.std.proofs.Common.{◌≡◌, Option, Some, None, Ok, ap, rules, sym, ◌∙◌}
-use Rattle.bank_terms.specs.declared.rule.Rule.{Rule}
-use Rattle.bank_books.specs.WorldLists.{WorldLists}
-use Rattle.bank_meaning.specs.Executions.{execution_verdict}
+use Rattle.std.proofs.Common.{ap, rules, sym, ◌∙◌}
 use Rattle.bank_meaning.proofs.PolicyLemmas.{leave_refused}
 use Rattle.decide.specs.Slips.{or_full}
 use Rattle.decide.proofs.SlipVerdict.{rule_by_rows}
