@@ -195,7 +195,8 @@ pub fn retries_act_once()
 /// Of every World that passes both checks, and of every list of proper requests with any marks: each is treated rightly
 /// in the World that those before it leave. It is carried out exactly where all of it is held and no rule of the books
 /// denies it, and then by whom and where it has to be; else it changes nothing, and the first rule against it is named.
-/// It moves its amount at most. No one executes what they certify, and only who may commands and has the policy listed.
+/// It moves its amount at most, and adds the rows that were asked for and no others. No one executes what they certify, and only who may
+/// commands and has the policy listed.
 /// The sums agree, the policy is that in force by last word, and what bears a slip acts once and gets its first reply.
 pub fn headline()
     ensures { Headline }
