@@ -35,7 +35,7 @@ pub record IsNew (w after : WorldLists) (x : Execution) (row : RowWrite) : Type 
   pub before : ¬ IsIn w row
   pub bears : Bears w (asker x.who) x.moment row
 
--- a branch that was there, on another of these days alone
+-- a branch that was there, and has nothing new but a day that is among these rows
 pub record IsOnAnotherDay (w : WorldLists) (rows : List RowWrite) (b : Branch) : Type 0 where
   pub before : Branch
   pub there : Contains w.branches before
