@@ -1,4 +1,5 @@
 mod ActionLemmas
+mod AfterCrashLemmas
 pub mod CrashLemmas
 pub mod DayLemmas
 pub mod MomentLemmas

@@ -1,3 +1,4 @@
+pub mod AfterCrash
 pub mod BankDay
 pub mod Checking
 pub mod Crash

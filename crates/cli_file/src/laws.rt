@@ -1,10 +1,13 @@
 //! What holds of every connection to a file that was opened. The functions do nothing; their contracts are the laws.
 
+ghost use Rattle.sqlite_store.specs.FileStore.{view};
+ghost use Rattle.sqlite_trees.specs.View.{IsClean};
+ghost use Rattle.cli_file.specs.AfterCrash.{IsNumbered, OpensAfterCrash, PassesOverEachCrash};
 ghost use Rattle.cli_file.specs.Laws.{OpensAgain, OpensAsItsBank, OpensUndamaged, OpensWithItsSums};
 ghost use Rattle.cli_file.specs.Premises.{PremisesAreMet};
 
-use crate::file::FileConnection;
-use sqlite::Files;
+use crate::file::{BankFile, FileConnection};
+use sqlite::{FileStore, Files};
 use sqlite_disk::Disk;
 
 /// An image of a file and its log that holds the bank of a World opens as that bank: of which the clauses of every action
@@ -20,6 +23,24 @@ pub fn closed_bank_opens_again<C: Disk + Drop, D: Disk + Drop>(
     _conn: &FileConnection<D>,
 )
     ensures { OpensAgain C.Disk _conn.now }
+{}
+
+/// What a crash leaves of a bank in a file, after a day or in its midst, is an image that holds the bank of a World that it may leave,
+/// and opens as that bank, on a disk of the same kind or another. It supposes that the tables are numbered, which the toolchain ensures
+/// of a store where its connection is given up: so this gives one up.
+pub fn opens_after_crash<C: Disk + Drop, D: Disk + Drop>(
+    store: BankFile<C>,
+    _next: &FileConnection<D>,
+) -> FileStore<C>
+    ensures opens { OpensAfterCrash C.Disk _next.now }
+    ensures numbered { IsClean (view result) → IsNumbered store.conn.store }
+{
+    store.into_connection().into_store()
+}
+
+/// What a crash leaves of a bank passes both checks, so that its sums agree.
+pub fn checks_pass_after_crash()
+    ensures { PassesOverEachCrash }
 {}
 
 /// A file that says that its pages end in sums is opened only where each page does, but for pages that its log has.
