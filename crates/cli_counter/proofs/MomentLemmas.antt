@@ -124,7 +124,7 @@ module _ {D C : Type 0} {g : Ghosts D} (users : List ℕ → Option ℕ) (may_gi
           day = day_after n;
           under_way = λ t is. under_way users w (one_list (take n turns)) t.run (file_status (below next.store))
               (one_at_most (cached_status file_status) users may_give n nothing_yet old turns after new had t is)
-              (λ left may. subst (λ ms. IsLeftByCrash w (requests_of users ms) left) (one_more_turn n turns t is) ((day_after (suc n)).leaves left may));
+              (λ left may. subst (λ ms. IsLeftByCrash w (requests_of users ms) left) (one_more_turn n turns t is) ((day_after (suc n)).leaves left may)) (day_after (suc n)).whole;
         }
 
   moments_at : (place : Place) (output_old output_new : Stream) (clock : C) (new : At (Cached (BankStore D g)) C) (result : Result Unit ActionFault)

@@ -43,8 +43,8 @@ opens_after_crash f next = record {
   day = λ users w ms ended numbered day. leaves_images next ended.conn.store _ numbered (λ trees may.
       let is = day.whole trees may in
       (is.0, is.1, (day.leaves is.0 (trees, may, is.1), day.sent_again is.0 (trees, may, is.1))));
-  under_way = λ users w over more store numbered whole way. leaves_images next store.conn.store _ numbered (λ trees may.
-      let is = whole trees may in
+  under_way = λ users w over more store numbered way. leaves_images next store.conn.store _ numbered (λ trees may.
+      let is = way.whole trees may in
       (is.0, is.1, (way.leaves is.0 (trees, may, is.1), way.sent_again is.0 (trees, may, is.1))));
   unclosed = λ w requests rest numbered clean leaves. leaves_images next rest (IsLeftByCrash w requests) numbered (λ trees may. leaves clean trees may);
 }

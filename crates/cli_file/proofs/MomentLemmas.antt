@@ -65,14 +65,15 @@ once_within w over more left (inr (m, one, is)) = acts_once_within w over m.requ
 
 -- from what a crash leaves after the message that is under way
 pub under_way : (users : List ℕ → Option ℕ) (w : WorldLists) (over more : List MarkedMessage) (next : Status) → IsOneAtMost more
-    → ((left : WorldLists) → next.may_leave left → IsLeftByCrash w (requests_of users (over ++ more)) left) → IsUnderWay users w over more next
-under_way users w over more next one after =
+    → ((left : WorldLists) → next.may_leave left → IsLeftByCrash w (requests_of users (over ++ more)) left) → next.leaves_a_world → IsUnderWay users w over more next
+under_way users w over more next one after whole =
     let within : (left : WorldLists) → next.may_leave left → IsLeftWithin w (requests_of users over) (requests_of users more) left =
     λ left may. within_requests w (requests_of users over) (requests_of users more) left (one_request users more one)
     (subst (λ rs. IsLeftByCrash w rs left) (requests_joined users over more) (after left may)) in
     record {
       leaves = within;
       sent_again = λ left may. once_within w (requests_of users over) (requests_of users more) left (within left may);
+      whole = whole;
     }
 
 -- ---- messages one after another
@@ -143,7 +144,7 @@ module _ {D : Type 0} {g : Ghosts D} (users : List ℕ → Option ℕ) (opened :
       begins = over;
       day = day_after;
       under_way = λ n m at. under_way users w (take n ms) (m ∷ []) (file_status (below (state_after (cached_status file_status) users (suc n) began ms ended is))) (inr (m, refl))
-          (λ left may. subst (λ ns. IsLeftByCrash w (requests_of users ns) left) (one_more_message n ms m at) ((day_after (suc n)).leaves left may));
+          (λ left may. subst (λ ns. IsLeftByCrash w (requests_of users ns) left) (one_more_message n ms m at) ((day_after (suc n)).leaves left may)) (day_after (suc n)).whole;
     }
 
   -- there were none

@@ -43,8 +43,7 @@ pub record OpensAfterCrash {C D : Type 0} (f : Ghosts C) {g : Ghosts D} (next : 
   pub day : (users : List ℕ → Option ℕ) (w : WorldLists) (ms : List MarkedMessage) (ended : BankStore C f) → IsNumbered ended.conn.store → IsBankDay users w ms (λ v. ⊤) (file_status ended)
       → LeavesImages ended.conn.store next (λ left. IsLeftByCrash w (requests_of users ms) left × ActsOnceOverCrash w (requests_of users ms) left)
   -- while a message is under way, too,
-  pub under_way : (users : List ℕ → Option ℕ) (w : WorldLists) (over more : List MarkedMessage) (store : BankStore C f) → IsNumbered store.conn.store → (file_status store).leaves_a_world
-      → IsUnderWay users w over more (file_status store)
+  pub under_way : (users : List ℕ → Option ℕ) (w : WorldLists) (over more : List MarkedMessage) (store : BankStore C f) → IsNumbered store.conn.store → IsUnderWay users w over more (file_status store)
       → LeavesImages store.conn.store next (λ left. IsLeftWithin w (requests_of users over) (requests_of users more) left × ActsOnceOverCrash w (requests_of users over) left)
   -- and where the file could not be closed.
   pub unclosed : (w : WorldLists) (requests : List Marked) (rest : FileStore C f) → IsNumbered rest → IsClean (view rest) → LeavesOnly rest (IsLeftByCrash w requests)

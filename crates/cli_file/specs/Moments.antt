@@ -20,6 +20,8 @@ pub record IsUnderWay (users : List ℕ → Option ℕ) (w : WorldLists) (over u
   pub leaves : (left : WorldLists) → next.may_leave left → IsLeftWithin w (requests_of users over) (requests_of users under_way) left
   -- What bears a slip acts once, also where it is sent again to that.
   pub sent_again : (left : WorldLists) → next.may_leave left → ActsOnceOverCrash w (requests_of users over) left
+  -- Whatever it leaves is a World, and no part of one.
+  pub whole : next.leaves_a_world
 
 -- The moments of a day whose messages were answered one after another, from this World on.
 pub record AreMoments {S : Type 0} (status : S → Status) (users : List ℕ → Option ℕ) (w : WorldLists) (ms : List MarkedMessage) (first : S) : Type 0 where

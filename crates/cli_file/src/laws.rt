@@ -1,4 +1,5 @@
-//! What holds of every connection to a file that was opened. The functions do nothing; their contracts are the laws.
+//! What holds of every connection to a file that was opened, and of what a crash leaves of one. The functions do nothing, but for one that
+//! gives a connection up; their contracts are the laws.
 
 ghost use Rattle.sqlite_store.specs.FileStore.{view};
 ghost use Rattle.sqlite_trees.specs.View.{IsClean};
@@ -26,8 +27,8 @@ pub fn closed_bank_opens_again<C: Disk + Drop, D: Disk + Drop>(
 {}
 
 /// What a crash leaves of a bank in a file, after a day or in its midst, is an image that holds the bank of a World that it may leave,
-/// and opens as that bank, on a disk of the same kind or another. It supposes that the tables are numbered, which the toolchain ensures
-/// of a store where its connection is given up: so this gives one up.
+/// and opens as that bank, on a disk of the same kind or another. It supposes that the tables are numbered. The toolchain ensures that
+/// of a connection only as it is given up: so this function gives one up.
 pub fn opens_after_crash<C: Disk + Drop, D: Disk + Drop>(
     store: BankFile<C>,
     _next: &FileConnection<D>,
