@@ -1,5 +1,5 @@
 -- Connections served at once over the bank that was found in a file.
-use Rattle.std.proofs.Common.{◌≡◌, ℕ, List, [], Option, Some, None, Result, inl, inr, sym, subst}
+use Rattle.std.proofs.Common.{◌≡◌, ℕ, Bool, List, [], Option, Some, None, Result, inl, inr, sym, subst}
 use Rattle.sqlite_disk.specs.declared.Disk.{Ghosts}
 use Rattle.sqlite_disk.specs.declared.Files.{Files}
 use Rattle.sqlite.specs.declared.FileStore.{FileStore}
@@ -9,6 +9,7 @@ use Rattle.store_cached.specs.Standing.{cached_status}
 use Rattle.counter_api.specs.Day.{IsDay}
 use Rattle.counter_api.proofs.DayLemmas.{day_of_none}
 use Rattle.counter_loop.specs.Turns.{At}
+use Rattle.counter_loop.specs.Ways.{Ways, is_unreported}
 use Rattle.counter_places.specs.declared.place.Place.{Place}
 use Rattle.exit_lines.specs.Streams.{Stream}
 use Rattle.cli_file.specs.Files.{BankStore, IsClosed, IsFound, IsNotClosed, file_status}
@@ -19,14 +20,14 @@ use Rattle.cli_counter.specs.Attending.{AreReplied, AreRepliedAt, IsAttendedAt, 
 use Rattle.cli_counter.proofs.MomentLemmas.{moments_had}
 use Rattle.cli_counter.specs.InFile.{IsAttendedAndClosed, IsAttendedAndUnclosed, IsAttendedOverFile, end_of_counter}
 
-module _ {S C : Type 0} (status : S → Status) (users : List ℕ → Option ℕ) (may_give : C → ℕ → C → Type 0) (place : Place) (output_old output_new : Stream) where
-  day_at : (old new : At S C) (result : Result Unit ActionFault) (is : IsAttendedAt status users may_give place output_old output_new old new result)
-      → IsDay users (status old.store) (status new.store) (messages_at status users may_give place output_old output_new old new result is)
+module _ {S C : Type 0} (begins : Option Ways → Bool) (status : S → Status) (users : List ℕ → Option ℕ) (may_give : C → ℕ → C → Type 0) (place : Place) (output_old output_new : Stream) where
+  day_at : (old new : At S C) (result : Result Unit ActionFault) (is : IsAttendedAt begins status users may_give place output_old output_new old new result)
+      → IsDay users (status old.store) (status new.store) (messages_at begins status users may_give place output_old output_new old new result is)
   day_at old new result (inl is) = is.1.attended.day
   day_at old new result (inr is) = subst (λ (at : At S C). IsDay users (status old.store) (status at.store) []) (sym is.1) (day_of_none users (status old.store))
 
-  replied_at : (old new : At S C) (result : Result Unit ActionFault) (is : IsAttendedAt status users may_give place output_old output_new old new result)
-      → Tells (status old.store) (status new.store) (AreRepliedAt status users may_give place output_old output_new old new result is)
+  replied_at : (old new : At S C) (result : Result Unit ActionFault) (is : IsAttendedAt begins status users may_give place output_old output_new old new result)
+      → Tells (status old.store) (status new.store) (AreRepliedAt begins status users may_give place output_old output_new old new result is)
   replied_at old new result (inl is) = is.1.attended.replied
   replied_at old new result (inr is) = λ clean w held. tt
 
@@ -35,7 +36,7 @@ module _ {S C : Type 0} (status : S → Status) (users : List ℕ → Option ℕ
       → IsDay users (status old.store) (status new.store) (messages_had status users may_give place output_old output_new old new result is)
   day_had old new result (inl is) =
       day_uncovered status users is.began is.ended old.store new.store _ is.over is.uncovered is.empty is.unread
-      (day_at (cached_status status) users may_give place output_old output_new
+      (day_at is_unreported (cached_status status) users may_give place output_old output_new
       (record { store = is.began; clock = old.clock }) (record { store = is.ended; clock = new.clock }) result is.attended)
   day_had old new result (inr is) = subst (λ (at : At S C). IsDay users (status old.store) (status at.store) []) (sym is.1) (day_of_none users (status old.store))
 
@@ -43,7 +44,7 @@ module _ {S C : Type 0} (status : S → Status) (users : List ℕ → Option ℕ
       → Tells (status old.store) (status new.store) (AreReplied status users may_give place output_old output_new old new result is)
   replied_had old new result (inl is) =
       tells_below status is.began is.ended old.store new.store is.over is.uncovered is.empty is.unread _
-      (replied_at (cached_status status) users may_give place output_old output_new
+      (replied_at is_unreported (cached_status status) users may_give place output_old output_new
       (record { store = is.began; clock = old.clock }) (record { store = is.ended; clock = new.clock }) result is.attended)
   replied_had old new result (inr is) = λ clean w held. tt
 

@@ -1,5 +1,5 @@
 -- The moments of a day, from its turns.
-use Rattle.std.proofs.Common.{◌≡◌, ℕ, zero, suc, inl, inr, List, [], ◌∷◌, ◌++◌, append-nil, append_assoc, drop, take, Option, Some, None, Result, refl, sym, ap, subst, ◌∙◌}
+use Rattle.std.proofs.Common.{◌≡◌, ℕ, zero, suc, Bool, inl, inr, List, [], ◌∷◌, ◌++◌, append-nil, append_assoc, drop, take, Option, Some, None, Result, refl, sym, ap, subst, ◌∙◌}
 use Rattle.std.specs.Prelude.{slice_get}
 use Rattle.sqlite_disk.specs.declared.Disk.{Ghosts}
 use Rattle.sqlite_wal.specs.Recovery.{Image}
@@ -14,12 +14,14 @@ use Rattle.store_cached.specs.declared.cached.Cached.{Cached}
 use Rattle.exit_lines.specs.Streams.{Stream}
 use Rattle.counter_api.specs.Run.{requests_of}
 use Rattle.counter_loop.specs.Attended.{AreAnswered, AreAttended}
-use Rattle.counter_loop.specs.Turns.{AreTurns, At, Boxes, IsLast, Made, nothing, nothing_yet, one_list, with_turn, without}
+use Rattle.counter_loop.specs.Turns.{AreTurns, At, Box, Boxes, IsLast, Made, nothing_yet, one_list, with_box}
+use Rattle.counter_loop.specs.Ways.{Ways, is_unreported}
 use Rattle.counter_loop.proofs.DueLemmas.{its_replies}
-use Rattle.counter_loop.proofs.HandedLemmas.{its_bytes}
+use Rattle.counter_loop.proofs.AttendedLemmas.{since_now}
+use Rattle.counter_loop.proofs.HandedLemmas.{its_bytes, its_stream}
 use Rattle.counter_loop.proofs.ListLemmas.{all_on}
 use Rattle.counter_loop.proofs.PartLemmas.{its_messages}
-use Rattle.counter_loop.proofs.StepLemmas.{as_steps}
+use Rattle.counter_loop.proofs.StepLemmas.{as_steps, last_of}
 use Rattle.counter_places.specs.declared.place.Place.{Place}
 use Rattle.cli_file.specs.BankDay.{IsBankDay}
 use Rattle.cli_file.specs.Crash.{IsLeftByCrash}
@@ -31,38 +33,32 @@ use Rattle.cli_file.proofs.MomentLemmas.{IsOneAtMost, under_way}
 use Rattle.cli_counter.specs.Attending.{IsAttendedAt, IsAttendedBehindCache}
 use Rattle.cli_counter.specs.Moments.{AreMoments, AreMomentsAt, IsMoment, state_after}
 
-module _ {S C : Type 0} (status : S → Status) (users : List ℕ → Option ℕ) (may_give : C → ℕ → C → Type 0) where
+module _ {S C : Type 0} (begins : Option Ways → Bool) (status : S → Status) (users : List ℕ → Option ℕ) (may_give : C → ℕ → C → Type 0) where
   -- the first turns, and those after them
-  pub divided : (n : ℕ) (boxes : Boxes) (old : At S C) (turns : List Made) (after : Boxes) (new : At S C) (had : AreTurns status users may_give boxes old turns after new)
-      → (between : Boxes) × AreTurns status users may_give boxes old (take n turns) between (state_after status users may_give n boxes old turns after new had)
-      × AreTurns status users may_give between (state_after status users may_give n boxes old turns after new had) (drop n turns) after new
+  pub divided : (n : ℕ) (boxes : Boxes) (old : At S C) (turns : List Made) (after : Boxes) (new : At S C) (had : AreTurns begins status users may_give boxes old turns after new)
+      → (between : Boxes) × AreTurns begins status users may_give boxes old (take n turns) between (state_after begins status users may_give n boxes old turns after new had)
+      × AreTurns begins status users may_give between (state_after begins status users may_give n boxes old turns after new had) (drop n turns) after new
   divided zero boxes old [] after new had = (boxes, (refl, refl), had)
   divided zero boxes old (t ∷ ts) after new had = (boxes, (refl, refl), had)
   divided (suc n) boxes old [] after new had = (after, had, (refl, refl))
-  divided (suc n) boxes old (t ∷ ts) after new (before, there, left, waited, mid, inl (goes, rest)) =
-      let parts = divided n (with_turn boxes t left) mid ts after new rest in
-      (parts.0, (before, there, left, waited, mid, inl (goes, parts.1)), parts.2)
-  divided (suc n) boxes old (t ∷ ts) after new (before, there, left, waited, mid, inr (last, rest)) =
-      let parts = divided n (without boxes t) mid ts after new rest in
-      (parts.0, (before, there, left, waited, mid, inr (last, parts.1)), parts.2)
+  divided (suc n) boxes old (t ∷ ts) after new (before, there, next, mid, turn, rest) =
+      let parts = divided n (with_box boxes t.who next) mid ts after new rest in
+      (parts.0, (before, there, next, mid, turn, parts.1), parts.2)
 
   -- a turn has one message at most
   one_run : (before : List ℕ) (old new : At S C) (t : Made) → IsLast status users may_give before old new t → IsOneAtMost t.run
-  one_run before old new t (inl (inl (quiet, unsent, unrefused))) = inl quiet.no_run
-  one_run before old new t (inl (inr a)) = inr (_, a.run)
+  one_run before old new t (inl (inl (quiet, part, unsent, unrefused))) = inl quiet.no_run
+  one_run before old new t (inl (inr (a, goes))) = inr (_, a.run)
   one_run before old new t (inr (inl (quiet, refusal, begins))) = inl quiet.no_run
   one_run before old new t (inr (inr (inl a))) = inr (_, a.run)
   one_run before old new t (inr (inr (inr b))) = inl b.no_run
 
-  pub one_at_most : (n : ℕ) (boxes : Boxes) (old : At S C) (turns : List Made) (after : Boxes) (new : At S C) → AreTurns status users may_give boxes old turns after new
+  pub one_at_most : (n : ℕ) (boxes : Boxes) (old : At S C) (turns : List Made) (after : Boxes) (new : At S C) → AreTurns begins status users may_give boxes old turns after new
       → (t : Made) → slice_get turns n ≡ Some t → IsOneAtMost t.run
   one_at_most n boxes old [] after new had t is = absurd cc
-  one_at_most zero boxes old (x ∷ ts) after new (before, there, left, waited, mid, inl (goes, rest)) t is =
-      let same : x ≡ t = cc in subst (λ (y : Made). IsOneAtMost y.run) same (one_run before.held old mid x (inl goes))
-  one_at_most zero boxes old (x ∷ ts) after new (before, there, left, waited, mid, inr (last, rest)) t is =
-      let same : x ≡ t = cc in subst (λ (y : Made). IsOneAtMost y.run) same (one_run before.held old mid x last)
-  one_at_most (suc n) boxes old (x ∷ ts) after new (before, there, left, waited, mid, inl (goes, rest)) t is = one_at_most n (with_turn boxes x left) mid ts after new rest t is
-  one_at_most (suc n) boxes old (x ∷ ts) after new (before, there, left, waited, mid, inr (last, rest)) t is = one_at_most n (without boxes x) mid ts after new rest t is
+  one_at_most zero boxes old (x ∷ ts) after new (before, there, next, mid, turn, rest) t is =
+      let same : x ≡ t = cc in subst (λ (y : Made). IsOneAtMost y.run) same (one_run before.held old mid x (last_of begins status users may_give before next old mid x turn))
+  one_at_most (suc n) boxes old (x ∷ ts) after new (before, there, next, mid, turn, rest) t is = one_at_most n (with_box boxes x.who next) mid ts after new rest t is
 
 one_alone : (ts : List Made) (x : Made) → x.run ++ one_list (take zero ts) ≡ x.run
 one_alone [] x = append-nil x.run
@@ -77,58 +73,59 @@ one_more_turn (suc n) (x ∷ ts) t is = ap (λ ms. x.run ++ ms) (one_more_turn n
 module _ {D C : Type 0} {g : Ghosts D} (users : List ℕ → Option ℕ) (may_give : C → ℕ → C → Type 0) (opened : Held (FileStore D g)) (begun : BankStore D g) (found : IsFound opened begun)
     (began : Cached (BankStore D g)) (over : below began ≡ begun) (empty : remembered began ≡ []) (unread : known_version began ≡ None) (image : Image) (w : WorldLists) (of : IsBankImage image w) (from : IsOpenedFrom image opened) where
   -- the turns so far, as a day of the file
-  day_so_far : (clock : C) (turns : List Made) (between : Boxes) (now : At (Cached (BankStore D g)) C) → AreTurns (cached_status file_status) users may_give nothing_yet (record { store = began; clock = clock }) turns between now
+  day_so_far : (clock : C) (turns : List Made) (between : Boxes) (now : At (Cached (BankStore D g)) C) → AreTurns is_unreported (cached_status file_status) users may_give nothing_yet (record { store = began; clock = clock }) turns between now
       → HasCleanDisk (file_state (below now.store).conn) → IsBankDay users w (one_list turns) (AreAnswered users turns) (file_status (below now.store))
   day_so_far clock turns between now had clean =
       let old : At (Cached (BankStore D g)) C = record { store = began; clock = clock } in
-      let day = (all_on (cached_status file_status) users may_give old now turns (as_steps (cached_status file_status) users may_give nothing_yet old now between turns had)).day in
+      let day = (all_on (cached_status file_status) users may_give old now turns (as_steps is_unreported (cached_status file_status) users may_give nothing_yet old now between turns had)).day in
       bank_day users opened begun (below now.store) (one_list turns) found
       (day_uncovered file_status users began now.store begun (below now.store) (one_list turns) over refl empty unread day)
       (AreAnswered users turns)
       (tells_below file_status began now.store begun (below now.store) over refl empty unread (AreAnswered users turns)
-      (λ h v held k. its_replies (cached_status file_status) users may_give k nothing_yet old now between turns had h v held))
+      (λ h v held k. its_replies is_unreported (cached_status file_status) users may_give k nothing_yet old now between turns had h v held))
       image w of from clean
 
-  module _ (clock : C) (turns : List Made) (after : Boxes) (new : At (Cached (BankStore D g)) C) (had : AreTurns (cached_status file_status) users may_give nothing_yet (record { store = began; clock = clock }) turns after new)
+  module _ (clock : C) (turns : List Made) (after : Boxes) (new : At (Cached (BankStore D g)) C) (had : AreTurns is_unreported (cached_status file_status) users may_give nothing_yet (record { store = began; clock = clock }) turns after new)
       (clean : HasCleanDisk (file_state (below new.store).conn)) where
     -- the first n turns
     day_after : (n : ℕ) → IsBankDay users w (one_list (take n turns)) (AreAnswered users (take n turns))
-        (file_status (below (state_after (cached_status file_status) users may_give n nothing_yet (record { store = began; clock = clock }) turns after new had).store))
+        (file_status (below (state_after is_unreported (cached_status file_status) users may_give n nothing_yet (record { store = began; clock = clock }) turns after new had).store))
     day_after n =
         let old : At (Cached (BankStore D g)) C = record { store = began; clock = clock } in
-        let now = state_after (cached_status file_status) users may_give n nothing_yet old turns after new had in
-        let parts = divided (cached_status file_status) users may_give n nothing_yet old turns after new had in
-        let rest = all_on (cached_status file_status) users may_give now new (drop n turns) (as_steps (cached_status file_status) users may_give parts.0 now new after (drop n turns) parts.2) in
+        let now = state_after is_unreported (cached_status file_status) users may_give n nothing_yet old turns after new had in
+        let parts = divided is_unreported (cached_status file_status) users may_give n nothing_yet old turns after new had in
+        let rest = all_on (cached_status file_status) users may_give now new (drop n turns) (as_steps is_unreported (cached_status file_status) users may_give parts.0 now new after (drop n turns) parts.2) in
         day_so_far clock (take n turns) parts.0 now parts.1 (rest.day.honest clean)
 
     pub moment_of : (n : ℕ) → IsMoment g users may_give w turns n (record { store = began; clock = clock })
-        (state_after (cached_status file_status) users may_give n nothing_yet (record { store = began; clock = clock }) turns after new had)
-        (state_after (cached_status file_status) users may_give (suc n) nothing_yet (record { store = began; clock = clock }) turns after new had)
+        (state_after is_unreported (cached_status file_status) users may_give n nothing_yet (record { store = began; clock = clock }) turns after new had)
+        (state_after is_unreported (cached_status file_status) users may_give (suc n) nothing_yet (record { store = began; clock = clock }) turns after new had)
     moment_of n =
         let old : At (Cached (BankStore D g)) C = record { store = began; clock = clock } in
-        let now = state_after (cached_status file_status) users may_give n nothing_yet old turns after new had in
-        let next = state_after (cached_status file_status) users may_give (suc n) nothing_yet old turns after new had in
-        let parts = divided (cached_status file_status) users may_give n nothing_yet old turns after new had in
-        let so_far : AreAttended (cached_status file_status) users may_give old now = record {
+        let now = state_after is_unreported (cached_status file_status) users may_give n nothing_yet old turns after new had in
+        let next = state_after is_unreported (cached_status file_status) users may_give (suc n) nothing_yet old turns after new had in
+        let parts = divided is_unreported (cached_status file_status) users may_give n nothing_yet old turns after new had in
+        let so_far : AreAttended is_unreported (cached_status file_status) users may_give old now = record {
           turns = take n turns;
           after = parts.0;
           had = parts.1;
-          day = (all_on (cached_status file_status) users may_give old now (take n turns) (as_steps (cached_status file_status) users may_give nothing_yet old now parts.0 (take n turns) parts.1)).day;
-          messages = λ k. its_messages (cached_status file_status) users may_give k nothing nothing_yet old now parts.0 (take n turns) refl parts.1;
-          replied = λ h v held k. its_replies (cached_status file_status) users may_give k nothing_yet old now parts.0 (take n turns) parts.1 h v held;
-          handed = λ k. its_bytes (cached_status file_status) users may_give k nothing nothing_yet old now parts.0 (take n turns) refl parts.1;
+          day = (all_on (cached_status file_status) users may_give old now (take n turns) (as_steps is_unreported (cached_status file_status) users may_give nothing_yet old now parts.0 (take n turns) parts.1)).day;
+          messages = λ k. its_messages is_unreported (cached_status file_status) users may_give k [] nothing_yet old now parts.0 (take n turns) refl parts.1;
+          replied = λ h v held k. its_replies is_unreported (cached_status file_status) users may_give k nothing_yet old now parts.0 (take n turns) parts.1 h v held;
+          handed = λ k. its_bytes is_unreported (cached_status file_status) users may_give k [] nothing_yet old now parts.0 (take n turns) refl parts.1;
+          streams = λ k box is. its_stream is_unreported (cached_status file_status) users may_give k box box.ways box.waits old now parts.0 (take n turns) is (since_now box) parts.1;
         } in
         record {
           attended = so_far;
           first = refl;
           day = day_after n;
           under_way = λ t is. under_way users w (one_list (take n turns)) t.run (file_status (below next.store))
-              (one_at_most (cached_status file_status) users may_give n nothing_yet old turns after new had t is)
+              (one_at_most is_unreported (cached_status file_status) users may_give n nothing_yet old turns after new had t is)
               (λ left may. subst (λ ms. IsLeftByCrash w (requests_of users ms) left) (one_more_turn n turns t is) ((day_after (suc n)).leaves left may)) (day_after (suc n)).whole;
         }
 
   moments_at : (place : Place) (output_old output_new : Stream) (clock : C) (new : At (Cached (BankStore D g)) C) (result : Result Unit ActionFault)
-      → (is : IsAttendedAt (cached_status file_status) users may_give place output_old output_new (record { store = began; clock = clock }) new result)
+      → (is : IsAttendedAt is_unreported (cached_status file_status) users may_give place output_old output_new (record { store = began; clock = clock }) new result)
       → HasCleanDisk (file_state (below new.store).conn) → AreMomentsAt g users may_give place output_old output_new (record { store = began; clock = clock }) new result is w
   moments_at place output_old output_new clock new result (inl is) clean = λ n. moment_of clock is.1.attended.turns is.1.attended.after new is.1.attended.had clean n
   moments_at place output_old output_new clock new result (inr is) clean = tt

@@ -1,5 +1,5 @@
 -- Connections that came to a place, served at once over any store.
-use Rattle.std.specs.Prelude.{◌≡◌, ◌⊎◌, ℕ, ⊤, List, [], Option, None, Result, Err, IfErr, IsErrAnd}
+use Rattle.std.specs.Prelude.{◌≡◌, ◌⊎◌, ℕ, ⊤, Bool, List, [], Option, None, Result, Err, IfErr, IsErrAnd}
 use Rattle.std.proofs.Common.{inl, inr}
 use Rattle.bank_books.specs.WorldLists.{WorldLists}
 use Rattle.store_rows.specs.Status.{Status}
@@ -11,14 +11,15 @@ use Rattle.counter_places.specs.Places.{listening_line}
 use Rattle.counter_places.specs.declared.place.Place.{Place}
 use Rattle.counter_loop.specs.Attended.{AreAnswered, AreAttended}
 use Rattle.counter_loop.specs.Turns.{At, one_list}
+use Rattle.counter_loop.specs.Ways.{Ways, is_unreported}
 use Rattle.cli_file.specs.declared.fault.ActionFault.{ActionFault}
 use Rattle.cli_file.specs.declared.fault.ActionFault.TheVariants as fault
 use Rattle.cli_counter.specs.Faults.{IsOfCounter}
 
-module _ {S C : Type 0} (status : S → Status) (users : List ℕ → Option ℕ) (may_give : C → ℕ → C → Type 0) where
+module _ {S C : Type 0} (begins : Option Ways → Bool) (status : S → Status) (users : List ℕ → Option ℕ) (may_give : C → ℕ → C → Type 0) where
   -- The connections that came were served at once. A fault says that the place failed, or that memory was refused.
   pub record AreHad (old new : At S C) (result : Result Unit ActionFault) : Type 0 where
-    pub attended : AreAttended status users may_give old new
+    pub attended : AreAttended begins status users may_give old new
     pub fault : IfErr result IsOfCounter
 
   -- The place was printed and they were served so. Or it could not be acquired, or not printed, and nothing was served.
@@ -27,7 +28,7 @@ module _ {S C : Type 0} (status : S → Status) (users : List ℕ → Option ℕ
       (GetsAll output_old output_new (listening_line place) × AreHad old new result)
       ⊎ (((output_new ≡ output_old) ⊎ GetsBeginning output_old output_new (listening_line place)) × (new ≡ old) × IsErrAnd result IsOfCounter)
 
-  -- the messages of all connections, in the order in which they became whole
+  -- the messages of all connections, in the order in which turns took them
   abbrev pub messages_at : (place : Place) (output_old output_new : Stream) (old new : At S C) (result : Result Unit ActionFault) → IsAttendedAt place output_old output_new old new result → List MarkedMessage
   messages_at place output_old output_new old new result (inl is) = one_list is.1.attended.turns
   messages_at place output_old output_new old new result (inr is) = []
@@ -47,7 +48,7 @@ module _ {S C : Type 0} (status : S → Status) (users : List ℕ → Option ℕ
     pub over : below began ≡ old.store
     pub empty : remembered began ≡ []
     pub unread : known_version began ≡ None
-    pub attended : IsAttendedAt (cached_status status) users may_give place output_old output_new
+    pub attended : IsAttendedAt is_unreported (cached_status status) users may_give place output_old output_new
         (record { store = began; clock = old.clock }) (record { store = ended; clock = new.clock }) result
     pub uncovered : new.store ≡ below ended
 
@@ -60,13 +61,13 @@ module _ {S C : Type 0} (status : S → Status) (users : List ℕ → Option ℕ
   abbrev pub messages_had : (place : Place) (output_old output_new : Stream) (old new : At S C) (result : Result Unit ActionFault) → IsAttendedBehindCache place output_old output_new old new result
       → List MarkedMessage
   messages_had place output_old output_new old new result (inl is) =
-      messages_at (cached_status status) users may_give place output_old output_new
+      messages_at is_unreported (cached_status status) users may_give place output_old output_new
       (record { store = is.began; clock = old.clock }) (record { store = is.ended; clock = new.clock }) result is.attended
   messages_had place output_old output_new old new result (inr is) = []
 
   abbrev pub AreReplied : (place : Place) (output_old output_new : Stream) (old new : At S C) (result : Result Unit ActionFault) → IsAttendedBehindCache place output_old output_new old new result
       → WorldLists → Type 0
   AreReplied place output_old output_new old new result (inl is) w =
-      AreRepliedAt (cached_status status) users may_give place output_old output_new
+      AreRepliedAt is_unreported (cached_status status) users may_give place output_old output_new
       (record { store = is.began; clock = old.clock }) (record { store = is.ended; clock = new.clock }) result is.attended w
   AreReplied place output_old output_new old new result (inr is) w = ⊤

@@ -1,5 +1,5 @@
 -- The moments of a day on which many connections were served at once: after each of its turns, and while one is under way.
-use Rattle.std.specs.Prelude.{◌≡◌, ⊤, ℕ, zero, suc, List, [], ◌∷◌, take, Option, Some, slice_get, Result}
+use Rattle.std.specs.Prelude.{◌≡◌, ⊤, ℕ, zero, suc, Bool, List, [], ◌∷◌, take, Option, Some, slice_get, Result}
 use Rattle.std.proofs.Common.{inl, inr}
 use Rattle.sqlite_disk.specs.declared.Disk.{Ghosts}
 use Rattle.bank_books.specs.WorldLists.{WorldLists}
@@ -8,7 +8,8 @@ use Rattle.store_cached.specs.Standing.{below, cached_status}
 use Rattle.store_cached.specs.declared.cached.Cached.{Cached}
 use Rattle.exit_lines.specs.Streams.{Stream}
 use Rattle.counter_loop.specs.Attended.{AreAnswered, AreAttended}
-use Rattle.counter_loop.specs.Turns.{AreTurns, At, Boxes, Made, nothing_yet, one_list, with_turn, without}
+use Rattle.counter_loop.specs.Turns.{AreTurns, At, Boxes, Made, nothing_yet, one_list, with_box}
+use Rattle.counter_loop.specs.Ways.{Ways, is_unreported}
 use Rattle.counter_places.specs.declared.place.Place.{Place}
 use Rattle.cli_file.specs.BankDay.{IsBankDay}
 use Rattle.cli_file.specs.Files.{BankStore, file_status}
@@ -16,31 +17,30 @@ use Rattle.cli_file.specs.Moments.{IsUnderWay}
 use Rattle.cli_file.specs.declared.fault.ActionFault.{ActionFault}
 use Rattle.cli_counter.specs.Attending.{IsAttendedAt, IsAttendedBehindCache}
 
-module _ {S C : Type 0} (status : S → Status) (users : List ℕ → Option ℕ) (may_give : C → ℕ → C → Type 0) where
+module _ {S C : Type 0} (begins : Option Ways → Bool) (status : S → Status) (users : List ℕ → Option ℕ) (may_give : C → ℕ → C → Type 0) where
   -- the store and the clock after the first n turns
-  abbrev pub state_after : (n : ℕ) (boxes : Boxes) (old : At S C) (turns : List Made) (after : Boxes) (new : At S C) → AreTurns status users may_give boxes old turns after new → At S C
+  abbrev pub state_after : (n : ℕ) (boxes : Boxes) (old : At S C) (turns : List Made) (after : Boxes) (new : At S C) → AreTurns begins status users may_give boxes old turns after new → At S C
   state_after zero boxes old turns after new had = old
   state_after (suc n) boxes old [] after new had = new
-  state_after (suc n) boxes old (t ∷ ts) after new (before, there, left, waited, mid, inl (goes, rest)) = state_after n (with_turn boxes t left) mid ts after new rest
-  state_after (suc n) boxes old (t ∷ ts) after new (before, there, left, waited, mid, inr (last, rest)) = state_after n (without boxes t) mid ts after new rest
+  state_after (suc n) boxes old (t ∷ ts) after new (before, there, next, mid, turn, rest) = state_after n (with_box boxes t.who next) mid ts after new rest
 
 module _ {D C : Type 0} (g : Ghosts D) (users : List ℕ → Option ℕ) (may_give : C → ℕ → C → Type 0) where
   -- The first n turns are over. All that is said of connections served at once is said of these alone: their messages are a day of the file,
-  -- with what a crash leaves after them; and each outbox got the replies to its own, of which a beginning has gone out. While the next turn is
+  -- with what a crash leaves after them; and each outbox got the replies to its own, of which a beginning has gone out to its stream. While the next turn is
   -- under way, a crash leaves the same, or the World with the request of that turn carried out.
   pub record IsMoment (w : WorldLists) (turns : List Made) (n : ℕ) (old now next : At (Cached (BankStore D g)) C) : Type 0 where
-    pub attended : AreAttended (cached_status file_status) users may_give old now
+    pub attended : AreAttended is_unreported (cached_status file_status) users may_give old now
     pub first : attended.turns ≡ take n turns
     pub day : IsBankDay users w (one_list (take n turns)) (AreAnswered users (take n turns)) (file_status (below now.store))
     pub under_way : (t : Made) → slice_get turns n ≡ Some t → IsUnderWay users w (one_list (take n turns)) t.run (file_status (below next.store))
 
   -- each moment, from this World on
   abbrev pub AreMomentsAt : (place : Place) (output_old output_new : Stream) (old new : At (Cached (BankStore D g)) C) (result : Result Unit ActionFault)
-      → IsAttendedAt (cached_status file_status) users may_give place output_old output_new old new result → WorldLists → Type 0
+      → IsAttendedAt is_unreported (cached_status file_status) users may_give place output_old output_new old new result → WorldLists → Type 0
   AreMomentsAt place output_old output_new old new result (inl is) w =
       (n : ℕ) → IsMoment w is.1.attended.turns n old
-      (state_after (cached_status file_status) users may_give n nothing_yet old is.1.attended.turns is.1.attended.after new is.1.attended.had)
-      (state_after (cached_status file_status) users may_give (suc n) nothing_yet old is.1.attended.turns is.1.attended.after new is.1.attended.had)
+      (state_after is_unreported (cached_status file_status) users may_give n nothing_yet old is.1.attended.turns is.1.attended.after new is.1.attended.had)
+      (state_after is_unreported (cached_status file_status) users may_give (suc n) nothing_yet old is.1.attended.turns is.1.attended.after new is.1.attended.had)
   AreMomentsAt place output_old output_new old new result (inr is) w = ⊤
 
   abbrev pub AreMoments : (place : Place) (output_old output_new : Stream) (old new : At (BankStore D g) C) (result : Result Unit ActionFault)

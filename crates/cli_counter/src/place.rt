@@ -2,6 +2,7 @@
 
 ghost use Rattle.std.specs.Prelude.{◌≡◌};
 ghost use Rattle.exit_lines.specs.Streams.{stream_at};
+ghost use Rattle.counter_loop.specs.Ways.{is_unreported};
 ghost use Rattle.cli_counter.specs.Attending.{IsAttendedAt};
 
 use crate::faults::fault_of;
@@ -31,7 +32,7 @@ pub(crate) fn attend_at<S: Store, G: Gate, C: Clock, W: Write>(
     clock: &mut C,
     output: &mut Tallied<W>,
 ) -> Result<(), ActionFault<'static>>
-    ensures { IsAttendedAt S.status (G.users gate.now) C.may_give place.entry
+    ensures { IsAttendedAt is_unreported S.status (G.users gate.now) C.may_give place.entry
         (stream_at W.contents output.old) (stream_at W.contents output.new)
         (record { store = bank.old.store; clock = clock.old })
         (record { store = bank.new.store; clock = clock.new }) result }
@@ -66,7 +67,7 @@ fn attend_socket<S: Store, G: Gate, C: Clock, W: Write>(
     clock: &mut C,
     output: &mut Tallied<W>,
 ) -> Result<(), ActionFault<'static>>
-    ensures { IsAttendedAt S.status (G.users gate.now) C.may_give (Place.Socket path.entry)
+    ensures { IsAttendedAt is_unreported S.status (G.users gate.now) C.may_give (Place.Socket path.entry)
         (stream_at W.contents output.old) (stream_at W.contents output.new)
         (record { store = bank.old.store; clock = clock.old })
         (record { store = bank.new.store; clock = clock.new }) result }
@@ -93,7 +94,7 @@ fn attend_door<D: Door + Source + Drop, S: Store, G: Gate, C: Clock, W: Write>(
     clock: &mut C,
     output: &mut Tallied<W>,
 ) -> Result<(), ActionFault<'static>>
-    ensures { IsAttendedAt S.status (G.users gate.now) C.may_give place.entry
+    ensures { IsAttendedAt D.Stream.begins S.status (G.users gate.now) C.may_give place.entry
         (stream_at W.contents output.old) (stream_at W.contents output.new)
         (record { store = bank.old.store; clock = clock.old })
         (record { store = bank.new.store; clock = clock.new }) result }

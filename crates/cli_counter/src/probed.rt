@@ -1,5 +1,7 @@
 //! A socket that is found to listen before it is used, with no connection lost by that.
 
+ghost use Rattle.std.specs.Prelude.{◌≡◌, IfSome, true};
+
 use counter_loop::Door;
 use mio::event::Source;
 use mio::{Interest, Registry, Token};
@@ -11,6 +13,7 @@ use std::io::ErrorKind;
 pub(crate) struct Probed<D: Door + Drop> {
     door: D,
     first: Option<D::Stream>,
+    ghost begins: { IfSome first (λ stream. D.Stream.begins (D.Stream.ways stream) ≡ true) },
 }
 
 impl<D: Door + Drop> Probed<D> {

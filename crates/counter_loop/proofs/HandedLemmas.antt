@@ -1,10 +1,14 @@
--- What went out to a connection is a beginning of what was put into its outbox.
-use Rattle.std.proofs.Common.{◌≡◌, ℕ, Bool, true, false, if◌then◌else◌, inl, inr, List, [], ◌∷◌, ◌++◌, Option, Some, None, refl, sym, ap, ◌∙◌, append_assoc}
+-- What went out to a connection is a beginning of what was put into its outbox, and went out to its own stream.
+use Rattle.std.proofs.Common.{◌≡◌, ℕ, Bool, true, false, if◌then◌else◌, inl, inr, List, [], ◌∷◌, ◌++◌, Option, Some, None, refl, sym, ap, subst, ◌∙◌, append-nil, append_assoc}
 use Rattle.std.specs.Prelude.{nat_eq}
+use Rattle.std.proofs.lemmas.Bool.{eqb-true}
 use Rattle.reports.specs.Report.{BeginsWith}
 use Rattle.store_rows.specs.Status.{Status}
-use Rattle.counter_loop.specs.Turns.{AreTurns, At, Box, Boxes, Made, of_one, with_turn, without}
-use Rattle.counter_loop.proofs.PartLemmas.{over, the_same}
+use Rattle.counter_loop.specs.Attended.{IsOneStream, IsSince}
+use Rattle.counter_loop.specs.Turns.{AreTurns, At, Box, Boxes, IsOneTurn, IsThere, Made, nothing_yet, of_one, with_box}
+use Rattle.counter_loop.specs.Ways.{Moves, Ways}
+use Rattle.counter_loop.proofs.PartLemmas.{waits_before, waits_of}
+use Rattle.counter_loop.proofs.WayLemmas.{moves_none, moves_same, moves_then}
 
 handed_step : (b before gave left sent later handed : List ℕ) (same : Bool) → (same ≡ true → before ≡ b) → before ≡ gave ++ left → (same ≡ true → BeginsWith ((left ++ sent) ++ later) handed)
     → (same ≡ false → BeginsWith (b ++ later) handed) → BeginsWith (b ++ ((if same then sent else []) ++ later)) ((if same then gave else []) ++ handed)
@@ -16,18 +20,72 @@ handed_step b before gave left sent later handed true is waited goes other =
     )
 handed_step b before gave left sent later handed false is waited goes other = other refl
 
-module _ {S C : Type 0} (status : S → Status) (users : List ℕ → Option ℕ) (may_give : C → ℕ → C → Type 0) where
-  pub its_bytes : (k : ℕ) (b : Box) (boxes : Boxes) (old new : At S C) (after : Boxes) (ts : List Made) → boxes k ≡ Some b → AreTurns status users may_give boxes old ts after new
-      → BeginsWith (b.waits ++ of_one k (λ t. t.sent) ts) (of_one k (λ t. t.gave) ts)
-  its_bytes k b boxes old new after [] stood turns = (b.waits ++ [], refl)
-  its_bytes k b boxes old new after (t ∷ ts) stood (before, there, left, waited, mid, inl (goes, rest)) =
-      handed_step b.waits before.waits t.gave left t.sent _ _ (nat_eq t.who k) (λ same. ap (λ (x : Box). x.waits) (the_same status users may_give k b before boxes t stood there same)) waited
-      (λ same. its_bytes k (record { held = t.held; waits = left ++ t.sent }) (with_turn boxes t left) mid new after ts (ap (λ s. if s then Some (record { held = t.held; waits = left ++ t.sent }) else boxes k) same) rest)
-      (λ other. its_bytes k b (with_turn boxes t left) mid new after ts (ap (λ s. if s then Some (record { held = t.held; waits = left ++ t.sent }) else boxes k) other ∙ stood) rest)
-  its_bytes k b boxes old new after (t ∷ ts) stood (before, there, left, waited, mid, inr (last, rest)) =
-      handed_step b.waits before.waits t.gave left t.sent _ _ (nat_eq t.who k) (λ same. ap (λ (x : Box). x.waits) (the_same status users may_give k b before boxes t stood there same)) waited
-      (λ same. (
-        (left ++ t.sent) ++ of_one k (λ t. t.sent) ts,
-        ap (λ l. l ++ ((left ++ t.sent) ++ of_one k (λ t. t.sent) ts)) (sym (over status users may_give (λ t. t.gave) k (without boxes t) mid new after ts (ap (λ s. if s then None else boxes k) same) rest)),
-      ))
-      (λ other. its_bytes k b (without boxes t) mid new after ts (ap (λ s. if s then None else boxes k) other ∙ stood) rest)
+-- From what there was of a connection, before its first turn too, to what there is: what was read of its stream, what went out to that, and
+-- what was put into its outbox.
+pub record Flows (begins : Option Ways → Bool) (o : Option Box) (box : Box) (came gave sent : List ℕ) : Type 0 where
+  pub first : Box
+  pub there : IsThere begins o first
+  pub moved : Moves first.ways box.ways came gave
+  pub waits : first.waits ++ sent ≡ gave ++ box.waits
+
+flows_none : (begins : Option Ways → Bool) (o : Option Box) (box : Box) → o ≡ Some box → Flows begins o box [] [] []
+flows_none begins o box is = record { first = box; there = subst (λ x. IsThere begins x box) (sym is) refl; moved = moves_none box.ways; waits = append-nil box.waits }
+
+flows_step : (begins : Option Ways → Bool) (k : ℕ) (boxes : Boxes) (t : Made) (box : Box) (came gave sent : List ℕ)
+    → (nat_eq t.who k ≡ true → Flows begins (boxes k) box (t.came ++ came) (t.gave ++ gave) (t.sent ++ sent)) → (nat_eq t.who k ≡ false → Flows begins (boxes k) box came gave sent)
+    → (same : Bool) → nat_eq t.who k ≡ same
+    → Flows begins (boxes k) box ((if same then t.came else []) ++ came) ((if same then t.gave else []) ++ gave) ((if same then t.sent else []) ++ sent)
+flows_step begins k boxes t box came gave sent here later true same = here same
+flows_step begins k boxes t box came gave sent here later false other = later other
+
+module _ {S C : Type 0} (begins : Option Ways → Bool) (status : S → Status) (users : List ℕ → Option ℕ) (may_give : C → ℕ → C → Type 0) where
+  flows_on : (o o' : Option Box) (before next box : Box) (t : Made) (old mid : At S C) (came gave sent : List ℕ) → IsThere begins o before → IsOneTurn status users may_give before next old mid t
+      → o' ≡ Some next → Flows begins o' box came gave sent → Flows begins o box (t.came ++ came) (t.gave ++ gave) (t.sent ++ sent)
+  flows_on o o' before next box t old mid came gave sent there turn is behind =
+      let same : behind.first ≡ next = subst (λ x. IsThere begins x behind.first) is behind.there in
+      let first : Moves before.ways next.ways t.came t.gave = moves_same before.ways next.ways _ _ _ _ refl (append-nil t.gave) (moves_then before.ways turn.between next.ways [] t.came t.gave [] turn.sent turn.read) in
+      record {
+        first = before;
+        there = there;
+        moved = moves_then before.ways next.ways box.ways t.came came t.gave gave first (subst (λ (x : Box). Moves x.ways box.ways came gave) same behind.moved);
+        waits =
+            ap (λ l. l ++ (t.sent ++ sent)) turn.waited ∙ append_assoc t.gave turn.left (t.sent ++ sent)
+            ∙ ap (λ l. t.gave ++ l) (sym (append_assoc turn.left t.sent sent) ∙ ap (λ l. l ++ sent) (sym turn.waits) ∙ ap (λ (x : Box). x.waits ++ sent) (sym same) ∙ behind.waits)
+            ∙ sym (append_assoc t.gave gave box.waits);
+      }
+
+  flows : (k : ℕ) (box : Box) (boxes : Boxes) (old new : At S C) (after : Boxes) (ts : List Made) → after k ≡ Some box → AreTurns begins status users may_give boxes old ts after new
+      → Flows begins (boxes k) box (of_one k (λ t. t.came) ts) (of_one k (λ t. t.gave) ts) (of_one k (λ t. t.sent) ts)
+  flows k box boxes old new after [] is turns = flows_none begins (boxes k) box (sym (ap (λ (b : Boxes). b k) turns.0) ∙ is)
+  flows k box boxes old new after (t ∷ ts) is (before, there, next, mid, turn, rest) =
+      let behind = flows k box (with_box boxes t.who next) mid new after ts is rest in
+      flows_step begins k boxes t box _ _ _
+      (λ same. flows_on (boxes k) (with_box boxes t.who next k) before next box t old mid _ _ _ (subst (λ n. IsThere begins (boxes n) before) (eqb-true t.who k same) there) turn
+      (ap (λ s. if s then Some next else boxes k) same) behind)
+      (λ other. subst (λ o. Flows begins o box (of_one k (λ t. t.came) ts) (of_one k (λ t. t.gave) ts) (of_one k (λ t. t.sent) ts)) (ap (λ s. if s then Some next else boxes k) other) behind)
+      (nat_eq t.who k) refl
+
+  pub its_stream : (k : ℕ) (box : Box) (last : Option Ways) (rest : List ℕ) (old new : At S C) (after : Boxes) (ts : List Made) → after k ≡ Some box → IsSince box last rest
+      → AreTurns begins status users may_give nothing_yet old ts after new → IsOneStream begins k ts
+  its_stream k box last rest old new after ts is since turns =
+      let f = flows k box nothing_yet old new after ts is turns in
+      record {
+        first = f.first.ways;
+        begun = f.there.0;
+        last = last;
+        heard = since.heard;
+        out = since.out;
+        moved = moves_then f.first.ways box.ways last _ since.heard _ since.out f.moved since.moved;
+        due = (
+          rest,
+          ap (λ l. l ++ of_one k (λ t. t.sent) ts) (sym f.there.2) ∙ f.waits ∙ ap (λ l. of_one k (λ t. t.gave) ts ++ l) since.waits ∙ sym (append_assoc (of_one k (λ t. t.gave) ts) since.out rest),
+        );
+      }
+
+  pub its_bytes : (k : ℕ) (b : List ℕ) (boxes : Boxes) (old new : At S C) (after : Boxes) (ts : List Made) → waits_of (boxes k) ≡ b → AreTurns begins status users may_give boxes old ts after new
+      → BeginsWith (b ++ of_one k (λ t. t.sent) ts) (of_one k (λ t. t.gave) ts)
+  its_bytes k b boxes old new after [] stood turns = (b ++ [], refl)
+  its_bytes k b boxes old new after (t ∷ ts) stood (before, there, next, mid, turn, rest) =
+      handed_step b before.waits t.gave turn.left t.sent _ _ (nat_eq t.who k) (waits_before begins k b boxes t before stood there) turn.waited
+      (λ same. its_bytes k (turn.left ++ t.sent) (with_box boxes t.who next) mid new after ts (ap (λ s. waits_of (if s then Some next else boxes k)) same ∙ turn.waits) rest)
+      (λ other. its_bytes k b (with_box boxes t.who next) mid new after ts (ap (λ s. waits_of (if s then Some next else boxes k)) other ∙ stood) rest)

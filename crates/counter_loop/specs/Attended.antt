@@ -1,26 +1,49 @@
 -- What many connections that were served at once come to, over one bank.
-use Rattle.std.specs.Prelude.{ℕ, List, Option}
+use Rattle.std.specs.Prelude.{◌≡◌, ℕ, Bool, List, [], ◌++◌, Option, Some, false, true}
 use Rattle.bank_books.specs.WorldLists.{WorldLists}
 use Rattle.reports.specs.Report.{BeginsWith}
 use Rattle.store_rows.specs.Status.{Status, Tells}
 use Rattle.http_messages.specs.Whole.{Splits}
 use Rattle.counter_api.specs.Day.{IsDay}
-use Rattle.counter_loop.specs.Turns.{AreTurns, At, Boxes, Made, due_to, nothing_yet, of_one, one_list}
+use Rattle.counter_loop.specs.Turns.{AreTurns, At, Box, Boxes, Made, due_to, nothing_yet, of_one, one_list}
+use Rattle.counter_loop.specs.Ways.{Moves, Ways}
 
 -- What was put into the outbox of each connection is a beginning of what is due to it: the replies to its own messages, each in the World that
 -- the messages of all connections before it left, and of a refusal after them.
 abbrev pub AreAnswered : (List ℕ → Option ℕ) → List Made → WorldLists → Type 0
 AreAnswered users turns w = (k : ℕ) → BeginsWith (due_to users k w turns) (of_one k (λ t. t.sent) turns)
 
--- The connections had turns, one after another, in whatever order. The messages of all of them, in the order in which they became whole, are
--- one run of the bank, and each connection gets a beginning of the replies to its own.
-pub record AreAttended {S C : Type 0} (status : S → Status) (users : List ℕ → Option ℕ) (may_give : C → ℕ → C → Type 0) (old new : At S C) : Type 0 where
+-- From what there was of a connection after its last turn to its stream as that is now: so much of what waited went out to it, from the front,
+-- and this still waits. Where no other turn can follow, what was read of it was let go; else nothing was read.
+pub record IsSince (box : Box) (now : Option Ways) (rest : List ℕ) : Type 0 where
+  pub out : List ℕ
+  pub waits : box.waits ≡ out ++ rest
+  pub heard : List ℕ
+  pub unheard : box.is_over ≡ false → heard ≡ []
+  pub moved : Moves box.ways now heard out
+
+-- The stream of one connection, from when it began to its end: what was read of it came in its turns, but for what was let go after the last;
+-- and what went out to it, in its turns and after them, is a beginning of what its turns put into its outbox.
+pub record IsOneStream (begins : Option Ways → Bool) (k : ℕ) (turns : List Made) : Type 0 where
+  pub first : Option Ways
+  pub begun : begins first ≡ true
+  pub last : Option Ways
+  pub heard : List ℕ
+  pub out : List ℕ
+  pub moved : Moves first last (of_one k (λ t. t.came) turns ++ heard) (of_one k (λ t. t.gave) turns ++ out)
+  pub due : BeginsWith (of_one k (λ t. t.sent) turns) (of_one k (λ t. t.gave) turns ++ out)
+
+-- The connections had turns, one after another, in whatever order. The messages of all of them, in the order in which turns took them, are
+-- one run of the bank, and each connection gets a beginning of the replies to its own. Connections begin as `begins` says.
+pub record AreAttended {S C : Type 0} (begins : Option Ways → Bool) (status : S → Status) (users : List ℕ → Option ℕ) (may_give : C → ℕ → C → Type 0) (old new : At S C) : Type 0 where
   pub turns : List Made
   pub after : Boxes
-  pub had : AreTurns status users may_give nothing_yet old turns after new
+  pub had : AreTurns begins status users may_give nothing_yet old turns after new
   pub day : IsDay users (status old.store) (status new.store) (one_list turns)
   -- what was read of each is its own messages, and a rest
   pub messages : (k : ℕ) → (rest : List ℕ) × Splits (of_one k (λ t. t.came) turns) (of_one k (λ t. t.messages) turns) rest
   pub replied : Tells (status old.store) (status new.store) (AreAnswered users turns)
-  -- and what went out to each is a beginning of what was put into its outbox
+  -- and what went out to each before its last turn is a beginning of what was put into its outbox
   pub handed : (k : ℕ) → BeginsWith (of_one k (λ t. t.sent) turns) (of_one k (λ t. t.gave) turns)
+  -- It was read of its own stream, and went out to that, with what went out after its last turn, and no other byte.
+  pub streams : (k : ℕ) (box : Box) → after k ≡ Some box → IsOneStream begins k turns

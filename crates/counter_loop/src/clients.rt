@@ -1,16 +1,15 @@
 //! The connections that are held: how they are taken in, visited and let go, and how many there may be.
 
-ghost use Rattle.std.specs.Prelude.{◌≡◌, []};
+ghost use Rattle.std.specs.Prelude.{◌≡◌, [], true};
 ghost use Rattle.counter_loop.specs.Boxes.{AreVisited, StaysSuited};
 
 use crate::client::{Client, WaitsFor};
 use crate::door::{Door, TwoWay};
 use counter_api::{Clock, Desk, Gate};
 use mio::Registry;
-use mio::event::Source;
 use slab::Slab;
 use std::alloc::Global;
-use std::io::{ErrorKind, Read, Write};
+use std::io::ErrorKind;
 use std::time::{Duration, Instant};
 use store_rows::{Bank, Store};
 
@@ -57,39 +56,6 @@ impl<T: Drop> Clients<T> {
         false
     }
 
-    /// Lets go of a connection.
-    fn let_go(&mut self, key: usize)
-        ensures { StaysSuited self.old self.new }
-    {
-        if let Some(client) = self.slab.try_remove(key) {
-            self.waiting = self.waiting.saturating_sub(client.waiting());
-        }
-    }
-
-    /// Lets go of the connections on which something took too long.
-    pub(crate) fn let_go_of_late(&mut self, now: Instant)
-        ensures { StaysSuited self.old self.new }
-    {
-        for key in 0..self.slab.capacity() {
-            self.let_go_if_late(key, now);
-        }
-    }
-
-    /// Lets go of a connection on which something took too long.
-    fn let_go_if_late(&mut self, key: usize, now: Instant)
-        ensures { StaysSuited self.old self.new }
-    {
-        match self.slab.get(key) {
-            Some(client) => {
-                if !client.is_late(now) {
-                    return;
-                }
-            }
-            None => return,
-        }
-        self.let_go(key);
-    }
-
     /// The connection on which nothing is under way, and nothing has moved for longest.
     fn longest_idle(&self, now: Instant) -> Option<usize> {
         let mut longest: Option<(usize, Duration)> = None;
@@ -113,10 +79,45 @@ impl<T: Drop> Clients<T> {
     pub(crate) fn may_take_in(&self, now: Instant) -> bool {
         self.slab.len() < MOST_CONNECTIONS || self.longest_idle(now).is_some()
     }
+}
+
+impl<T: TwoWay + Drop> Clients<T> {
+    /// Lets go of a connection.
+    fn let_go(&mut self, key: usize)
+        ensures { StaysSuited T.begins T.ways self.old self.new }
+    {
+        if let Some(client) = self.slab.try_remove(key) {
+            self.waiting = self.waiting.saturating_sub(client.waiting());
+        }
+    }
+
+    /// Lets go of the connections on which something took too long.
+    pub(crate) fn let_go_of_late(&mut self, now: Instant)
+        ensures { StaysSuited T.begins T.ways self.old self.new }
+    {
+        for key in 0..self.slab.capacity() {
+            self.let_go_if_late(key, now);
+        }
+    }
+
+    /// Lets go of a connection on which something took too long.
+    fn let_go_if_late(&mut self, key: usize, now: Instant)
+        ensures { StaysSuited T.begins T.ways self.old self.new }
+    {
+        match self.slab.get(key) {
+            Some(client) => {
+                if !client.is_late(now) {
+                    return;
+                }
+            }
+            None => return,
+        }
+        self.let_go(key);
+    }
 
     /// Makes room for one more connection where there is none: the one that was idle longest gives way.
     pub(crate) fn make_room(&mut self, now: Instant)
-        ensures { StaysSuited self.old self.new }
+        ensures { StaysSuited T.begins T.ways self.old self.new }
     {
         if self.slab.len() < MOST_CONNECTIONS {
             return;
@@ -126,13 +127,12 @@ impl<T: Drop> Clients<T> {
             None => {}
         }
     }
-}
 
-impl<T: Source + Drop> Clients<T> {
     /// Takes in a connection that begins now, and has the system report it. Where memory is refused, or the system does
     /// not take it, it is let go.
     pub(crate) fn take_in(&mut self, alloc: Global, registry: &Registry, stream: T, now: Instant)
-        ensures { StaysSuited self.old self.new }
+        requires { T.begins (T.ways stream) ≡ true }
+        ensures { StaysSuited T.begins T.ways self.old self.new }
     {
         let Some(key) = self.insert(alloc, stream, now) else {
             return;
@@ -145,7 +145,8 @@ impl<T: Source + Drop> Clients<T> {
 
     /// Gives a connection that begins now the next number, and answers its key. There is none where memory was refused.
     fn insert(&mut self, alloc: Global, stream: T, now: Instant) -> Option<usize>
-        ensures { StaysSuited self.old self.new }
+        requires { T.begins (T.ways stream) ≡ true }
+        ensures { StaysSuited T.begins T.ways self.old self.new }
     {
         let next = self.next.checked_add(1)?;
         let Ok(client) = Client::new(alloc, self.next, stream, now) else {
@@ -160,7 +161,7 @@ impl<T: Source + Drop> Clients<T> {
 
     /// Has the system report when a connection is ready. Returns whether it will.
     fn register(&mut self, registry: &Registry, key: usize) -> bool
-        ensures { StaysSuited self.old self.new }
+        ensures { StaysSuited T.begins T.ways self.old self.new }
     {
         match self.slab.get_mut(key) {
             Some(client) => client.register(registry, key),
@@ -177,7 +178,7 @@ pub(crate) fn let_in<D: Door>(
     door: &mut D,
     now: Instant,
 )
-    ensures { StaysSuited clients.old clients.new }
+    ensures { StaysSuited D.Stream.begins D.Stream.ways clients.old clients.new }
 {
     for _ in 0..MOST_CONNECTIONS {
         if !let_in_one(clients, alloc, registry, door, now) {
@@ -194,7 +195,7 @@ fn let_in_one<D: Door>(
     door: &mut D,
     now: Instant,
 ) -> bool
-    ensures { StaysSuited clients.old clients.new }
+    ensures { StaysSuited D.Stream.begins D.Stream.ways clients.old clients.new }
 {
     if !clients.may_take_in(now) {
         return false;
@@ -209,7 +210,7 @@ fn let_in_one<D: Door>(
     }
 }
 
-impl<T: Read + Write + TwoWay + Drop> Clients<T> {
+impl<T: TwoWay + Drop> Clients<T> {
     /// Visits a connection, and lets it go where it is over.
     pub(crate) fn visit<S: Store, G: Gate, C: Clock>(
         &mut self,
@@ -220,7 +221,7 @@ impl<T: Read + Write + TwoWay + Drop> Clients<T> {
         clock: &mut C,
         now: Instant,
     )
-        ensures { AreVisited S.status (G.users gate.now) C.may_give self.old self.new
+        ensures { AreVisited T.begins T.ways S.status (G.users gate.now) C.may_give self.old self.new
             (record { store = bank.old.store; clock = clock.old }) (record { store = bank.new.store; clock = clock.new }) }
     {
         if self.visit_there(key, desk, bank, gate, clock, now) == WaitsFor::Nothing {
@@ -238,7 +239,7 @@ impl<T: Read + Write + TwoWay + Drop> Clients<T> {
         clock: &mut C,
         now: Instant,
     ) -> WaitsFor
-        ensures { AreVisited S.status (G.users gate.now) C.may_give self.old self.new
+        ensures { AreVisited T.begins T.ways S.status (G.users gate.now) C.may_give self.old self.new
             (record { store = bank.old.store; clock = clock.old }) (record { store = bank.new.store; clock = clock.new }) }
     {
         let may_fill = self.waiting <= MOST_WAITING_OF_ALL;
@@ -264,7 +265,7 @@ impl<T: Read + Write + TwoWay + Drop> Clients<T> {
         clock: &mut C,
         now: Instant,
     )
-        ensures { AreVisited S.status (G.users gate.now) C.may_give self.old self.new
+        ensures { AreVisited T.begins T.ways S.status (G.users gate.now) C.may_give self.old self.new
             (record { store = bank.old.store; clock = clock.old }) (record { store = bank.new.store; clock = clock.new }) }
     {
         match self.slab.get(key) {
@@ -287,7 +288,7 @@ impl<T: Read + Write + TwoWay + Drop> Clients<T> {
         clock: &mut C,
         now: Instant,
     )
-        ensures { AreVisited S.status (G.users gate.now) C.may_give self.old self.new
+        ensures { AreVisited T.begins T.ways S.status (G.users gate.now) C.may_give self.old self.new
             (record { store = bank.old.store; clock = clock.old }) (record { store = bank.new.store; clock = clock.new }) }
     {
         for key in 0..self.slab.capacity() {
@@ -311,7 +312,7 @@ impl<T: Read + Write + TwoWay + Drop> Clients<T> {
         clock: &mut C,
         now: Instant,
     )
-        ensures { AreVisited S.status (G.users gate.now) C.may_give self.old self.new
+        ensures { AreVisited T.begins T.ways S.status (G.users gate.now) C.may_give self.old self.new
             (record { store = bank.old.store; clock = clock.old }) (record { store = bank.new.store; clock = clock.new }) }
     {
         for key in 0..self.slab.capacity() {
