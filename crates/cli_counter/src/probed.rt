@@ -1,9 +1,8 @@
 //! A socket that is found to listen before it is used, with no connection lost by that.
 
-ghost use Rattle.std.specs.Prelude.{◌≡◌, IfSome, true};
-
 use counter_loop::Door;
 use mio::event::Source;
+use mio::net::{TcpListener, TcpStream, UnixListener, UnixStream};
 use mio::{Interest, Registry, Token};
 use std::io;
 use std::io::ErrorKind;
@@ -13,7 +12,6 @@ use std::io::ErrorKind;
 pub(crate) struct Probed<D: Door + Drop> {
     door: D,
     first: Option<D::Stream>,
-    ghost begins: { IfSome first (λ stream. D.Stream.begins (D.Stream.ways stream) ≡ true) },
 }
 
 impl<D: Door + Drop> Probed<D> {
@@ -33,16 +31,29 @@ impl<D: Door + Drop> Probed<D> {
             }
         }
     }
-}
 
-impl<D: Door + Drop> Door for Probed<D> {
-    type Stream = D::Stream;
-
-    fn next(&mut self) -> io::Result<D::Stream> {
+    /// The connection that waited first, and then those that come.
+    fn first_or_next(&mut self) -> io::Result<D::Stream> {
         match self.first.take() {
             Some(stream) => Ok(stream),
             None => self.door.next(),
         }
+    }
+}
+
+impl Door for Probed<TcpListener> {
+    type Stream = TcpStream;
+
+    fn next(&mut self) -> io::Result<TcpStream> {
+        self.first_or_next()
+    }
+}
+
+impl Door for Probed<UnixListener> {
+    type Stream = UnixStream;
+
+    fn next(&mut self) -> io::Result<UnixStream> {
+        self.first_or_next()
     }
 }
 

@@ -26,7 +26,7 @@ pub came_by : {E : Type 0} (old new : Option Ways) (r : Result ℕ E) (buf : Lis
 came_by old new (Ok n) buf is = (take n buf, is.0)
 came_by old new (Err e) buf is = ([], is)
 
--- ---- a turn that tells what is left has written nothing
+-- ---- a turn that reports what is left has written nothing
 
 same_of : (x y : ℕ) (xs ys : List ℕ) (b : Bool) → nat_eq x y ≡ b → b && same_bytes xs ys ≡ true → (same_bytes xs ys ≡ true → xs ≡ ys) → x ∷ xs ≡ y ∷ ys
 same_of x y xs ys true one rest more = ap (λ z. z ∷ xs) (eqb-true x y one) ∙ ap (λ zs. y ∷ zs) (more rest)

@@ -1,4 +1,4 @@
--- What it told of the stream is what was read of it.
+-- What it reported of the stream is what was read of it.
 use Rattle.std.proofs.Common.{refl, rules}
 use Rattle.counter_loop.proofs.StepLemmas.{had_of}
 use Rattle.counter_loop.proofs.WayLemmas.{its_turn}
