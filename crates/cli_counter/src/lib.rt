@@ -9,6 +9,7 @@ mod attending;
 mod faults;
 mod in_file;
 mod inherited;
+mod notices;
 mod place;
 mod probed;
 mod socket;

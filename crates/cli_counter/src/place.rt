@@ -7,6 +7,7 @@ ghost use Rattle.cli_counter.specs.Attending.{IsAttendedAt};
 
 use crate::faults::fault_of;
 use crate::inherited::{Inherited, inherited_socket};
+use crate::notices::ErrorLines;
 use crate::socket;
 use cli_file::ActionFault;
 use counter_api::{Clock, Gate};
@@ -102,7 +103,17 @@ fn attend_door<D: Door + Source + Drop, S: Store, G: Gate, C: Clock, W: Write>(
     let Ok(()) = say_listening(output, place) else {
         return Err(ActionFault::Broken);
     };
-    match serve_many(rt, rt.alloc(), &mut door, until, bank, gate, clock) {
+    let mut notices = ErrorLines { rt };
+    match serve_many(
+        rt,
+        rt.alloc(),
+        &mut door,
+        until,
+        bank,
+        gate,
+        clock,
+        &mut notices,
+    ) {
         Ok(()) => Ok(()),
         Err(error) => Err(fault_of(&error)),
     }

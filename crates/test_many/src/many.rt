@@ -1,7 +1,7 @@
 //! Connections of the machine, served at once in one process.
 use crate::clients::{TESS, TOM, client, got, opened};
 use counter_clocks::{Fixed, Moment};
-use counter_loop::serve_many;
+use counter_loop::{Notices, serve_many};
 use mio::net::TcpListener;
 use sample_service::{SampleBadges, listed_sample};
 use std::net::{Ipv4Addr, SocketAddr};
@@ -9,6 +9,13 @@ use std::os::fd::AsRawFd;
 use std::os::unix::net::UnixStream;
 use std::test::Fail;
 use store_rows::Bank;
+
+/// Nobody, as no store of these tests has a disk.
+struct Nobody;
+
+impl Notices for Nobody {
+    fn disk_failed(&mut self) {}
+}
 
 /// A listener at any port of the machine, and its address.
 fn listening(rt: &HostRuntime) -> Result<(TcpListener, SocketAddr), Fail> {
@@ -35,6 +42,7 @@ fn serve_waiting(rt: &HostRuntime, door: &mut TcpListener) -> Result<(), Fail> {
         &mut bank,
         &SampleBadges,
         &mut clock,
+        &mut Nobody,
     )?;
     Ok(())
 }

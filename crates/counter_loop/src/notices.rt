@@ -1,0 +1,22 @@
+//! What is reported beside the replies, to who looks after the machine.
+
+use store_rows::{Bank, Store};
+
+/// Who is to know what happens while connections are served.
+pub trait Notices {
+    /// The store's disk has failed, so it refuses each call from now on.
+    fn disk_failed(&mut self);
+}
+
+/// Reports once that a store has stopped, and returns whether that was reported, now or before.
+pub(crate) fn report_stop<S: Store, K: Notices>(
+    notices: &mut K,
+    bank: &Bank<S>,
+    was_reported: bool,
+) -> bool {
+    if was_reported || !bank.store.is_stopped() {
+        return was_reported;
+    }
+    notices.disk_failed();
+    true
+}
