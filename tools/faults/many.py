@@ -234,6 +234,24 @@ def end_by_order_answers_what_has_come_on_a_slow_disk(program, file):
     require_sound(program, file)
 
 
+def disk_that_fails_is_reported_once(program, file):
+    """A disk that fails at a post: from then on each request is refused, and standard error has one line."""
+    failing = file + "-failing"
+    env = {**os.environ, "FAILING": failing, "LD_PRELOAD": preloaded("faults/failing_syncs.c", os.path.dirname(file))}
+    with Counter(program, file, env=env) as counter, connected(counter.port) as client:
+        client.sendall(POST)
+        require(body_of(reply_of(client)), b'{"balance":50001,"branch":1,"entry":1}', "a post before")
+        with open(failing, "wb"):
+            pass
+        for fault in ("F3", "F4", "F4"):
+            client.sendall(POST)
+            require(json.loads(body_of(reply_of(client)))["fault"], fault, "a post after the disk has failed")
+        os.remove(failing)
+        counter.end_input()
+        require(counter.ended(), (0, b"", b"disk: failed\n"), "its end")
+    require_sound(program, file)
+
+
 def end_of_a_file_ends_nothing(program, file):
     """Standard input that is no pipe."""
     def start(port):
@@ -555,6 +573,7 @@ TRIALS = [
     thousand_are_had_and_the_longest_idle_gives_way,
     end_by_order_answers_what_has_come,
     end_by_order_answers_what_has_come_on_a_slow_disk,
+    disk_that_fails_is_reported_once,
     end_of_a_file_ends_nothing,
     place_is_one,
     port_of_another_is_reported,
