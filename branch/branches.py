@@ -25,7 +25,6 @@ sys.path.append(str(HERE.parent / "tools"))
 from checks import Late, Wrong, require, wait_until
 from model.bank import PROCEDURES
 
-PROGRAM = HERE.parent / "crates/bank_cli/out/bank_cli"
 TELLERS = ["amy", "ben", "cai", "dot", "eli", "fay"]
 # An officer, two certifiers and a supervisor, by their badges; the tellers are users 7 to 12.
 OTHERS = {"olga": 1, "carl": 2, "cora": 3, "sue": 13}
