@@ -197,14 +197,16 @@ def in_order(makes: list[Callable[[], str | None]], jobs: int) -> Iterable[tuple
         yield from pool.map(outcome, makes)
 
 
-def reader(description: str | None, *, has_program: bool = True, has_checks: bool = True) -> argparse.ArgumentParser:
-    """A reader of the arguments that parts have."""
+def reader(description: str | None, *, program: str | None = PROGRAM, has_checks: bool = True) -> argparse.ArgumentParser:
+    """A reader of the arguments that parts have: which checks are made, if they can be chosen, and over which program, if not over
+    this one."""
     found = argparse.ArgumentParser(description=description, formatter_class=argparse.RawDescriptionHelpFormatter)
     if has_checks:
         found.add_argument("--list", action="store_true", help="print the names of the checks")
         found.add_argument("--only", metavar="TEXT", action="append", default=[], help="make those with this in their names")
-    if has_program:
-        found.add_argument("program", metavar="PROGRAM", nargs="?", default=PROGRAM, type=lambda it: os.path.abspath(it), help="the bank program, if not crates/bank_cli/out/bank_cli")
+    if program:
+        said = f"the program, if not {os.path.relpath(program, TOP)}"
+        found.add_argument("program", metavar="PROGRAM", nargs="?", default=program, type=lambda it: os.path.abspath(it), help=said)
     return found
 
 

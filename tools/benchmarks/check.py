@@ -1,4 +1,3 @@
-#!/usr/bin/env python3
 """Takes the time that the check of a bank's books needs for an entry, over made-up banks of three sizes.
 
     tools/benchmarks/check [PROGRAM]
@@ -10,15 +9,12 @@ of many runs: that of the check alone, which the program takes itself, and that 
 where the whole run needs more than twice the time for an entry of the largest bank that it needs for one of the
 smallest.
 """
-import argparse
 import os
 import subprocess
 import sys
 import time
 
-sys.dont_write_bytecode = True
-sys.path[0] = os.path.dirname(os.path.dirname(os.path.abspath(__file__)))
-
+from checks import reader
 from repository import TOP
 
 PROGRAM = os.path.join(TOP, "crates", "bench_check", "out", "bench_check")
@@ -37,9 +33,7 @@ def run(program, branches):
 
 
 def main():
-    reader = argparse.ArgumentParser(description=__doc__, formatter_class=argparse.RawDescriptionHelpFormatter)
-    reader.add_argument("program", metavar="PROGRAM", nargs="?", type=os.path.abspath, default=PROGRAM)
-    program = reader.parse_args().program
+    program = reader(__doc__, program=PROGRAM, has_checks=False).parse_args().program
     build = [os.path.join(TOP, "tools", "build"), "bench_check"]
     if program == PROGRAM and subprocess.run(build, check=False).returncode:
         sys.exit("check: the program could not be built")
@@ -56,7 +50,3 @@ def main():
     ratio = figures[-1] / figures[0]
     print(f"the largest bank needs {ratio:.1f} times the time for an entry of the smallest")
     return 1 if ratio > 2 else 0
-
-
-if __name__ == "__main__":
-    sys.exit(main())

@@ -1,4 +1,3 @@
-#!/usr/bin/env python3
 """Takes how long a balance takes and how many posts per second are made over the built program `counter`, by how many connections ask.
 
     tools/benchmarks/connections [--quick] [PROGRAM]
@@ -12,20 +11,16 @@ folder of its own below TMPDIR; it is to be on a disk. --quick asks less and tak
 reply is not the one that is due, where a balance beside others takes more than 1.5 times as long in the median, or where six
 connections post less than one does.
 """
-import argparse
 import contextlib
 import os
 import selectors
 import statistics
-import sys
 import tempfile
 import time
 
-sys.dont_write_bytecode = True
-sys.path[0] = os.path.dirname(os.path.dirname(os.path.abspath(__file__)))
-
-from repository import PROGRAM, are_built
-from sample_file import Wrong, copy_bank, make_sample, message
+from checks import Wrong, reader
+from repository import are_built
+from sample_file import copy_bank, make_sample, message
 from serving import Counter, Serving, connected
 
 BALANCE = message("tess", "/do/balance", {"account": 101})
@@ -107,10 +102,9 @@ def rate(port, count, times):
 
 
 def main():
-    reader = argparse.ArgumentParser(description=__doc__, formatter_class=argparse.RawDescriptionHelpFormatter)
-    reader.add_argument("--quick", action="store_true")
-    reader.add_argument("program", metavar="PROGRAM", nargs="?", type=os.path.abspath, default=PROGRAM)
-    given = reader.parse_args()
+    words = reader(__doc__, has_checks=False)
+    words.add_argument("--quick", action="store_true")
+    given = words.parse_args()
     program, part = given.program, 10 if given.quick else 1
     if not are_built(program):
         return 1
@@ -142,7 +136,3 @@ def main():
             print("posts per second on %d connections: %.0f" % (count, rates[count]), flush=True)
         print("load: %.1f" % os.getloadavg()[0])
     return 1 if beside[0] > MOST_RATIO * alone[0] or rates[6] < rates[1] else 0
-
-
-if __name__ == "__main__":
-    sys.exit(main())

@@ -1,4 +1,3 @@
-#!/usr/bin/env python3
 """Takes the time and the memory of `init`, `check`, `forward` and the start of `run` over large banks in files, and the time of
 reports of ten lines there.
 
@@ -20,20 +19,16 @@ another, and the least of five such takes. A line for each has the microseconds 
 processor works more than 1.2 times as long among the most as among the fewest, the exit status is 1, too. All this is no
 part of tools/test: times want a machine with nothing beside them.
 """
-import argparse
 import os
 import re
 import sqlite3
-import sys
 import tempfile
 import time
 
-sys.dont_write_bytecode = True
-sys.path[0] = os.path.dirname(os.path.dirname(os.path.abspath(__file__)))
-
+from checks import Wrong, reader
 from page_sums import empty_file, seal_file
-from repository import PROGRAM, are_built
-from sample_file import LISTS, Wrong, make_sample, message, run_words
+from repository import are_built
+from sample_file import LISTS, make_sample, message, run_words
 from served import Served
 
 PAGES = ["1024", "1024s", "4096"]
@@ -250,21 +245,16 @@ def taken(program, pages, room):
 
 
 def main():
-    arguments = argparse.ArgumentParser(prog="files", description=__doc__, formatter_class=argparse.RawTextHelpFormatter)
-    arguments.add_argument("--pages", nargs="+", default=PAGES)
-    arguments.add_argument("--years", action="store_true")
-    arguments.add_argument("program", nargs="?", default=PROGRAM)
-    given = arguments.parse_args()
+    words = reader(__doc__, has_checks=False)
+    words.add_argument("--pages", nargs="+", default=PAGES)
+    words.add_argument("--years", action="store_true")
+    given = words.parse_args()
     if not are_built(given.program):
         return 1
     fast = []
     for name in given.pages:
         with tempfile.TemporaryDirectory(prefix="bank-files-") as room:
-            program, pages = os.path.abspath(given.program), Pages(name)
+            program, pages = given.program, Pages(name)
             years = given.years and banks_of_entries(program, pages, room)
             fast.append(years_begun(program, pages, years) if years else taken(program, pages, room))
     return 1 if any(fast) else 0
-
-
-if __name__ == "__main__":
-    sys.exit(main())

@@ -1,4 +1,3 @@
-#!/usr/bin/env python3
 """Measures how much memory the built program takes for 1,000, 10,000 and 100,000 messages on one stream.
 
     tools/benchmarks/memory [PROGRAM]
@@ -9,17 +8,11 @@ from /proc, which Linux alone has. Pages of the C library that the kernel happen
 to run by some 200 kilobytes: of three runs the one that held least is taken. The status is 1 where a reply is wrong, or
 where the program held more than 300 kilobytes above what it held for 1,000 messages. It is no part of tools/test.
 """
-import argparse
-import os
 import subprocess
-import sys
 import threading
 
-sys.dont_write_bytecode = True
-sys.path[0] = os.path.dirname(os.path.dirname(os.path.abspath(__file__)))
-
-from repository import PROGRAM, are_built
-from sample_file import Wrong
+from checks import Wrong, reader
+from repository import are_built
 from served import most_held
 
 SIZES = (1_000, 10_000, 100_000)
@@ -69,9 +62,7 @@ def measured(program, messages):
 
 
 def main():
-    reader = argparse.ArgumentParser(description=__doc__, formatter_class=argparse.RawDescriptionHelpFormatter)
-    reader.add_argument("program", metavar="PROGRAM", nargs="?", type=os.path.abspath, default=PROGRAM)
-    program = reader.parse_args().program
+    program = reader(__doc__, has_checks=False).parse_args().program
     if not are_built(program):
         return 1
     least = None
@@ -88,7 +79,3 @@ def main():
         print(f"FAILED: {wrong}")
         status = 1
     return status
-
-
-if __name__ == "__main__":
-    sys.exit(main())

@@ -1,4 +1,3 @@
-#!/usr/bin/env python3
 """Takes the time of a post over made-up banks, in lists, in SQL tables in memory and in a file.
 
     tools/benchmarks/posts [--quick] [PROGRAM]
@@ -24,7 +23,6 @@ due, where a new slip costs more than six statements, or more of them by how man
 8,000 bytes that comes byte by byte takes more than twice what one of 1,000 takes, or where the processor works more than
 1.2 times as long for a post to a file over 100,000 entries as over 1,000.
 """
-import argparse
 import os
 import re
 import shutil
@@ -32,13 +30,10 @@ import subprocess
 import sys
 import tempfile
 
-sys.dont_write_bytecode = True
-sys.path[0] = os.path.dirname(os.path.dirname(os.path.abspath(__file__)))
-
+from checks import Wrong, reader
 from page_sums import empty_file
 from preload import preloaded
 from repository import TOP
-from sample_file import Wrong
 
 PROGRAM = os.path.join(TOP, "crates", "bench_posts", "out", "bench_posts")
 # After a file stands the length of its pages in bytes, with `s` where they end in sums.
@@ -265,10 +260,9 @@ def print_statements(program):
 
 
 def main():
-    reader = argparse.ArgumentParser(description=__doc__, formatter_class=argparse.RawDescriptionHelpFormatter)
-    reader.add_argument("--quick", action="store_true")
-    reader.add_argument("program", metavar="PROGRAM", nargs="?", type=os.path.abspath, default=PROGRAM)
-    given = reader.parse_args()
+    words = reader(__doc__, program=PROGRAM, has_checks=False)
+    words.add_argument("--quick", action="store_true")
+    given = words.parse_args()
     program, quick = given.program, given.quick
     build = [os.path.join(TOP, "tools", "build"), "bench_posts"]
     if program == PROGRAM and subprocess.run(build, check=False).returncode:
@@ -286,7 +280,3 @@ def main():
         print(f"FAILED: {wrong}")
         return 1
     return 0 if good or quick else 1
-
-
-if __name__ == "__main__":
-    sys.exit(main())

@@ -1,4 +1,3 @@
-#!/usr/bin/env python3
 """Looks at the memory that the built program takes for reports of many lines.
 
     tools/benchmarks/report-memory [PROGRAM]
@@ -17,18 +16,12 @@ that are held; the most that were held at once has to be the same for each.
 
 Each reply is looked at. The last line is 'N passed, M failed'; the exit status is 1 where M is not 0.
 """
-import argparse
 import os
-import subprocess
-import sys
 import tempfile
 
-sys.dont_write_bytecode = True
-sys.path[0] = os.path.dirname(os.path.dirname(os.path.abspath(__file__)))
-
+from checks import Check, Wrong, reader, run_checks
 from faults.refusals import Program
-from repository import PROGRAM, are_built
-from sample_file import Wrong, ended, make_sample, message, run_words
+from sample_file import ended, make_sample, message, run_words
 from served import Served
 
 SAMPLE_WORDS = ["sample", "--moment", "700"]
@@ -151,24 +144,10 @@ def look_at_file(program, room):
 
 
 def main():
-    reader = argparse.ArgumentParser(description=__doc__, formatter_class=argparse.RawDescriptionHelpFormatter)
-    reader.add_argument("program", metavar="PROGRAM", nargs="?", type=os.path.abspath, default=PROGRAM)
-    program = reader.parse_args().program
-    parts = (look_at_listing, look_at_sample, look_at_file)
-    if not are_built(program):
-        print(f"0 passed, {len(parts)} failed")
-        return 1
-    failed = 0
-    for part in parts:
-        with tempfile.TemporaryDirectory(prefix="bank-report-memory-") as room:
-            try:
-                part(program, room)
-            except (Wrong, OSError, ValueError, subprocess.SubprocessError) as why:
-                failed += 1
-                print(f"FAILED: {why}", flush=True)
-    print(f"{len(parts) - failed} passed, {failed} failed")
-    return 1 if failed else 0
+    given = reader(__doc__).parse_args()
 
+    def checks_of(room):
+        for part in (look_at_listing, look_at_sample, look_at_file):
+            yield Check(part.__name__, lambda part=part: part(given.program, tempfile.mkdtemp(dir=room)))
 
-if __name__ == "__main__":
-    sys.exit(main())
+    return run_checks(given, checks_of)

@@ -117,7 +117,7 @@ def plain_table(cases):
 
 
 def main():
-    words = reader(__doc__, has_program=False, has_checks=False)
+    words = reader(__doc__, program=None, has_checks=False)
     words.add_argument("--check", action="store_true", help="print only what is wrong, and how many cases there are")
     given = words.parse_args()
     said, count = [], 0

@@ -20,7 +20,7 @@ OPERATIONS = (
     ("tom", "/do/drawer-off", {"branch": 1, "counted": 4900, "teller": 12}),
     ("tess", "/do/move-cash", MOVE_CASH),
     ("sue", "/do/new-account", {"account": 103, "branch": 1, "floor": 0}),
-    *(("sue", "/do/release", {"beneficiary": 8, "operation": {**op, "procedure": name}}) for name, op in RELEASED.items()),
+    *(("sue", "/do/release", {"beneficiary": 8, "operation": op | {"procedure": name}}) for name, op in RELEASED.items()),
     ("tess", "/do/balance", {"account": 101}),
     ("tess", "/do/statement", {"account": 101, "count": 10, "start": 1}),
     ("tess", "/do/accounts", {"after": 0, "count": 10}),

@@ -9,11 +9,12 @@ import tempfile
 import termios
 import time
 
+from checks import Wrong
 from faults import disk_states
 from faults.earlier_files import NOT_READ
 from faults.refusals import MOST_CALLS
-from faults.works import AFTER, BROKEN, REFUSED, SECONDS
-from sample_file import Wrong
+from faults.works import AFTER, BROKEN, REFUSED
+from sample_file import SECONDS
 
 # Of a run's calls for memory the last so many are each refused.
 LAST = 100

@@ -3,8 +3,8 @@ library, counts the calls and refuses some. It counts the bytes that are held, t
 import os
 import subprocess
 
+from checks import Wrong
 from preload import preloaded
-from sample_file import Wrong
 from served import Served
 
 SECONDS = 240

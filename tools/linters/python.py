@@ -6,7 +6,7 @@ import tempfile
 from linters.tree import findings_of, output_of, python_files
 
 # What has modules, and where else each looks for them. (Two of them may have modules of one name.)
-ROOTS: dict[str, list[str]] = {"tools": [], "branch": [], "desk": ["desk/checks", "branch"]}
+ROOTS: dict[str, list[str]] = {"tools": [], "branch": ["tools"], "desk": ["tools", "desk/checks", "branch"]}
 PLACE = re.compile(r"([^:]+):(\d+):")
 
 
@@ -44,7 +44,7 @@ def mypy(root: str, top: str) -> list[str]:
     with tempfile.TemporaryDirectory(prefix="bank-mypy-") as room:
         links = linked_scripts(top, [it for it in files if it not in modules], room)
         arguments = ["mypy", "--config-file", "tools/mypy.ini", "--cache-dir", os.path.join(room, "cache")]
-        search = ":".join(os.path.join(top, it) for it in [root, *ROOTS[root]])
+        search = ":".join(os.path.join(top, it) for it in [*ROOTS[root], root])
         status, lines = output_of([*arguments, *modules, *links], top, MYPYPATH=search)
     for link, path in links.items():
         lines = [it.replace(os.path.relpath(link, top), path).replace(link, path) for it in lines]

@@ -1,4 +1,3 @@
-#!/usr/bin/env python3
 """Sends random requests over several connections of `counter` at once: some order of them has to explain all replies, and the file.
 
     tools/model/connections [N [SEED [BANK]]]
@@ -19,26 +18,25 @@ streams, and one for the requests allowed; the exit status is 1 where M is not 0
 """
 import os
 import signal
-import sys
 import tempfile
 import time
 from collections.abc import Iterable
 from random import Random
+from socket import socket
 from subprocess import Popen
 
-sys.dont_write_bytecode = True
-sys.path[0] = os.path.dirname(os.path.dirname(os.path.abspath(__file__)))
+from checks import Wrong
 from faults.earlier_files import difference_of, without_moments
 from model.answers import answer, is_repeat
 from model.bank import Bank
 from model.requests import Request
-from model.sending import REPORT, Counts, Programs, are_allowed, arguments, count, drawn, judged_all
-from repository import PROGRAM, are_built
-from sample_file import Wrong, copy_bank, make_sample, require_sound
+from model.sending import REPORT, Counts, Kind, Programs, arguments, count, drawn, run_streams
+from replies import next_reply
+from repository import PROGRAM
+from sample_file import copy_bank, require_sound
 from serving import Counter as Served
 from serving import connected
 from simulation.ledger import Ledger, Row
-from simulation.messages import size_of
 from simulation.table_rows import Tables, rows_of_file, rows_over
 
 # What one connection asked for in a round, each with its reply.
@@ -60,7 +58,7 @@ class Connection:
     """A connection, with what came of its next reply, and a request whose message was begun, with the rest of its bytes."""
 
     def __init__(self, port: int) -> None:
-        self.client = connected(port)
+        self.client: socket = connected(port)
         self.got, self.rest = b"", b""
         self.begun: list[Request] = []
 
@@ -78,12 +76,7 @@ class Connection:
 
     def reply(self) -> bytes:
         """The next reply."""
-        while (size := size_of(self.got, True)) is None:
-            piece = self.client.recv(65536)
-            if not piece:
-                raise Wrong(f"a connection ended after {self.got!r}")
-            self.got += piece
-        reply, self.got = self.got[:size], self.got[size:]
+        reply, self.got = next_reply(lambda: self.client.recv(65536), self.got)
         return reply
 
 
@@ -219,18 +212,4 @@ def compared(programs: Programs, seed: str) -> Counts:
 
 def main() -> int:
     given = arguments(__doc__, STREAMS, bank=PROGRAM)
-    if not are_built(given.bank):
-        print(f"0 passed, {given.streams} failed")
-        return 1
-    with tempfile.TemporaryDirectory(prefix="bank-connections-") as room:
-        bank = os.path.join(room, "bank")
-        make_sample(given.bank, bank)
-        seeds = [f"{given.seed} {number}" for number in range(1, given.streams + 1)]
-        told, wrong = judged_all(compared, (given.bank, bank), seeds)
-    wrong += not are_allowed(told, sum(told[it] for it in told if it not in ("report", "again")))
-    print(f"{given.streams + 1 - wrong} passed, {wrong} failed")
-    return 1 if wrong else 0
-
-
-if __name__ == "__main__":
-    sys.exit(main())
+    return run_streams(given, [Kind("over six connections", compared)], (given.bank,))

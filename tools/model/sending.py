@@ -3,15 +3,19 @@ import argparse
 import os
 import re
 import subprocess
+import tempfile
 from collections import Counter
 from collections.abc import Callable, Iterable, Sequence
 from concurrent.futures import ProcessPoolExecutor
 from random import Random
+from typing import NamedTuple
 
+from checks import Report, Wrong, outcome, reader, reason, refuse
 from model.answers import is_allowed
 from model.bank import BADGES, COMMANDS, OPERATIONS, RULES, Bank, Body, without_member
 from model.requests import DRAWN, Request, again, any_slip, slips_of, spoiled
-from sample_file import Wrong, require_sound, run_words
+from repository import are_built
+from sample_file import make_sample, require_sound, run_words
 
 # How often each reply was given, by its status or the rule that denies, by `report` and by `again`.
 Counts = Counter[str | int]
@@ -71,12 +75,12 @@ def absolute(path: str) -> str:
 
 def arguments(description: str | None, streams: int, **programs: str) -> argparse.Namespace:
     """What the command line says: how many streams, by which seed, and over which programs; or else these, and the seed 1."""
-    reader = argparse.ArgumentParser(description=description, formatter_class=argparse.RawDescriptionHelpFormatter)
-    reader.add_argument("streams", metavar="N", nargs="?", type=int, default=streams)
-    reader.add_argument("seed", metavar="SEED", nargs="?", type=int, default=1)
+    words = reader(description, program=None, has_checks=False)
+    words.add_argument("streams", metavar="N", nargs="?", type=int, default=streams)
+    words.add_argument("seed", metavar="SEED", nargs="?", type=int, default=1)
     for name, program in programs.items():
-        reader.add_argument(name, metavar=name.upper(), nargs="?", type=absolute, default=program)
-    return reader.parse_args()
+        words.add_argument(name, metavar=name.upper(), nargs="?", type=absolute, default=program)
+    return words.parse_args()
 
 
 def of_kind(bank: Bank, kind: str, rng: Random, moment: int) -> Request:
@@ -164,32 +168,57 @@ def first_difference(wrote: bytes, sent: list[bytes], replies: list[bytes]) -> s
     return f"it wrote {wrote[:200]!r} after the last reply"
 
 
-def judged(compared: Callable[[Programs, str], Counts], programs: Programs, seed: str) -> tuple[Counts, str | None]:
+class Kind(NamedTuple):
+    """A kind of streams: its name, what sends the one of a seed and returns how often each reply was given, and of how many seeds
+    one is sent."""
+
+    name: str
+    send: Callable[[Programs, str], Counts]
+    of_seeds: int = 1
+
+
+def judge(send: Callable[[Programs, str], Counts], programs: Programs, seed: str) -> tuple[Counts, str | None]:
     """How often each reply was given in a stream, and what was wrong."""
-    try:
-        return compared(programs, seed), None
-    except (Wrong, OSError, LookupError, TypeError, ValueError, subprocess.TimeoutExpired) as why:
-        return Counts(), repr(why)
+    found: list[Counts] = []
+    _, error = outcome(lambda: found.append(send(programs, seed)))
+    return found[0] if found else Counts(), reason(error)
 
 
-def judged_all(compared: Callable[[Programs, str], Counts], programs: Programs, seeds: Sequence[str]) -> tuple[Counts, int]:
-    """How often each reply was given in all streams, and how many streams failed. Each that did is printed."""
-    told, failed = Counts(), 0
+def judge_all(report: Report, kind: Kind, programs: Programs, seeds: Sequence[str]) -> None:
+    """Sends the streams of a kind, takes each as a check, and that half of their requests were allowed as another."""
+    told = Counts()
     with ProcessPoolExecutor(len(os.sched_getaffinity(0))) as pool:
-        for seed, (replies, why) in zip(seeds, pool.map(judged, [compared] * len(seeds), [programs] * len(seeds), seeds)):
+        found = pool.map(judge, [kind.send] * len(seeds), [programs] * len(seeds), seeds)
+        for seed, (replies, why) in zip(seeds, found):
             told += replies
-            if why:
-                failed += 1
-                print(f"FAILED stream {seed}: {why}", flush=True)
-    return told, failed
+            report.add(f"stream {seed} {kind.name}", why)
+    said, is_half = as_text(told)
+    print(f"{kind.name}: {said}", flush=True)
+    report.add(f"requests {kind.name}", None if is_half else "fewer than half were allowed")
 
 
-def are_allowed(told: Counts, requests: int) -> bool:
-    """Prints how often each reply was given, and whether half of the requests were allowed."""
-    allowed = told[200]
+def as_text(told: Counts) -> tuple[str, bool]:
+    """How often each reply was given, as text, and whether half of the requests were allowed."""
+    allowed, requests = told[200], sum(told[it] for it in told if it not in ("report", "again"))
     kinds = f"{told['report']} reports and {told['again']} answers given again"
-    print(f"{allowed} of {requests} requests were allowed, {kinds} among them")
-    print("denied: " + ", ".join(f"{told[it]} {it}" for it in RULES if told[it]) + f"; {told[422]} were not stated")
-    if 2 * allowed < requests:
-        print("FAILED: that is fewer than half")
-    return 2 * allowed >= requests
+    denied = ", ".join(f"{told[it]} {it}" for it in RULES if told[it])
+    said = f"{allowed} of {requests} requests were allowed, {kinds} among them\n    denied: {denied}; {told[422]} were not stated"
+    return said, 0 < requests <= 2 * allowed
+
+
+def run_streams(given: argparse.Namespace, kinds: Sequence[Kind], programs: Programs) -> int:
+    """Sends the streams of each kind, over these programs and the sample bank in a file. The exit status."""
+    if not are_built(*programs):
+        return refuse("there is no program")
+    seeds = [f"{given.seed} {number}" for number in range(1, given.streams + 1)]
+    of_kinds = [seeds[: -(-len(seeds) // it.of_seeds)] for it in kinds]
+    report = Report(sum(map(len, of_kinds)) + len(kinds))
+    with tempfile.TemporaryDirectory(prefix="bank-streams-") as room:
+        bank = os.path.join(room, "bank")
+        try:
+            make_sample(given.bank, bank)
+        except (Wrong, OSError, subprocess.TimeoutExpired) as error:
+            return refuse(f"the sample bank in a file: {reason(error)}")
+        for kind, seeds_of_kind in zip(kinds, of_kinds):
+            judge_all(report, kind, (*programs, bank), seeds_of_kind)
+    return report.end()

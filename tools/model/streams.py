@@ -1,4 +1,3 @@
-#!/usr/bin/env python3
 """Sends streams of random requests to the sample bank in lists, in lists with a cache in front, in SQL tables in memory, and in a
 file, and compares the replies with those of the reference model, which is written down from the rules alone (bank_model,
 bank_answers). Then it sends streams whose moment moves on, so that triples begin and end within them, to the bank in a file;
@@ -20,20 +19,17 @@ line says how often each rule denied one, and two more say the same of each othe
 failed', counted in streams, and one for each line on what was allowed; the exit status is 1 where M is not 0.
 """
 import os
-import subprocess
-import sys
 import tempfile
 from collections.abc import Sequence
 from random import Random
 
-sys.dont_write_bytecode = True
-sys.path[0] = os.path.dirname(os.path.dirname(os.path.abspath(__file__)))
+from checks import Wrong
 from model.answers import answer, is_repeat
 from model.bank import MOMENT, MOMENTS, Bank
 from model.pairs import Made, by_user, pair_of, write_lists
-from model.sending import Counts, Part, Programs, are_allowed, arguments, compare, compare_file, count, drawn, judged_all
-from repository import OVER, PROGRAM, are_built
-from sample_file import Wrong, copy_bank, ended, make_sample, run_words
+from model.sending import Counts, Kind, Part, Programs, arguments, compare, compare_file, count, drawn, run_streams
+from repository import OVER, PROGRAM
+from sample_file import copy_bank, ended, run_words
 
 STREAMS = 200
 REQUESTS = 300
@@ -121,37 +117,7 @@ def compared_two(programs: Programs, seed: str) -> Counts:
     return told
 
 
-def judge_kinds(programs: Programs, seeds: list[str]) -> tuple[int, int]:
-    """Sends the streams of each kind, and returns how many passed and failed, with what was allowed of each kind."""
-    fewer = seeds[: -(-len(seeds) // OF_OTHERS)]
-    kinds = [("at one moment", compared, seeds), ("at moments that move on", compared_moving, fewer)]
-    kinds.append(("to two banks", compared_two, fewer))
-    passed = failed = 0
-    for name, compare_one, seeds_of_kind in kinds:
-        told, wrong = judged_all(compare_one, programs, seeds_of_kind)
-        print(f"{name}:")
-        wrong += not are_allowed(told, len(seeds_of_kind) * REQUESTS)
-        passed, failed = passed + len(seeds_of_kind) + 1 - wrong, failed + wrong
-    return passed, failed
-
-
 def main() -> int:
     given = arguments(__doc__, STREAMS, program=OVER, bank=PROGRAM)
-    if not are_built(given.program, given.bank):
-        print(f"0 passed, {given.streams} failed")
-        return 1
-    with tempfile.TemporaryDirectory(prefix="bank-streams-") as room:
-        bank = os.path.join(room, "bank")
-        try:
-            make_sample(given.bank, bank)
-        except (Wrong, OSError, subprocess.TimeoutExpired) as why:
-            print(f"streams: the sample bank was not made in a file: {why}\n0 passed, {given.streams} failed")
-            return 1
-        seeds = [f"{given.seed} {number}" for number in range(1, given.streams + 1)]
-        passed, failed = judge_kinds((given.program, given.bank, bank), seeds)
-    print(f"{passed} passed, {failed} failed")
-    return 1 if failed else 0
-
-
-if __name__ == "__main__":
-    sys.exit(main())
+    kinds = [Kind("at one moment", compared), Kind("at moments that move on", compared_moving, OF_OTHERS)]
+    return run_streams(given, [*kinds, Kind("to two banks", compared_two, OF_OTHERS)], (given.program, given.bank))

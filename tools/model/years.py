@@ -1,4 +1,3 @@
-#!/usr/bin/env python3
 """Sends random requests over the turn of a year: the bank that goes on and the one that begins the next year have to answer alike.
 
     tools/model/years [N [SEED [BANK]]]
@@ -17,22 +16,20 @@ in the second streams, and how often each rule denied one. The last line is 'N p
 requests allowed; the exit status is 1 where M is not 0.
 """
 import os
-import subprocess
-import sys
 import tempfile
 from collections.abc import Iterable
+from pathlib import Path
 from random import Random
 
-sys.dont_write_bytecode = True
-sys.path[0] = os.path.dirname(os.path.dirname(os.path.abspath(__file__)))
+from checks import Wrong, require
 from model.answers import answer, is_allowed, is_repeat, is_stated
 from model.bank import BADGES, MOMENT, Bank, Body
 from model.requests import Request
-from model.sending import Counts, Part, Programs, are_allowed, arguments, compare_file, count, drawn, judged_all
+from model.sending import Counts, Kind, Part, Programs, arguments, compare_file, count, drawn, run_streams
 from model.turn import Turn, forward, least_open, told_of_old
 from page_sums import require_pages
-from repository import PROGRAM, are_built
-from sample_file import SECONDS, Wrong, copy_bank, make_sample, require_sound
+from repository import PROGRAM
+from sample_file import copy_bank, require_sound, run_to_end
 
 PAIRS = 300
 REQUESTS = 100
@@ -150,15 +147,11 @@ def second_streams(rng: Random, old: Bank) -> tuple[Part, Part, Counts]:
 
 
 def require_forward(program: str, file: str, new: str, sums: list[str], due: tuple[int, bytes, bytes]) -> None:
-    """Goes through where `forward` ends so and leaves the bytes of the old file."""
-    with open(file, "rb") as opened:
-        before = opened.read()
-    ran = subprocess.run([program, "forward", file, new, *sums], capture_output=True, timeout=SECONDS, check=False)
-    if (ran.returncode, ran.stdout, ran.stderr) != due:
-        raise Wrong(f"forward ended with status {ran.returncode} and wrote {ran.stdout!r} and {ran.stderr!r}; due was {due!r}")
-    with open(file, "rb") as opened:
-        if opened.read() != before:
-            raise Wrong("forward changed the old file")
+    """Passes if `forward` ends so and leaves the bytes of the old file."""
+    before = Path(file).read_bytes()
+    require(run_to_end([program, "forward", file, new, *sums]), due, "forward")
+    if Path(file).read_bytes() != before:
+        raise Wrong("forward changed the old file")
 
 
 def compared(programs: Programs, seed: str) -> Counts:
@@ -187,22 +180,4 @@ def compared(programs: Programs, seed: str) -> Counts:
 
 def main() -> int:
     given = arguments(__doc__, PAIRS, bank=PROGRAM)
-    if not are_built(given.bank):
-        print(f"0 passed, {given.streams} failed")
-        return 1
-    with tempfile.TemporaryDirectory(prefix="bank-years-") as room:
-        bank = os.path.join(room, "bank")
-        try:
-            make_sample(given.bank, bank)
-        except (Wrong, OSError, subprocess.TimeoutExpired) as why:
-            print(f"years: the sample bank was not made in a file: {why}\n0 passed, {given.streams} failed")
-            return 1
-        seeds = [f"{given.seed} {number}" for number in range(1, given.streams + 1)]
-        told, wrong = judged_all(compared, (given.bank, bank), seeds)
-    wrong += not are_allowed(told, sum(told[it] for it in told if it not in ("report", "again")))
-    print(f"{given.streams + 1 - wrong} passed, {wrong} failed")
-    return 1 if wrong else 0
-
-
-if __name__ == "__main__":
-    sys.exit(main())
+    return run_streams(given, [Kind("over the turn of a year", compared)], (given.bank,))

@@ -152,7 +152,7 @@ def say_chain(uses, minutes, crates):
 
 
 def main():
-    reader(__doc__, has_program=False, has_checks=False).parse_args()
+    reader(__doc__, program=None, has_checks=False).parse_args()
     uses, (places, twice), minutes = words_of_all(), drawn(), kept_minutes()
     proved, listed = proved_crates(uses), listed_functions()
     found = all_without_clause(proved)

@@ -81,7 +81,7 @@ OF_OPERATIONS = [
 UNSAID = [
     *((f"/do/{name}", body, words) for name, body, words in OF_OPERATIONS),
     *(
-        ("/do/release", {"beneficiary": 8, "operation": {**body, "procedure": name}}, words)
+        ("/do/release", {"beneficiary": 8, "operation": body | {"procedure": name}}, words)
         for name, body, words in OF_OPERATIONS
     ),
     *(

@@ -148,7 +148,7 @@ def show(paths):
 
 
 def main():
-    parser = reader(__doc__, has_program=False, has_checks=False)
+    parser = reader(__doc__, program=None, has_checks=False)
     what = parser.add_mutually_exclusive_group(required=True)
     what.add_argument("name", nargs="?", metavar="NAME", help="print the files that name this operation, as move-cash")
     what.add_argument("--all", action="store_true", help="print the files of crates' src, specs and proofs that name every one")

@@ -286,7 +286,7 @@ def print_others(texts, comments, found, crates):
 
 
 def main():
-    parser = reader(__doc__, has_program=False, has_checks=False)
+    parser = reader(__doc__, program=None, has_checks=False)
     what = parser.add_mutually_exclusive_group()
     what.add_argument("--list", action="store_true", help="print what the headline rests on")
     what.add_argument("--others", metavar="CRATE", nargs="*", help="print all other definitions")

@@ -19,7 +19,7 @@ CONSTANT = re.compile(r'const (\w+): &\[u8\] = (b".*?");', re.S)
 
 
 def main():
-    reader(__doc__, has_program=False, has_checks=False).parse_args()
+    reader(__doc__, program=None, has_checks=False).parse_args()
     with open(TESTED, encoding="utf-8") as file:
         tested = {f"{name.lower()}.csv": ast.literal_eval(text) for name, text in CONSTANT.findall(file.read())}
     kept = {it.name: it.read_bytes() for it in Path(FOLDER).iterdir()}

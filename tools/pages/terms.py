@@ -120,5 +120,5 @@ def faults_of_file(path):
 
 
 def main():
-    reader(__doc__, has_program=False, has_checks=False).parse_args()
+    reader(__doc__, program=None, has_checks=False).parse_args()
     return Report().add_all((it, faults_of_file(it)) for it in files())

@@ -9,9 +9,9 @@ from collections.abc import Callable
 from random import Random
 from typing import TYPE_CHECKING
 
+from checks import Wrong
 from faults.earlier_files import CARRIED, EARLIER_VERSIONS, OTHER, SchemaVersion, Tables, make_earlier_file
 from page_sums import RESERVED_AT, SUM, says_sums
-from sample_file import Wrong
 from serving import HOST
 from simulation.machine import CHANGES, HALF_AND_KILLED, KILLED, KILLED_AFTER
 from simulation.table_rows import first_difference, rows_of_file

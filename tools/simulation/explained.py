@@ -3,10 +3,11 @@ those that it may be in then."""
 from collections.abc import Iterable, Sequence
 from typing import NamedTuple
 
+from checks import Wrong
 from model.answers import json_text
-from sample_file import Wrong
+from replies import body_of
 from simulation.ledger import LongBank, Row
-from simulation.messages import END_OF_HEAD, NOBODY, READS, Message, failure
+from simulation.messages import NOBODY, READS, Message, failure
 from simulation.program import Talk
 from simulation.table_rows import Tables, first_difference, rows_of_bank
 
@@ -96,7 +97,7 @@ def with_beginning(states: list[State], messages: list[Message], rest: bytes, mo
 def is_503_begun(rest: bytes) -> bool:
     """Whether bytes may begin a reply 503, which is not whole."""
     begin = b"HTTP/1.1 503 Service Unavailable"
-    body = rest.partition(END_OF_HEAD)[2]
+    body = body_of(rest)
     bodies = [b'{"fault":"F%d"}' % number for number in range(1, 5)]
     return begin.startswith(rest[: len(begin)]) and any(it != body and it.startswith(body) for it in bodies)
 

@@ -4,7 +4,7 @@ import errno
 from random import Random
 from typing import TYPE_CHECKING, NamedTuple
 
-from sample_file import Wrong
+from checks import Wrong
 from simulation.explained import State
 from simulation.machine import (
     CHANGES,

@@ -2,7 +2,8 @@
 import os
 from typing import TYPE_CHECKING
 
-from sample_file import ENDINGS, Wrong
+from checks import Wrong
+from sample_file import ENDINGS
 from simulation.ledger import Ledger, LongBank
 from simulation.machine import CHANGES, KILLS
 

@@ -5,8 +5,9 @@ import shutil
 import sqlite3
 import subprocess
 
+from checks import Wrong
 from model.bank import Body
-from sample_file import ENDINGS, Wrong
+from sample_file import ENDINGS
 from simulation import errands, failing, forwards
 from simulation.coverage import Seen
 from simulation.drawing import STRANGERS, Drawing

@@ -4,6 +4,7 @@ import re
 
 from model.answers import answer
 from model.bank import COMMANDS, OPERATIONS, AnyBank, Body
+from replies import END_OF_HEAD
 
 # The user whose badge is nobody's.
 NOBODY = 0
@@ -19,9 +20,7 @@ STATUS = {
 # What changes nothing.
 READS = {"balance", "statement", "accounts", "proof", "listing"}
 CLOSE = b"Connection: close\r\n"
-LENGTH = re.compile(rb"^Content-Length: (\d+)\r$", re.MULTILINE)
 FAILED = re.compile(rb'HTTP/1\.1 503 Service Unavailable\r\n.*\r\n\r\n\{"fault":"F(\d)"\}', re.DOTALL)
-END_OF_HEAD = b"\r\n\r\n"
 
 
 class Asked:
@@ -97,16 +96,6 @@ def with_close(reply: bytes) -> bytes:
     """A reply after which the connection ends."""
     head, _, body = reply.partition(END_OF_HEAD)
     return head + b"\r\n" + CLOSE + b"\r\n" + body
-
-
-def size_of(got: bytes, has_body: bool) -> int | None:
-    """How many bytes the first reply has in these, or none where it is not whole."""
-    head, end, body = got.partition(END_OF_HEAD)
-    length = LENGTH.search(head + b"\r\n") if end else None
-    if not length:
-        return None
-    size = len(head) + len(END_OF_HEAD) + (int(length[1]) if has_body else 0)
-    return size if len(got) >= size else None
 
 
 def failure(reply: bytes) -> int:

@@ -9,10 +9,11 @@ import time
 from collections.abc import Sequence
 from typing import IO
 
-from sample_file import Wrong
+from checks import Wrong
+from replies import size_of
 from serving import HOST, listening
 from simulation.machine import Machine
-from simulation.messages import Message, size_of
+from simulation.messages import Message
 from simulation.plants import Crossing
 
 SECONDS = 120

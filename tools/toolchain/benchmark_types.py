@@ -29,7 +29,7 @@ def against_source(libraries):
 
 
 def main():
-    words = reader(__doc__, has_program=False, has_checks=False)
+    words = reader(__doc__, program=None, has_checks=False)
     words.add_argument("--libraries", metavar="FOLDER", type=os.path.abspath, required=True, help="a copy of the repository whose crates are proved")
     given = words.parse_args()
     parts = [(f"{it}: its layout", fault_of(layout_of(it))) for it in BENCHES]

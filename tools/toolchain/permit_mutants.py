@@ -185,7 +185,7 @@ def judge(command, error, text):
 
 
 def main():
-    words = reader(__doc__, has_program=False)
+    words = reader(__doc__, program=None)
     words.add_argument("--libraries", metavar="FOLDER", help="a copy of the repository whose crates are proved")
     given = words.parse_args()
     command = words_of_reading(given.libraries)

@@ -375,4 +375,4 @@ def checks_of(room):
 
 
 def main():
-    return run_checks(reader(__doc__, has_program=False).parse_args(), checks_of, programs=[])
+    return run_checks(reader(__doc__, program=None).parse_args(), checks_of, programs=[])

@@ -47,7 +47,7 @@ def keep(kept, name):
 
 
 def main():
-    words = reader(__doc__, has_program=False, has_checks=False)
+    words = reader(__doc__, program=None, has_checks=False)
     words.add_argument("--libraries", metavar="FOLDER", type=os.path.abspath, required=True, help="a copy of the repository whose crates are proved")
     words.add_argument("--anew", action="store_true", help="prove and build it, also if an earlier run did")
     given = words.parse_args()

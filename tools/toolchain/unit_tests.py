@@ -173,7 +173,7 @@ def run_tests(names, is_anew):
 def main():
     uses = words_of_all()
     shared = shared_by_tests(uses)
-    words = reader(__doc__, has_program=False, has_checks=False)
+    words = reader(__doc__, program=None, has_checks=False)
     words.add_argument("--anew", action="store_true", help="compile the tests, also if an earlier run did")
     words.add_argument("crates", metavar="CRATE", nargs="*")
     given = words.parse_args()
