@@ -29,7 +29,7 @@ def size_in(text):
     return 65536 if size == 1 else size
 
 
-def says_sums(text):
+def says_sums(text: bytes | bytearray) -> bool:
     """Whether a file says that its pages end in sums."""
     return text[RESERVED_AT] == SUM
 
@@ -66,7 +66,7 @@ def seal_file(file):
             opened.write(sealed(page))
 
 
-def require_pages(file, size, has_sums):
+def require_pages(file: str, size: int, has_sums: bool) -> None:
     """Passes if the pages of a file are of this length and end in their sums, or say that they don't."""
     with open(file, "rb") as opened:
         text = opened.read()

@@ -17,7 +17,7 @@ PROGRAM, OVER = (os.path.join(TOP, "crates", it, "out", it) for it in (BANK_PROG
 PROVED = re.compile(rb"rt: (\w+) (?:proved$|is kept: )")
 
 
-def are_built(*programs):
+def are_built(*programs: str) -> bool:
     """Whether these programs are there. Says of each that is not."""
     missing = [it for it in programs if not os.path.isfile(it)]
     for it in missing:

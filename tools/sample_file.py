@@ -5,6 +5,7 @@ import shutil
 import subprocess
 import tempfile
 import threading
+from typing import Any
 
 from checks import Wrong
 from repository import TOP
@@ -16,7 +17,7 @@ ENDINGS = ("", "-wal")
 SECONDS = 240
 
 
-def message(badge, path, body=None, session=1):
+def message(badge: str, path: str, body: object = None, session: int = 1) -> bytes:
     """The bytes of a request by the user of a badge in a session."""
     text = "" if body is None else json.dumps(body)
     fields = [f"POST {path} HTTP/1.1", "Host: bank", f"Bank-Badge: {badge}", f"Bank-Session: {session}", f"Content-Length: {len(text)}"]
@@ -33,18 +34,18 @@ OPENED = b"".join(
 )
 
 
-def run_words(file, moment):
+def run_words(file: str, moment: int) -> list[str]:
     """The arguments by which a bank in a file is served."""
     return ["run", file, "--badges", BADGES, "--moment", str(moment)]
 
 
-def run_to_end(words, given=b"", **how):
+def run_to_end(words: list[str], given: bytes = b"", **how: Any) -> tuple[int, bytes, bytes]:
     """How a run ends: its status, and what it wrote on both streams."""
     ran = subprocess.run(words, input=given, capture_output=True, timeout=SECONDS, check=False, **how)
     return ran.returncode, ran.stdout, ran.stderr
 
 
-def ended(program, words, given=b""):
+def ended(program: str, words: list[str], given: bytes = b"") -> bytes:
     """What a run wrote to standard output. It has to end well."""
     status, output, errors = run_to_end([program, *words], given)
     if (status, errors) != (0, b""):
@@ -52,7 +53,7 @@ def ended(program, words, given=b""):
     return output
 
 
-def make_sample(program, file, sums=True):
+def make_sample(program: str, file: str, sums: bool = True) -> None:
     """Makes the bank that `sample` serves in a file, by `init` and by one `run` that opens its sessions and drawers. Its pages end
     in sums, or not."""
     if ended(program, ["init", file, LISTS, *["--sums"] * sums]) != b"made\n":
@@ -61,7 +62,7 @@ def make_sample(program, file, sums=True):
         raise Wrong("the bank was not opened")
 
 
-def copy_bank(file, target):
+def copy_bank(file: str, target: str) -> None:
     """Copies a bank."""
     for ending in ENDINGS:
         if os.path.exists(file + ending):
@@ -92,7 +93,7 @@ class SampleBanks:
         return file
 
 
-def require_sound(program, file):
+def require_sound(program: str, file: str) -> None:
     """Passes if `check` says that the books of a bank hold."""
     said = ended(program, ["check", file])
     if said != b"books hold\n":

@@ -4,6 +4,8 @@ import itertools
 import os
 import socket
 import subprocess
+from collections.abc import Callable
+from typing import Any, Self
 
 from checks import Wrong
 from sample_file import BADGES
@@ -28,7 +30,7 @@ skip_ports()
 os.register_at_fork(after_in_child=skip_ports)
 
 
-def is_free(port):
+def is_free(port: int) -> bool:
     """Whether nobody has a port."""
     with socket.socket() as held:
         held.setsockopt(socket.SOL_SOCKET, socket.SO_REUSEADDR, 1)
@@ -40,17 +42,17 @@ def is_free(port):
     return True
 
 
-def free_port():
+def free_port() -> int:
     """A port that nobody has, and that was not given before for long."""
     return next(port for port in PORTS if is_free(port))
 
 
-def serve_words(file, port, requests):
+def serve_words(file: str, port: int, requests: int) -> list[str]:
     """The arguments by which a bank in a file is served at a port, until so many messages are counted."""
     return ["serve", file, "--badges", BADGES, "--port", str(port), "--requests", str(requests)]
 
 
-def connected(port):
+def connected(port: int) -> socket.socket:
     """A client's socket, whose bytes go out as they are sent."""
     client = socket.create_connection((HOST, port), SECONDS)
     client.setsockopt(socket.IPPROTO_TCP, socket.TCP_NODELAY, 1)
@@ -75,15 +77,16 @@ def asked(port, given):
         return read_to_end(client)
 
 
-def listening(start):
+def listening(start: Callable[[int], subprocess.Popen[bytes]]) -> tuple[int, subprocess.Popen[bytes], bytes]:
     """A port, a run that `start` has begun at it, and its first line; at another port where somebody has taken that one."""
     for left in reversed(range(TRIES)):
         port = free_port()
         run = start(port)
-        line = run.stdout.readline()
+        line = run.stdout.readline() if run.stdout else b""
         if line or is_free(port) or not left:
             return port, run, line
         run.communicate()
+    raise Wrong(f"no port was free at {TRIES} tries")
 
 
 class Serving:
@@ -91,46 +94,46 @@ class Serving:
 
     given = subprocess.DEVNULL
 
-    def __init__(self, program, file, requests, **more):
-        def start(port):
+    def __init__(self, program: str, file: str, requests: int, **more: Any) -> None:
+        def start(port: int) -> subprocess.Popen[bytes]:
             words = [program, *self.words_at(file, port, requests)]
             return subprocess.Popen(words, stdin=self.given, stdout=subprocess.PIPE, stderr=subprocess.PIPE, **more)
 
         self.port, self.run, self.line = listening(start)
 
-    def words_at(self, file, port, requests):
+    def words_at(self, file: str, port: int, requests: int) -> list[str]:
         """The arguments of the run."""
         return serve_words(file, port, requests)
 
-    def __enter__(self):
+    def __enter__(self) -> Self:
         if not self.is_told():
             self.run.kill()
             self.run.communicate()
             raise Wrong(f"it said {self.line!r} first")
         return self
 
-    def __exit__(self, *error):
+    def __exit__(self, *error: object) -> None:
         if self.run.poll() is None:
             self.run.kill()
         self.run.communicate()
 
-    def is_told(self):
+    def is_told(self) -> bool:
         """Whether the first line says at which port it listens."""
         return self.line == b"listening %d\n" % self.port
 
-    def ended(self, seconds=SECONDS):
+    def ended(self, seconds: float = SECONDS) -> tuple[int, bytes, bytes]:
         """The status, and what was written after the first line, once it has ended."""
         output, errors = self.run.communicate(timeout=seconds)
         return self.run.returncode, output, errors
 
-    def require_done(self, seconds=SECONDS):
+    def require_done(self, seconds: float = SECONDS) -> None:
         """Passes if it has counted its messages, and has nothing more to say."""
         found = self.ended(seconds)
         if found != (0, b"", b""):
             raise Wrong(f"it ended with {found!r}")
 
 
-def counter_words(file, *more):
+def counter_words(file: str, *more: str) -> list[str]:
     """The arguments by which many connections are served at once over a bank in a file, until standard input ends."""
     return ["counter", file, "--badges", BADGES, "--until-input-ends", *more]
 
@@ -141,10 +144,10 @@ class Counter(Serving):
 
     given = subprocess.PIPE
 
-    def __init__(self, program, file, requests=None, **more):
+    def __init__(self, program: str, file: str, requests: int = 0, **more: Any) -> None:
         super().__init__(program, file, requests, **more)
 
-    def words_at(self, file, port, requests):
+    def words_at(self, file: str, port: int, requests: int) -> list[str]:
         return counter_words(file, "--port", str(port))
 
     def end_input(self):

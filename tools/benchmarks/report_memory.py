@@ -14,7 +14,7 @@ Statements: after 1,000 posts to one account, statements of 10, of 1,000 and aga
 `sample` and over one in a file. A library that the loader puts before the C library (faults/refusals.c) counts the bytes of the blocks
 that are held; the most that were held at once has to be the same for each.
 
-Each reply is looked at. The last line is 'N passed, M failed'; the exit status is 1 where M is not 0.
+Each reply is looked at.
 """
 import os
 import tempfile

@@ -12,7 +12,7 @@ LINE = re.compile(rb"(\w) (\d+) (\d+) (\d+)\n")
 class Call:
     """A call that changed a file, or opened it."""
 
-    def __init__(self, kind, file, where, data):
+    def __init__(self, kind: str, file: int, where: int, data: bytes) -> None:
         self.kind = kind
         self.file = file
         self.where = where
@@ -23,11 +23,13 @@ class Call:
         return self.kind != "o"
 
 
-def calls_in(told):
+def calls_in(told: bytes) -> list[Call]:
     """The calls that a run reported."""
     calls, at = [], 0
     while at < len(told):
         line = LINE.match(told, at)
+        if line is None:
+            raise ValueError(f"no call is reported by {told[at : at + 80]!r}")
         kind, file, where, size = line[1].decode(), int(line[2]), int(line[3]), int(line[4])
         at = line.end() + size
         calls.append(Call(kind, file, where, told[line.end() : at]))

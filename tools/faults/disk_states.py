@@ -1,13 +1,14 @@
 """What the files of a bank can hold when the power fails: what was written, what was synced, or that and the last write."""
 import os
 
+from faults.disk_calls import Call
 from sample_file import ENDINGS
 
 # The files of a bank, and the one in which `init` writes its first page, by the endings of their names.
 ALL = (*ENDINGS, "-new")
 
 
-def make(text, call):
+def make(text: bytearray, call: Call) -> None:
     """Makes a call, which writes a file or shortens it, on its bytes."""
     if len(text) < call.where:
         text.extend(bytes(call.where - len(text)))
@@ -20,28 +21,28 @@ def make(text, call):
 class Held:
     """What a file held when it was synced last, and the calls that came since."""
 
-    def __init__(self, text=b""):
+    def __init__(self, text: bytes = b"") -> None:
         self.synced = bytearray(text)
-        self.since = []
+        self.since: list[Call] = []
 
-    def sync(self):
+    def sync(self) -> None:
         """All that was written is synced."""
         for call in self.since:
             make(self.synced, call)
         self.since = []
 
-    def with_calls(self, calls):
+    def with_calls(self, calls: list[Call]) -> bytes:
         """What was synced, and these calls."""
         text = bytearray(self.synced)
         for call in calls:
             make(text, call)
         return bytes(text)
 
-    def written(self):
+    def written(self) -> bytes:
         """All that was written."""
         return self.with_calls(self.since)
 
-    def ways(self):
+    def ways(self) -> tuple[bytes, bytes, bytes]:
         """What it can hold when the power fails."""
         return self.written(), bytes(self.synced), self.with_calls(self.since[-1:])
 
@@ -50,15 +51,16 @@ class Disk:
     """The files of a bank, by the endings of their names. One that is made, renamed or removed is so at once. Where no bank is
     named, there are none."""
 
-    def __init__(self, file=None):
-        self.held = {}
+    def __init__(self, file: str | None = None) -> None:
+        self.held: dict[str, Held] = {}
         for ending in ALL if file else ():
-            if os.path.exists(file + ending):
-                with open(file + ending, "rb") as opened:
+            if os.path.exists(f"{file}{ending}"):
+                with open(f"{file}{ending}", "rb") as opened:
                     self.held[ending] = Held(opened.read())
-        self.opened = {}
+        # the ending of each file that is open, by its number
+        self.opened: dict[int, str | None] = {}
 
-    def ending(self, path):
+    def ending(self, path: bytes) -> str | None:
         """The ending of the bank's name in a path, or none where it is no file of the bank's."""
         name = os.fsdecode(path)
         return next((it for it in ALL if os.path.basename(name) == "bank" + it), None)
@@ -69,12 +71,12 @@ class Disk:
         moved = {old: new, new: None}
         self.opened = {file: moved.get(ending, ending) for file, ending in self.opened.items()}
 
-    def make(self, call):
+    def make(self, call: Call) -> None:
         """Makes a call."""
         if call.kind in "oc":
-            self.opened[call.file] = self.ending(call.data)
-            if call.kind == "c" and self.opened[call.file] is not None:
-                self.held.setdefault(self.opened[call.file], Held())
+            opened = self.opened[call.file] = self.ending(call.data)
+            if call.kind == "c" and opened is not None:
+                self.held.setdefault(opened, Held())
             return
         if call.kind == "r":
             self.rename(*(self.ending(it) for it in call.data.split(b"\0")))

@@ -7,13 +7,17 @@ import os
 import re
 import sqlite3
 import tempfile
-from typing import NamedTuple
+from collections.abc import Mapping
+from typing import Any, NamedTuple
 
 from cases.suite import Suite
 from checks import Wrong
 from replies import body_of, size_of, with_body
 from repository import TOP
 from sample_file import copy_bank, run_to_end
+
+# The rows of each table.
+Rows = Mapping[str, list[tuple[Any, ...]]]
 
 # How an action ends: its status, and what it writes on both streams.
 CARRIED = (0, b"carried over\n", b"")
@@ -41,7 +45,7 @@ class SchemaVersion(NamedTuple):
     triples: str
     has_moments: bool
 
-    def suite(self):
+    def suite(self) -> Suite:
         """The cases of its folder."""
         return Suite(os.path.join(TOP, "migrations", self.name))
 
@@ -76,7 +80,7 @@ def refused_rows(suite):
     return [row.name for it in suite.subjects if it.name == REFUSED for row in it.rows if row.runs]
 
 
-def make_earlier_file(suite, name, room):
+def make_earlier_file(suite: Suite, name: str, room: str) -> tuple[str, Any]:
     """Makes the files of a case in a folder, and returns the path of its bank and its run."""
     row = suite.row(name)
     os.makedirs(room, exist_ok=True)
@@ -117,7 +121,7 @@ def require_said(program, words, wanted, room=None, given=b""):
 class Tables:
     """What Python's sqlite3 reads of a database: the rows of its schema, and those of each table in the order of their keys."""
 
-    def __init__(self, file):
+    def __init__(self, file: str) -> None:
         with tempfile.TemporaryDirectory(prefix="bank-tables-") as room:
             copy = os.path.join(room, BANK)
             copy_bank(file, copy)
@@ -132,13 +136,13 @@ class Tables:
                 connection.close()
 
 
-def without_moments(rows):
+def without_moments(rows: Rows) -> Rows:
     """The rows of tables without the moments of entries and of lines."""
     kept = {name: sorted(it[:at] + it[at + 1 :] for it in rows[name]) for name, at in MOMENTS.items()}
     return {**rows, **kept}
 
 
-def difference_of(found, wanted):
+def difference_of(found: Rows, wanted: Rows) -> str | None:
     """What differs first between two readings of tables, as text, or None where nothing does."""
     for name in sorted({*found, *wanted}):
         if name not in found or name not in wanted:

@@ -5,8 +5,8 @@ import tempfile
 
 from linters.tree import findings_of, output_of, python_files
 
-# What has modules, and where else each looks for them. (Two of them may have modules of one name.)
-ROOTS: dict[str, list[str]] = {"tools": [], "branch": ["tools"], "desk": ["tools", "desk/checks", "branch"]}
+# What has modules, and where they look for others. (Two of them may have modules of one name.)
+ROOTS: dict[str, list[str]] = {"tools": ["tools"], "branch": ["branch", "tools"], "desk": ["desk/checks", "branch", "tools"]}
 PLACE = re.compile(r"([^:]+):(\d+):")
 
 
@@ -44,8 +44,10 @@ def mypy(root: str, top: str) -> list[str]:
     with tempfile.TemporaryDirectory(prefix="bank-mypy-") as room:
         links = linked_scripts(top, [it for it in files if it not in modules], room)
         arguments = ["mypy", "--config-file", "tools/mypy.ini", "--cache-dir", os.path.join(room, "cache")]
-        search = ":".join(os.path.join(top, it) for it in [*ROOTS[root], root])
-        status, lines = output_of([*arguments, *modules, *links], top, MYPYPATH=search)
+        search = ":".join(os.path.join(top, it) for it in ROOTS[root])
+        # (what is wrong in the modules of others is found there)
+        silent = [] if root == "tools" else ["--follow-imports", "silent"]
+        status, lines = output_of([*arguments, *silent, *modules, *links], top, MYPYPATH=search)
     for link, path in links.items():
         lines = [it.replace(os.path.relpath(link, top), path).replace(link, path) for it in lines]
     return [it for it in lines if ": note: " not in it] if status else []

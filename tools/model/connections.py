@@ -20,7 +20,7 @@ import os
 import signal
 import tempfile
 import time
-from collections.abc import Iterable
+from collections.abc import Iterable, Mapping
 from random import Random
 from socket import socket
 from subprocess import Popen
@@ -37,7 +37,7 @@ from sample_file import copy_bank, require_sound
 from serving import Counter as Served
 from serving import connected
 from simulation.ledger import Ledger, Row
-from simulation.table_rows import Tables, rows_of_file, rows_over
+from simulation.table_rows import rows_of_file, rows_over
 
 # What one connection asked for in a round, each with its reply.
 Exchanges = list[tuple[Request, bytes]]
@@ -118,7 +118,7 @@ class Search:
     """Looks for an order of what several connections asked for in which the reference model gives the replies that came, and after which
     it has the rows that a file has."""
 
-    def __init__(self, talks: list[Exchanges], found: Tables) -> None:
+    def __init__(self, talks: list[Exchanges], found: Mapping[str, list[Row]]) -> None:
         self.talks, self.found = talks, found
         self.keyed: list[dict[Row, Row]] = [{row[:2]: row for row in found[name]} for name in ("entries", "lines")]
         self.seen: dict[tuple[int, ...], list[Bank]] = {}
@@ -160,7 +160,7 @@ def without_rivals(bank: Bank, found: list[tuple[int, Bank]]) -> list[tuple[int,
     return [it for it in found if vars(it[1]) == vars(bank)][:1] or found
 
 
-def explained(bank: Bank, talks: list[Exchanges], found: Tables) -> Bank:
+def explained(bank: Bank, talks: list[Exchanges], found: Mapping[str, list[Row]]) -> Bank:
     """The bank after a round, after which a file has these rows."""
     search = Search(talks, found)
     end = search.look(bank, (0,) * len(talks))
