@@ -1,9 +1,9 @@
-// The seven shapes that the page's modules pass around, for tsc and for editors: nothing of this is loaded.
+// The shapes that the page's modules pass around, for tsc and for editors: nothing of this is loaded.
 
 /** What is sent to the bank: by `send` of http.js. */
 interface BankRequest {
   path: string;
-  method?: 'GET' | 'POST';
+  method?: string;
   badge?: string;
   session?: number | null;
   slip?: number | null;
@@ -22,13 +22,15 @@ interface BankReply {
   text?: string;
   /** The object that a reply of JSON has. */
   body?: Record<string, any> | null;
+  /** The front's time, in milliseconds, or null where it was not sent. */
+  at?: number | null;
 }
 
 /** What is kept of a request: with slip, name and body if it bears a slip, or else with its text and its end. */
 interface JournalRow {
   id?: number;
   badge: string;
-  state: 'waiting' | 'done' | 'refused' | 'aside' | 'unsure';
+  state: string;
   at: number;
   answered?: number;
   name?: string;
@@ -41,13 +43,17 @@ interface JournalRow {
   status?: number;
   reply?: string;
   aside?: {by: string, reason: string, at: number};
+  /** What was noted with a count. */
+  noted?: {reason?: string, colleague?: number};
+  /** A report that is kept with it. */
+  paper?: string;
 }
 
 /** What a field is made of. */
 interface FieldSpec {
   name: string;
   label: string;
-  kind: 'number' | 'amount' | 'text' | 'choice' | 'pick' | 'tick';
+  kind: string;
   value?: any;
   hint?: string;
   least?: number;
@@ -55,7 +61,8 @@ interface FieldSpec {
   optional?: boolean;
   pattern?: RegExp;
   fault?: string;
-  options?: [string, string, string?][];
+  /** Value, label, and of a choice its class and its letter. */
+  options?: string[][];
   /** A line that opens to the field. */
   tucked?: string;
 }
@@ -63,11 +70,11 @@ interface FieldSpec {
 /** A field: its row of elements, and what was typed, as a value or with what is wrong with it. */
 interface DeskField {
   spec: FieldSpec;
-  row: HTMLElement & {open?: boolean};
+  row: HTMLElement;
   input: HTMLInputElement;
   error: HTMLElement;
   read(): {value?: any, fault?: string};
-  set(value: any): void;
+  set(value?: any): void;
 }
 
 /** A form: its element, and its fields by their names. */
@@ -77,11 +84,15 @@ interface DeskForm {
   focus(): void;
 }
 
-/** A screen: its name in the menu, its key there, and what draws it for a desk. */
+/** A screen: its address, its letter in the menu, the operations that it asks for, and what makes it for a desk. */
 interface DeskScreen {
-  name: string;
+  id: string;
   key: string;
-  draw(desk: Desk, ...more: any[]): any;
+  asks: string[];
+  isWide?: boolean;
+  /** Whether its heading is another than its name in the menu. */
+  hasTitle?: boolean;
+  make(desk: Desk, shell?: any): Promise<{elements: any, focus?: () => void}>;
 }
 
 /** The desk of a badge: who works here, in which session, and the ways to ask the bank. */
@@ -89,5 +100,6 @@ interface Desk {
   badge: string;
   session: number | null;
   place: {branch: number | null, teller: number | null};
+  allowed: Record<string, boolean>;
   [member: string]: any;
 }
