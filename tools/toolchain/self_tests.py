@@ -323,16 +323,20 @@ def run_last(text, wanted):
         raise Wrong(f"it said: {lines}")
 
 
-def require_tally(tries, wanted, go_by_clock=True):
-    """Makes checks that end so at their tries, one after another: this is counted of them, passed, failed and passed at the second
-    try, and no try is left over."""
+def require_tally(tries, wanted, go_by_clock=True, in_lanes=False):
+    """Makes checks that end so at their tries, one after another or each in a lane of its own: this is counted of them, passed, failed
+    and passed at the second try, and no try is left over."""
     def make(left):
         if (error := left.pop(0)) is not None:
             raise error
 
     left, report = [list(it) for it in tries], Report()
     with contextlib.redirect_stdout(io.StringIO()) as said:
-        report.make([Check("planted", partial(make, it)) for it in left], go_by_clock=go_by_clock)
+        checks = [Check("planted", partial(make, it)) for it in left]
+        if in_lanes:
+            report.make_lanes([[it] for it in checks])
+        else:
+            report.make(checks, go_by_clock=go_by_clock)
         report.end()
     found = report.passed, report.failed, report.passed_again, sum(map(len, left)), said.getvalue().count("passed planted: at the second try")
     require(found, (*wanted, 0, wanted[2]), said.getvalue())
@@ -364,6 +368,7 @@ def checks_of(room):
             yield Check(f"{kind}_{number}", partial(require, found, wanted, kind))
     for name, (tries, wanted) in TALLIES.items():
         yield Check(name, partial(require_tally, tries, wanted))
+    yield Check("late_in_a_lane", partial(require_tally, [[None], [LATE, None], [WRONG]], (2, 1, 1), in_lanes=True))
     yield Check("late_where_no_clock_is_gone_by", partial(require_tally, [[LATE]], (0, 1, 0), go_by_clock=False))
     for name, text in REFUSED.items():
         yield Check(name, partial(require_refused, text))
