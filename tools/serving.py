@@ -1,13 +1,16 @@
 """The built program as it serves connections over a bank in a file."""
 import contextlib
+import fcntl
 import itertools
 import os
 import socket
+import struct
 import subprocess
+import termios
 from collections.abc import Callable
 from typing import Any, Self
 
-from checks import Wrong
+from checks import Wrong, wait_until
 from sample_file import BADGES
 
 SECONDS = 240
@@ -57,6 +60,13 @@ def connected(port: int) -> socket.socket:
     client = socket.create_connection((HOST, port), SECONDS)
     client.setsockopt(socket.IPPROTO_TCP, socket.TCP_NODELAY, 1)
     return client
+
+
+def wait_until_taken(client, pause=0.001):
+    """Waits until the system has taken what was sent over to the other side's end, which may not read it yet; of a Unix socket, until
+    the other side has read it."""
+    is_taken = lambda: not struct.unpack("i", fcntl.ioctl(client, termios.TIOCOUTQ, bytes(4)))[0]
+    wait_until(is_taken, SECONDS, "what was sent has come", pause)
 
 
 def read_to_end(client):

@@ -33,6 +33,7 @@ import tempfile
 from checks import Wrong, reader
 from page_sums import empty_file
 from preload import preloaded
+from replies import statuses_in
 from repository import TOP
 
 PROGRAM = os.path.join(TOP, "crates", "bench_posts", "out", "bench_posts")
@@ -120,7 +121,7 @@ def run(program, store, size, messages, due, before=(), preloaded=""):
                 check=False,
             )
             replies.seek(0)
-            statuses = [int(it) for it in re.findall(rb"HTTP/1\.1 (\d+) ", replies.read())]
+            statuses = statuses_in(replies.read())
     told = TOLD.search(ran.stderr)
     if ran.returncode != 0 or not told or int(told[1]) != len(statuses) or not due(statuses):
         raise Wrong(f"{store}, of size {size}: status {ran.returncode}, {ran.stderr!r}")

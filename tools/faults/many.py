@@ -12,24 +12,21 @@ whatever is sent beyond it.
 Each of these is a run of its own, over a bank of its own, one after another; who was late is tried once more at the end.
 """
 import contextlib
-import fcntl
 import os
 import re
 import shutil
 import signal
 import socket
 import stat
-import struct
 import subprocess
-import termios
 import threading
 import time
 
-from checks import Check, Late, Wrong, reader, require, require_time, run_checks, wait_until
+from checks import Check, Late, Wrong, reader, require, require_time, run_checks
 from preload import preloaded
-from replies import body_of, next_reply
+from replies import body_of, next_reply, parsed
 from sample_file import BADGES, SampleBanks, ended, message, require_sound, run_to_end, run_words
-from serving import HOST, Counter, asked, connected, counter_words, listening, read_to_end
+from serving import HOST, Counter, asked, connected, counter_words, listening, read_to_end, wait_until_taken
 from simulation.machine import Machine
 
 SECONDS = 240
@@ -76,12 +73,6 @@ def balance_of(client, what):
 def require_soon(client, what):
     """Passes if a balance is answered soon on a connection."""
     require(balance_of(client, what), BALANCE_REPLY, what)
-
-
-def wait_until_taken(client):
-    """Waits until the system has taken what was sent over to the other side's end, which may not read it yet."""
-    is_taken = lambda: not struct.unpack("i", fcntl.ioctl(client, termios.TIOCOUTQ, bytes(4)))[0]
-    wait_until(is_taken, SECONDS, "what was sent has come", 0.001)
 
 
 @contextlib.contextmanager
@@ -554,9 +545,8 @@ def last_reply_arrives_whole(program, file, has_room=False, beyond=b""):
             while piece := client.recv(A_LITTLE):
                 pieces.append(piece)
         sender.join()
-        head, _, body = b"".join(pieces).partition(b"\r\n\r\n")
-        length = STATEMENT_HEADING + MOST_LINES * STATEMENT_LINE
-        require((head.endswith(b"\r\nConnection: close"), len(body)), (True, length), "whether it is the last reply, and how long it is")
+        reply, length = parsed(b"".join(pieces)), STATEMENT_HEADING + MOST_LINES * STATEMENT_LINE
+        require((reply.fields.get("Connection"), len(reply.body)), ("close", length), "the end of the connection, and bytes of the reply")
 
 
 def last_reply_arrives_whole_where_more_was_sent(program, file):

@@ -10,6 +10,7 @@ import json
 from model.answers import is_repeat, is_stated, json_text
 from model.bank import TAKES_SLIP, AnyBank, Bank, Body, with_members
 from model.requests import Request
+from replies import body_of
 
 # What a proof shows that begins anew, or opens with another amount.
 BEGUN_ANEW = ("HISTORY TOTAL", "OPENING BALANCE", "OPENING CASH", "CASH ENTRIES", "DIFFERENCES")
@@ -103,10 +104,6 @@ def told_of_old(request: Request, reply: bytes) -> str:
     """The body of a reply of the bank that goes on; of a proof, without what begins anew in the next year."""
     text = body_of(reply).decode()
     return without_begun(text) if request.kind == "proof" and is_report(reply) else text
-
-
-def body_of(reply: bytes) -> bytes:
-    return reply.partition(b"\r\n\r\n")[2]
 
 
 def is_report(reply: bytes) -> bool:
