@@ -1,9 +1,9 @@
 """The checks of a part: how they are chosen and made, and what comes of each.
 
 A check passes if it raises nothing. In a part that goes by the clock, one that has waited in vain, and so raises Late or an error
-of the system that says so, is made once more, alone, after all others, when the machine is quieter; if it passes then, a line says
-so. If more than a fifth of the checks would need that, and five at least, they have all failed: that is no chance. Nothing else has a
-second try: a wrong row, amount or reply fails at once.
+of the system that says so, is made once more, alone, after all others, when the machine is quieter; if it passes then, a line
+says so. If more than a fifth of the checks would need that, and five at least, they have all failed: that is no chance. Nothing
+else has a second try: a wrong row, amount or reply fails at once.
 """
 import argparse
 import os
@@ -67,8 +67,8 @@ def wait_until(found: Callable[[], Any], seconds: float, what: str, pause: float
 
 
 class Check(NamedTuple):
-    """A check: what makes it, which may return a note to print; what it lacks on this machine, if anything; and what makes it at a
-    second try, if that is something else."""
+    """A check: what makes it, which may return a note to print; what it lacks on this machine, if anything; and what makes it at
+    a second try, if that is something else."""
 
     name: str
     make: Callable[[], str | None]
@@ -198,15 +198,16 @@ def in_order(makes: list[Callable[[], str | None]], jobs: int) -> Iterable[tuple
 
 
 def reader(description: str | None, *, program: str | None = PROGRAM, has_checks: bool = True) -> argparse.ArgumentParser:
-    """A reader of the arguments that parts have: which checks are made, if they can be chosen, and over which program, if not over
-    this one."""
+    """A reader of the arguments that parts have: which checks are made, if they can be chosen, and over which program, if not
+    over this one."""
     found = argparse.ArgumentParser(description=description, formatter_class=argparse.RawDescriptionHelpFormatter)
     if has_checks:
         found.add_argument("--list", action="store_true", help="print the names of the checks")
         found.add_argument("--only", metavar="TEXT", action="append", default=[], help="make those with this in their names")
     if program:
         said = f"the program, if not {os.path.relpath(program, TOP)}"
-        found.add_argument("program", metavar="PROGRAM", nargs="?", default=program, type=lambda it: os.path.abspath(it), help=said)
+        path = lambda text: os.path.abspath(text)
+        found.add_argument("program", metavar="PROGRAM", nargs="?", default=program, type=path, help=said)
     return found
 
 

@@ -1,8 +1,9 @@
-"""The pages of a bank's file, and the sums by which a damaged one shows: those of SQLite's extension cksumvfs (ext/misc/cksumvfs.c).
+"""The pages of a bank's file, and the sums by which a damaged one shows: those of SQLite's extension cksumvfs
+(ext/misc/cksumvfs.c).
 
 A page ends in eight bytes: two numbers of 32 bits, the lowest byte first, over the numbers of 32 bits before them. Both begin
-with 0. Over each two of those the first sum grows by the one and the second sum, and then the second sum by the other and the first
-sum. The byte 20 of the file is 8 where its pages end so.
+with 0. Over each two of those the first sum grows by the one and the second sum, and then the second sum by the other and the
+first sum. The byte 20 of the file is 8 where its pages end so.
 """
 import os
 import struct

@@ -54,8 +54,8 @@ def ended(program: str, words: list[str], given: bytes = b"") -> bytes:
 
 
 def make_sample(program: str, file: str, sums: bool = True) -> None:
-    """Makes the bank that `sample` serves in a file, by `init` and by one `run` that opens its sessions and drawers. Its pages end
-    in sums, or not."""
+    """Makes the bank that `sample` serves in a file, by `init` and by one `run` that opens its sessions and drawers. Its pages
+    end in sums, or not."""
     if ended(program, ["init", file, LISTS, *["--sums"] * sums]) != b"made\n":
         raise Wrong("init did not say that the bank was made")
     if ended(program, run_words(file, 0), OPENED).count(b" 200 OK") != 8:
@@ -86,8 +86,8 @@ class SampleBanks:
         return self.bank
 
     def copy(self):
-        """The file of another copy, in a folder of its own. Its name is short, as the path of a Unix socket has room for a hundred
-        bytes."""
+        """The file of another copy, in a folder of its own. Its name is short, as the path of a Unix socket has room for a
+        hundred bytes."""
         file = os.path.join(tempfile.mkdtemp(dir=self.room), "bank")
         copy_bank(self.made(), file)
         return file

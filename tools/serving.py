@@ -63,8 +63,8 @@ def connected(port: int) -> socket.socket:
 
 
 def wait_until_taken(client, pause=0.001):
-    """Waits until the system has taken what was sent over to the other side's end, which may not read it yet; of a Unix socket, until
-    the other side has read it."""
+    """Waits until the system has taken what was sent over to the other side's end, which may not read it yet; of a Unix socket,
+    until the other side has read it."""
     is_taken = lambda: not struct.unpack("i", fcntl.ioctl(client, termios.TIOCOUTQ, bytes(4)))[0]
     wait_until(is_taken, SECONDS, "what was sent has come", pause)
 

@@ -1,15 +1,16 @@
-"""Takes how long a balance takes and how many posts per second are made over the built program `counter`, by how many connections ask.
+"""Takes how long a balance takes and how many posts per second are made over the built program `counter`, by how many connections
+ask.
 
     tools/benchmarks/connections [--quick] [PROGRAM]
 
 PROGRAM is crates/bank_cli/out/bank_cli where it is left out. Printed are, in this order: the median and the 99th percentile of a
 balance on one connection alone; the same beside 500 idle connections, one that sends byte by byte and twenty busy ones, whose
 replies came just before; the same where all twenty were asked just before and have not come; the same of `serve`, on one
-connection; and posts per second on 1, 6, 50 and 500 connections, each of which sends its next message once the reply before has come.
-Clients are of one process, which waits for replies as they come. The load is printed at the start and at the end. The file is made in a
-folder of its own below TMPDIR; it is to be on a disk. --quick asks less and takes no figures worth keeping. The exit status is 1 where a
-reply is not the one that is due, where a balance beside others takes more than 1.5 times as long in the median, or where six
-connections post less than one does.
+connection; and posts per second on 1, 6, 50 and 500 connections, each of which sends its next message once the reply before has
+come. Clients are of one process, which waits for replies as they come. The load is printed at the start and at the end. The file
+is made in a folder of its own below TMPDIR; it is to be on a disk. --quick asks less and takes no figures worth keeping. The exit
+status is 1 where a reply is not the one that is due, where a balance beside others takes more than 1.5 times as long in the
+median, or where six connections post less than one does.
 """
 import contextlib
 import os
@@ -58,8 +59,8 @@ def latencies(client, times):
 
 
 def beside_others(counter, times, is_between):
-    """The same beside idle connections, one that sends byte by byte and busy ones, each of which asks for a balance before it: their
-    replies are taken before it is asked for, or after it."""
+    """The same beside idle connections, one that sends byte by byte and busy ones, each of which asks for a balance before it:
+    their replies are taken before it is asked for, or after it."""
     with contextlib.ExitStack() as open_ones:
         others = [open_ones.enter_context(connected(counter.port)) for _ in range(IDLE + 1 + BUSY)]
         client = open_ones.enter_context(connected(counter.port))

@@ -3,15 +3,15 @@ reports of ten lines there.
 
     tools/benchmarks/files [--pages PAGES ..] [--years] [PROGRAM]
 
-PROGRAM is crates/bank_cli/out/bank_cli where it is left out. Banks of many accounts are made by `init` from lists that are
-made, and checked. Banks of many entries are made of the sample bank by SQL, with the numbers that are kept beside them,
-as if so many posts of one cent had been carried out; they are checked, and served one question. Then drawers are put off, the day
-is closed, they are checked once more, and the next year's bank is made of each; with `--years` that alone is taken. All this is done
-over files of each kind that is named, by the length of its pages in bytes, with `s` after it where they end in sums: 1024, 1024s and
+PROGRAM is crates/bank_cli/out/bank_cli where it is left out. Banks of many accounts are made by `init` from lists that are made,
+and checked. Banks of many entries are made of the sample bank by SQL, with the numbers that are kept beside them, as if so many
+posts of one cent had been carried out; they are checked, and served one question. Then drawers are put off, the day is closed,
+they are checked once more, and the next year's bank is made of each; with `--years` that alone is taken. All this is done over
+files of each kind that is named, by the length of its pages in bytes, with `s` after it where they end in sums: 1024, 1024s and
 4096 where none is.
 
-A line for each run has its rows, its seconds by the clock and of the processor, and the most memory that it held. Where ten times the rows took
-more than twelve times the seconds, a line says so, and the exit status is 1; so it is where the processor worked on
+A line for each run has its rows, its seconds by the clock and of the processor, and the most memory that it held. Where ten times
+the rows took more than twelve times the seconds, a line says so, and the exit status is 1; so it is where the processor worked on
 `forward` of the most entries more than 1.5 times as long as on their `check` just before.
 
 Then ten accounts are listed from the middle of few and of many, and ten entries of an account likewise: 1,000 times one after

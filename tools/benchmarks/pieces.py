@@ -2,11 +2,11 @@
 
     tools/benchmarks/pieces [PROGRAM]
 
-A message is a balance whose head is filled up to 1,000 bytes, or to 8,192,
-and whose body to 1,024. The client sends each byte once the program has read the one before, so each comes in a read of its own.
-Printed are the instructions per byte, without those of a run that is sent nothing. The exit status is 1 if a reply is not the one
-that is due, or if a byte of the longer message takes more than twice what one of the shorter takes: then what was judged of a message
-is judged again at each piece. Without valgrind nothing is counted, and the status is 0.
+A message is a balance whose head is filled up to 1,000 bytes, or to 8,192, and whose body to 1,024. The client sends each byte
+once the program has read the one before, so each comes in a read of its own. Printed are the instructions per byte, without those
+of a run that is sent nothing. The exit status is 1 if a reply is not the one that is due, or if a byte of the longer message
+takes more than twice what one of the shorter takes: then what was judged of a message is judged again at each piece. Without
+valgrind nothing is counted, and the status is 0.
 """
 import os
 import shutil

@@ -11,8 +11,8 @@ too, and it counts for each processor apart, so each run stays on one: of five r
 taken. For the listing it may be 300 kilobytes more.
 
 Statements: after 1,000 posts to one account, statements of 10, of 1,000 and again of 10 lines are asked for, over the bank of
-`sample` and over one in a file. A library that the loader puts before the C library (faults/refusals.c) counts the bytes of the blocks
-that are held; the most that were held at once has to be the same for each.
+`sample` and over one in a file. A library that the loader puts before the C library (faults/refusals.c) counts the bytes of the
+blocks that are held; the most that were held at once has to be the same for each.
 
 Each reply is looked at.
 """

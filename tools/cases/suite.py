@@ -16,10 +16,10 @@ done in its folder before. It begins with `row NAME`, and has lines of these kin
     shows limit, rules .., test .., none ..  for `coverage`: which rule the case shows; in a file's head which rules there are,
                                              and what no case shows
 
-A file holds printable ASCII alone. A line that begins with `#` is a comment. In texts `\n`, `\r`, `\t`, `\s` for a space, `\\` and
-`\xff` are single bytes, `\{973*\s}` is 973 spaces, and a `\` at the end of a line takes its line end away. `\{length}` is the number
-of bytes after the next empty line, up to the end of these `>` lines. All that a run is sent comes at once: the replies stand
-between the requests for the reader alone.
+A file holds printable ASCII alone. A line that begins with `#` is a comment. In texts `\n`, `\r`, `\t`, `\s` for a space, `\\`
+and `\xff` are single bytes, `\{973*\s}` is 973 spaces, and a `\` at the end of a line takes its line end away. `\{length}` is the
+number of bytes after the next empty line, up to the end of these `>` lines. All that a run is sent comes at once: the replies
+stand between the requests for the reader alone.
 
 A case may have several runs in one folder, each after a `run` of its own, and files:
 

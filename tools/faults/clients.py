@@ -184,7 +184,8 @@ def silent_connection_is_let_go(program, file, serve=Serving):
 
 def long_line_ends_alone(program, file, serve=Serving):
     """Ten megabytes of one line."""
-    reply = b"HTTP/1.1 431 Request Header Fields Too Large\r\nContent-Type: application/json\r\nContent-Length: 14\r\nConnection: close\r\n\r\n" + b'{"fault":"M2"}'
+    head = b"HTTP/1.1 431 Request Header Fields Too Large\r\nContent-Type: application/json\r\nContent-Length: 14\r\n"
+    reply = head + b'Connection: close\r\n\r\n{"fault":"M2"}'
     with serve(program, file, 2) as serving:
         with connected(serving.port) as client:
             start, found = time.monotonic(), []
@@ -251,7 +252,8 @@ def bank_goes_on(program, file, serve=Serving):
     post = message("tess", "/do/post", POST)
     for entry in (1, 2):
         with serve(program, file, 1) as serving:
-            require(body_of(asked(serving.port, post)), b'{"balance":%d,"branch":1,"entry":%d}' % (50_000 + 2_500 * entry, entry), "post")
+            due = b'{"balance":%d,"branch":1,"entry":%d}' % (50_000 + 2_500 * entry, entry)
+            require(body_of(asked(serving.port, post)), due, "post")
             serving.require_done()
         require_sound(program, file)
     require(body_of(ended(program, run_words(file, 0), BALANCE)), b'{"balance":55000}', "the balance after them")

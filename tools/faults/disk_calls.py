@@ -62,7 +62,8 @@ class Watched:
         return run_to_end([self.path, *words], given, env=self.environment(call, way, -1, only))
 
     def calls(self, words, told, given=b"", only=""):
-        """What a run wrote, as above, and the calls that it made, which it reports in a file. Of `only` their number comes last."""
+        """What a run wrote, as above, and the calls that it made, which it reports in a file. Of `only` their number comes
+        last."""
         with open(told, "w+b") as file:
             how = {"env": self.environment(0, "n", file.fileno(), only), "pass_fds": [file.fileno()]}
             said = run_to_end([self.path, *words], given, **how)

@@ -235,8 +235,8 @@ def send(run, piece):
 
 
 def replies_come_while_the_input_is_open(program):
-    """Sends messages in pieces: no reply may come before a message is whole, and each has to come before the next is sent, with the
-    input still open."""
+    """Sends messages in pieces: no reply may come before a message is whole, and each has to come before the next is sent, with
+    the input still open."""
     replies = SUITE.only("two_posts_in_one_piece").output
     with tempfile.TemporaryDirectory(prefix="bank-end-") as room, open_run(program, room) as run:
         for due in (replies[: len(replies) // 2], replies[len(replies) // 2 :]):
@@ -278,7 +278,8 @@ def main():
 
     def checks_of(_):
         yield from (Check(it.name, lambda it=it: make_end(given.program, it)) for it in ENDS)
-        for it, lacks, more in ((replies_come_while_the_input_is_open, "", []), (each_reply_goes_out_in_one_write, NO_STRACE, [watch])):
-            yield Check(it.__name__, lambda it=it, more=more: it(given.program, *more), "" if watch else lacks)
+        yield Check("replies_come_while_the_input_is_open", lambda: replies_come_while_the_input_is_open(given.program))
+        make = lambda: each_reply_goes_out_in_one_write(given.program, watch)
+        yield Check("each_reply_goes_out_in_one_write", make, "" if watch else NO_STRACE)
 
     return run_checks(given, checks_of, programs=[given.program, OVER], go_by_clock=True)

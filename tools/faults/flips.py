@@ -2,11 +2,12 @@
 
     tools/faults/flips [--share N] [--only TEXT] [PROGRAM]
 
-The bank has a day of every kind of row. Of its bits one in N is turned, one at a time; N is 499 where it is left out, and with 1 all
-are, which takes hours. In a file with sums none may pass as `books hold`, but for the bits of NO_SUMS, by which the file says
+The bank has a day of every kind of row. Of its bits one in N is turned, one at a time; N is 499 where it is left out, and with 1
+all are, which takes hours. In a file with sums none may pass as `books hold`, but for the bits of NO_SUMS, by which the file says
 that it has them: it is then one without, with the same rows, and each of these is tried. Then whole pages are damaged: each made
 zeros, each put in the place of another, each taken from the copy of the day before. Zeros and another page may not pass, with
-sums or without. A line for each kind of damage says what was reported how often. Each file has to be sound before, by `check` and by Python's sqlite3, and its pages have to end in their sums.
+sums or without. A line for each kind of damage says what was reported how often. Each file has to be sound before, by `check` and
+by Python's sqlite3, and its pages have to end in their sums.
 """
 import contextlib
 import functools

@@ -24,8 +24,8 @@ TIMES = 50
 
 
 class Fault:
-    """What fails. A work ends as it does without it, or with status 3 and its line; a request is answered 503, by its first reply,
-    and then by its later one."""
+    """What fails. A work ends as it does without it, or with status 3 and its line; a request is answered 503, by its first
+    reply, and then by its later one."""
 
     line = b"memory\n"
     replies = (REFUSED[1], REFUSED[1])

@@ -3,18 +3,18 @@
     tools/faults/kills [--times N] [--seed SEED] [PROGRAM]
 
 Requests are drawn that the reference model carries out; it gives the replies. They are sent to copies of one bank by `run`, by a
-client of `serve` and by one of `counter`. The program is killed by a signal that it can't hear, a moment after some were sent and those
-before were answered. N is 20, SEED is 1 and PROGRAM is crates/bank_cli/out/bank_cli where they are left out. How many are sent,
-when, and the moments are drawn by the seed, for each check by itself.
+client of `serve` and by one of `counter`. The program is killed by a signal that it can't hear, a moment after some were sent and
+those before were answered. N is 20, SEED is 1 and PROGRAM is crates/bank_cli/out/bank_cli where they are left out. How many are
+sent, when, and the moments are drawn by the seed, for each check by itself.
 
 Posts, one at a time: two and a half times N, a fresh copy gets up to 100 posts and is killed. Then `check` has to print `books
 hold`, twice, and the posts are there that were answered, and one more at most. The next one is answered with the next number.
 
 A stream whose requests bear slips, some at a time: N times it is killed and started anew; then the client sends on from the first
-that was not answered, with the slips that they had. Each reply has to be the one that is due, also to a request that had been carried
-out before its reply was lost. In the end `check` has to print `books hold`, and the file has to hold the rows that one run without
-a kill leaves: of `serve` and `counter` all but the moments of entries and of lines, as the clock gives these. Each slip is there
-once, with its reply.
+that was not answered, with the slips that they had. Each reply has to be the one that is due, also to a request that had been
+carried out before its reply was lost. In the end `check` has to print `books hold`, and the file has to hold the rows that one
+run without a kill leaves: of `serve` and `counter` all but the moments of entries and of lines, as the clock gives these. Each
+slip is there once, with its reply.
 
 (A request that is denied takes no slip. So a client that sends several at a time may find one allowed when sending it again,
 by what came after it; these streams have none.)
@@ -277,7 +277,7 @@ class Kills:
         difference = difference_of(*(map(without_moments, tables) if by is not ByRun else tables))
         if difference:
             raise Wrong(f"it is another bank than that of one run: {difference}")
-        return f"{self.unanswered[by]} posts were there that were not answered; {again} requests that had been done were sent again"
+        return f"{self.unanswered[by]} posts were there and not answered; {again} requests that had been done were sent again"
 
     def checks(self):
         """All kills, by each way to serve."""

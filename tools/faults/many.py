@@ -262,9 +262,9 @@ def end_of_a_file_ends_nothing(program, file):
 
 def place_is_one(program, file):
     """No place, and two of them."""
-    for more in ([], ["--port", "8475", "--inherited"], ["--port", "8475", "--socket", "x"], ["--socket", "x", "--inherited"], ["--port", "0"]):
-        status, output, errors = run_to_end([program, "counter", file, "--badges", BADGES, *more])
-        require((status, output, bool(errors)), (2, b"", True), f"{more}")
+    for more in ("", "--port 8475 --inherited", "--port 8475 --socket x", "--socket x --inherited", "--port 0"):
+        status, output, errors = run_to_end([program, "counter", file, "--badges", BADGES, *more.split()])
+        require((status, output, bool(errors)), (2, b"", True), more)
 
 
 def broken(program, file, *more, **how):
@@ -306,7 +306,8 @@ def require_ended(ran):
 
 
 def unix_socket_is_served(program, file):
-    """A Unix socket, with the rights that the mask leaves; one that was left by a program that was killed; and what is no socket."""
+    """A Unix socket, with the rights that the mask leaves; one that was left by a program that was killed; and what is no
+    socket."""
     path = os.path.join(os.path.dirname(file), "counter.socket")
     words = [program, *counter_words(file, "--socket", path)]
     line = b"listening " + path.encode() + b"\n"
@@ -392,9 +393,9 @@ def what_is_not_handed_over_is_refused(program, file):
 
 
 class Narrow:
-    """A run of `counter` at a socket of TCP that is handed over, whose connections hold few bytes in the system, on a machine whose
-    clock is set. What is sent to a client has much room there, where that is said. Beside the connections of a trial it has one of its
-    own."""
+    """A run of `counter` at a socket of TCP that is handed over, whose connections hold few bytes in the system, on a machine
+    whose clock is set. What is sent to a client has much room there, where that is said. Beside the connections of a trial it has
+    one of its own."""
 
     def __init__(self, program, file, has_room=False):
         self.machine = Machine(os.path.dirname(file))
@@ -430,7 +431,8 @@ class Narrow:
         return client
 
     def visit(self, *clients):
-        """Waits until all that these have sent was seen, and who is late was let go: a second reply comes after the turn of the first."""
+        """Waits until all that these have sent was seen, and who is late was let go: a second reply comes after the turn of the
+        first."""
         for it in clients:
             wait_until_taken(it)
         for _ in range(2):
@@ -472,8 +474,8 @@ def require_open(clients, is_so, when):
 
 
 def half_message_is_let_go(program, file):
-    """A message that does not become whole, at once or byte by byte, is let go 30 seconds after its first byte, and who says nothing
-    is not. One that was answered has 30 seconds for its next message."""
+    """A message that does not become whole, at once or byte by byte, is let go 30 seconds after its first byte, and who says
+    nothing is not. One that was answered has 30 seconds for its next message."""
     with Narrow(program, file) as counter, contextlib.ExitStack() as open_ones:
         half, slow, next_one, silent = (open_ones.enter_context(counter.connected()) for _ in range(4))
         half.sendall(BALANCE[:-1])
@@ -532,8 +534,8 @@ def send_to(client, given):
 
 
 def last_reply_arrives_whole(program, file, has_room=False, beyond=b""):
-    """A statement of more than the system holds, after which the connection ends. Its client reads none of it before the program has
-    sent what the system takes, and then a little at a time."""
+    """A statement of more than the system holds, after which the connection ends. Its client reads none of it before the program
+    has sent what the system takes, and then a little at a time."""
     make_long(program, file)
     with Narrow(program, file, has_room) as counter, counter.connected() as client:
         sender = threading.Thread(target=send_to, args=(client, LAST_STATEMENT + beyond))

@@ -190,7 +190,8 @@ class Init(Work):
 
 
 class Forward(Work):
-    """A bank that begins its next year in a new file, which is not there. The old file, whose pages end in sums, stands beside it."""
+    """A bank that begins its next year in a new file, which is not there. The old file, whose pages end in sums, stands beside
+    it."""
 
     def __init__(self, program, sample, room, *sums):
         super().__init__(program, " ".join(["forward", *sums]))
@@ -210,8 +211,9 @@ class Forward(Work):
         return ["forward", file + OLD, file, *self.sums]
 
     def judged(self, said, file, fault, _):
-        """The old file is as it was, byte for byte. The next year's bank is there, row by row; or a file that is not there or holds
-        no bank, in which `forward` then makes it. Its pages are those that were asked for, once a run has copied the log."""
+        """The old file is as it was, byte for byte. The next year's bank is there, row by row; or a file that is not there or
+        holds no bank, in which `forward` then makes it. Its pages are those that were asked for, once a run has copied the
+        log."""
         if said not in fault.ends(FORWARDED):
             raise Wrong(f"it ended with {said!r}")
         require_same_bytes(self.old, file + OLD)

@@ -10,9 +10,9 @@ A function has a clause where it has a `requires` or an `ensures`, or implements
 but those of tests and benchmarks are printed, and are those that the page lists by crate; so a new function
 without a clause is seen. A type's invariant is no clause.
 
-tools/toolchain/crate_minutes.txt has the minutes of each crate but those, of the program, and of no other; tools/build says what each
-crate took. The longest chain of crates, each of which uses the one before it, is printed with its minutes: a build takes that
-long at least, however many processors there are.
+tools/toolchain/crate_minutes.txt has the minutes of each crate but those, of the program, and of no other; tools/build says what
+each crate took. The longest chain of crates, each of which uses the one before it, is printed with its minutes: a build takes
+that long at least, however many processors there are.
 
 Each crate is a check.
 """

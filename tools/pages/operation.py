@@ -1,7 +1,7 @@
 """Prints the files that name an operation, or all of them, and compares these with docs/ADDING.md.
 
-A file names an operation if it has it as it is in a path, in a function or in a type: `move-cash`, `move_cash`, `MoveCash`. Of the
-crates only those of the product are read; the lists of their modules are left out. Which operations there are is read from
+A file names an operation if it has it as it is in a path, in a function or in a type: `move-cash`, `move_cash`, `MoveCash`. Of
+the crates only those of the product are read; the lists of their modules are left out. Which operations there are is read from
 crates/bank_terms/specs/Procedure.antt. `--all` prints the files of crates' src, specs and proofs that name every one of them.
 
 `--check` takes five operations whose names mean nothing else, and three tables of the page. Of the first, an operation's own

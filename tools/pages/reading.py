@@ -13,13 +13,13 @@ crate, as `bank_meaning/Laws, Sums`. A name with a `*` is a pattern: it means wh
 such a name, and is in no other row by its own name. Lines are those of the definitions alone, without imports and comments; so a
 definition more, or a longer one, is seen.
 
-docs/DEFINITIONS.txt has a line for each: the sum of its text, its name and the question that docs/AUDIT.md has for it, if any. The
-sum is of its text and of where the names in it come from, and not of its layout or comments. So whoever changes one has to write
-its sum anew, and a reviewer sees its line, with the question, among the changes of docs/.
+docs/DEFINITIONS.txt has a line for each: the sum of its text, its name and the question that docs/AUDIT.md has for it, if any.
+The sum is of its text and of where the names in it come from, and not of its layout or comments. So whoever changes one has to
+write its sum anew, and a reviewer sees its line, with the question, among the changes of docs/.
 
-The last line is '1 passed, 0 failed' where both are right; otherwise it counts what is wrong, and the exit status is 1: a definition
-is missing or has changed, the page has another number of lines, or names what is not there; or docs/PROVED.md names a law that no
-crate has.
+The last line is '1 passed, 0 failed' where both are right; otherwise it counts what is wrong, and the exit status is 1: a
+definition is missing or has changed, the page has another number of lines, or names what is not there; or docs/PROVED.md names a
+law that no crate has.
 """
 import fnmatch
 import glob

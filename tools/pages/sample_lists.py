@@ -24,4 +24,5 @@ def main():
         tested = {f"{name.lower()}.csv": ast.literal_eval(text) for name, text in CONSTANT.findall(file.read())}
     kept = {it.name: it.read_bytes() for it in Path(FOLDER).iterdir()}
     wrong = "not what the tests of test_lists read"
-    return Report().add_all((f"sample/{it}", None if tested.get(it) == kept.get(it) else wrong) for it in sorted({*tested, *kept}))
+    names = sorted({*tested, *kept})
+    return Report().add_all((f"sample/{it}", None if tested.get(it) == kept.get(it) else wrong) for it in names)

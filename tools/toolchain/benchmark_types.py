@@ -30,7 +30,8 @@ def against_source(libraries):
 
 def main():
     words = reader(__doc__, program=None, has_checks=False)
-    words.add_argument("--libraries", metavar="FOLDER", type=os.path.abspath, required=True, help="a copy of the repository whose crates are proved")
+    said = "a copy of the repository whose crates are proved"
+    words.add_argument("--libraries", metavar="FOLDER", type=os.path.abspath, required=True, help=said)
     given = words.parse_args()
     parts = [(f"{it}: its layout", fault_of(layout_of(it))) for it in BENCHES]
     parts.append((f"{', '.join(BENCHES)}: their sources", against_source(given.libraries)))

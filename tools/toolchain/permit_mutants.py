@@ -2,12 +2,12 @@
 
     tools/toolchain/permit-mutants [--libraries FOLDER]
 
-A permit is made by `decide` alone, keeps the bank borrowed, can't be let go, and is spent once; a plan is applied
-once, and a report is written or given up once. Mutants against that do not compile, so they are no must-fail edits, which the prover has to refuse. Here they are made in a small
-crate that decides one operation and carries it out. The compiler has to accept that crate as it stands, and to refuse
-it with each mutant by the error that is named beside it, and by no other. FOLDER has the crates that this one
-uses with their libraries built, as rt ci leaves them; without it they are read from their sources, so no earlier check is
-needed, but each mutant takes half a minute. Nothing is proved.
+A permit is made by `decide` alone, keeps the bank borrowed, can't be let go, and is spent once; a plan is applied once, and a
+report is written or given up once. Mutants against that do not compile, so they are no must-fail edits, which the prover has to
+refuse. Here they are made in a small crate that decides one operation and carries it out. The compiler has to accept that crate
+as it stands, and to refuse it with each mutant by the error that is named beside it, and by no other. FOLDER has the crates that
+this one uses with their libraries built, as rt ci leaves them; without it they are read from their sources, so no earlier check
+is needed, but each mutant takes half a minute. Nothing is proved.
 """
 import os
 import re

@@ -12,8 +12,8 @@ TARGET = "x86_64-unknown-linux-gnu"
 
 def output_of(words, folder=TOP, **how):
     """The exit status of a command that is given no input, and what it says."""
-    how = {"cwd": folder, "stdin": subprocess.DEVNULL, "stdout": subprocess.PIPE, "stderr": subprocess.STDOUT, "check": False, **how}
-    ran = subprocess.run(words, **how)
+    pipes = {"stdin": subprocess.DEVNULL, "stdout": subprocess.PIPE, "stderr": subprocess.STDOUT}
+    ran = subprocess.run(words, cwd=folder, check=False, **pipes, **how)
     return ran.returncode, ran.stdout.decode(errors="replace")
 
 
@@ -30,9 +30,9 @@ def layout_of(crate):
 
 
 def steps(name, folder, libraries, backend, room, jobs=1):
-    """What is to be done to prove the program of a crate, which stands in this folder, and to build it by this compiler: each step's
-    name, and its command, which is run in the folder. The program is `out/NAME` there. FOLDER/crates/NAME of the libraries has each
-    crate below it, built. The room is a folder for what lies between."""
+    """What is to be done to prove the program of a crate, which stands in this folder, and to build it by this compiler: each
+    step's name, and its command, which is run in the folder. The program is `out/NAME` there. FOLDER/crates/NAME of the libraries
+    has each crate below it, built. The room is a folder for what lies between."""
     home, made = kit(), os.path.join(room, "made.o")
     words = [*words_of_check(words_of_all(), name, "src/main.rt", libraries, home), "--jobs", str(jobs)]
     toolchain = ["--toolchain", f"{home}/toolchain"]

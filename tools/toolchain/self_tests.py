@@ -1,8 +1,8 @@
-"""Tries the reader of cases (tools/cases/suite.py) and their runs (tools/cases/run) over cases of its own; which checks have a second
-try (tools/checks.py); the minutes of a build (tools/toolchain/chain.py) over crates of its own; which functions have a clause (tools/toolchain/rattle_source.py, tools/pages/crates);
-what is the program's own of what rt try says (tools/try); which changes of a definition are seen (tools/pages/reading); whether the
-model over kept sums (tools/simulation/ledger.py) answers as the one that adds up; and whether tools/toolchain/mutants tries again
-what a change concerns (tools/toolchain/kept_trials.py).
+"""Tries the reader of cases (tools/cases/suite.py) and their runs (tools/cases/run) over cases of its own; which checks have a
+second try (tools/checks.py); the minutes of a build (tools/toolchain/chain.py) over crates of its own; which functions have a
+clause (tools/toolchain/rattle_source.py, tools/pages/crates); what is the program's own of what rt try says (tools/try); which
+changes of a definition are seen (tools/pages/reading); whether the model over kept sums (tools/simulation/ledger.py) answers as
+the one that adds up; and whether tools/toolchain/mutants tries again what a change concerns (tools/toolchain/kept_trials.py).
 
     tools/toolchain/self-tests
 
@@ -324,8 +324,8 @@ def run_last(text, wanted):
 
 
 def require_tally(tries, wanted, go_by_clock=True, in_lanes=False):
-    """Makes checks that end so at their tries, one after another or each in a lane of its own: this is counted of them, passed, failed
-    and passed at the second try, and no try is left over."""
+    """Makes checks that end so at their tries, one after another or each in a lane of its own: this is counted of them, passed,
+    failed and passed at the second try, and no try is left over."""
     def make(left):
         if (error := left.pop(0)) is not None:
             raise error
@@ -338,8 +338,9 @@ def require_tally(tries, wanted, go_by_clock=True, in_lanes=False):
         else:
             report.make(checks, go_by_clock=go_by_clock)
         report.end()
-    found = report.passed, report.failed, report.passed_again, sum(map(len, left)), said.getvalue().count("passed planted: at the second try")
-    require(found, (*wanted, 0, wanted[2]), said.getvalue())
+    found = report.passed, report.failed, report.passed_again, sum(map(len, left))
+    require(found, (*wanted, 0), said.getvalue())
+    require(said.getvalue().count("passed planted: at the second try"), wanted[2], said.getvalue())
 
 
 def ask_both(seed):

@@ -1,4 +1,5 @@
-"""Proves and builds test_stores, the program by which tools/cases/run and tools/model/streams serve the sample in a store of their choice.
+"""Proves and builds test_stores, the program by which tools/cases/run and tools/model/streams serve the sample in a store of
+their choice.
 
     tools/toolchain/stores-program --libraries FOLDER [--anew]
 
@@ -48,7 +49,8 @@ def keep(kept, name):
 
 def main():
     words = reader(__doc__, program=None, has_checks=False)
-    words.add_argument("--libraries", metavar="FOLDER", type=os.path.abspath, required=True, help="a copy of the repository whose crates are proved")
+    said = "a copy of the repository whose crates are proved"
+    words.add_argument("--libraries", metavar="FOLDER", type=os.path.abspath, required=True, help=said)
     words.add_argument("--anew", action="store_true", help="prove and build it, also if an earlier run did")
     given = words.parse_args()
     kept, name, report = Kept("stores-program", given.anew), name_of(given.libraries), Report()
@@ -56,7 +58,8 @@ def main():
     report.add(f"{ROWS_OVER}, its layout", fault_of(layout_of(ROWS_OVER)))
     with tempfile.TemporaryDirectory(prefix="stores-program-") as room:
         for what, command in steps(ROWS_OVER, FOLDER, given.libraries, "rattle", room):
-            report.add(f"{ROWS_OVER}, {what}", fault_of(command, FOLDER) if program is None else None, "kept" * (program is not None))
+            why, note = (fault_of(command, FOLDER), "") if program is None else (None, "kept")
+            report.add(f"{ROWS_OVER}, {what}", why, note)
     if program is not None:
         take(program)
     elif not report.failed and name == name_of(given.libraries):

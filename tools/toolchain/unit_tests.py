@@ -39,7 +39,8 @@ PROVER = "exit 2"
 LINKER = '"HOME/toolchain/bin/ld.lld" "$@" && { cp program "LINKED" 2>/dev/null || true; }'
 OWN_PROGRAMS = {"toolchain/bin/clang": COMPILER, "toolchain/bin/ld.lld": LINKER, "bin/rattle": PROVER}
 # What the program is made from, the files of tools/ by which it is, and the most bytes that are kept.
-SOURCES, TOOLS, MOST_KEPT = ("crates.txt", "HANDLES", "crates/*/src/**"), ("toolchain/unit_tests.py", "toolchain/program.py", "repository.py"), 500_000_000
+SOURCES, MOST_KEPT = ("crates.txt", "HANDLES", "crates/*/src/**"), 500_000_000
+TOOLS = ("toolchain/unit_tests.py", "toolchain/program.py", "repository.py")
 TEST = re.compile(r"^test (\w+)::(\S+) \.\.\. (\w+)", re.M)
 RESULT = re.compile(r"^test result: \w+\. (\d+) passed; (\d+) failed; 0 ignored; 0 filtered out$", re.M)
 
@@ -110,8 +111,8 @@ def optimizing_kit(to, linked_to):
 
 
 def compile_and_run(folder, room, kept, name):
-    """Compiles the crate with all tests and runs them, and returns the exit status of rt try and what it says. The program is kept
-    under this name if all passed."""
+    """Compiles the crate with all tests and runs them, and returns the exit status of rt try and what it says. The program is
+    kept under this name if all passed."""
     made = os.path.join(room, "program")
     rt = os.path.join(optimizing_kit(os.path.join(room, "kit"), made), "bin", "rt")
     status, text = output_of([rt, "try", "--test", "--seconds", str(SECONDS)], folder)
@@ -123,8 +124,8 @@ def compile_and_run(folder, room, kept, name):
 
 
 def run_alone(word, program, room, libraries):
-    """Runs a program with an argument in a folder of its own, with no environment and these libraries, as rt try does, and returns
-    its exit status and what it says."""
+    """Runs a program with an argument in a folder of its own, with no environment and these libraries, as rt try does, and
+    returns its exit status and what it says."""
     command = [f"{libraries}/ld-linux-x86-64.so.2", "--inhibit-cache", "--library-path", libraries, "./program", word]
     with tempfile.TemporaryDirectory(prefix="test-", dir=room) as folder:
         os.link(program, os.path.join(folder, "program"))
