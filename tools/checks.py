@@ -113,7 +113,7 @@ class Report:
             if why is not None:
                 print(f"FAILED {name}: {why}", flush=True)
             elif note or 0 < self.count <= MOST_PRINTED:
-                print(f"passed {name}{note and ': ' + note}", flush=True)
+                print(f"passed {name}" + (":" if note.startswith("\n") else ": " * bool(note)) + note, flush=True)
             elif self.count and time.monotonic() - self.printed > SECONDS_BETWEEN:
                 self.printed = time.monotonic()
                 print(f"{self.passed + self.failed} of {self.count} checks are made", flush=True)

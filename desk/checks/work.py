@@ -307,4 +307,4 @@ def long_statement(day):
     desk.until(lambda: len(desk.driver.find_elements("css selector", "table.statement tbody tr")) == turns, "all lines")
     if day.pictures:
         desk.paper(day.pictures / "statement.pdf")
-    return f": {few} requests for the last 20 of {turns}"
+    return f"{few} requests for the last 20 of {turns}"
