@@ -12,6 +12,7 @@ whatever is sent beyond it.
 Each of these is a run of its own, over a bank of its own, one after another; who was late is tried once more at the end.
 """
 import contextlib
+import json
 import os
 import re
 import shutil
