@@ -1,5 +1,5 @@
 -- Turns, whosever they are, are one run of the bank, in which each connection has its replies.
-use Rattle.std.proofs.Common.{◌≡◌, ℕ, Bool, List, [], Option, Some, None, inl, inr, refl}
+use Rattle.std.proofs.Common.{◌≡◌, ℕ, Bool, List, [], Option, Some, refl}
 use Rattle.store_rows.specs.Status.{Status}
 use Rattle.counter_loop.specs.Attended.{AreAttended, IsSince}
 use Rattle.counter_loop.specs.Boxes.{AreServed}

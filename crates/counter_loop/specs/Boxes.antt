@@ -1,5 +1,5 @@
 -- The connections that a loop has, beside what there is of each by its number.
-use Rattle.std.specs.Prelude.{◌≡◌, ◌≢◌, ◌⊎◌, ◌<◌, ◌≤◌, ◌+◌, ℕ, Bool, List, [], ◌++◌, Option, Some, None, false}
+use Rattle.std.specs.Prelude.{◌≡◌, ◌≢◌, ◌⊎◌, ◌<◌, ◌≤◌, ℕ, Bool, List, [], ◌++◌, Option, Some, None, false}
 use Rattle.slab.specs.Slab.{get}
 use Rattle.store_rows.specs.Status.{Status}
 use Rattle.counter_loop.specs.Attended.{IsSince}

@@ -1,5 +1,5 @@
 -- By how the turn ended.
-use Rattle.std.proofs.Common.{◌≡◌, refl, ◌∙◌}
+use Rattle.std.proofs.Common.{refl, ◌∙◌}
 use Rattle.counter_loop.proofs.BoxLemmas.{visited_answered, visited_last, visited_used_up}
 use Rattle.counter_loop.proofs.client.Client.take_or_close.Goals as goal
 

@@ -1,5 +1,5 @@
 -- What it holds stays as it was.
-use Rattle.std.proofs.Common.{◌≡◌, Some, refl, sym, ap, ◌∙◌}
+use Rattle.std.proofs.Common.{refl, sym}
 use Rattle.counter_loop.proofs.SuitLemmas.{drained_there}
 use Rattle.counter_loop.proofs.clients.Clients.register.Goals as goal
 

@@ -1,5 +1,5 @@
 -- One connection was visited, and the others stay as they were.
-use Rattle.std.proofs.Common.{◌≡◌, Some, refl, sym, ap, ◌∙◌}
+use Rattle.std.proofs.Common.{refl, sym}
 use Rattle.counter_loop.proofs.SuitLemmas.{visited_there}
 use Rattle.counter_loop.proofs.clients.Clients.visit_there.Goals as goal
 
