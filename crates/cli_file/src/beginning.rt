@@ -14,7 +14,8 @@ use std::path::PathBuf;
 use std::{fs, io};
 
 /// Has a file that holds nothing, or is not there, begin as an empty database of one page. Any other stays as it is, and so does
-/// one beside which a log stands: that may hold a bank. A crash leaves no file, an empty one, or that page.
+/// one beside which a log or a journal stands: as SQLite does, the opening takes a log beside an empty file for none. A crash leaves
+/// no file, an empty one, or that page.
 pub(crate) fn begin_file(
     rt: &HostRuntime,
     path: &str,
