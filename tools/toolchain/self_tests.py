@@ -1,6 +1,6 @@
 """Tries the reader of cases (tools/cases/suite.py) and their runs (tools/cases/run) over cases of its own; which checks have a
 second try (tools/checks.py); the minutes of a build (tools/toolchain/chain.py) over crates of its own; which functions have a
-clause (tools/toolchain/rattle_source.py, tools/pages/crates); what is the program's own of what rt try says (tools/try); which
+clause (tools/toolchain/rattle_source.py, tools/pages/crates); that only tools/try runs an unproved program, of these sources; which
 changes of a definition are seen (tools/pages/reading); whether the model over kept sums (tools/simulation/ledger.py) answers as
 the one that adds up; and whether tools/toolchain/mutants tries again what a change concerns (tools/toolchain/kept_trials.py).
 
@@ -11,21 +11,25 @@ program needs yet: files, SQL, several runs in one folder, and that a row which 
 """
 import contextlib
 import copy
+import glob
 import importlib.machinery
 import importlib.util
 import io
 import os
 import random
+import re
 import sys
 import tempfile
 from functools import partial
+from unittest import mock
 
 from cases import run as CASES
 from cases.suite import BadRow, Suite, bytes_of_lines, reply, request, spelled
 from checks import Check, Late, Report, Wrong, reader, require, require_nothing, run_checks
+from first_look import compiling
 from model.bank import Bank
 from pages import crates as CRATES, reading as READING
-from repository import TOP
+from repository import BANK_PROGRAM, TOP, below, words_of_all
 from simulation.drawing import Drawing
 from simulation.opening import FIRST_MOMENT, opening_of
 from simulation.table_rows import rows_of_bank
@@ -42,7 +46,7 @@ def tool(name):
     return module
 
 
-TRY, MUTANTS = tool("try"), tool("toolchain/mutants")
+MUTANTS = tool("toolchain/mutants")
 ECHO = r"run -c import\ssys;sys.stdout.write(sys.stdin.read())"
 QUIET = 'run -c ""'
 LISTS = r"""
@@ -199,13 +203,24 @@ SUMS = [
     (list(READING.changed(OLD_SUMS, OLD_SUMS[1:])), ["docs/DEFINITIONS.txt has other lines, or another order, than --update writes"]),
 ]
 
-# What rt try says, and what is the program's own of it.
-ENDS = b"checked: ended status=3\nrun=ended status=3 runners=1 proved=no\n"
-SAID = [
-    (TRY.parted(b"stream: cut\n" + ENDS), (3, b"stream: cut\n")),
-    (TRY.parted(b"\n" + ENDS), (3, b"")),
-    (TRY.parted(b"an index out of bounds\nrun=none proved=no\n"), (125, b"an index out of bounds\nrun=none proved=no\n")),
-]
+# The files that name the folder of the unproved program, or the modules that make it.
+UNPROVED = re.compile(r"first[-_]look")
+MAY_NAME_IT = {"tools/try", "tools/first_look/compiling.py", "tools/toolchain/self_tests.py"}
+
+
+def naming_unproved():
+    """The files of the tools, the branch, the page and CI that name the unproved program."""
+    found = set()
+    for folder in ("tools", "branch", "desk", ".ci"):
+        for within, _, names in os.walk(os.path.join(TOP, folder)):
+            for path in (os.path.join(within, name) for name in names):
+                with open(path, encoding="utf-8", errors="replace") as file:
+                    if UNPROVED.search(file.read()):
+                        found.add(os.path.relpath(path, TOP))
+    return found
+
+
+SAID = [(naming_unproved(), MAY_NAME_IT)]
 
 # Checks, by how they end at their tries, and what is counted of them.
 WRONG, LATE = Wrong("a balance of 49999, and not 50000"), Late("no reply within 60 seconds")
@@ -305,6 +320,21 @@ def suite_of(text):
         return Suite(folder)
 
 
+def require_compiled_anew(room):
+    """Passes if every source of the bank program is among those by which tools/try keeps it, and a changed one has it compile."""
+    found, path = set(compiling.sources()), os.path.join(room, "source.rt")
+    for crate in below(words_of_all(), [BANK_PROGRAM]):
+        missing = set(glob.glob(f"{TOP}/crates/{crate}/src/**/*.rt", recursive=True)) - found
+        require_nothing(f"{it} is not among the sources" for it in missing)
+    sums = []
+    for text in ("fn one() {}", "fn two() {}"):
+        with open(path, "w", encoding="utf-8") as file:
+            file.write(text)
+        with mock.patch.object(compiling, "sources", lambda: [path]):
+            sums.append(compiling.checksum())
+    require(sums[0] != sums[1], True, f"checksums {sums} of two sources differ")
+
+
 def require_refused(text):
     """Passes if a text is refused as it is read as rows."""
     with contextlib.suppress(BadRow, ValueError):
@@ -375,6 +405,7 @@ def checks_of(room):
         yield Check(name, partial(require_refused, text))
     for seed in range(1, 4):
         yield Check(f"ledger_{seed}", partial(ask_both, seed))
+    yield Check("first_look_is_compiled_anew", partial(require_compiled_anew, room))
     yield from kept_trials.checks_of(MUTANTS.is_drawn, room)
     for name, text, wanted in ROWS_TO_RUN:
         yield Check(name, partial(run_last, text, wanted))

@@ -1,0 +1,1 @@
+"""The unproved program of tools/try, and the teller's page over it."""
