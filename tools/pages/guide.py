@@ -46,7 +46,7 @@ def blocks():
 def make_clone(program, room):
     """Makes what the lines need of a clone in which the program is built, and returns the folder."""
     clone = os.path.join(room, "clone")
-    for it in ("tools", "sample"):
+    for it in ("tools", "sample", "branch"):
         shutil.copytree(os.path.join(TOP, it), os.path.join(clone, it))
     shutil.copy2(os.path.join(TOP, "crates.txt"), clone)
     built = os.path.join(clone, "crates", BANK_PROGRAM, "out")
