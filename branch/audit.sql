@@ -2,7 +2,7 @@
 -- bank, audit.log, badges.csv. It prints each entry with the line of the request that made it, and then the entries that no
 -- line explains, of which there should be none.
 --
---     sqlite3 -batch :memory: ".read .../branch/audit.sql"
+--     sqlite3 -batch :memory: ".read /usr/share/tespiorvu/audit.sql"
 --
 -- An entry bears its user and the moment in seconds at which its request was carried out; a line bears the user's badge, and
 -- from when to when the request was under way. Where the line has a slip, the reply that the bank keeps of this slip names the

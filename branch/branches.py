@@ -222,13 +222,13 @@ class Branch:
         """The front's settings, with the folders and ports of this branch."""
         etc = self.folder / "etc"
         with self.files.lock:
-            for file in [*(self.files.top / "ca/front").iterdir(), *(self.files.top / "front").iterdir()]:
-                shutil.copy(file, etc)
-        shutil.copytree(self.files.top / "page", etc / "page")
+            for folder in ("ca/front", "front"):
+                shutil.copytree(self.files.top / folder, etc, dirs_exist_ok=True)
+        shutil.copytree(self.files.top / "page", self.folder / "page")
         (etc / "origins.map").write_text(f'"{self.url}" own;\n')
-        swaps = [*changes, ("/etc/bank-front", str(etc)), ("/var/log/bank-front", str(self.folder / "log")),
-                 ("/run/bank-front", str(self.folder / "run")), ("0.0.0.0:443", f"127.0.0.1:{self.port}")]
-        for file in etc.glob("*.conf"):
+        swaps = [*changes, ("/etc/bank-front", str(etc)), ("/usr/share/tespiorvu/page", str(self.folder / "page")),
+                 ("/var/log/bank-front", str(self.folder / "log")), ("/run/bank-front", str(self.folder / "run")), ("0.0.0.0:443", f"127.0.0.1:{self.port}")]
+        for file in etc.rglob("*.conf"):
             self.swap(file, file, swaps)
         self.swap(self.files.top / "units/serve-bank", self.folder / "serve-bank",
                   [("/var/lib/bank/bank", str(self.file)), ("/etc/bank-badges.csv", str(self.folder / "lists/badges.csv"))])

@@ -105,7 +105,7 @@ def below(pattern):
 
 def files():
     """The files that are held to it."""
-    found = ["README.md", *below("docs/*.md")]
+    found = ["README.md", "CHANGELOG.md", "CONTRIBUTING.md", *below("docs/*.md")]
     for it in ("tools", "branch", "desk", "rows", "migrations", ".ci"):
         found += below(f"{it}/**/*")
     found += below("crates/*/**/*.rt") + below("crates/*/**/*.antt")
