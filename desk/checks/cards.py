@@ -12,7 +12,7 @@ def session_elsewhere(day):
 
     def work():
         require(day.counter.ask("tess", "/session", "")[0], 200, "a session elsewhere")
-        desk.send(account="101", amount="55.55")
+        desk.send(way="in", account="101", amount="55.55")
         desk.outcome("Not through yet", "doesn't know you in this session", "Rule 1, identity")
         desk.load("#post")
         desk.until_text("#waiting", "Sign in again, and it is sent again")
@@ -44,9 +44,9 @@ def last_slip(day):
     code = "return import('/js/store.js').then(s => s.openStore()).then(s => s.setFact('tess session', {number: arguments[0], used: 998}))"
     desk.js(code.replace("arguments[0]", str(session)))
     desk.load("#post")
-    desk.send(account="101", amount="1.01")
+    desk.send(way="in", account="101", amount="1.01")
     desk.outcome("Done once", f"slip {session}999")
-    desk.send(account="101", amount="1.02")
+    desk.send(way="in", account="101", amount="1.02")
     desk.outcome("Done once", f"slip {session + 1}001")
     require(day.one("SELECT session FROM users WHERE user_no = 7"), session + 1, "session")
 
@@ -55,7 +55,7 @@ def other_card(day):
     """Tom's card is in, and the page is still Tess's: the front refuses it, and it is made by Tess, once. The focus stays."""
     desk = day.desk
     day.relay.card = "tom"
-    desk.send(account="101", amount="77.77")
+    desk.send(way="in", account="101", amount="77.77")
     before = desk.until_text("#waiting", "Somebody else's card is in")
     desk.js("document.querySelector('#waiting button').focus()")
     desk.until(lambda: desk.text("#waiting") != before, "another try")
@@ -70,7 +70,7 @@ def set_aside(day):
     """A request that waits is set aside by a supervisor alone, with a reason, which the journal keeps; it is never sent again."""
     desk = day.desk
     day.relay.before = cut_posts
-    desk.send(account="101", amount="88.88")
+    desk.send(way="in", account="101", amount="88.88")
     desk.until_text("#waiting", "can't be reached")
     for badge, answer in (("cora", "You have no session"), ("tom", "You have no authorization")):
         desk.as_user(badge)
@@ -94,7 +94,7 @@ def set_aside(day):
     has(line, "set aside", "by sue: Paid by hand <b>today</b>")
     require(day.posted(8888), 0, "made")
     desk.go("p", "Deposit, withdrawal")
-    has(desk.enter(account="101", amount="0.88"), "Done once")
+    has(desk.enter(way="in", account="101", amount="0.88"), "Done once")
 
 
 def command(day, name):

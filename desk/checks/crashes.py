@@ -51,7 +51,7 @@ def bank_killed_after_it(day):
 
     def work():
         day.relay.after = lose
-        desk.send(account="101", amount="11.11")
+        desk.send(way="in", account="101", amount="11.11")
         has(desk.until_text("#waiting", "can't be reached"), "1 request waits", "acts once")
         day.look("waiting")
         require(day.posted(1111), 1, "made before the kill")
@@ -74,7 +74,7 @@ def bank_killed_before_it(day):
     def work():
         day.counter.end_bank()
         day.relay.before = cut_posts
-        desk.send(account="101", amount="22.22")
+        desk.send(way="in", account="101", amount="22.22")
         desk.until_text("#waiting", "can't be reached")
         desk.load("#post")
         desk.until_text("#waiting", "Deposit of 22.22")
@@ -95,7 +95,7 @@ def bank_down_and_held(day):
 
     def work():
         day.counter.end_bank()
-        desk.send(account="101", amount="23.23")
+        desk.send(way="in", account="101", amount="23.23")
         desk.until_text("#waiting", "It is being sent")
         time.sleep(1)
         day.counter.keep()
@@ -110,7 +110,7 @@ def browser_killed_before_it(day):
         desk = day.desk
         desk.go("p", "Deposit, withdrawal")
         day.relay.before = cut_posts
-        desk.send(account="101", amount="33.33")
+        desk.send(way="in", account="101", amount="33.33")
         desk.until(lambda: any(path == "/do/post" and "3333" in body for _, path, body in day.relay.passed), "its first sending")
         desk.kill()
         day.relay.calm()
@@ -138,7 +138,7 @@ def browser_killed_after_it(day):
         desk = day.desk
         desk.go("p", "Deposit, withdrawal")
         day.relay.after = linger
-        desk.send(account="101", amount="34.34")
+        desk.send(way="in", account="101", amount="34.34")
         require(done.wait(SECONDS), True, "made at the bank")
         desk.kill()
         killed.set()
@@ -160,7 +160,7 @@ def replies_of_others(day):
     day.relay.after = lambda path, _: next(strange, None) if path == "/do/post" else None
 
     def work():
-        desk.send(account="101", amount="44.44")
+        desk.send(way="in", account="101", amount="44.44")
         desk.until_text("#waiting", "1 request waits")
         return desk.outcome("Done once (sent 7 times)", seconds=45 + SECONDS) # the page waits 45 seconds in all between these
 

@@ -50,12 +50,19 @@ class Day:
         self.desk.until(lambda: self.desk.text("h1") not in ("", "Sign in and out"), "another screen, signed in")
 
 
-    def count_cash(self, cents):
-        """Types what was counted as one amount, and sends it."""
+    def type_count(self, cents):
+        """Types what was counted as one amount, and presses Enter."""
+        self.desk.await_form()
         self.desk.js("document.getElementById('outcome').replaceChildren()")
         css = "#cash-typed"
         self.desk.until(lambda: self.desk.all(css), "the field of counted cash")
+        self.desk.steady(lambda: self.desk.all(css)[0].send_keys(Keys.CONTROL, "a"))
         self.desk.steady(lambda: self.desk.all(css)[0].send_keys(amount_of(cents), Keys.ENTER))
+
+
+    def count_cash(self, cents):
+        """Types what was counted, and what the panel says once that is sent."""
+        self.type_count(cents)
         text = self.desk.outcome()
         self.desk.await_form()
         return text

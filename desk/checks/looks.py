@@ -56,10 +56,11 @@ const seen = [...document.querySelectorAll('nav a, #work button, #outcome button
 return seen.filter(e => e.checkVisibility() && e.getBoundingClientRect().height < 26).map(e => `${e.tagName} ${e.textContent}`);
 """
 
-# What Tab should reach, one after another: of the radios of a group the one that is chosen.
+# What Tab should reach, one after another: of the radios of a group the one that is chosen, or the first.
 REACHABLE = """
 const all = [...document.querySelectorAll('a[href], button, input, select, summary, pre[tabindex="0"]')];
-window.reachable = all.filter(e => e.checkVisibility() && !(e.type === 'radio' && !e.checked));
+const radioOf = e => document.querySelector(`[name="${e.name}"]:checked`) ?? document.querySelector(`[name="${e.name}"]`);
+window.reachable = all.filter(e => e.checkVisibility() && (e.type !== 'radio' || e === radioOf(e)));
 return window.reachable.length;
 """
 

@@ -33,7 +33,7 @@ def markup_of_users(day):
     desk = day.desk
     for text in MARKED:
         desk.go("p", "Deposit, withdrawal")
-        desk.send(account=text, amount=text)
+        desk.send(way="in", account=text, amount=text)
         desk.until(lambda: len(desk.faults()) == 2, f"two faults of {text}")
         require(desk.js(MARKUP), [], f"{text} in fields")
     desk.load("#correct?entry=%3Cimg%20src%3Dx%20onerror%3Dran=1%3E&account=%22%3E%3Csvg/onload%3Dran=1%3E&way=%22x&amount=javascript:ran=1")
@@ -50,7 +50,7 @@ def markup_of_replies(day):
     for status, text in replies:
         day.relay.before = lambda path, _, reply=(status, "application/json", text): reply if path == "/do/post" else None
         desk.load("#post")
-        has(desk.enter(account="101", amount="1.11"), "Not done")
+        has(desk.enter(way="in", account="101", amount="1.11"), "Not done")
         require(desk.js(MARKUP), [], str(text))
     screens = [("s", "Statement", {"account": 101}), ("a", "Accounts", {"after": 0}), ("c", "Close the day", {"branch": 1})]
     reports = [b"STATEMENT ACCOUNT       101 FROM         1 LINES     1\n%b\n" % MARKED[0].encode().ljust(75), MARKED[2].encode(), b"x\n"]

@@ -50,7 +50,7 @@ def wrong_amounts(day):
     desk = day.desk
     desk.go("p", "Deposit, withdrawal")
     before = day.asked()
-    desk.fill(account="101")
+    desk.fill(way="in", account="101")
     for text, why in WRONG_AMOUNTS:
         desk.fill(amount=text)
         desk.type("amount", Keys.ENTER)
@@ -81,7 +81,7 @@ def deposits(day):
 def three_enters(day):
     """Enter three times in haste is one post."""
     desk, before = day.desk, day.entries()
-    desk.send(account="101", amount="1.00")
+    desk.send(way="in", account="101", amount="1.00")
     desk.type("amount", Keys.ENTER, Keys.ENTER)
     desk.outcome("Done once")
     desk.await_form()
@@ -154,9 +154,10 @@ def correction(day):
     """Tom corrects Tess's entry; she could not, and it is corrected once."""
     desk = day.desk
     desk.go("e", "Correct an entry")
-    has(desk.enter(entry=1, account=101, way="in", amount="25.00"), "Done once", "Correct entry 1")
+    entry = {"entry": 1, "account": 101, "kind": "in", "amount": "25.00", "drawer": 11}
+    has(desk.enter(**entry), "Done once", "Correct entry 1")
     require(day.counter.sql("SELECT delta, user_no FROM entries WHERE branch = 1 AND undoes = 1"), [(-2500, TOM)], "the correction")
-    has(desk.enter(entry=1, account=101, way="in", amount="25.00"), "Not done", "can't be corrected", "Rule 10, entry")
+    has(desk.enter(**entry), "Not done", "can't be corrected", "Rule 10, entry")
 
 
 def supervisor(day):
@@ -191,6 +192,7 @@ def questions(day):
     desk.click("table.statement tbody tr td a", -1)
     desk.until_text("h1", "Correct an entry")
     desk.until(lambda: desk.value("amount") == "600.00", "the line's amount")
+    desk.fill(kind="in")
     desk.type("amount", Keys.ENTER)
     desk.outcome("Done once", "Correct entry")
     desk.go("a", "Accounts")
@@ -213,7 +215,10 @@ def evening(day):
     desk.click("summary")
     desk.until_text("[data-name=expected]", amount_of(cash))
     day.look("drawer")
-    has(day.count_cash(cash - 150), "Cash is missing", "-1.50", "Drawer 11 is empty and free")
+    day.type_count(cash - 150)
+    desk.until_text("dialog", "Send this count?", "1.50 too little")
+    desk.press("Send the count")
+    has(desk.outcome(), "Cash is missing", "-1.50", "Drawer 11 is empty and free")
     require(day.counter.sql("SELECT cash, holder FROM tellers WHERE teller = 11"), [(0, 0)], "drawer 11 is off")
     desk.until(lambda: len(desk.all("#outcome .chart")) == 1, "the line of the shift")
     day.look("drawer-off")

@@ -3,16 +3,29 @@ import newAccount from '../js/screens/new-account.js';
 import moveCash from '../js/screens/move-cash.js';
 import {same} from './check.js';
 
-/** Types into the fields of a screen, or ticks their choices, and sends the form: what was read back, and each thing that was asked for. */
-async function filled(screen, values) {
+/** A screen in a room of its own, at a desk that keeps what it is asked for; `act` is what becomes of it. */
+export async function shown(screen, {address = '', state = 'refused', dueMoves = []} = {}) {
   const asked = [];
   const act = async (...request) => {
     asked.push(request);
-    return 'refused';
+    return state;
   };
-  const {elements} = await screen.make({place: {branch: 1, teller: 11}, act});
+  const desk = {place: {branch: 1, teller: 11}, act, dueMoves, setDueMoves: async moves => { desk.dueMoves = moves; }};
+  const {elements} = await screen.make(desk, {given: new URLSearchParams(address), again: async () => {}});
   const room = document.body.appendChild(document.createElement('section'));
-  room.append(elements);
+  room.append(...[elements].flat().filter(Boolean));
+  return {desk, room, asked};
+}
+
+/** Sends the form of a room, and waits until it has settled. */
+export async function sent(room) {
+  room.querySelector('form').requestSubmit();
+  await new Promise(resolve => setTimeout(resolve));
+}
+
+/** Types into the fields of a screen, or ticks their choices, and sends the form: what was read back, and each thing that was asked for. */
+async function filled(screen, values) {
+  const {room, asked} = await shown(screen);
   for (const [name, value] of Object.entries(values)) {
     const choice = room.querySelector(`[data-name="${name}"] input[value="${value}"]`);
     const input = choice ?? room.querySelector(`[data-name="${name}"] input`);
@@ -21,8 +34,7 @@ async function filled(screen, values) {
     for (const type of ['input', 'change']) input.dispatchEvent(new Event(type, {bubbles: true}));
   }
   const read = room.querySelector('[data-name="reads"]').textContent;
-  room.querySelector('form').requestSubmit();
-  await new Promise(resolve => setTimeout(resolve));
+  await sent(room);
   room.remove();
   return [read, ...asked];
 }

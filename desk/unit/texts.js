@@ -1,6 +1,6 @@
 import {RULES, refusalText, delayText} from '../js/refusals.js';
 import {OPERATIONS, isReply} from '../js/operations.js';
-import {askedText, endText, branchOf, journalFile} from '../js/journal.js';
+import {askedText, endText, notedText, branchOf, journalFile} from '../js/journal.js';
 import {receiptOf, hasReceipt} from '../js/receipt.js';
 import {toCsv} from '../js/csv.js';
 import {parseMembers, bodyOf} from '../js/policy-commands.js';
@@ -59,6 +59,10 @@ export function journals() {
   same(endText({...done, state: 'refused', reply: '{"name":"floor","rule":11}'}), 'refused: floor', 'refused');
   const aside = {...done, state: 'aside', aside: {by: 'sue', reason: 'paid by hand', at: 9}};
   same(endText(aside), 'set aside by sue: paid by hand. It may be done or not.', 'set aside');
+  same(notedText(done), '', 'nothing noted');
+  const noted = notedText({...done, noted: {reason: 'till roll', colleague: 8}});
+  same([noted.includes('till roll'), noted.includes('user 8')], [true, true], 'reason and colleague');
+  same(journalFile([{...done, noted: {reason: 'till roll', colleague: 8}}]).includes(noted), true, 'what was noted, in the file');
   same(branchOf({body: '{"beneficiary":8,"operation":{"branch":4}}'}), 4, 'branch of a release');
   same(journalFile([done]).split('\r\n')[1].split(',').at(-1), '""entry"":3}"', 'as a file');
   same(toCsv(['a', 'b'], [['x,"y"', -5], ['=1+1', '-2'], ['l\nm', '']]), 'a,b\r\n"x,""y""",-5\r\n\'=1+1,\'-2\r\n"l\nm",\r\n', 'csv');

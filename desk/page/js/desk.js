@@ -5,6 +5,7 @@ import {nextSlip} from './slips.js';
 import {isReply} from './operations.js';
 import {askedText, branchOf} from './journal.js';
 import {showAmount} from './amounts.js';
+import {isSame, isRepeatMeant} from './second-look.js';
 
 /** How often a question is asked where no reply comes. */
 const QUESTION_TRIES = 4;
@@ -23,8 +24,9 @@ function failureText(reply) {
 /**
  * The desk of a badge. `report(event, request, reply)` hears what happens: sending, again, session, done and refused of a
  * request; held, nosession, unkept, noreply, unsure and unreadable where one was not sent, not answered or not read; clear.
+ * `isMeant(last)` is asked before a request is sent that is the same as the last one.
  */
-export async function makeDesk({store, badge, report}) {
+export async function makeDesk({store, badge, report, isMeant = isRepeatMeant}) {
   const pauses = new Set(); // those that go on, each as a call that ends it
   const wait = seconds => new Promise(resolve => {
     const end = () => {
@@ -69,6 +71,7 @@ export async function makeDesk({store, badge, report}) {
   const desk = {
     badge,
     lastTurns: new Map(),
+    dueMoves: (await store.fact('due moves')) ?? [], // of cash, after corrections, by whoever works at this machine
     session: (await store.fact(`${badge} session`))?.number ?? null,
     place: (await store.fact(`${badge} place`)) ?? {branch: null, teller: null},
     shiftBegan: (await store.fact(`${badge} shift`)) ?? 0,
@@ -84,9 +87,20 @@ export async function makeDesk({store, badge, report}) {
       return (await store.rows()).filter(row => row.badge === badge && (row.id > before || row.state === 'waiting'));
     },
 
+    /** What touched drawers over this shift: the user's rows, and cash that others moved at this machine. */
+    async drawerRows() {
+      const rows = await store.rows();
+      return rows.filter(row => row.id > desk.rowsBefore && (row.badge === badge || row.name === 'move-cash'));
+    },
+
     async setPlace(place) {
       desk.place = place;
       await store.setFact(`${badge} place`, place);
+    },
+
+    async setDueMoves(moves) {
+      desk.dueMoves = moves;
+      await store.setFact('due moves', moves);
     },
 
     async beginShift() {
@@ -118,16 +132,24 @@ export async function makeDesk({store, badge, report}) {
       return reply;
     },
 
-    /** Has an operation that writes done once, and returns 'done', 'refused', or nothing where it was not sent. */
-    async act(name, body, release = null) {
+    /** The last request of this user that bears a slip, whatever came of it. */
+    lastRequest: async () => (await desk.rows(true)).findLast(row => row.name !== undefined),
+
+    /**
+     * Has an operation that writes done once, and returns 'done', 'refused', or another state where it was not sent. What is
+     * noted with it stays in the journal.
+     */
+    async act(name, body, release = null, noted = {}) {
       if (!desk.session) return report('nosession');
       if (await desk.waits()) return report('held');
+      const last = await desk.lastRequest();
+      if (isSame(last, {name, body: JSON.stringify(body)}) && !await isMeant(last)) return 'kept';
       const session = await store.fact(`${badge} session`);
       const hasSlip = session && nextSlip(session.number, session.used) !== null;
       if (!hasSlip && !(await desk.open()).isOpened) return report('nosession');
       report('clear');
       try {
-        return await queue.add({name, body: JSON.stringify(body), release, at: Date.now()});
+        return await queue.add({name, body: JSON.stringify(body), release, noted, at: Date.now()});
       } catch {
         return report('unkept');
       }

@@ -6,7 +6,8 @@ let serial = 0;
 
 /**
  * A field {name, label, kind, ..}. Kinds: 'number' and 'amount' with least and most, 'text' with pattern and fault, 'choice'
- * with options [value, label, class], 'pick' with options in a list, 'tick'. `tucked` is a line that opens to the field.
+ * with options [value, label, class, letter], of which none is chosen where `value` is none, which `fault` says; 'pick' with
+ * options in a list, 'tick'. `tucked` is a line that opens to the field.
  */
 export function field(spec) {
   serial += 1;
@@ -27,12 +28,20 @@ export function field(spec) {
 function choiceField(spec, id) {
   const error = h('p', {id: `${id}-error`, class: 'error'});
   const row = h('fieldset', {'data-name': spec.name, 'aria-describedby': error.id}, h('legend', {}, spec.label),
-    h('div', {class: 'choices'}, spec.options.map(([value, label, mark]) => h('label', {class: `choice ${mark ?? ''}`},
-      h('input', {type: 'radio', name: id, value, checked: value === spec.value}), h('span', {}, label)))),
+    h('div', {class: 'choices'}, spec.options.map(option => optionOf(option, spec, id))),
     error);
-  const read = () => ({value: row.querySelector('input:checked')?.value});
+  const read = () => {
+    const value = row.querySelector('input:checked')?.value ?? null;
+    return value === null && spec.fault ? {fault: spec.fault} : {value};
+  };
   const set = value => { for (const radio of row.querySelectorAll('input')) radio.checked = radio.value === value; };
   return {spec, row, input: row.querySelector('input'), error, read, set};
+}
+
+function optionOf([value, label, mark, letter], spec, id) {
+  return h('label', {class: `choice ${mark ?? ''}`},
+    h('input', {type: 'radio', name: id, value, checked: value === spec.value, 'aria-keyshortcuts': letter}),
+    h('span', {}, label, letter ? h('kbd', {'aria-hidden': 'true'}, letter) : null));
 }
 
 function inputOf(spec, id, describedBy) {

@@ -54,16 +54,41 @@ function typedValues(fields) {
   }));
 }
 
+/** Chooses what a letter stands for, in the first choice that has it; whether one has. In a field of text a letter is a letter. */
+function chosenBy(fields, {key, target, ctrlKey, altKey, metaKey}) {
+  if (ctrlKey || altKey || metaKey || fields.some(field => field.spec.kind === 'text' && field.row.contains(target))) return false;
+  return fields.some(field => {
+    const option = field.row.hidden ? undefined : field.spec.options?.find(([, , , letter]) => letter === key.toUpperCase());
+    if (option) field.set(option[0]);
+    return option !== undefined;
+  });
+}
+
 /**
  * A form. `send(values)` is called with sound values, and returns {faults: {field: text}}, 'done', 'refused' or another state.
- * `reads(values)` says in plain words, at each key, what would be sent. What `clear` names is emptied once it is done.
+ * `reads(values)` says in plain words, at each key, what would be sent; so does `button`, as {text, kind}, where it is a call.
+ * What `clear` names is emptied once it is done.
  */
 export function form({fields, button, isDanger = false, isBeside = false, send, reads, clear = []}) {
-  const submit = h('button', {type: 'submit', class: isDanger ? 'main danger' : 'main'}, button);
+  const submit = h('button', {type: 'submit', class: isDanger ? 'main danger' : 'main'}, typeof button === 'string' ? button : '');
   const sentence = h('p', {class: 'reads', 'data-name': 'reads'});
   const progress = makeProgress(submit);
   const byName = Object.fromEntries(fields.map(field => [field.spec.name, field]));
-  const readBack = () => { if (reads) sentence.textContent = reads(typedValues(fields)); };
+
+  function readBack() {
+    const values = typedValues(fields);
+    if (reads) sentence.textContent = reads(values);
+    if (typeof button === 'string') return;
+    const {text, kind} = button(values);
+    submit.textContent = text;
+    submit.className = `main ${kind}`;
+  }
+
+  function pressed(event) {
+    if (event.target === submit || !chosenBy(fields, event)) return;
+    event.preventDefault();
+    element.dispatchEvent(new Event('change', {bubbles: true}));
+  }
 
   function settle(state) {
     for (const [name, fault] of Object.entries(state?.faults ?? {})) {
@@ -76,8 +101,8 @@ export function form({fields, button, isDanger = false, isBeside = false, send, 
     }
     const isLeft = document.activeElement !== document.body && !element.contains(document.activeElement);
     if ((state !== 'done' && state !== 'refused') || isLeft) return;
-    const next = fields.find(field => !field.row.hidden && field.row.isConnected && clear.includes(field.spec.name)) ?? fields[0];
-    next.input.focus();
+    const isNext = ({row, spec}) => !row.hidden && row.isConnected && spec.kind !== 'choice' && clear.includes(spec.name);
+    (fields.find(isNext) ?? fields[0]).input.focus();
   }
 
   async function submitted(event) {
@@ -93,7 +118,7 @@ export function form({fields, button, isDanger = false, isBeside = false, send, 
     }
   }
 
-  const attributes = {novalidate: true, class: isBeside ? 'beside' : null, submit: submitted, input: readBack, change: readBack};
+  const attributes = {novalidate: true, class: isBeside ? 'beside' : null, submit: submitted, input: readBack, change: readBack, keydown: pressed};
   const element = h('form', attributes, fields.map(field => field.row), reads ? sentence : null, submit, progress.line);
   readBack();
   return {element, fields: byName, focus: () => fields.find(field => !field.row.hidden)?.input.focus()};

@@ -2,6 +2,7 @@
 import {OPERATIONS} from './operations.js';
 import {toCsv} from './csv.js';
 import {showTime} from './dates.js';
+import {say} from './words.js';
 
 export const STATES = {done: 'done', refused: 'not done', waiting: 'waiting', aside: 'set aside', unsure: 'done or not'};
 
@@ -21,18 +22,23 @@ export function endText(row) {
   return `${label}: ${figure}. ${more}`;
 }
 
+/** What was noted with a request, and the bank does not know: '' for nothing. */
+export function notedText(row) {
+  return row.noted?.reason ? say('count.noted', row.noted) : '';
+}
+
 /** The branch of a request that waits; that of a release is in its operation. */
 export function branchOf(row) {
   const body = JSON.parse(row.body);
   return body.branch ?? body.operation.branch;
 }
 
-const HEADINGS = ['time', 'request', 'state', 'reply', 'slip', 'times sent', 'body', 'status', 'reply as sent'];
+const HEADINGS = ['time', 'request', 'state', 'reply', 'noted', 'slip', 'times sent', 'body', 'status', 'reply as sent'];
 
 /** Rows as a file for a spreadsheet. */
 export function journalFile(rows) {
   return toCsv(HEADINGS, rows.map(row => [
-    showTime(row.at), askedText(row), row.state, endText(row), row.slip ?? '', row.tries ?? 1,
+    showTime(row.at), askedText(row), row.state, endText(row), notedText(row), row.slip ?? '', row.tries ?? 1,
     row.body ?? '', row.status ?? '', row.reply ?? '',
   ]));
 }

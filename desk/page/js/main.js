@@ -7,6 +7,7 @@ import {hasReceipt} from './receipt.js';
 import {printReceipt} from './paper.js';
 import {reasonFor} from './dialog.js';
 import {askedText} from './journal.js';
+import {keepDraft, restoreDraft} from './drafts.js';
 import * as outcome from './outcome.js';
 import * as waiting from './waiting.js';
 import {SCREENS} from './screens/all.js';
@@ -21,6 +22,7 @@ let last = null; // {reply} that decided nothing about the request that waits
 let receipt = null; // the row whose receipt can be printed
 let quick = null;
 let turns = 0; // how often a screen was asked for
+let isFilledIn = false; // by the address of the screen that is shown
 
 function showHeader() {
   const {branch, teller} = desk.place;
@@ -88,6 +90,8 @@ async function showScreen(isAgain = false) {
   if (turn !== turns) return; // another was asked for meanwhile
   const isOther = screen !== shown;
   if (isOther) outcome.clear();
+  if (shown && isOther) keepDraft(shown.id, work, isFilledIn);
+  isFilledIn = given.size > 0;
   shown = screen;
   document.title = `${screen.label} - Counter`;
   document.body.classList.toggle('wide', screen.isWide === true);
@@ -96,6 +100,7 @@ async function showScreen(isAgain = false) {
     else link.removeAttribute('aria-current');
   }
   work.replaceChildren(h('h1', {}, screen.title ?? screen.label), ...[made.elements].flat().filter(Boolean));
+  if (isOther && !isFilledIn) restoreDraft(screen.id, work);
   showHeader();
   const isLeft = isAgain && menu.contains(document.activeElement);
   if (made.focus && !isLeft) made.focus();

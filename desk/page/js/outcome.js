@@ -2,7 +2,7 @@
 import {h} from './dom.js';
 import {showClock} from './dates.js';
 import {OPERATIONS} from './operations.js';
-import {askedText} from './journal.js';
+import {askedText, notedText} from './journal.js';
 import {delayText, refusalText} from './refusals.js';
 
 const panel = document.getElementById('outcome');
@@ -42,7 +42,7 @@ function done(request, reply) {
   put(differs ? 'noted' : 'done', request.tries > 1 ? `Done once (sent ${request.tries} times)` : 'Done once',
     h('p', {class: 'asked'}, askedText(request)),
     h('p', {class: 'label'}, label), h('p', {class: 'figure', 'data-name': 'figure'}, figure),
-    h('p', {}, more), h('p', {class: 'small'}, `${showClock(Date.now())}, slip ${request.slip}`));
+    h('p', {}, more), notedText(request) ? h('p', {}, notedText(request)) : null, h('p', {class: 'small'}, `${showClock(Date.now())}, slip ${request.slip}`));
 }
 
 /** A request without a slip that got no reply which decides anything, and what to do. */

@@ -1,34 +1,78 @@
-import {h} from '../dom.js';
+import {h, button} from '../dom.js';
 import {form} from '../form.js';
-import {field, account, amount, release, amountText, numberText} from '../fields.js';
+import {field, account, amount, release} from '../fields.js';
 import {lacksDrawer} from './post.js';
+import {moveAfter} from '../cash-due.js';
+import {moveLink} from './move-cash.js';
+import {showAmount} from '../amounts.js';
+import {say} from '../words.js';
+import * as outcome from '../outcome.js';
 
-const LEAD = 'An opposite entry corrects one that a colleague made today. Cash goes through your own drawer.';
+/** What an entry can have been: the way of its money, and whether it was a transfer's. */
+const KINDS = [['in', 'in'], ['out', 'out'], ['in-transfer', 'in'], ['out-transfer', 'out']];
+const wayOf = kind => (kind?.startsWith('out') ? 'out' : 'in');
+const isTransfer = kind => kind?.endsWith('-transfer') ?? false;
+
+/** The kinds that the address leaves open: a statement knows the way, and often no more. */
+function kindField(given) {
+  const [kind, way] = [given.get('kind'), given.get('way')];
+  const options = KINDS.filter(([name]) => !way || wayOf(name) === way);
+  return field({
+    name: 'kind', label: say('correct.kind'), kind: 'choice', value: kind, fault: say('correct.kind.fault'),
+    options: options.map(([name, mark]) => [name, say(`correct.kind.${name}`), mark]),
+  });
+}
+
+/** What would be sent, and whose drawer moves by it. */
+function sentence(desk, {entry, kind, amount: cents, account: of, drawer}) {
+  if (entry === null || kind === null) return '';
+  const values = {entry, amount: cents === null ? '…' : showAmount(cents), account: of ?? '…', teller: desk.place.teller ?? '…', drawer: drawer ?? '…'};
+  return say(isTransfer(kind) ? `correct.reads.${kind}` : `correct.reads.${wayOf(kind)}${drawer === desk.place.teller ? '.same' : ''}`, values);
+}
+
+/** The next request after a correction: cash that has to be moved between the two drawers. */
+async function offerMove(desk, move) {
+  await desk.setDueMoves([...desk.dueMoves, move]);
+  const values = {amount: showAmount(move.amount), source: move.source, target: move.target};
+  const isOwn = move.source === desk.place.teller;
+  outcome.add(h('p', {class: 'due'}, say(isOwn ? 'due.own' : 'due.other', values)),
+    isOwn ? button(say('due.button', values), () => { location.hash = moveLink(move); }) : null);
+}
 
 async function make(desk, {given}) {
-  const ways = [['in', 'Money in', 'in'], ['out', 'Money out', 'out']];
   const correct = form({
     fields: [
-      field({name: 'entry', label: 'Entry', kind: 'number', value: given.get('entry') ?? ''}),
+      field({name: 'entry', label: say('correct.entry'), kind: 'number', value: given.get('entry') ?? ''}),
       account({value: given.get('account') ?? ''}),
-      field({name: 'way', label: 'The entry was', kind: 'choice', value: given.get('way') === 'out' ? 'out' : 'in', options: ways}),
+      kindField(given),
       amount({value: given.get('amount') ?? ''}),
-      account({name: 'other', label: 'Other account', hint: 'If it was a transfer', optional: true}),
+      account({name: 'other', label: say('correct.other'), value: given.get('other') ?? ''}),
+      field({name: 'drawer', label: say('correct.drawer'), hint: say('correct.drawer.hint'), kind: 'number', value: given.get('drawer') ?? ''}),
       release(),
     ],
-    button: 'Correct the entry',
+    button: say('correct.button'),
     isBeside: true,
-    clear: ['entry', 'account', 'amount', 'other', 'release'],
-    reads: ({entry, way, amount: cents, account: of}) => (entry === null ? ''
-      : `Entry ${entry}: ${amountText(cents)} ${way === 'in' ? 'goes out of' : 'comes back into'} account ${numberText(of)}`),
-    async send({entry, account: of, way, amount: cents, other, release: by}) {
-      if (other === of) return {faults: {other: 'That is the same account.'}};
+    clear: ['entry', 'account', 'kind', 'amount', 'other', 'drawer', 'release'],
+    reads: values => sentence(desk, values),
+    async send({entry, account: of, kind, amount: cents, other, drawer, release: by}) {
+      if (other === of) return {faults: {other: say('fault.sameAccount')}};
       const {branch, teller} = desk.place;
-      const body = {account: of, branch, delta: way === 'out' ? -cents : cents, entry, other: other ?? 0, teller};
-      return lacksDrawer(desk) ?? desk.act('correct', body, by);
+      const body = {account: of, branch, delta: wayOf(kind) === 'out' ? -cents : cents, entry, other: other ?? 0, teller};
+      const state = lacksDrawer(desk, 'correct') ?? await desk.act('correct', body, by);
+      const move = state === 'done' ? moveAfter(body, drawer) : null;
+      if (move) await offerMove(desk, move);
+      return state;
     },
   });
-  return {elements: [h('p', {class: 'lead'}, LEAD), correct.element], focus: correct.focus};
+  const {kind, other, drawer} = correct.fields;
+  const fit = () => {
+    const chosen = kind.read().value;
+    other.row.hidden = !isTransfer(chosen);
+    drawer.row.hidden = isTransfer(chosen);
+  };
+  correct.element.addEventListener('change', fit);
+  fit();
+  return {elements: [h('p', {class: 'lead'}, say('correct.lead')), correct.element], focus: correct.focus};
 }
 
 export default {id: 'correct', key: 'e', label: 'Correct an entry', make};

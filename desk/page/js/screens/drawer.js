@@ -5,6 +5,8 @@ import {counting} from '../counting.js';
 import {cashOver, expectedCash} from '../drawer-cash.js';
 import {cashChart} from '../chart.js';
 import {showAmount} from '../amounts.js';
+import {say} from '../words.js';
+import {countMeant} from '../second-look.js';
 import * as outcome from '../outcome.js';
 
 /** A line that opens to what the drawer should hold; it is closed at first, so that the count comes from the cash. */
@@ -14,9 +16,9 @@ function expectedLine(cents) {
   return h('details', {class: 'expected'}, h('summary', {}, 'What it should hold'), h('p', {'data-name': 'expected'}, text));
 }
 
-async function make(desk, {changed, again}) {
+async function make(desk, {given, changed, again}) {
   const {branch, teller} = desk.place;
-  const rows = await desk.rows();
+  const rows = await desk.drawerRows();
   const isOn = teller !== null && cashOver(rows, teller).isOn;
   const count = counting('cash', 'Cash');
   const by = release();
@@ -24,17 +26,21 @@ async function make(desk, {changed, again}) {
 
   async function sent({way, teller: of, cash, release: number}) {
     if (branch === null) {
-      location.hash = 'session?lacks=branch';
+      location.hash = 'session?lacks=branch&then=drawer';
       return 'lacks branch';
     }
+    const noted = way === 'on' ? {} : await countMeant(of, expectedCash(await desk.drawerRows(), of), cash);
+    if (noted === null) return 'kept';
     const state = way === 'on' ? await desk.act('drawer-on', {branch, cash, teller: of}, number)
-      : await desk.act('drawer-off', {branch, counted: cash, teller: of});
+      : await desk.act('drawer-off', {branch, counted: cash, teller: of}, null, noted);
     if (state !== 'done') return state;
     if (way === 'on') await desk.setPlace({branch, teller: of});
+    const then = given.get('then');
     changed();
     await again();
-    const shift = cashOver(await desk.rows(), of);
+    const shift = cashOver(await desk.drawerRows(), of);
     if (way === 'off' && shift.points.length > 1) outcome.add(cashChart(shift));
+    if (way === 'on' && then && then !== 'post') outcome.add(h('p', {}, h('a', {href: `#${then}`}, say('drawer.then'))));
     return state;
   }
 

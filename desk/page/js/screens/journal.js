@@ -1,5 +1,5 @@
 import {h, table, button} from '../dom.js';
-import {STATES, askedText, endText, journalFile} from '../journal.js';
+import {STATES, askedText, endText, notedText, journalFile} from '../journal.js';
 import {differenceText} from '../operations.js';
 import {cashOver} from '../drawer-cash.js';
 import {cashChart} from '../chart.js';
@@ -36,7 +36,7 @@ function cellsOf(desk, row, isAll) {
   const receipt = hasReceipt(row) ? button('Print', () => printReceipt(desk, row), attributes) : '';
   const state = h('span', {class: `mark ${row.state}`}, STATES[row.state]);
   const time = isAll ? showTime(row.at) : showWhen(row.at);
-  return [time, askedText(row), state, endText(row), row.slip ?? '', row.tries ?? 1, receipt];
+  return [time, askedText(row), state, [endText(row), ' ', notedText(row)], row.slip ?? '', row.tries ?? 1, receipt];
 }
 
 async function make(desk) {
@@ -57,7 +57,7 @@ async function make(desk) {
   await show(false);
   const tools = h('div', {class: 'tools'}, h('label', {for: 'which'}, 'Show'), which,
     button('Save as CSV', () => save(desk, rows)), button('Print', () => print()));
-  return {elements: [cashSection(desk, shiftRows), tools, paper]};
+  return {elements: [cashSection(desk, await desk.drawerRows()), tools, paper]};
 }
 
 export default {id: 'journal', key: 'j', label: 'Journal of the shift', isWide: true, make};

@@ -1,46 +1,80 @@
+import {h} from '../dom.js';
 import {form} from '../form.js';
-import {field, amount, release, amountText} from '../fields.js';
+import {field, amount, release} from '../fields.js';
+import {showAmount} from '../amounts.js';
+import {withoutMove} from '../cash-due.js';
+import {say} from '../words.js';
 
 const placeOf = (which, other) => (which === 'other' ? other : Number(which));
 
-function placeText(place) {
-  if (place === null) return '…';
-  return place === 0 ? 'the vault' : `drawer ${place}`;
+/** A move as a sentence, by which of its places is the vault. */
+export function moveText({source, target, amount: cents}) {
+  const key = source === 0 ? 'cash.fromVault' : target === 0 ? 'cash.toVault' : 'cash.between';
+  return say(key, {amount: showAmount(cents), source: source ?? '…', target: target ?? '…'});
 }
 
-async function make(desk) {
+/** The address of this screen with a move filled in. */
+export const moveLink = ({source, target, amount: cents}) => `#cash?from=${source}&to=${target}&amount=${showAmount(cents)}`;
+
+/** What is to be moved out of the drawer of whoever works here, each as a link that fills it in. */
+function dueList(desk) {
+  const {branch, teller} = desk.place;
+  const own = desk.dueMoves.filter(move => move.branch === branch && move.source === teller);
+  if (own.length === 0) return null;
+  return h('section', {class: 'past'}, h('h2', {}, say('due.title')), h('ul', {class: 'due'}, own.map(move => h('li', {},
+    h('a', {href: moveLink(move)}, say('due.link', {amount: showAmount(move.amount), source: move.source, target: move.target}))))));
+}
+
+/** The choices of places, and of these the one that an address names. */
+function placesOf(desk, given) {
   const {teller} = desk.place;
-  const own = teller === null ? [] : [[String(teller), `My drawer, ${teller}`]];
-  const places = [['0', 'Vault'], ...own, ['other', 'Another drawer']];
+  const places = [['0', say('cash.vault')], ...teller === null ? [] : [[String(teller), say('cash.own', {teller})]], ['other', say('cash.other')]];
+  const chosen = (name, otherwise) => {
+    const wanted = given.get(name);
+    return wanted === null ? otherwise : places.some(([value]) => value === wanted) ? wanted : 'other';
+  };
+  const names = ['from', 'to'];
+  const other = names.filter(name => chosen(name) === 'other').map(name => given.get(name))[0] ?? '';
+  return {places, from: chosen('from', '0'), to: chosen('to', teller === null ? 'other' : String(teller)), other};
+}
+
+async function make(desk, {given, again}) {
+  const {places, from: source, to: target, other: number} = placesOf(desk, given);
 
   async function sent({from, to, other, amount: cents, release: by}) {
-    if ((from === 'other' || to === 'other') && other === null) return {faults: {other: 'Type the number of the other drawer.'}};
-    const [source, target] = [placeOf(from, other), placeOf(to, other)];
-    if (source === target) return {faults: {to: 'That is the same place.'}};
-    const {branch} = desk.place;
-    if (branch !== null) return desk.act('move-cash', {amount: cents, branch, source, target}, by);
-    location.hash = 'session?lacks=branch';
-    return 'lacks branch';
+    if ((from === 'other' || to === 'other') && other === null) return {faults: {other: say('cash.other.fault')}};
+    const move = {amount: cents, branch: desk.place.branch, source: placeOf(from, other), target: placeOf(to, other)};
+    if (move.source === move.target) return {faults: {to: say('cash.same')}};
+    if (move.branch === null) {
+      location.hash = 'session?lacks=branch&then=cash';
+      return 'lacks branch';
+    }
+    const state = await desk.act('move-cash', move, by);
+    if (state === 'done' && withoutMove(desk.dueMoves, move) !== desk.dueMoves) {
+      await desk.setDueMoves(withoutMove(desk.dueMoves, move));
+      await again();
+    }
+    return state;
   }
 
   const move = form({
     fields: [
-      field({name: 'from', label: 'From', kind: 'choice', value: '0', options: places}),
-      field({name: 'to', label: 'To', kind: 'choice', value: teller === null ? 'other' : String(teller), options: places}),
-      field({name: 'other', label: 'Number of the other drawer', kind: 'number', optional: true}),
-      amount({most: 999999999}), release(),
+      field({name: 'from', label: say('cash.from'), kind: 'choice', value: source, options: places}),
+      field({name: 'to', label: say('cash.to'), kind: 'choice', value: target, options: places}),
+      field({name: 'other', label: say('cash.number'), kind: 'number', optional: true, value: number}),
+      amount({most: 999999999, value: given.get('amount') ?? ''}), release(),
     ],
-    button: 'Move the cash',
+    button: say('cash.button'),
     clear: ['amount', 'release'],
     reads: ({from, to, other, amount: cents}) => (cents === null ? ''
-      : `${amountText(cents)} from ${placeText(placeOf(from, other))} to ${placeText(placeOf(to, other))}`),
+      : moveText({source: placeOf(from, other), target: placeOf(to, other), amount: cents})),
     send: sent,
   });
   const {from, to, other} = move.fields;
   const fit = () => { other.row.hidden = ![from, to].some(one => one.read().value === 'other'); };
   move.element.addEventListener('change', fit);
   fit();
-  return {elements: move.element, focus: move.focus};
+  return {elements: [dueList(desk), move.element], focus: move.focus};
 }
 
 export default {id: 'cash', key: 'm', label: 'Move cash', make};

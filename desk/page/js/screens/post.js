@@ -1,26 +1,36 @@
 import {form} from '../form.js';
-import {field, account, amount, release, amountText, numberText} from '../fields.js';
+import {account, amount, release} from '../fields.js';
+import {wayField} from '../ways.js';
+import {showAmount} from '../amounts.js';
+import {say} from '../words.js';
 
 /** Where no drawer is named, that has to come first: another screen, and the state that a form gets. */
-export function lacksDrawer(desk) {
+export function lacksDrawer(desk, screen) {
   if (desk.place.branch !== null && desk.place.teller !== null) return null;
-  location.hash = 'session?lacks=drawer';
+  location.hash = `session?lacks=drawer&then=${screen}`;
   return 'lacks drawer';
+}
+
+/** What the button would do: it says the way and the amount, once they are there. */
+function buttonOf({way, amount: cents}) {
+  if (way === null) return {text: say('post.choose'), kind: ''};
+  return {text: cents === null ? say(`post.${way}`) : say(`post.${way}.amount`, {amount: showAmount(cents)}), kind: way};
+}
+
+function sentence({way, account: of, amount: cents}) {
+  if (of === null && cents === null) return '';
+  return say(way === null ? 'post.reads.none' : `post.reads.${way}`, {account: of ?? '…', amount: cents === null ? '…' : showAmount(cents)});
 }
 
 async function make(desk, {given}) {
   const post = form({
-    fields: [
-      field({name: 'way', label: 'What', kind: 'choice', value: 'in', options: [['in', 'Deposit', 'in'], ['out', 'Withdrawal', 'out']]}),
-      account({value: given.get('account') ?? ''}), amount(), release(),
-    ],
-    button: 'Send',
-    clear: ['account', 'amount', 'release'],
-    reads: ({way, account: of, amount: cents}) => (of === null && cents === null ? ''
-      : `${amountText(cents)} ${way === 'out' ? 'out of' : 'into'} account ${numberText(of)}`),
+    fields: [wayField(), account({value: given.get('account') ?? ''}), amount(), release()],
+    button: buttonOf,
+    clear: ['way', 'account', 'amount', 'release'],
+    reads: sentence,
     async send({way, account: of, amount: cents, release: by}) {
       const {branch, teller} = desk.place;
-      return lacksDrawer(desk) ?? desk.act('post', {account: of, branch, delta: way === 'out' ? -cents : cents, teller}, by);
+      return lacksDrawer(desk, 'post') ?? desk.act('post', {account: of, branch, delta: way === 'out' ? -cents : cents, teller}, by);
     },
   });
   return {elements: post.element, focus: () => post.fields.account.input.focus()};

@@ -1,6 +1,7 @@
 import {h} from '../dom.js';
 import {form} from '../form.js';
 import {field, account, amount, branchField, amountText} from '../fields.js';
+import {wayField} from '../ways.js';
 import {operationOf} from '../released.js';
 
 const LEAD = 'It is valid for exactly this, today, for this colleague alone, once. They send it with the number that you pass on.';
@@ -18,14 +19,13 @@ const PROCEDURES = Object.entries(RELEASED).map(([name, [label]]) => [name, labe
 
 function fieldsOf(desk) {
   const place = (name, label) => field({name, label, kind: 'number', least: 0});
-  const ways = [['in', 'Deposit (money in)', 'in'], ['out', 'Withdrawal (money out)', 'out']];
   return [
     field({name: 'beneficiary', label: 'User number of the colleague', kind: 'number', most: 9999}),
     field({name: 'procedure', label: 'What they may do', kind: 'pick', options: PROCEDURES}),
     branchField(desk),
     field({name: 'teller', label: 'Their drawer', kind: 'number'}),
     field({name: 'entry', label: 'Number of the entry', kind: 'number'}),
-    field({name: 'way', label: 'What', kind: 'choice', value: 'in', options: ways}),
+    wayField(),
     account(), account({name: 'source', label: 'From account'}), account({name: 'target', label: 'To account'}),
     account({name: 'other', label: 'Other account', hint: 'If it was a transfer', optional: true}),
     place('from', 'From drawer, 0 for the vault'), place('to', 'To drawer, 0 for the vault'),
@@ -38,7 +38,7 @@ async function make(desk) {
     fields: fieldsOf(desk),
     button: 'Give the release',
     isBeside: true,
-    clear: ['account', 'source', 'target', 'amount', 'cash', 'entry', 'other'],
+    clear: ['way', 'account', 'source', 'target', 'amount', 'cash', 'entry', 'other'],
     reads: ({beneficiary, procedure, amount: cents, cash}) => (beneficiary === null ? ''
       : `User ${beneficiary} may do this once, today: ${amountText(RELEASED[procedure][1].includes('cash') ? cash : cents)}`),
     send: ({beneficiary, ...values}) => desk.act('release', {beneficiary, operation: operationOf(values)}),

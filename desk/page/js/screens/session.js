@@ -37,7 +37,9 @@ async function make(desk, {given, changed, again, signIn}) {
       outcome.answered('Signed in', 'Session', String(desk.session), 'It stays open until you sign out, or sign in elsewhere.');
     }
     changed();
-    location.hash = teller === null && values.teller !== null ? 'drawer' : 'post';
+    const then = given.get('then') ?? 'post';
+    const isDrawerFirst = teller === null && values.teller !== null;
+    location.hash = isDrawerFirst ? `drawer?then=${then}` : then;
     return null;
   }
 

@@ -50,7 +50,7 @@ async function lastLines(desk, of, wanted, read, progress) {
 
 function correctLink(of, row) {
   const way = row.delta < 0 ? 'out' : 'in';
-  const href = `#correct?entry=${row.entry}&account=${of}&way=${way}&amount=${showAmount(Math.abs(row.delta))}`;
+  const href = `#correct?entry=${row.entry}&account=${of}&way=${way}&amount=${showAmount(Math.abs(row.delta))}&drawer=${row.teller}`;
   return h('a', {href, 'aria-label': `Correct entry ${row.entry}`}, 'Correct');
 }
 

@@ -12,7 +12,7 @@ async function make(desk) {
     async send({source, target, amount: cents, release: by}) {
       if (source === target) return {faults: {target: 'That is the same account.'}};
       const {branch, teller} = desk.place;
-      return lacksDrawer(desk) ?? desk.act('transfer', {amount: cents, branch, source, target, teller}, by);
+      return lacksDrawer(desk, 'transfer') ?? desk.act('transfer', {amount: cents, branch, source, target, teller}, by);
     },
   });
   return {elements: transfer.element, focus: transfer.focus};

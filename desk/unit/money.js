@@ -1,0 +1,99 @@
+// What keeps money from going wrong at a counter that is right.
+import post from '../js/screens/post.js';
+import correct from '../js/screens/correct.js';
+import moveCash from '../js/screens/move-cash.js';
+import {isSame} from '../js/second-look.js';
+import {moveAfter, withoutMove} from '../js/cash-due.js';
+import {keepDraft, restoreDraft} from '../js/drafts.js';
+import {same, row} from './check.js';
+import {shown, sent} from './screens.js';
+
+const inputOf = (room, name) => room.querySelector(`[data-name="${name}"] input`);
+const chosenOf = room => room.querySelector('[data-name="way"] input:checked')?.value ?? null;
+const press = (input, key) => input.dispatchEvent(new KeyboardEvent('keydown', {key, bubbles: true, cancelable: true}));
+const buttonOf = room => room.querySelector('button[type=submit]');
+
+function type(room, values) {
+  for (const [name, value] of Object.entries(values)) {
+    const input = inputOf(room, name);
+    input.value = value;
+    input.dispatchEvent(new Event('input', {bubbles: true}));
+  }
+}
+
+/** No way is chosen until a letter chooses it, nor after a request that is done; the button says what it would do. */
+export async function ways() {
+  const {room, asked} = await shown(post, {state: 'done'});
+  type(room, {account: '101', amount: '25.00'});
+  same([chosenOf(room), buttonOf(room).textContent], [null, 'Choose deposit or withdrawal'], 'no way at first');
+  await sent(room);
+  same([asked.length, room.querySelector('[data-name="way"] .error').textContent !== ''], [0, true], 'nothing is sent without a way');
+  for (const [key, way, delta, text] of [['w', 'out', -2500, 'Pay out 25.00'], ['D', 'in', 2500, 'Pay in 25.00']]) {
+    type(room, {account: '101', amount: '25.00'});
+    same(press(inputOf(room, 'account'), key), false, `the letter ${key} is not typed`);
+    same([chosenOf(room), buttonOf(room).textContent], [way, text], `by ${key}`);
+    await sent(room);
+    same([asked.at(-1), chosenOf(room)], [['post', {account: 101, branch: 1, delta, teller: 11}, null], null], `sent, and no way after it: ${way}`);
+  }
+  room.remove();
+}
+
+export function repeats() {
+  const last = row(1, 'post', {account: 101, delta: 4200}, {});
+  const again = {name: 'post', body: last.body};
+  same([isSame(last, again), isSame(undefined, again)], [true, false], 'the same');
+  same(isSame({...last, state: 'refused'}, again), false, 'what was refused may be sent again');
+  same(isSame(last, {name: 'post', body: '{"account":101,"delta":4201}'}), false, 'another amount');
+  same(isSame({...last, name: 'drawer-off'}, {name: 'drawer-off', body: last.body}), false, 'what the bank refuses the second time');
+}
+
+/** A correction says whose drawer moves, and the move of cash that is due after it. */
+export async function moves() {
+  const body = {account: 101, branch: 1, delta: 12000, entry: 4, other: 0, teller: 11};
+  const due = {branch: 1, source: 12, target: 11, amount: 12000};
+  same(moveAfter(body, 12), due, 'after a deposit\'s correction');
+  same(moveAfter({...body, delta: -12000}, 12), {...due, source: 11, target: 12}, 'after a withdrawal\'s correction');
+  same([moveAfter(body, 11), moveAfter(body, null), moveAfter({...body, other: 102}, 12)], [null, null, null], 'no move');
+  same([withoutMove([due, due], due).length, withoutMove([due], {...due, amount: 1}).length], [1, 1], 'what is still due');
+  const {room, asked} = await shown(correct, {address: 'entry=4&account=101&way=out&amount=120.00&drawer=12'});
+  same([...room.querySelectorAll('[data-name="kind"] input')].map(input => [input.value, input.checked]),
+    [['out', false], ['out-transfer', false]], 'what a statement leaves open');
+  await sent(room);
+  same(asked.length, 0, 'nothing is sent before it is said what the entry was');
+  room.querySelector('[value="out"]').click();
+  const text = room.querySelector('[data-name="reads"]').textContent;
+  same(['drawer 11, which is yours', '120.00 more', 'drawer 12'].filter(piece => !text.includes(piece)), [], 'whose drawer moves');
+  room.querySelector('[value="out-transfer"]').click();
+  same([inputOf(room, 'other').closest('.field').hidden, inputOf(room, 'drawer').closest('.field').hidden], [false, true], 'of a transfer');
+  room.remove();
+  await movesOffered(due);
+}
+
+async function movesOffered(due) {
+  const own = {...due, source: 11, target: 12};
+  const {desk, room, asked} = await shown(moveCash, {address: 'from=11&to=12&amount=120.00', state: 'done', dueMoves: [due, own]});
+  same([...room.querySelectorAll('.due a')].map(link => link.getAttribute('href')), ['#cash?from=11&to=12&amount=120.00'], 'offered');
+  await sent(room);
+  same([asked, desk.dueMoves], [[['move-cash', {amount: 12000, branch: 1, source: 11, target: 12}, null]], [due]], 'moved, and no longer due');
+  room.remove();
+}
+
+/** What was typed is there again, way and all; of what was sent nothing is. */
+export async function drafts() {
+  const typed = await shown(post);
+  press(inputOf(typed.room, 'account'), 'w');
+  keepDraft('post', typed.room, false);
+  const bare = await shown(post);
+  restoreDraft('post', bare.room);
+  same(chosenOf(bare.room), null, 'a way alone is not kept');
+  type(typed.room, {account: '101', amount: '25.00', release: '3'});
+  keepDraft('post', typed.room, false);
+  restoreDraft('post', bare.room);
+  const found = ['account', 'amount', 'release'].map(name => inputOf(bare.room, name).value);
+  same([chosenOf(bare.room), ...found, buttonOf(bare.room).textContent], ['out', '101', '25.00', '3', 'Pay out 25.00'], 'what was typed');
+  keepDraft('post', (await shown(post)).room, false);
+  const after = await shown(post);
+  restoreDraft('post', after.room);
+  same([chosenOf(after.room), inputOf(after.room, 'account').value], [null, ''], 'nothing is left');
+  for (const room of document.querySelectorAll('body > section:not([id])')) room.remove();
+}
