@@ -145,6 +145,19 @@ class Files:
         command = ["openssl", "x509", "-noout", "-serial", "-in", self.top / "ca/tellers" / f"{name}.pem"]
         return subprocess.run(command, check=True, capture_output=True, text=True).stdout.strip().partition("=")[2]
 
+    def certificate_until(self, badge, end):
+        """A certificate of a badge that ends at that time, in seconds since 1970: its files, without an ending."""
+        files, settings = self.top / f"{badge}-until", self.top / "ca/authority/openssl.cnf"
+        last = time.strftime("%Y%m%d%H%M%SZ", time.gmtime(end))
+        request = ["req", "-new", "-newkey", "ec", "-pkeyopt", "ec_paramgen_curve:P-256", "-nodes", "-config", settings,
+                   "-subj", f"/OU=Tellers/CN={badge}", "-keyout", f"{files}.key", "-out", f"{files}.request"]
+        with self.lock:
+            for command in (request, ["ca", "-batch", "-notext", "-config", settings, "-extensions", "teller", "-enddate", last,
+                                      "-in", f"{files}.request", "-out", f"{files}.pem"]):
+                subprocess.run(["openssl", *command], check=True, capture_output=True)
+        self.certificates("renew")
+        return files
+
     def context(self, who, protocols=()):
         """What a client needs for TLS that shows the certificate of a badge."""
         context = ssl.create_default_context(cafile=self.top / "ca/front/authority.pem")

@@ -13,11 +13,11 @@ def session_elsewhere(day):
     def work():
         require(day.counter.ask("tess", "/session", "")[0], 200, "a session elsewhere")
         desk.send(way="in", account="101", amount="55.55")
-        desk.outcome("Not through yet", "doesn't know you in this session", "Rule 1, identity")
+        desk.outcome("Not through yet", "doesn't know you in this session", "Rule 1")
         desk.load("#post")
         desk.until_text("#waiting", "Sign in again, and it is sent again")
         desk.press("Sign in again")
-        return desk.outcome("Done once", "Deposit of 55.55")
+        return desk.outcome("Done", "Deposit of 55.55")
 
     acted_once(day, 5555, work)
 
@@ -45,9 +45,9 @@ def last_slip(day):
     desk.js(code.replace("arguments[0]", str(session)))
     desk.load("#post")
     desk.send(way="in", account="101", amount="1.01")
-    desk.outcome("Done once", f"slip {session}999")
+    desk.outcome("Done", f"no. {session}999")
     desk.send(way="in", account="101", amount="1.02")
-    desk.outcome("Done once", f"slip {session + 1}001")
+    desk.outcome("Done", f"no. {session + 1}001")
     require(day.one("SELECT session FROM users WHERE user_no = 7"), session + 1, "session")
 
 
@@ -62,7 +62,7 @@ def other_card(day):
     require(desk.js("return document.activeElement.textContent"), "Send now", "what has the focus")
     day.relay.card = "tess"
     desk.hurry()
-    desk.outcome("Done once", "Deposit of 77.77")
+    desk.outcome("Done", "Deposit of 77.77")
     require(day.counter.sql("SELECT user_no, count(*) FROM entries WHERE delta = 7777"), [(TESS, 1)], "made by")
 
 
@@ -94,7 +94,7 @@ def set_aside(day):
     has(line, "set aside", "by sue: Paid by hand <b>today</b>")
     require(day.posted(8888), 0, "made")
     desk.go("p", "Deposit, withdrawal")
-    has(desk.enter(way="in", account="101", amount="0.88"), "Done once")
+    has(desk.enter(way="in", account="101", amount="0.88"), "Done")
 
 
 def command(day, name):
@@ -120,6 +120,6 @@ def office(day):
     has(desk.enter(set=6, members="account 101-150, drawer 11"), "Done")
     require(day.counter.sql("SELECT kind, low, high FROM members WHERE set_no = 6"), [(1, 101, 150), (5, 11, 11)], "the set")
     command(day, "grant")
-    has(desk.enter(user=9, procedure="balance", set=2, limit="0.00", first="2026-11-28", last="2027-01-31 17:30"), "Done", "Grant a triple")
+    has(desk.enter(user=9, procedure="balance", set=2, limit="0.00", first="2026-11-28", last="2027-01-31 17:30"), "Done", "Grant an authorization")
     found = day.counter.sql("SELECT last_at > first_at FROM grants WHERE user_no = 9 AND procedure = 9 AND first_at > 1700000000")
     require(found, [(1,)], "the triple")

@@ -17,7 +17,7 @@ sys.path.insert(0, str(DESK.parent / "branch"))
 from branches import PATIENCE, Branch
 from checks import wait_until
 
-BADGES = ["olga", "carl", "cora", "tess", "tom", "sue"]
+BADGES = ["olga", "carl", "cora", "tess", "tom", "sue", "lost"]
 # Read at the start, as the unprivileged user whom the tests become may have no right to read this folder.
 SAMPLE = {it.name: it.read_bytes() for it in (DESK.parent / "sample").glob("*.csv")}
 UNIT = {f"/unit/{it.name}": it.read_bytes() for it in (DESK / "unit").iterdir()}
@@ -41,6 +41,7 @@ class Counter(Branch):
         files.certificates("begin", "localhost")
         for badge in BADGES:
             files.certificates("teller", badge)
+        files.certificates("revoke", files.serial("lost"))
         super().__init__(files, "counter", bank=False)
         shutil.rmtree(self.folder / "lists")
         (self.folder / "lists").mkdir()
@@ -89,7 +90,7 @@ class Relay(http.server.ThreadingHTTPServer):
 
     `before(path, body)` is called before a request is passed on, `after(path, status)` once its reply is there. Either may return
     a reply in place of the front's: status, type and bytes; then `before` keeps the request from it. `swaps` has texts of files
-    that are exchanged on their way, by path: (old, new).
+    that are exchanged on their way, by path: (old, new). `seconds_ahead` is by how much the front's clock is ahead of the browser's.
     """
     daemon_threads = True
     request_queue_size = 128
@@ -105,6 +106,7 @@ class Relay(http.server.ThreadingHTTPServer):
     def calm(self):
         """No more hooks."""
         self.before = self.after = lambda *_: None
+        self.seconds_ahead = 0
 
     def handle_error(self, request, client_address):
         """A browser that is killed, or leaves early, is no error."""
@@ -124,7 +126,7 @@ class Handler(http.server.BaseHTTPRequestHandler):
         self.pass_on(self.path)
 
     def say(self, status, fields, text):
-        self.send_response(status)
+        self.send_response_only(status)
         for name, value in fields:
             self.send_header(name, value)
         self.send_header("Content-Length", str(len(text)))
@@ -146,7 +148,9 @@ class Handler(http.server.BaseHTTPRequestHandler):
             return
         if changed:
             status, kind, text = changed
-            fields = [("Content-Type", kind), ("Cache-Control", "no-store")]
+            fields = [("Content-Type", kind), ("Cache-Control", "no-store"), ("Date", self.date_time_string())]
+        if relay.seconds_ahead:
+            fields = [(name, self.date_time_string(time.time() + relay.seconds_ahead) if name.lower() == "date" else value) for name, value in fields]
         old, new = relay.swaps.get(path, (b"", b""))
         self.say(status, fields, text.replace(old, new) if old else text)
 

@@ -27,7 +27,7 @@ def acted_once(day, cents, work):
     tables = ("entries", "lines", "slips")
     before = {table: rows(day, table) for table in tables}
     (turns, balance), = day.counter.sql("SELECT turns, balance FROM accounts WHERE account = 101")
-    slip = int(re.search(r"slip (\d+)", work())[1])
+    slip = int(re.search(r"no\. (\d+)", work())[1])
     number, line = len(before["entries"]) + 1, len(before["lines"]) + 1
     reply = f'{{"balance":{balance + cents},"branch":1,"entry":{number}}}'
     more = {"entries": (1, number, 101, turns + 1, 11, cents, 1, TESS, 1, 0, 0, balance + cents),
@@ -60,7 +60,7 @@ def bank_killed_after_it(day):
         day.counter.keep()
         day.relay.calm()
         desk.hurry()
-        return desk.outcome("Done once (sent", "Deposit of 11.11")
+        return desk.outcome("Done, once: it was sent", "Deposit of 11.11")
 
     acted_once(day, 1111, work)
     desk.await_nothing_waiting()
@@ -83,7 +83,7 @@ def bank_killed_before_it(day):
         day.counter.keep()
         day.relay.calm()
         desk.hurry()
-        return desk.outcome("Done once (sent", "Deposit of 22.22")
+        return desk.outcome("Done, once: it was sent", "Deposit of 22.22")
 
     acted_once(day, 2222, work)
 
@@ -99,7 +99,7 @@ def bank_down_and_held(day):
         desk.until_text("#waiting", "It is being sent")
         time.sleep(1)
         day.counter.keep()
-        return desk.outcome("Done once\n", "Deposit of 23.23")
+        return desk.outcome("Done\n", "Deposit of 23.23")
 
     acted_once(day, 2323, work)
 
@@ -120,7 +120,7 @@ def browser_killed_before_it(day):
         time.sleep(0.6)
         require(day.posted(3333), 0, "made for nobody")
         desk.as_user("tess")
-        return desk.outcome("Done once (sent", "Deposit of 33.33")
+        return desk.outcome("Done, once: it was sent", "Deposit of 33.33")
 
     acted_once(day, 3333, work)
 
@@ -146,7 +146,7 @@ def browser_killed_after_it(day):
         require(day.posted(3434), 1, "made before the kill")
         desk = day.restart_browser()
         desk.as_user("tess")
-        return desk.outcome("Done once (sent 2 times)", "Deposit of 34.34")
+        return desk.outcome("Done, once: it was sent 2 times", "Deposit of 34.34")
 
     acted_once(day, 3434, work)
 
@@ -162,7 +162,7 @@ def replies_of_others(day):
     def work():
         desk.send(way="in", account="101", amount="44.44")
         desk.until_text("#waiting", "1 request waits")
-        return desk.outcome("Done once (sent 7 times)", seconds=45 + SECONDS) # the page waits 45 seconds in all between these
+        return desk.outcome("Done, once: it was sent 7 times", seconds=45 + SECONDS) # the page waits 45 seconds in all between these
 
     acted_once(day, 4444, work)
     day.relay.calm()

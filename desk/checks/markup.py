@@ -52,7 +52,7 @@ def markup_of_replies(day):
         desk.load("#post")
         has(desk.enter(way="in", account="101", amount="1.11"), "Not done")
         require(desk.js(MARKUP), [], str(text))
-    screens = [("s", "Statement", {"account": 101}), ("a", "Accounts", {"after": 0}), ("c", "Close the day", {"branch": 1})]
+    screens = [("s", "Statement", {"account": 101}), ("a", "Accounts", {"first": 1}), ("c", "Close the day", {"branch": 1})]
     reports = [b"STATEMENT ACCOUNT       101 FROM         1 LINES     1\n%b\n" % MARKED[0].encode().ljust(75), MARKED[2].encode(), b"x\n"]
     for text in reports:
         day.relay.before = lambda path, _, reply=(200, "text/plain", text): reply if path.startswith("/do/") else None
@@ -77,7 +77,7 @@ def markup_of_the_policy(day):
     for number, name in enumerate(["<img src=x onerror=", "<svg/onload=ran=1>", "&lt;b&gt;"], 20):
         has(desk.enter(user=number, name=name), "Done", name)
     desk.press("Show the listing")
-    has(desk.until(lambda: desk.text(".paper"), "the listing"), "<svg/onload=ran=1>", "<img src=x onerror=", "&lt;b&gt;", "Triples (", "9,999.99")
+    has(desk.until(lambda: desk.text(".paper"), "the listing"), "<svg/onload=ran=1>", "<img src=x onerror=", "&lt;b&gt;", "Authorizations (", "9,999.99")
     day.look("office")
     for code in ("document.body.innerHTML = '<b>x</b>'", "document.body.append(Object.assign(document.createElement('script'), {text: 'ran = 1'}))"):
         with contextlib.suppress(Exception):

@@ -17,7 +17,7 @@ def ways(day):
     desk.keys(*"w101", Keys.TAB, *"5.00")
     require(desk.text(button), "Pay out 5.00", "the button of a withdrawal")
     desk.keys(Keys.ENTER)
-    has(desk.outcome("Done once"), "Withdrawal of 5.00")
+    has(desk.outcome("Done"), "Withdrawal of 5.00")
     desk.await_form()
     desk.await_focus("account")
     require((desk.js(IS_CHOSEN), desk.text(button)), ("", "Choose deposit or withdrawal"), "chosen after a withdrawal")
@@ -28,11 +28,11 @@ def ways(day):
     desk.until(lambda: desk.text(button) == "Pay in 7.00", "the button of a deposit")
     day.look("way")
     desk.keys(Keys.ENTER)
-    has(desk.outcome("Done once"), "Deposit of 7.00, account 102")
+    has(desk.outcome("Done"), "Deposit of 7.00, account 102")
     desk.await_form()
     desk.await_focus("account")
     desk.keys(*"d101", Keys.TAB, *"5.00", Keys.ENTER)
-    desk.outcome("Done once", "Deposit of 5.00, account 101")
+    desk.outcome("Done", "Deposit of 5.00, account 101")
     require(day.counter.sql("SELECT delta FROM entries ORDER BY number DESC LIMIT 3"), [(500,), (700,), (-500,)], "by keys alone")
     desk.await_form()
 
@@ -49,7 +49,7 @@ def twice(day):
     require((day.entries(), desk.value("amount")), (before + 1, "42.00"), "entries, and what is typed")
     desk.type("amount", Keys.ENTER)
     desk.press("Yes, once more")
-    desk.outcome("Done once")
+    desk.outcome("Done")
     require(day.entries(), before + 2, "entries once it was meant")
     desk.await_form()
 
@@ -64,7 +64,7 @@ def cash_of_a_correction(day):
     desk.until(lambda: desk.value("amount") == "25.00", "the move, filled in")
     day.look("due")
     desk.type("amount", Keys.ENTER)
-    has(desk.outcome("Done once"), "Cash of 25.00 from drawer 11 to drawer 12")
+    has(desk.outcome("Done"), "Cash of 25.00 from drawer 11 to drawer 12")
     desk.until(lambda: not desk.all("ul.due"), "nothing more that is due")
     require([day.cash(11), day.cash(12)], [before[0] - 2500, before[1] + 2500], "cash of both drawers")
 
@@ -84,7 +84,7 @@ def kept_without_a_drawer(day):
 
 
 def count_that_differs(day):
-    """A count of 2,468.68 too much is asked about, in words, and not sent without a reason and a colleague's number."""
+    """A count of 2,468.68 too much is asked about, with the difference, and not sent without a reason and a colleague's number."""
     desk = day.desk
     desk.go("d", "Drawer on, off")
     cash, before = day.cash(11), day.asked()

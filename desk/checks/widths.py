@@ -8,6 +8,20 @@ SCREENS = "session post transfer balance statement correct drawer cash new-accou
 WIDTHS = [(1280, 800), (1024, 768), (768, 1024), (400, 800)]
 
 
+# Of these sizes pictures are taken, where they are wanted.
+PICTURED = [(1280, 800), (1366, 768), (768, 1024)]
+
+
+def take_pictures(day, language):
+    """Each screen at three sizes, as pictures, where they are wanted."""
+    for width, height in PICTURED if day.pictures else []:
+        day.desk.size(width, height)
+        for screen in SCREENS:
+            day.desk.js(f"location.hash = '{screen}'")
+            day.desk.until(lambda at=f"#{screen}": day.desk.js(SHOWN) == at, screen)
+            day.desk.picture(day.pictures / f"{language}-{screen}-{width}.png")
+
+
 def widths(day):
     """Each screen at each width: nothing wider than the window, everything named, large enough, and of enough contrast."""
     desk = day.desk
@@ -19,8 +33,7 @@ def widths(day):
             desk.until(lambda at=f"#{screen}": desk.js(SHOWN) == at, screen)
             for what, script in (("names", NAMES), ("sizes", SIZES), ("contrast", CONTRAST)):
                 require(desk.js(script), [], f"{what} of {screen} at {width} pixels")
-            if day.pictures and width == 768:
-                desk.picture(day.pictures / f"{screen}-{width}.png")
+    take_pictures(day, "en")
     desk.size(1280, 800)
 
 

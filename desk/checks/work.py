@@ -8,9 +8,9 @@ from branches import Client, require
 from day import TESS, TOM, amount_of, has
 
 WRONG_AMOUNTS = [
-    ("25.000", "two digits"), ("25.5", "both digits"), ("25,00", "point before the cents"), ("1,25.00", "wrong places"),
+    ("25.000", "2 digits"), ("25.5", "all digits"), ("25,00", "before the cents"), ("1,25.00", "wrong places"),
     ("-25.00", "sign"), ("25.00.0", "more than one"), ("abc", "Only digits"), ("", "Type an amount"), ("0.00", "At least 0.01"),
-    ("10,000.00", "At most 9,999.99"), (".50", "0.50")]
+    ("10,000.00", "At most 9,999.99"), (".50", "Put a 0")]
 DEPOSITS = [
     ("in", 101, "25.00"), ("in", 102, "1,250.00"), ("out", 101, "100.00"), ("in", 201, "0.07"), ("out", 102, "250.50"),
     ("in", 101, "8.29"), ("in", 101, "4.35"), ("out", 201, "300.07"), ("in", 102, "19.99"), ("in", 101, "99")]
@@ -41,7 +41,7 @@ def morning(day):
     # 200 + 50 + 80 + 50 + 10 + 6 + 9 + 4 + .70 + .20 + .08 + .02 = 410.00, which the Enter after the last sends.
     for pieces in ["", "1", "", "1", "4", "5", "2", "3", "9", "8", "", "7", "4", "4", "2"]:
         desk.keys(*pieces, Keys.ENTER)
-    desk.outcome("Done once", "410.00", "The vault has 590.00", "slip 1001")
+    desk.outcome("Done", "410.00", "The vault has 590.00", "no. 1001")
     require(counter.sql("SELECT cash, holder FROM tellers WHERE teller = 11"), [(41000, TESS)], "drawer 11")
 
 
@@ -71,7 +71,7 @@ def deposits(day):
         cents = cents_of(amount) * (1 if way == "in" else -1)
         balances[account] += cents
         cash += cents
-        has(desk.enter(way=way, account=account, amount=amount), "Done once", f"Balance of account {account}", amount_of(balances[account]))
+        has(desk.enter(way=way, account=account, amount=amount), "Done", f"Balance of account {account}", amount_of(balances[account]))
         desk.await_focus("account") # the first field, again
     require(day.counter.sql("SELECT account, balance FROM accounts ORDER BY account"), sorted(balances.items()), "balances")
     require(day.cash(11), cash, "cash")
@@ -83,7 +83,7 @@ def three_enters(day):
     desk, before = day.desk, day.entries()
     desk.send(way="in", account="101", amount="1.00")
     desk.type("amount", Keys.ENTER, Keys.ENTER)
-    desk.outcome("Done once")
+    desk.outcome("Done")
     desk.await_form()
     time.sleep(0.4)
     desk.await_nothing_waiting()
@@ -94,12 +94,12 @@ def refusals(day):
     """What the bank refuses is shown as not done, with the reason and what to do."""
     desk, before = day.desk, day.entries()
     told = desk.enter(way="out", account=102, amount="5,000.00")
-    has(told, "Not done", "The account hasn't that much", "Rule 11, floor")
-    require("Done once" in told, False, "shown as done")
+    has(told, "Not done", "The account hasn't that much", "Rule 11")
+    require("Done" in told, False, "shown as done")
     day.look("denied")
-    has(desk.enter(way="in", account=999, amount="5.00"), "Not done", "You have no authorization", "Rule 3, no triple")
+    has(desk.enter(way="in", account=999, amount="5.00"), "Not done", "You have no authorization", "Rule 3")
     desk.go("t", "Transfer")
-    has(desk.enter(source=101, target=102, amount="5.00"), "Not done", "a certifier has to grant it", "Rule 3, no triple")
+    has(desk.enter(source=101, target=102, amount="5.00"), "Not done", "a certifier has to grant it", "Rule 3")
     desk.send(source=101, target=101, amount="5.00")
     desk.fault("same account")
     require(day.entries(), before, "entries")
@@ -125,7 +125,7 @@ def receipts(day):
     desk.enter(way="in", account=101, amount="12.00")
     balance, entry = day.balance(101), day.entries()
     text = printed_receipt(day, lambda: desk.keys_after_escape("k"))
-    has(text, "Deposit", "Branch1", "tess, drawer 11", "Account101", "Amount12.00", f"Balance of 101{amount_of(balance)}", f"Entry{entry}")
+    has(text, "Deposit", "Savings Office", "Branch1", "tess, drawer 11", "Account101", "Amount12.00", f"Balance of 101{amount_of(balance)}", f"Entry{entry}")
     desk.go("p", "Deposit, withdrawal")
     desk.enter(way="out", account=101, amount="12.00")
     desk.go("j", "Journal of the shift")
@@ -140,14 +140,14 @@ def colleague(day):
     day.sign_in(branch="1", teller="12")
     has(day.count_cash(5000), "Cash in drawer 12", "50.00")
     desk.go("t", "Transfer")
-    has(desk.enter(source=101, target=102, amount="200.00"), "Done once", "Account 102 has", "Entries")
-    text = printed_receipt(day, lambda: desk.press("Print a receipt Esc K"))
+    has(desk.enter(source=101, target=102, amount="200.00"), "Done", "Account 102 has", "Entries")
+    text = printed_receipt(day, lambda: desk.click("#last button"))
     has(text, "Transfer", "From account101", "To account102", "Amount200.00", "tom, drawer 12")
     require("Balance" in text, False, "a balance that Tom may not see")
     day.look("transfer")
     desk.go("p", "Deposit, withdrawal")
-    has(desk.enter(way="out", account=101, amount="50.01"), "There isn't that much cash", "Rule 12, cash")
-    has(desk.enter(way="in", account=101, amount="600.00"), "above your limit", "release", "Rule 4, limit")
+    has(desk.enter(way="out", account=101, amount="50.01"), "There isn't that much cash", "Rule 12")
+    has(desk.enter(way="in", account=101, amount="600.00"), "above your limit", "release", "Rule 4")
 
 
 def correction(day):
@@ -155,16 +155,15 @@ def correction(day):
     desk = day.desk
     desk.go("e", "Correct an entry")
     entry = {"entry": 1, "account": 101, "kind": "in", "amount": "25.00", "drawer": 11}
-    has(desk.enter(**entry), "Done once", "Correct entry 1")
+    has(desk.enter(**entry), "Done", "Correct entry 1")
     require(day.counter.sql("SELECT delta, user_no FROM entries WHERE branch = 1 AND undoes = 1"), [(-2500, TOM)], "the correction")
-    has(desk.enter(**entry), "Not done", "can't be corrected", "Rule 10, entry")
+    has(desk.enter(**entry), "Not done", "can't be corrected", "Rule 10")
 
 
 def supervisor(day):
     """Sue gives a release, with which Tom passes his limit once, and opens an account."""
     desk = day.desk
     desk.as_user("sue")
-    day.sign_in(branch="1")
     desk.go("r", "Release for a colleague")
     told = desk.enter(beneficiary=8, teller=12, way="in", account=101, amount="600.00")
     has(told, "Number of the release", "Release for user 8: Deposit of 600.00")
@@ -172,7 +171,7 @@ def supervisor(day):
     has(desk.enter(account=103, overdraft="0.00"), "Account opened", "103")
     has(desk.enter(account=103), "number is taken", "Rule 14")
     desk.as_user("tom", "#post")
-    has(desk.enter(way="in", account=101, amount="600.00", release="1"), "Done once", "600.00")
+    has(desk.enter(way="in", account=101, amount="600.00", release="1"), "Done", "600.00")
     require(day.counter.sql("SELECT used FROM releases"), [(1,)], "the release is used")
 
 
@@ -188,13 +187,14 @@ def questions(day):
     rows = desk.until(lambda: desk.texts("table.statement tbody tr"), "a statement")
     require(len(rows), day.one("SELECT turns FROM accounts WHERE account = 101"), "lines")
     has(rows[-1], amount_of(balance))
+    correctable(day)
     day.look("statement")
     desk.click("table.statement tbody tr td a", -1)
     desk.until_text("h1", "Correct an entry")
     desk.until(lambda: desk.value("amount") == "600.00", "the line's amount")
     desk.fill(kind="in")
     desk.type("amount", Keys.ENTER)
-    desk.outcome("Done once", "Correct entry")
+    desk.outcome("Done", "Correct entry")
     desk.go("a", "Accounts")
     desk.keys(Keys.ENTER)
     require(len(desk.until(lambda: desk.all("table tbody tr"), "accounts")), 3, "accounts that Tess may see")
@@ -206,13 +206,30 @@ def questions(day):
     desk.size(1280, 800)
 
 
+def correctable(day):
+    """Only what Tess can correct can be: no entry of hers, none that is corrected, no correction; of a transfer the other account is named."""
+    cells = "return [...document.querySelectorAll('table.statement tbody tr')].map(r => [5, 7, 8].map(at => r.cells[at].textContent))"
+    lines = {int(entry): (mark, link) for entry, mark, link in day.desk.js(cells)}
+    entries = day.counter.sql("SELECT number, user_no, undoes, partner FROM entries WHERE account = 101 AND branch = 1")
+    undone = {undoes for _, _, undoes, _ in entries if undoes}
+    for number, user, undoes, partner in entries:
+        mark, link = lines[number]
+        wanted = "" if user == TESS or undoes or number in undone else "Correct"
+        require(link, wanted, f"the link of entry {number}")
+        words = "correction" if undoes else "corrected" if number in undone else "transfer to 102" if partner else ""
+        require(mark, words, f"what is said of entry {number}")
+    leg = next(number for number, _, _, partner in entries if partner)
+    href = day.desk.js(f"return document.querySelector('[aria-label=\"Correct entry {leg}\"]').getAttribute('href')")
+    has(href, "kind=out-transfer", "other=102", "drawer=12")
+
+
 def evening(day):
     """The page says what the drawer should hold, only where it is asked to; a difference is shown, with the line of the shift."""
     desk = day.desk
     desk.go("d", "Drawer on, off")
     cash = day.cash(11)
     require(desk.all("[data-name=expected]"), [], "the expected cash is not shown at once")
-    desk.click("summary")
+    desk.click("#work summary")
     desk.until_text("[data-name=expected]", amount_of(cash))
     day.look("drawer")
     day.type_count(cash - 150)
@@ -236,13 +253,13 @@ def journal(day):
     """The journal has what was asked and what came of it, and is saved as a file."""
     desk = day.desk
     desk.go("j", "Journal of the shift")
-    desk.until_text("table", "Drawer 11 off", "refused: floor", "Statement of account 101", "set aside by sue")
+    desk.until_text("table", "Drawer 11 off", "not done: The account hasn't that much", "Statement of account 101", "set aside by sue")
     day.look("journal")
-    desk.press("Save as CSV")
+    desk.press("Save as a file")
     lines = desk.until(lambda: saved_text(day), "the file").splitlines()
-    require(lines[0], "time,request,state,reply,slip,times sent,body,status,reply as sent", "headings")
+    require(lines[0], "time,request,state,outcome,note,number,times sent,body,status,reply as sent", "headings")
     require(len([one for one in lines if "Deposit of 11.11" in one]), 1, "lines of one post")
-    require(len([one for one in lines if ",aside," in one]), 1, "lines of what was set aside")
+    require(len([one for one in lines if ",set aside," in one]), 1, "lines of what was set aside")
 
 
 def close_day(day):
@@ -267,7 +284,7 @@ def day_closed(day):
     require(day.one("SELECT count(*) FROM proofs"), 0, "days closed by Escape")
     close_day(day)
     desk.click("dialog button.danger")
-    has(desk.outcome(), "Not done", "A drawer of the branch is still on", "Rule 15, day")
+    has(desk.outcome(), "Not done", "A drawer of the branch is still on", "Rule 15")
     desk.as_user("tom")
     desk.go("d", "Drawer on, off")
     has(day.count_cash(day.cash(12)), "The count agrees", "0.00")
@@ -275,11 +292,22 @@ def day_closed(day):
     desk.go("c", "Close the day")
     close_day(day)
     desk.click("dialog button.danger")
-    told = desk.outcome("Done once")
+    told = desk.outcome("Done")
     balance, cash, entries = day.counter.sql("SELECT balance, cash, entries FROM proofs")[0]
     has(told, "Day 1 is closed", amount_of(balance), f"The vault has {amount_of(cash)}", f"{entries} entries")
-    has(desk.until(lambda: desk.text(".checks"), "the proof"), "No drawer is on")
+    has(desk.until_text(".paper", "Proof of branch 1, day 1", "closed by sue"), amount_of(balance))
+    has(desk.text(".checks"), "No drawer is on")
     day.look("day-closed")
+    desk.press("As the bank wrote it")
+    has(desk.until(lambda: desk.text(".paper pre"), "the bank's lines"), "PROOF BRANCH         1 DAY      1")
+    close_day(day)
+    has(desk.text("dialog"), "Close day 2", "Day 1 of this branch was closed today")
+    desk.keys(Keys.ESCAPE)
+    desk.go("j", "Journal of the shift")
+    desk.until_text("table", "Proof of branch 1, day 1")
+    desk.click("#work td a")
+    desk.until_text(".paper", "Proof of branch 1, day 1", "closed by sue")
+    require(day.one("SELECT count(*) FROM proofs"), 1, "days that are closed")
 
 
 def night(day):

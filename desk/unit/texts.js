@@ -1,7 +1,9 @@
-import {RULES, refusalText, delayText} from '../js/refusals.js';
+import {LAST_RULE, refusalText, delayText} from '../js/refusals.js';
+import {WORDS} from '../js/words.js';
 import {OPERATIONS, isReply} from '../js/operations.js';
 import {askedText, endText, notedText, branchOf, journalFile} from '../js/journal.js';
 import {receiptOf, hasReceipt} from '../js/receipt.js';
+import {BANK, CURRENCY} from '../js/settings.js';
 import {toCsv} from '../js/csv.js';
 import {parseMembers, bodyOf} from '../js/policy-commands.js';
 import {parseMoment} from '../js/dates.js';
@@ -13,10 +15,12 @@ const DEPOSIT = {account: 101, branch: 1, delta: 2500, teller: 11};
 const TRANSFER = {amount: 500, branch: 1, source: 101, target: 102, teller: 11};
 
 export function refusals() {
-  for (let rule = 1; rule <= 22; rule += 1) same(RULES[rule]?.length, 3, `rule ${rule}`);
+  for (let rule = 1; rule <= 22; rule += 1) same([`rule.${rule}.title` in WORDS.en, `rule.${rule}.advice` in WORDS.en], [true, true], `rule ${rule}`);
+  same(LAST_RULE, 22, 'rules');
+  same(refusalText({name: '<b>', rule: 99}, 'post').title, 'The bank refuses this.', 'another rule');
   same(refusalText({name: 'drawer', rule: 8}, 'drawer-on').title, 'Somebody holds that drawer already.', 'drawer on');
-  same(refusalText({fault: 'M6'}, 'post').rule, 'Fault M6', 'fault');
-  same(delayText(html(502)), 'The bank isn\'t running (502)', 'a front');
+  same(refusalText({fault: 'M6'}, 'post').rule, 'Fault M6 of the bank', 'fault');
+  same(delayText(html(502)), 'The bank isn\'t running (502).', 'a front');
   same(delayText(reply(503, {fault: 'F3'})).includes('disk'), true, 'the disk');
 }
 
@@ -55,8 +59,8 @@ export function ends() {
 export function journals() {
   const done = row(1, 'post', DEPOSIT, {balance: 52500, branch: 1, entry: 3});
   same(askedText(done), 'Deposit of 25.00, account 101, drawer 11', 'asked');
-  same(endText(done), 'Balance of account 101: 525.00. Entry 3 of branch 1', 'end');
-  same(endText({...done, state: 'refused', reply: '{"name":"floor","rule":11}'}), 'refused: floor', 'refused');
+  same(endText(done), 'Balance of account 101: 525.00. Entry 3 of branch 1.', 'end');
+  same(endText({...done, state: 'refused', reply: '{"name":"floor","rule":11}'}), 'not done: The account hasn\'t that much.', 'refused');
   const aside = {...done, state: 'aside', aside: {by: 'sue', reason: 'paid by hand', at: 9}};
   same(endText(aside), 'set aside by sue: paid by hand. It may be done or not.', 'set aside');
   same(notedText(done), '', 'nothing noted');
@@ -73,9 +77,10 @@ export function journals() {
 export function receipts() {
   const deposit = row(1, 'post', DEPOSIT, {balance: 52500, branch: 1, entry: 3});
   const labels = (found, shows) => receiptOf(found, shows).lines.map(([label]) => label);
-  same(receiptOf(deposit, true).lines.slice(0, 6), [['Branch', '1'], ['Teller', 'tess, drawer 11'], ['Account', '101'], ['Amount', '25.00'],
-    ['Balance of 101', '525.00'], ['Entry', '3']], 'deposit');
-  same(labels(deposit, false), ['Branch', 'Teller', 'Account', 'Amount', 'Entry', 'Time'], 'no balance');
+  same(receiptOf(deposit, true).lines.slice(0, 8), [['Branch', '1'], ['Teller', 'tess, drawer 11'], ['Account', '101'], ['Amount', '25.00'],
+    ['Balance of 101', '525.00'], ['Entry', '3'], ['Currency', CURRENCY.name], ['Receipt no.', '1001']], 'deposit');
+  same(receiptOf(deposit, true).bank, BANK, 'the bank\'s name');
+  same(labels(deposit, false), ['Branch', 'Teller', 'Account', 'Amount', 'Entry', 'Currency', 'Receipt no.', 'Time'], 'no balance');
   const withdrawal = receiptOf(row(1, 'post', {...DEPOSIT, delta: -100}, {}), false);
   same([withdrawal.title, withdrawal.lines[3]], ['Withdrawal', ['Amount', '1.00']], 'withdrawal');
   const timeOf = (at, answered) => receiptOf({...deposit, at, answered}, false).lines.find(([label]) => label === 'Time');
@@ -83,7 +88,22 @@ export function receipts() {
   const transfer = row(2, 'transfer', TRANSFER, {branch: 1, first: 4, second: 5, source: 52000, target: 777});
   same(receiptOf(transfer, true).lines.slice(4, 7), [['Amount', '5.00'], ['Balance of 101', '520.00'], ['Entries', '4 and 5']], 'transfer');
   same(JSON.stringify(receiptOf(transfer, true)).includes('7.77'), false, 'the balance of the other account is nobody\'s here');
-  same([hasReceipt(deposit), hasReceipt({...deposit, state: 'refused'}), hasReceipt(row(1, 'drawer-on', {}, {}))], [true, false, false], 'which');
+  same([hasReceipt(deposit), hasReceipt({...deposit, state: 'refused'}), hasReceipt(row(1, 'close-day', {}, {}))], [true, false, false], 'which');
+}
+
+/** A correction, a move of cash and a count have a paper, too. */
+export function papers() {
+  const own = found => receiptOf(found, false).lines.slice(2, -3);
+  const undone = {account: 101, branch: 1, delta: -500, entry: 4, other: 102, teller: 11};
+  same(own(row(1, 'correct', undone, {branch: 1, first: 6, second: 7, source: 1, target: 2})),
+    [['Corrects entry', '4'], ['Account', '101'], ['Other account', '102'], ['Amount', '5.00'], ['Entries', '6 and 7']], 'a transfer\'s correction');
+  same(own(row(1, 'correct', {...undone, other: 0}, {balance: 1, branch: 1, entry: 6})),
+    [['Corrects entry', '4'], ['Account', '101'], ['Amount', '5.00'], ['Entry', '6']], 'a correction');
+  same(own(row(1, 'move-cash', {amount: 2000, branch: 1, source: 11, target: 0}, {})), [['Moved', 'from drawer 11 to the vault'], ['Amount', '20.00']], 'a move');
+  const count = {...row(1, 'drawer-off', {branch: 1, counted: 500, teller: 11}, {difference: -1000, teller: 11, vault: 1}), noted: {reason: 'x<b>', colleague: 8}};
+  const [counted, difference, [label, noted]] = own(count);
+  same([counted, difference, label], [['Counted', '5.00'], ['Cash is missing', '-10.00'], 'Note'], 'a count');
+  same([noted.includes('x<b>'), noted.includes('user 8')], [true, true], 'what was noted of a count');
 }
 
 export function outcomes() {
@@ -91,9 +111,9 @@ export function outcomes() {
   const request = {name: 'post', body: JSON.stringify(DEPOSIT), slip: 1001, tries: 1, state: 'refused'};
   outcome.show('refused', request, reply(409, {name: 'floor', rule: 11}));
   same([panel.querySelector('h2').textContent, panel.firstChild.className], ['Not done', 'outcome refused'], 'a refusal');
-  same([panel.firstChild.getAttribute('role'), panel.textContent.includes('Done once')], ['alert', false], 'a refusal is an alert');
+  same([panel.firstChild.getAttribute('role'), panel.textContent.includes('Done')], ['alert', false], 'a refusal is an alert');
   outcome.show('done', {...request, state: 'done', tries: 2}, reply(200, {balance: 52500, branch: 1, entry: 3}));
-  same([panel.querySelector('h2').textContent, panel.querySelector('.figure').textContent], ['Done once (sent 2 times)', '525.00'], 'done');
+  same([panel.querySelector('h2').textContent, panel.querySelector('.figure').textContent], ['Done, once: it was sent 2 times', '525.00'], 'done');
   outcome.clear();
 }
 

@@ -3,13 +3,15 @@ import {failed, count} from './check.js';
 import {amounts} from './amounts.js';
 import {reports, lastTurns} from './reports.js';
 import {judged, slips, queues, queuesAcrossSessions, durable, stores} from './requests.js';
-import {refusals, operations, ends, journals, receipts, outcomes, commands} from './texts.js';
+import {refusals, operations, ends, journals, receipts, papers, outcomes, commands} from './texts.js';
 import {cash} from './cash.js';
 import {ways, repeats, moves, drafts} from './money.js';
+import {words, languages, digits, times, corrections} from './words.js';
 import {newAccounts, movedCash} from './screens.js';
 
 const TESTS = [amounts, reports, lastTurns, judged, slips, queues, queuesAcrossSessions, durable, stores, refusals, operations, ends,
-  journals, receipts, outcomes, commands, cash, newAccounts, movedCash, ways, repeats, moves, drafts];
+  journals, receipts, papers, outcomes, commands, cash, newAccounts, movedCash, ways, repeats, moves, drafts, words, languages,
+  digits, times, corrections];
 
 /** A test that waits for ever has failed. */
 const late = () => new Promise((_, reject) => setTimeout(() => reject(new Error('no end')), 15000));

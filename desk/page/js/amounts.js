@@ -1,39 +1,81 @@
-// Amounts are whole cents. Text becomes cents by joining digits: nothing is ever divided, rounded or held as a fraction.
-import {DENOMINATIONS} from './settings.js';
+// Amounts are whole in the currency's smallest unit, cents say. Text becomes cents by joining digits: nothing is ever divided,
+// rounded or held as a fraction.
+import {CURRENCY, DENOMINATIONS} from './settings.js';
+import {groupedNumber, marks, say} from './words.js';
 
-const PLAIN = /^(0|[1-9][0-9]{0,9})(?:\.([0-9]{2}))?$/;
-const GROUPED = /^([1-9][0-9]{0,2}(?:,[0-9]{3})+)(?:\.([0-9]{2}))?$/;
+/** What some keyboards type for a mark: spaces of any width, apostrophes of either kind. */
+const ALIKE = {' ': /[\u00a0\u202f]/g, '\'': /\u2019/g};
 
-/** What a typed amount is: {cents} or {fault}, the fault in plain words for the person who typed it. */
-export function parseAmount(text, {least = 0, most = 999999999999} = {}) {
-  const typed = text.trim();
-  if (typed === '') return {fault: 'Type an amount, such as 25.00.'};
-  const found = PLAIN.exec(typed) ?? GROUPED.exec(typed);
-  if (!found) return {fault: faultOf(typed)};
-  const cents = Number(found[1].replaceAll(',', '') + (found[2] ?? '00'));
-  if (cents < least) return {fault: `At least ${showAmount(least)}.`};
-  if (cents > most) return {fault: `At most ${showAmount(most)}.`};
+/** Everything that the bank can write. */
+const MOST = 999999999999;
+
+/** A mark as it is typed. */
+function plainMark(mark) {
+  return Object.entries(ALIKE).reduce((found, [plain, others]) => found.replace(others, plain), mark);
+}
+
+/**
+ * The marks by which amounts are typed: what stands between thousands, and what may stand before the cents. A point or a comma
+ * that marks no thousands can't be mistaken for that, so either stands before the cents then.
+ */
+function typedMarks() {
+  const {decimal, group} = marks();
+  const thousands = plainMark(group);
+  return {decimal, group: thousands, decimals: ['.', ','].filter(mark => mark === decimal || mark !== thousands)};
+}
+
+/** An expression that finds a mark, or one of several. */
+const found = (/** @type {string[]} */ ...signs) => `[${signs.map(sign => `\\u${sign.charCodeAt(0).toString(16).padStart(4, '0')}`).join('')}]`;
+
+/** What an amount looks like: its units, and its cents where they are typed. */
+function patterns({group, decimals}, digits) {
+  const cents = digits === 0 ? '()' : `(?:${found(...decimals)}([0-9]{${digits}}))?`;
+  return [new RegExp(`^(0|[1-9][0-9]{0,9})${cents}$`), new RegExp(`^([1-9][0-9]{0,2}(?:${found(group)}[0-9]{3})+)${cents}$`)];
+}
+
+/**
+ * What a typed amount is: {cents} or {fault}, the fault in plain words for the person who typed it.
+ * @returns {{cents?: number, fault?: string}}
+ */
+export function parseAmount(text, {least = 0, most = MOST} = {}, digits = CURRENCY.digits) {
+  const typed = Object.entries(ALIKE).reduce((sofar, [plain, others]) => sofar.replace(others, plain), text).trim();
+  if (typed === '') return {fault: say('amount.none', {example: example(25, digits)})};
+  const terms = typedMarks();
+  const piece = patterns(terms, digits).map(pattern => pattern.exec(typed)).find(one => one !== null);
+  if (!piece) return {fault: faultOf(typed, terms, digits)};
+  const cents = Number(piece[1].replaceAll(terms.group, '') + (piece[2] || '0'.repeat(digits)));
+  if (cents < least) return {fault: say('fault.least', {least: showAmount(least, digits)})};
+  if (cents > most) return {fault: say('fault.most', {most: showAmount(most, digits)})};
   return {cents};
 }
 
-function faultOf(typed) {
-  if (/^[-+]/.test(typed)) return 'Leave the sign out: choose what is to be done instead.';
-  if (/[^0-9.,]/.test(typed)) return 'Only digits and one point, such as 25.00.';
-  if (/,[0-9]{1,2}$/.test(typed)) return 'Put a point before the cents: 25.00.';
-  if (/\..*\./.test(typed)) return 'There is more than one point.';
-  if (/\.[0-9]{3,}$/.test(typed)) return 'Cents have two digits: 25.00.';
-  if (/\.[0-9]?$/.test(typed)) return 'Write both digits of the cents: 25.50.';
-  if (/^\./.test(typed)) return 'Put a 0 before the point: 0.50.';
-  if (/,/.test(typed)) return 'The commas are in the wrong places: 1,250.00.';
-  if (/^0[0-9]/.test(typed)) return 'Leave the zero in front out.';
-  return 'That is more than can be written.';
+/** An amount of whole units, to show how one is typed. */
+const example = (units, digits) => showAmount(Number(units + '0'.repeat(digits)), digits);
+
+/** Why a text is no amount: each key of a sentence with what it says it of. */
+function faultOf(typed, {decimal, group, decimals}, digits) {
+  const [mark, thousands] = [found(...decimals), found(group)];
+  const fewer = `{${digits},}`;
+  const wrong = [
+    ['amount.sign', '^[-+]'],
+    ['amount.characters', `[^0-9${found(group, ...decimals).slice(1, -1)}]`],
+    ...digits === 0 ? [['amount.whole', mark]] : [['amount.mark', `^[0-9]+${thousands}([0-9]|[0-9]{${digits}})$`]],
+    ['amount.twice', `${mark}.*${mark}`],
+    ['amount.digits', `${mark}[0-9]${fewer}[0-9]$`],
+    ['amount.both', `${mark}[0-9]{0,${Math.max(0, digits - 1)}}$`],
+    ['amount.zero', `^${mark}`],
+    ['amount.groups', thousands],
+    ['amount.leading', '^0[0-9]'],
+  ].find(([, pattern]) => new RegExp(pattern).test(typed));
+  const values = {mark: decimal, count: digits, example: example(25, digits), large: example(1250, digits)};
+  return say(wrong ? wrong[0] : 'amount.large', values);
 }
 
 /** Cents as people read them: 1,250.00 or -0.05. */
-export function showAmount(cents) {
-  const digits = String(Math.abs(cents)).padStart(3, '0');
-  const units = digits.slice(0, -2).replace(/\B(?=(?:[0-9]{3})+$)/g, ',');
-  return `${cents < 0 ? '-' : ''}${units}.${digits.slice(-2)}`;
+export function showAmount(cents, digits = CURRENCY.digits) {
+  const text = String(Math.abs(cents)).padStart(digits + 1, '0');
+  const [units, rest] = [text.slice(0, text.length - digits), text.slice(text.length - digits)];
+  return `${cents < 0 ? '-' : ''}${groupedNumber(units)}${digits === 0 ? '' : marks().decimal + rest}`;
 }
 
 /** Cents with a sign where they are not nothing: +25.00. */
@@ -41,26 +83,32 @@ export function showChange(cents) {
   return (cents > 0 ? '+' : '') + showAmount(cents);
 }
 
-/** What a typed number is: {number} or {fault}. */
+/**
+ * What a typed number is: {number} or {fault}.
+ * @returns {{number?: number, fault?: string}}
+ */
 export function parseNumber(text, {least = 1, most = 999999999} = {}) {
   const typed = text.trim();
-  if (typed === '') return {fault: 'Type a number.'};
-  if (!/^[0-9]{1,12}$/.test(typed)) return {fault: 'Only digits.'};
+  if (typed === '') return {fault: say('number.none')};
+  if (!/^[0-9]{1,12}$/.test(typed)) return {fault: say('number.digits')};
   const number = Number(typed);
-  if (number < least) return {fault: `At least ${least}.`};
-  if (number > most) return {fault: `At most ${most}.`};
+  if (number < least) return {fault: say('fault.least', {least})};
+  if (number > most) return {fault: say('fault.most', {most})};
   return {number};
 }
 
 /** The cents of an amount as a report writes it, such as `-0.05`. */
 export function reportedAmount(text) {
-  const found = /^ *(-?)([0-9]+)\.([0-9]{2})$/.exec(text);
-  if (!found) throw new Error(`no amount: ${text}`);
+  const piece = /^ *(-?)([0-9]+)\.([0-9]{2})$/.exec(text);
+  if (!piece) throw new Error(`no amount: ${text}`);
   // (the sum makes 0 of -0)
-  return Number(found[1] + found[2] + found[3]) + 0;
+  return Number(piece[1] + piece[2] + piece[3]) + 0;
 }
 
-/** What so many of each note and coin come to: {cents}, or {fault, at} with the first that is no number. */
+/**
+ * What so many of each note and coin come to: {cents}, or {fault, at} with the first that is no number.
+ * @returns {{cents?: number, fault?: string, at?: number}}
+ */
 export function countCash(texts, denominations = DENOMINATIONS) {
   let cents = 0;
   for (const [at, text] of texts.entries()) {

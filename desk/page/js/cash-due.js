@@ -17,5 +17,5 @@ export function moveAfter({branch, delta, other, teller}, drawer) {
 /** What is still to be moved after this move was made. */
 export function withoutMove(/** @type {Move[]} */ moves, /** @type {Move} */ made) {
   const at = moves.findIndex(one => ['branch', 'source', 'target', 'amount'].every(member => one[member] === made[member]));
-  return at < 0 ? moves : moves.toSpliced(at, 1);
+  return at < 0 ? moves : moves.filter((_, number) => number !== at);
 }

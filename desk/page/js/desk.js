@@ -5,82 +5,61 @@ import {nextSlip} from './slips.js';
 import {isReply} from './operations.js';
 import {askedText, branchOf} from './journal.js';
 import {showAmount} from './amounts.js';
+import {now} from './dates.js';
+import {setNames} from './names.js';
+import {readProof} from './reports.js';
+import {refusalText} from './refusals.js';
 import {isSame, isRepeatMeant} from './second-look.js';
+import {say} from './words.js';
 
 /** How often a question is asked where no reply comes. */
 const QUESTION_TRIES = 4;
+
+/** The rules that deny a user something whatever is asked of it: what they deny is stepped back in the menu. */
+const DENY_USERS = [2, 3, 17, 18];
 
 const isReport = ({type}) => type.startsWith('text/plain');
 const isBalance = ({body}) => Number.isInteger(body?.balance);
 
 /** Why a reply is not what was asked for. */
-function failureText(reply) {
-  if (reply.kind === 'none') return 'no reply';
-  if (reply.body?.front) return `no reply of the bank: ${reply.body.front}`;
-  const why = reply.body?.name ?? reply.body?.fault;
-  return why ? `refused: ${why}` : 'a reply that can\'t be read';
+function failureText(/** @type {BankReply} */ reply) {
+  if (reply.kind === 'none') return say('failure.none');
+  if (reply.body?.rule || reply.body?.fault) return say('end.refused', {why: refusalText(reply.body, '').title});
+  return say(reply.body?.front ? 'failure.front' : 'failure.unreadable');
 }
 
-/**
- * The desk of a badge. `report(event, request, reply)` hears what happens: sending, again, session, done and refused of a
- * request; held, nosession, unkept, noreply, unsure and unreadable where one was not sent, not answered or not read; clear.
- * `isMeant(last)` is asked before a request is sent that is the same as the last one.
- */
-export async function makeDesk({store, badge, report, isMeant = isRepeatMeant}) {
+/** Pauses that can be ended before their time: {wait(seconds), hurry()}. */
+function makePauses() {
   const pauses = new Set(); // those that go on, each as a call that ends it
   const wait = seconds => new Promise(resolve => {
     const end = () => {
       clearTimeout(timer);
       pauses.delete(end);
-      resolve();
+      resolve(undefined);
     };
     const timer = setTimeout(end, seconds * 1000);
     pauses.add(end);
   });
-  const sendSlip = ({name, body, slip, release}) => sendInSession({path: `/do/${name}`, slip, release, body});
-  const queue = makeQueue({journal: store.journalOf(badge), send: sendSlip, isReply, wait, report});
-  const keepSession = session => store.setFact(`${badge} session`, session);
+  return {wait, hurry: () => [...pauses].forEach(end => end())};
+}
 
-  /** Sends in the present session, and forgets that where the bank does not know it any more. */
-  async function sendInSession(request) {
-    const {session} = desk;
-    const reply = await send({...request, badge, session});
-    if (judge(reply, () => true) === 'session' && desk.session === session) {
-      desk.session = null;
-      await keepSession(null);
-    }
-    return reply;
-  }
-
-  /** Keeps in the journal what bore no slip. */
-  function note(text, reply, end, state = end ? 'done' : 'refused') {
-    const now = Date.now();
-    const row = {badge, text, end: end ?? failureText(reply), state, at: now, answered: now};
-    return store.note({...row, status: reply.status ?? 0, reply: reply.kind === 'none' ? '' : reply.text.slice(0, 200)});
-  }
-
-  function readable(reply, read) {
-    try {
-      return read(reply);
-    } catch {
-      report('unreadable');
-      return null;
-    }
-  }
-
-  const desk = {
-    badge,
-    lastTurns: new Map(),
-    dueMoves: (await store.fact('due moves')) ?? [], // of cash, after corrections, by whoever works at this machine
+/** What the store has of a user, and of this machine. */
+async function factsOf(store, badge) {
+  setNames((await store.fact('names')) ?? []);
+  return {
     session: (await store.fact(`${badge} session`))?.number ?? null,
     place: (await store.fact(`${badge} place`)) ?? {branch: null, teller: null},
     shiftBegan: (await store.fact(`${badge} shift`)) ?? 0,
     rowsBefore: (await store.fact(`${badge} shift after`)) ?? 0, // the number of the last row before the shift
-    hurry: () => [...pauses].forEach(end => end()),
-    run: () => queue.run(),
-    waiting: () => store.waiting(),
-    waits: async () => (await store.waiting()).some(row => row.badge === badge),
+    allowed: (await store.fact(`${badge} allowed`)) ?? {}, // by operation, whether the bank has let this user do it
+    dueMoves: (await store.fact('due moves')) ?? [], // of cash, after corrections, by whoever works at this machine
+  };
+}
 
+/** What a desk keeps, and what it knows of its shift. */
+function keptBy(/** @type {Desk} */ desk, store) {
+  const {badge} = desk;
+  return {
     /** The user's rows: those of this shift, or all that are kept. (By their numbers, as a clock may be set back.) */
     async rows(isAll = false) {
       const before = isAll ? 0 : desk.rowsBefore;
@@ -93,6 +72,11 @@ export async function makeDesk({store, badge, report, isMeant = isRepeatMeant}) 
       return rows.filter(row => row.id > desk.rowsBefore && (row.badge === badge || row.name === 'move-cash'));
     },
 
+    allRows: () => store.rows(),
+
+    /** The last request of this user that bears a number, whatever came of it. */
+    lastRequest: async () => (await desk.rows(true)).filter(row => row.name !== undefined).at(-1),
+
     async setPlace(place) {
       desk.place = place;
       await store.setFact(`${badge} place`, place);
@@ -103,22 +87,72 @@ export async function makeDesk({store, badge, report, isMeant = isRepeatMeant}) 
       await store.setFact('due moves', moves);
     },
 
+    async keepNames(pairs) {
+      setNames(pairs);
+      await store.setFact('names', pairs);
+    },
+
     async beginShift() {
-      desk.shiftBegan = Date.now();
+      desk.shiftBegan = now();
       desk.rowsBefore = (await store.rows()).at(-1)?.id ?? 0;
       await store.setFact(`${badge} shift`, desk.shiftBegan);
       await store.setFact(`${badge} shift after`, desk.rowsBefore);
     },
 
-    /** Opens a session. Its number was never before, so none of its slips was. */
+    /** Keeps in the journal what bore no number; `more` may have a paper, which can be shown and printed again. */
+    note(text, reply, end, state = end ? 'done' : 'refused', more = {}) {
+      const at = reply.at ?? now();
+      const row = {badge, text, end: end ?? failureText(reply), state, at, answered: at, ...more};
+      return store.note({...row, status: reply.status ?? 0, reply: (reply.text ?? '').slice(0, 200)});
+    },
+
+    /** Learns from a reply what this user may do: whether there is something new. */
+    async learn(name, state, reply) {
+      const isDenied = state === 'refused' && DENY_USERS.includes(reply.body?.rule) && desk.allowed[name] === undefined;
+      if (!isDenied && (state !== 'done' || desk.allowed[name] === true)) return false;
+      desk.allowed[name] = !isDenied;
+      await store.setFact(`${badge} allowed`, desk.allowed);
+      return true;
+    },
+
+    /** Sets another user's request that waits aside, for good; whether it still waited. */
+    async setAside(row, why) {
+      const at = now();
+      if (!await store.setAside(row.id, {by: badge, reason: why, at})) return false;
+      const text = say('aside.of', {asked: askedText(row), badge: row.badge});
+      await store.note({badge, text, end: why, state: 'done', at, answered: at, status: 0, reply: ''});
+      return true;
+    },
+  };
+}
+
+/** The session of a desk: it is opened and ended; `sendInSession` forgets it where the bank does not know it any more. */
+function sessionOf(/** @type {Desk} */ desk, store, run) {
+  const {badge} = desk;
+  const keepSession = session => store.setFact(`${badge} session`, session);
+
+  async function sendInSession(request) {
+    const {session} = desk;
+    const reply = await send({...request, badge, session});
+    if (judge(reply, () => true) === 'session' && desk.session === session) {
+      desk.session = null;
+      await keepSession(null);
+    }
+    return reply;
+  }
+
+  return {
+    sendInSession,
+
+    /** Opens a session. Its number was never before, so none of its requests' was. */
     async open() {
       const reply = await send({path: '/session', badge});
       const isOpened = judge(reply, ({body}) => Number.isInteger(body?.session)) === 'done';
       if (isOpened) {
         desk.session = reply.body.session;
         await keepSession({number: desk.session, used: 0});
-        await note('Sign in', reply, `session ${desk.session}`);
-        queue.run();
+        await desk.note(say('signIn'), reply, say('end.session', {session: desk.session}));
+        run();
       }
       return {isOpened, reply};
     },
@@ -126,15 +160,75 @@ export async function makeDesk({store, badge, report, isMeant = isRepeatMeant}) 
     async end() {
       const reply = await sendInSession({path: '/end'});
       if (judge(reply, ({body}) => Number.isInteger(body?.ended)) === 'again') return reply;
-      await note('Sign out', reply, reply.status === 200 ? `session ${reply.body.ended} ended` : null);
+      await desk.note(say('signOut'), reply, reply.status === 200 ? say('end.sessionEnded', {session: reply.body.ended}) : null);
       desk.session = null;
       await keepSession(null);
       return reply;
     },
+  };
+}
 
-    /** The last request of this user that bears a slip, whatever came of it. */
-    lastRequest: async () => (await desk.rows(true)).findLast(row => row.name !== undefined),
+/** What a desk asks that changes nothing. */
+function questionsOf(/** @type {Desk} */ desk, {wait, report}) {
+  function readable(reply, read, tell) {
+    try {
+      return read(reply);
+    } catch {
+      tell('unreadable');
+      return null;
+    }
+  }
 
+  return {
+    /**
+     * Asks what changes nothing, again where no reply comes. Returns what `read` makes of the reply, or null where there is none
+     * to read, which `tell` hears. With a text it is kept in the journal.
+     */
+    async ask(name, body, text, read = reply => reply, tell = report) {
+      if (!desk.session) {
+        tell('nosession');
+        return null;
+      }
+      const isAnswer = name === 'balance' ? isBalance : isReport;
+      const question = name === 'policy' ? {path: '/policy', method: 'GET'} : {path: `/do/${name}`, body: JSON.stringify(body)};
+      let reply = await desk.sendInSession(question);
+      for (let tries = 1; judge(reply, isAnswer) === 'again' && tries < QUESTION_TRIES; tries += 1) {
+        await wait(tries);
+        reply = await desk.sendInSession(question);
+      }
+      const state = judge(reply, isAnswer);
+      const found = state === 'done' ? readable(reply, read, tell) : null;
+      const shown = name === 'balance' && found ? showAmount(reply.body.balance) : say('end.shown');
+      if (text) await desk.note(text, reply, found === null ? null : shown);
+      if (await desk.learn(name, state, reply)) report('learned');
+      if (state === 'done') return found;
+      tell(state === 'again' ? 'noreply' : state, {name, text: text ?? name, kind: 'question'}, reply);
+      return null;
+    },
+
+    /** Whether the bank shows this user the balance of an account. Without a reply it does not. */
+    async showsBalance(account) {
+      if (!desk.session) return false;
+      return judge(await desk.sendInSession({path: '/do/balance', body: JSON.stringify({account})}), isBalance) === 'done';
+    },
+
+    /** The proof of a branch, or null where the bank does not show it to this user, which is not said; `tell` gets that reply. */
+    async quietProof(branch, /** @type {(reply: BankReply) => void} */ tell = () => {}) {
+      if (branch === null || desk.allowed.proof === false) return null;
+      return desk.ask('proof', {branch}, null, ({text}) => readProof(text), (_, __, reply) => reply && tell(reply));
+    },
+
+    /** Whether this user is a supervisor of the branch of a request: whom the bank lists its proof to. */
+    async supervises(row) {
+      const branch = branchOf(row);
+      return row.badge !== desk.badge && await desk.ask('proof', {branch}, say('asked.proof', {branch})) !== null;
+    },
+  };
+}
+
+/** What a desk has done: operations, once each, and commands of the policy. */
+function actionsOf(/** @type {Desk} */ desk, {store, queue, report, isMeant}) {
+  return {
     /**
      * Has an operation that writes done once, and returns 'done', 'refused', or another state where it was not sent. What is
      * noted with it stays in the journal.
@@ -144,75 +238,51 @@ export async function makeDesk({store, badge, report, isMeant = isRepeatMeant}) 
       if (await desk.waits()) return report('held');
       const last = await desk.lastRequest();
       if (isSame(last, {name, body: JSON.stringify(body)}) && !await isMeant(last)) return 'kept';
-      const session = await store.fact(`${badge} session`);
+      const session = await store.fact(`${desk.badge} session`);
       const hasSlip = session && nextSlip(session.number, session.used) !== null;
       if (!hasSlip && !(await desk.open()).isOpened) return report('nosession');
       report('clear');
       try {
-        return await queue.add({name, body: JSON.stringify(body), release, noted, at: Date.now()});
+        return await queue.add({name, body: JSON.stringify(body), release, noted, at: now()});
       } catch {
         return report('unkept');
       }
     },
 
-    /**
-     * Asks what changes nothing, again where no reply comes. Returns what `read` makes of the reply, or null where there is none
-     * to read, which is reported.
-     */
-    async ask(name, body, text, read = reply => reply) {
-      if (!desk.session) {
-        report('nosession');
-        return null;
-      }
-      const isAnswer = name === 'balance' ? isBalance : isReport;
-      const question = name === 'policy' ? {path: '/policy', method: 'GET'} : {path: `/do/${name}`, body: JSON.stringify(body)};
-      for (let tries = 1; ; tries += 1) {
-        const reply = await sendInSession(question);
-        const state = judge(reply, isAnswer);
-        if (state === 'again' && tries < QUESTION_TRIES) {
-          await wait(tries);
-          continue;
-        }
-        const found = state === 'done' ? readable(reply, read) : null;
-        const shown = name === 'balance' && found ? showAmount(reply.body.balance) : 'shown';
-        if (text) await note(text, reply, found === null ? null : shown);
-        if (state === 'done') return found;
-        report(state === 'again' ? 'noreply' : state, {name, text: text ?? name, kind: 'question'}, reply);
-        return null;
-      }
-    },
-
-    /** Whether the bank shows this user the balance of an account. Without a reply it does not. */
-    async showsBalance(account) {
-      if (!desk.session) return false;
-      return judge(await sendInSession({path: '/do/balance', body: JSON.stringify({account})}), isBalance) === 'done';
-    },
-
-    /** A command of the policy. It bears no slip, so it is sent once: where no reply comes, the listing shows what is so. */
+    /** A command of the policy. It bears no number, so it is sent once: where no reply comes, the listing shows what is so. */
     async command(name, body, text) {
       if (!desk.session) return report('nosession');
       report('clear');
-      const reply = await sendInSession({path: `/policy/${name}`, body: JSON.stringify(body)});
+      const reply = await desk.sendInSession({path: `/policy/${name}`, body: JSON.stringify(body)});
       const state = judge(reply, ({body: found}) => found?.done === name);
-      await note(text, reply, state === 'done' ? 'done' : null, state === 'again' ? 'unsure' : undefined);
+      await desk.note(text, reply, state === 'done' ? say('state.done') : null, state === 'again' ? 'unsure' : undefined);
+      if (await desk.learn('command', state, reply)) report('learned');
       report(state === 'again' ? 'unsure' : state, {name, text, kind: 'command'}, reply);
       return state;
     },
-
-    /** Whether this user is a supervisor of the branch of a request: whom the bank lists its proof to. */
-    async supervises(row) {
-      const branch = branchOf(row);
-      return row.badge !== badge && await desk.ask('proof', {branch}, `Proof of branch ${branch}`) !== null;
-    },
-
-    /** Sets another user's request that waits aside, for good; whether it still waited. */
-    async setAside(row, reason) {
-      const at = Date.now();
-      if (!await store.setAside(row.id, {by: badge, reason, at})) return false;
-      const text = `Set aside: ${askedText(row)}, of ${row.badge}`;
-      await store.note({badge, text, end: reason, state: 'done', at, answered: at, status: 0, reply: ''});
-      return true;
-    },
   };
-  return desk;
+}
+
+/**
+ * The desk of a badge. `report(event, request, reply)` hears what happens: sending, again, session, done and refused of a
+ * request; held, nosession, unkept, noreply, unsure and unreadable where one was not sent, not answered or not read; clear; and
+ * learned, where it is newly known what the user may do. `isMeant(last)` is asked before the same as the last request is sent.
+ */
+export async function makeDesk({store, badge, report, isMeant = isRepeatMeant}) {
+  const {wait, hurry} = makePauses();
+  const sendSlip = ({name, body, slip, release}) => desk.sendInSession({path: `/do/${name}`, slip, release, body});
+  const heard = async (event, request, reply) => {
+    report(event, request, reply);
+    if ((event === 'done' || event === 'refused') && await desk.learn(request.name, event, reply)) report('learned');
+  };
+  const queue = makeQueue({journal: store.journalOf(badge), send: sendSlip, isReply, wait, report: heard});
+  /** @type {Desk} */
+  const desk = Object.assign(/** @type {any} */ ({badge, lastTurns: new Map()}), await factsOf(store, badge), {
+    hurry,
+    run: () => queue.run(),
+    waiting: () => store.waiting(),
+    waits: async () => (await store.waiting()).some(row => row.badge === badge),
+  });
+  Object.assign(desk, keptBy(desk, store), sessionOf(desk, store, () => queue.run()));
+  return Object.assign(desk, questionsOf(desk, {wait, report}), actionsOf(desk, {store, queue, report, isMeant}));
 }

@@ -12,14 +12,14 @@ const SHORTEST = 3;
  */
 function asked(question, fill) {
   if (document.querySelector('dialog')) return Promise.resolve('');
-  const before = document.activeElement;
+  const before = /** @type {HTMLElement | null} */ (document.activeElement);
   return new Promise(resolve => {
     const closed = () => {
       box.remove();
       if (document.activeElement === document.body) before?.focus?.();
       resolve(box.returnValue);
     };
-    const box = h('dialog', {class: 'sure', 'aria-labelledby': 'question', close: closed}, h('h2', {id: 'question'}, question));
+    const box = /** @type {HTMLDialogElement} */ (h('dialog', {class: 'sure', 'aria-labelledby': 'question', close: closed}, h('h2', {id: 'question'}, question)));
     box.append(...fill(value => box.close(value)));
     document.body.append(box);
     box.showModal();
@@ -35,7 +35,7 @@ export async function confirmed(question, yes, lines = [], no = say('dialog.no')
 /** A field of a dialog: its row, and what was typed, which `read` turns into {value} or {fault}. */
 function dialogField(name, label, attributes, read) {
   const error = h('p', {id: `${name}-error`, class: 'error'});
-  const input = h('input', {id: name, type: 'text', autocomplete: 'off', 'aria-describedby': error.id, ...attributes});
+  const input = /** @type {HTMLInputElement} */ (h('input', {id: name, type: 'text', autocomplete: 'off', 'aria-describedby': error.id, ...attributes}));
   const row = h('div', {class: 'field', 'data-name': name}, h('label', {for: name}, label), input, error);
   return {row, value() {
     const {value, fault} = read(input.value.trim());

@@ -1,4 +1,5 @@
 // Elements by function calls: what people, the bank or a front wrote is only ever text, never markup.
+import {say} from './words.js';
 
 export function h(tag, attributes = {}, ...children) {
   return filled(document.createElement(tag), attributes, children);
@@ -38,7 +39,7 @@ export function refocus(element) {
 /** A button that shows `exact` in place of `readable`, and back. */
 export function exactToggle(readable, exact) {
   exact.hidden = true;
-  const toggle = button('As the bank wrote it', () => {
+  const toggle = button(say('exact'), () => {
     exact.hidden = !exact.hidden;
     readable.hidden = !exact.hidden;
     toggle.setAttribute('aria-pressed', String(!exact.hidden));

@@ -1,5 +1,6 @@
 // Fields of forms. Each is {spec, row, input, error, read, set}: its row of elements, what was typed as {value} or {fault}.
 import {h} from './dom.js';
+import {say} from './words.js';
 import {parseAmount, parseNumber, showAmount} from './amounts.js';
 
 let serial = 0;
@@ -8,8 +9,9 @@ let serial = 0;
  * A field {name, label, kind, ..}. Kinds: 'number' and 'amount' with least and most, 'text' with pattern and fault, 'choice'
  * with options [value, label, class, letter], of which none is chosen where `value` is none, which `fault` says; 'pick' with
  * options in a list, 'tick'. `tucked` is a line that opens to the field.
+ * @returns {DeskField}
  */
-export function field(spec) {
+export function field(/** @type {FieldSpec} */ spec) {
   serial += 1;
   const id = `field-${serial}`;
   if (spec.kind === 'choice') return choiceField(spec, id);
@@ -74,16 +76,14 @@ function readOf(spec, input) {
 }
 
 // The fields that many forms have.
-export const account = (more = {}) => field({name: 'account', label: 'Account', kind: 'number', ...more});
+export const account = (more = {}) => field({name: 'account', label: say('account'), kind: 'number', ...more});
 export const amount = (more = {}) => field({
-  name: 'amount', label: 'Amount', kind: 'amount', hint: 'Such as 25.00', least: 1, most: 999999, ...more,
+  name: 'amount', label: say('amount'), kind: 'amount', hint: say('amount.hint', {example: showAmount(2500)}), least: 1, most: 999999, ...more,
 });
-export const branchField = desk => field({name: 'branch', label: 'Branch', kind: 'number', value: desk.place.branch ?? ''});
+export const branchField = (/** @type {Desk} */ desk) => field({name: 'branch', label: say('branch'), kind: 'number', value: desk.place.branch ?? ''});
 export const release = () => field({
-  name: 'release', label: 'Number of the release', kind: 'number', most: 100000, optional: true,
-  tucked: 'A colleague gave a release for this',
+  name: 'release', label: say('end.release'), kind: 'number', most: 100000, optional: true, tucked: say('release.tucked'),
 });
 
-/** A number or an amount in a sentence that is not whole yet. */
-export const numberText = number => (number === null ? '…' : String(number));
-export const amountText = cents => (cents === null ? '…' : showAmount(cents));
+/** An amount in a sentence that is not whole yet. */
+export const amountText = (/** @type {number | null} */ cents) => (cents === null ? null : showAmount(cents));

@@ -1,5 +1,6 @@
 // Forms for the keyboard: Enter sends, a wrong field says so beside itself and gets the focus.
 import {h} from './dom.js';
+import {say} from './words.js';
 
 /** After so many milliseconds a form says that it waits. */
 const SLOW = 2000;
@@ -20,7 +21,7 @@ function makeProgress(submit) {
     isBusy: () => slow !== null,
     begin() {
       submit.setAttribute('aria-disabled', 'true');
-      slow = setTimeout(() => { line.textContent = 'Not through yet.'; }, SLOW);
+      slow = setTimeout(() => { line.textContent = say('form.slow'); }, SLOW);
     },
     end() {
       clearTimeout(slow);
@@ -32,11 +33,11 @@ function makeProgress(submit) {
 }
 
 /** What was typed, by field, or null where a field is wrong: the first such gets the focus. */
-function soundValues(fields) {
+function soundValues(/** @type {DeskField[]} */ fields) {
   const values = {};
   let wrong = null;
   for (const field of fields) {
-    const {value, fault} = field.row.hidden ? {value: null} : field.read();
+    const {value, fault} = field.row.hidden ? {value: null, fault: undefined} : field.read();
     showFault(field, fault);
     if (fault) wrong ??= field;
     values[field.spec.name] = value;
@@ -47,18 +48,18 @@ function soundValues(fields) {
 }
 
 /** What was typed so far, by field, with null where it is not sound. */
-function typedValues(fields) {
+function typedValues(/** @type {DeskField[]} */ fields) {
   return Object.fromEntries(fields.map(field => {
     const {value, fault} = field.read();
     return [field.spec.name, fault ? null : value];
   }));
 }
 
-/** Chooses what a letter stands for, in the first choice that has it; whether one has. In a field of text a letter is a letter. */
-function chosenBy(fields, {key, target, ctrlKey, altKey, metaKey}) {
+/** Chooses what has this letter, in the first choice that has it; whether one has. In a field of text a letter is a letter. */
+function chosenBy(/** @type {DeskField[]} */ fields, /** @type {any} */ {key, target, ctrlKey, altKey, metaKey}) {
   if (ctrlKey || altKey || metaKey || fields.some(field => field.spec.kind === 'text' && field.row.contains(target))) return false;
   return fields.some(field => {
-    const option = field.row.hidden ? undefined : field.spec.options?.find(([, , , letter]) => letter === key.toUpperCase());
+    const option = field.row.hidden ? undefined : field.spec.options?.find(one => one[3] === key.toUpperCase());
     if (option) field.set(option[0]);
     return option !== undefined;
   });
@@ -68,8 +69,9 @@ function chosenBy(fields, {key, target, ctrlKey, altKey, metaKey}) {
  * A form. `send(values)` is called with sound values, and returns {faults: {field: text}}, 'done', 'refused' or another state.
  * `reads(values)` says in plain words, at each key, what would be sent; so does `button`, as {text, kind}, where it is a call.
  * What `clear` names is emptied once it is done.
+ * @returns {DeskForm}
  */
-export function form({fields, button, isDanger = false, isBeside = false, send, reads, clear = []}) {
+export function form({fields, button, isDanger = false, isBeside = false, send, reads = null, clear = []}) {
   const submit = h('button', {type: 'submit', class: isDanger ? 'main danger' : 'main'}, typeof button === 'string' ? button : '');
   const sentence = h('p', {class: 'reads', 'data-name': 'reads'});
   const progress = makeProgress(submit);
@@ -95,6 +97,7 @@ export function form({fields, button, isDanger = false, isBeside = false, send, 
       showFault(byName[name], fault);
       byName[name].input.focus();
     }
+    if (state === 'done' || state === null) element.dataset.typed = 'no';
     if (state === 'done') {
       for (const name of clear) byName[name].set('');
       readBack();
@@ -118,8 +121,13 @@ export function form({fields, button, isDanger = false, isBeside = false, send, 
     }
   }
 
-  const attributes = {novalidate: true, class: isBeside ? 'beside' : null, submit: submitted, input: readBack, change: readBack, keydown: pressed};
-  const element = h('form', attributes, fields.map(field => field.row), reads ? sentence : null, submit, progress.line);
+  const typed = () => {
+    element.dataset.typed = 'yes';
+    for (const field of fields) if (field.error.textContent && !field.read().fault) showFault(field, undefined);
+    readBack();
+  };
+  const attributes = {novalidate: true, class: isBeside ? 'beside' : null, submit: submitted, input: typed, change: typed, keydown: pressed};
+  const element = /** @type {HTMLFormElement} */ (h('form', attributes, fields.map(field => field.row), reads ? sentence : null, submit, progress.line));
   readBack();
   return {element, fields: byName, focus: () => fields.find(field => !field.row.hidden)?.input.focus()};
 }

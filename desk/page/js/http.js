@@ -1,11 +1,18 @@
 // One request to the bank, and what its reply means. Only a reply in the bank's own form decides anything, and none that a
 // front makes of its own.
 
+import {setClock} from './dates.js';
+
 /** Longer than the front holds a request while the bank restarts. */
 const SECONDS = 45;
 
-/** {kind: 'none', isLate} or {kind: 'reply', status, type, text, body}; the body is an object or null. Never throws. */
-export async function send({path, badge, session, slip, release, body, method = 'POST'}, seconds = SECONDS) {
+/**
+ * {kind: 'none', isLate} or {kind: 'reply', status, type, text, body, at}; the body is an object or null, `at` the front's time.
+ * Never throws.
+ * @returns {Promise<BankReply>}
+ */
+export async function send(/** @type {BankRequest} */ {path, badge, session, slip, release, body, method = 'POST'}, seconds = SECONDS) {
+  /** @type {Record<string, string>} */
   const headers = {};
   // The front refuses it (412) where somebody else's card is in by now.
   if (badge) headers['Desk-Badge'] = badge;
@@ -14,12 +21,14 @@ export async function send({path, badge, session, slip, release, body, method = 
   if (release) headers['Bank-Release'] = String(release);
   const stop = new AbortController();
   const timer = setTimeout(() => stop.abort(), seconds * 1000);
+  /** @type {RequestInit} */
   const options = {method, headers, signal: stop.signal, cache: 'no-store', redirect: 'error', credentials: 'same-origin'};
   try {
     const reply = await fetch(path, method === 'GET' ? options : {...options, body: body ?? ''});
     const text = await reply.text();
     const type = reply.headers.get('Content-Type') ?? '';
-    return {kind: 'reply', status: reply.status, text, type, body: type.startsWith('application/json') ? asObject(text) : null};
+    const at = setClock(reply.headers.get('Date'));
+    return {kind: 'reply', status: reply.status, text, type, at, body: type.startsWith('application/json') ? asObject(text) : null};
   } catch {
     return {kind: 'none', isLate: stop.signal.aborted};
   } finally {
@@ -40,7 +49,7 @@ function asObject(text) {
  * What a reply means: 'done', 'refused', 'session' (a session has to be opened first), or 'again': it may be done or not, so
  * the very same is sent again. `isReply` says whether a 200 is a reply to what was asked.
  */
-export function judge(reply, isReply) {
+export function judge(/** @type {BankReply} */ reply, isReply) {
   if (reply.kind === 'none') return 'again';
   const {status, body} = reply;
   if (status === 200) return isReply(reply) ? 'done' : 'again';

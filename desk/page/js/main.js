@@ -1,4 +1,4 @@
-// The shell: one window at a time, the menu, the keys, and which screen is shown.
+// The shell: one window at a time, the keys, and which screen is shown.
 import {h, button} from './dom.js';
 import {send} from './http.js';
 import {openStore} from './store.js';
@@ -8,6 +8,11 @@ import {printReceipt} from './paper.js';
 import {reasonFor} from './dialog.js';
 import {askedText} from './journal.js';
 import {keepDraft, restoreDraft} from './drafts.js';
+import {now} from './dates.js';
+import {lockAfter} from './lock.js';
+import {showNotices} from './notices.js';
+import {language, say} from './words.js';
+import * as menu from './menu.js';
 import * as outcome from './outcome.js';
 import * as waiting from './waiting.js';
 import {SCREENS} from './screens/all.js';
@@ -15,19 +20,25 @@ import {SCREENS} from './screens/all.js';
 /** What is quick is not worth a line: the strip comes after so many milliseconds. */
 const QUICK = 500;
 
-const [menu, work, place] = ['menu', 'work', 'place'].map(id => document.getElementById(id));
+const [work, place, lastReceipt] = ['work', 'place', 'last'].map(id => document.getElementById(id));
+/** @type {Desk} */
 let desk;
-let shown = null; // the screen
+/** @type {DeskScreen | null} */
+let shown = null;
+let ends; // when the certificate ends, as the front writes it
 let last = null; // {reply} that decided nothing about the request that waits
+/** @type {JournalRow | null} */
 let receipt = null; // the row whose receipt can be printed
-let quick = null;
+let quick = 0;
 let turns = 0; // how often a screen was asked for
 let isFilledIn = false; // by the address of the screen that is shown
 
 function showHeader() {
   const {branch, teller} = desk.place;
-  const facts = [['You', desk.badge], ['Session', desk.session ?? 'none'], ['Branch', branch ?? 'none'], ['Drawer', teller ?? 'none']];
-  place.replaceChildren(...facts.map(([name, value]) => h('div', {}, h('dt', {}, name), h('dd', {}, String(value)))));
+  const none = say('header.none');
+  const facts = {you: desk.badge, session: desk.session ?? none, branch: branch ?? none, drawer: teller ?? none};
+  place.replaceChildren(...Object.entries(facts).map(([name, value]) => h('div', {}, h('dt', {}, say(`header.${name}`)), h('dd', {}, String(value)))));
+  showNotices(ends);
 }
 
 async function showWaiting() {
@@ -38,8 +49,8 @@ async function showWaiting() {
 /** Opens a session, or says why there is none; whether there is one. */
 async function signIn() {
   const {isOpened, reply} = await desk.open();
-  if (!isOpened && reply.body?.rule) outcome.show('refused', {text: 'Sign in', kind: 'session'}, reply);
-  else if (!isOpened) outcome.unanswered(reply, 'Try again.');
+  if (!isOpened && reply.body?.rule) outcome.show('refused', {text: say('signIn'), kind: 'session'}, reply);
+  else if (!isOpened) outcome.unanswered(reply, say('tryAgain'));
   showHeader();
   return isOpened;
 }
@@ -47,35 +58,53 @@ async function signIn() {
 /** Another user's request is set aside by a supervisor, who gives a reason. */
 async function setAside(row) {
   if (!await desk.supervises(row)) return;
-  const text = `${askedText(row)}. It may be done or not: look at the statement or the proof first. It is never sent again.`;
-  const reason = await reasonFor(`Set the request of ${row.badge} aside?`, text, 'Set aside');
+  const reason = await reasonFor(say('aside.question', row), say('aside.text', {asked: askedText(row)}), say('aside'));
   if (reason === '') return;
   const isSetAside = await desk.setAside(row, reason);
-  outcome.note(isSetAside ? 'Set aside' : 'It waits no longer', askedText(row));
+  outcome.note(say(isSetAside ? 'aside.done' : 'aside.late'), askedText(row));
   await showWaiting();
 }
 
-function offerReceipt(row) {
+/** The last receipt can be printed on every screen, until there is another. */
+function offerReceipt(/** @type {JournalRow} */ row) {
   receipt = row;
-  outcome.add(h('p', {}, button(['Print a receipt ', h('kbd', {}, 'Esc'), ' ', h('kbd', {}, 'K')], () => printReceipt(desk, row))));
+  lastReceipt.replaceChildren(h('span', {}, askedText(row)),
+    button([say('receipt.print'), h('kbd', {'aria-hidden': 'true'}, 'Esc'), h('kbd', {'aria-hidden': 'true'}, 'K')], () => printReceipt(desk, row)));
 }
 
 /** What the desk reports. */
 async function report(event, request, reply) {
-  clearTimeout(quick);
-  if (event === 'sending') {
-    quick = setTimeout(showWaiting, QUICK);
+  if (event === 'learned') {
+    menu.showMenu(SCREENS, desk.allowed);
     return;
   }
-  if (event !== 'again') {
-    receipt = null;
-    outcome.show(event, request, reply);
+  clearTimeout(quick);
+  if (event === 'sending') {
+    quick = Number(setTimeout(showWaiting, QUICK));
+    return;
   }
+  if (event !== 'again') outcome.show(event, request, reply);
   if (event === 'done' && hasReceipt(request)) offerReceipt(request);
   const bearsSlip = request && !request.kind;
   if (bearsSlip) last = event === 'again' ? {reply} : null;
   if (bearsSlip || event === 'session') await showWaiting();
   showHeader();
+}
+
+/** Draws what a screen is made of. What was typed there before is there again, unless its address fills it in. */
+function draw(screen, made, given) {
+  const isOther = screen !== shown;
+  if (isOther) outcome.clear();
+  if (shown && isOther) keepDraft(shown.id, work, isFilledIn);
+  isFilledIn = given.toString() !== '';
+  shown = screen;
+  document.title = say('page.title', {screen: say(`screen.${screen.id}`)});
+  document.body.classList.toggle('wide', screen.isWide === true);
+  menu.mark(screen.id);
+  work.replaceChildren(h('h1', {}, say(screen.hasTitle ? `title.${screen.id}` : `screen.${screen.id}`)), ...[made.elements].flat().filter(Boolean));
+  if (isOther && !isFilledIn) restoreDraft(screen.id, work);
+  showHeader();
+  if (isOther) scrollTo(0, 0);
 }
 
 /** Shows the screen of the address. Shown again after a request, it leaves the focus to whoever has gone to the menu by then. */
@@ -88,36 +117,22 @@ async function showScreen(isAgain = false) {
   const again = () => (turn === turns ? showScreen(true) : null); // where no other was asked for meanwhile
   const made = await screen.make(desk, {given, changed: showHeader, again, signIn});
   if (turn !== turns) return; // another was asked for meanwhile
-  const isOther = screen !== shown;
-  if (isOther) outcome.clear();
-  if (shown && isOther) keepDraft(shown.id, work, isFilledIn);
-  isFilledIn = given.size > 0;
-  shown = screen;
-  document.title = `${screen.label} - Counter`;
-  document.body.classList.toggle('wide', screen.isWide === true);
-  for (const link of menu.querySelectorAll('a')) {
-    if (link.hash === `#${screen.id}`) link.setAttribute('aria-current', 'page');
-    else link.removeAttribute('aria-current');
-  }
-  work.replaceChildren(h('h1', {}, screen.title ?? screen.label), ...[made.elements].flat().filter(Boolean));
-  if (isOther && !isFilledIn) restoreDraft(screen.id, work);
-  showHeader();
-  const isLeft = isAgain && menu.contains(document.activeElement);
-  if (made.focus && !isLeft) made.focus();
-  else if (!isLeft) work.focus({preventScroll: true});
-  if (isOther) scrollTo(0, 0);
+  draw(screen, made, given);
+  if (isAgain && document.getElementById('menu').contains(document.activeElement)) return;
+  if (made.focus) made.focus();
+  else work.focus({preventScroll: true});
 }
 
 /** Escape leads to the menu; there a letter leads to a screen, and arrows lead up and down. */
 function pressed(event) {
   if (event.ctrlKey || event.altKey || event.metaKey || document.querySelector('dialog[open]')) return;
-  const links = [...menu.querySelectorAll('a')];
   if (event.key === 'Escape') {
-    (menu.querySelector('[aria-current]') ?? links[0]).focus();
+    menu.enter();
     event.preventDefault();
     return;
   }
-  const at = links.indexOf(document.activeElement);
+  const links = menu.links();
+  const at = links.indexOf(/** @type {any} */ (document.activeElement));
   if (at < 0) return;
   const next = {ArrowDown: links[at + 1], ArrowUp: links[at - 1]}[event.key];
   const screen = SCREENS.find(one => one.key === event.key.toLowerCase());
@@ -130,19 +145,42 @@ function pressed(event) {
   else location.hash = screen.id;
 }
 
-function showMenu() {
-  menu.replaceChildren(h('ul', {}, SCREENS.map(({id, key, label}) => h('li', {}, h('a', {href: `#${id}`, 'aria-keyshortcuts': key.toUpperCase()},
-    h('kbd', {'aria-hidden': 'true'}, key.toUpperCase()), h('span', {}, label))))));
+/** Whose card is in: {badge}, which is null where nobody is known, and the front's reply. */
+async function whoIsHere() {
+  const reply = await send({path: '/who', method: 'GET'});
+  const badge = typeof reply.body?.badge === 'string' ? reply.body.badge : null;
+  return {badge, reply};
 }
 
 /** Whose card is in, or null, which is said. */
 async function badgeHere() {
-  const who = await send({path: '/who', method: 'GET'});
-  if (typeof who.body?.badge === 'string') return who.body.badge;
-  const isDown = who.kind === 'none' || who.status >= 500;
-  if (isDown) outcome.note('No reply', 'What stands in front of the bank can\'t be reached. Load the page again in a while.');
-  else outcome.note('You are not known here', 'Show your card or your certificate, then load the page again.');
+  const {badge, reply} = await whoIsHere();
+  if (badge !== null) {
+    ({ends} = reply.body);
+    return badge;
+  }
+  const isDown = reply.kind === 'none' || reply.status >= 500;
+  outcome.note(say(isDown ? 'front.down.title' : 'front.unknown.title'), say(isDown ? 'front.down.text' : 'front.unknown.text'));
   return null;
+}
+
+/** Whether the card is still that of whoever works here, or null where nothing answers. */
+async function isSameCard() {
+  const {badge, reply} = await whoIsHere();
+  if (badge === null && (reply.kind === 'none' || reply.status >= 500)) return null;
+  if (badge === desk.badge) ({ends} = reply.body);
+  showNotices(ends);
+  return badge === desk.badge;
+}
+
+/** The texts of the page itself. */
+function fillPage() {
+  document.documentElement.lang = language();
+  document.title = say('page.name');
+  for (const element of /** @type {NodeListOf<HTMLElement>} */ (document.querySelectorAll('[data-say]'))) element.textContent = say(element.dataset.say);
+  for (const element of /** @type {NodeListOf<HTMLElement>} */ (document.querySelectorAll('[data-label]'))) {
+    element.setAttribute('aria-label', say(element.dataset.label));
+  }
 }
 
 async function begin() {
@@ -150,13 +188,13 @@ async function begin() {
   if (badge === null) return;
   const store = await openStore().catch(() => null);
   if (!store) {
-    outcome.note('Not possible here', 'This browser can\'t keep a journal, and what is not kept is not sent. Leave its private mode.');
+    outcome.note(say('browser.title'), say('browser.text'));
     return;
   }
   navigator.storage.persist?.().catch(() => {}); // a browser short of room is not to take away what waits
-  await store.forget(Date.now());
+  await store.forget(now());
   desk = await makeDesk({store, badge, report});
-  showMenu();
+  menu.showMenu(SCREENS, desk.allowed);
   addEventListener('hashchange', () => showScreen());
   addEventListener('keydown', pressed);
   addEventListener('online', () => desk.hurry());
@@ -167,6 +205,7 @@ async function begin() {
   if (!desk.session) history.replaceState(null, '', '#session');
   await showScreen();
   await showWaiting();
+  lockAfter({isSame: isSameCard, leave: () => location.reload()});
   if (desk.session) desk.run();
 }
 
@@ -174,16 +213,16 @@ async function begin() {
 const workAlone = () => begin().then(() => new Promise(() => {}));
 
 // What nothing else says: the browser's store fails, say.
-addEventListener('unhandledrejection', () => outcome.note('This page failed', 'This browser couldn\'t keep or show something. '
-  + 'Make room on its disk, and load the page again. What waits is sent again then, and acts once. '
-  + 'Of anything else look whether it is done.'));
+addEventListener('unhandledrejection', () => outcome.note(say('failed.title'), say('failed.text')));
 
-// Two windows would take the same slips: the second waits until the first is closed.
+fillPage();
+// Two windows would take the same numbers: the second waits until the first is closed.
 navigator.locks.request('desk', {ifAvailable: true}, lock => {
   if (lock) return workAlone();
-  outcome.note('Open elsewhere', 'This page is open in another window of this browser. Close that one, and this one goes on.');
+  outcome.note(say('elsewhere.title'), say('elsewhere.text'));
   navigator.locks.request('desk', () => {
     outcome.clear();
     return workAlone();
   });
+  return undefined;
 });

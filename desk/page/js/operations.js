@@ -1,89 +1,92 @@
 // The operations that write: the members of a reply to each, and what a request and its reply mean in plain words.
 import {showAmount, showChange} from './amounts.js';
+import {nameOf} from './names.js';
+import {say} from './words.js';
 
-const place = number => (number === 0 ? 'the vault' : `drawer ${number}`);
-const capital = text => text[0].toUpperCase() + text.slice(1);
+/**
+ * @typedef {{label: string, figure: string, more: string}} End What came of a request.
+ * @typedef {{members: string[], asked: (body: any) => string, end: (body: any, reply: any) => End}} Operation
+ */
+
+/** Which of a move's places is the vault: a part of keys. */
+export const placesOf = ({source, target}) => (source === 0 ? 'fromVault' : target === 0 ? 'toVault' : 'between');
 
 function endOfPost(body, reply) {
-  const more = `Entry ${reply.entry} of branch ${reply.branch}`;
-  return {label: `Balance of account ${body.account}`, figure: showAmount(reply.balance), more};
+  return {label: say('end.balance', body), figure: showAmount(reply.balance), more: say('end.entry', reply)};
 }
 
 function endOfTransfer(source, target, reply) {
-  const more = `Account ${target} has ${showAmount(reply.target)}. Entries ${reply.first} and ${reply.second} of branch ${reply.branch}`;
-  return {label: `Balance of account ${source}`, figure: showAmount(reply.source), more};
+  const values = {...reply, account: target, balance: showAmount(reply.target)};
+  return {label: say('end.balance', {account: source}), figure: showAmount(reply.source), more: say('end.transfer', values)};
 }
 
-/** By name: `members` of a reply, which are whole numbers; `asked(body)`; `end(body, reply)` as {label, figure, more}. */
+/**
+ * By name: `members` of a reply, which are whole numbers; `asked(body)`; `end(body, reply)`.
+ * @type {Record<string, Operation>}
+ */
 export const OPERATIONS = {
   'post': {
     members: ['balance', 'branch', 'entry'],
-    asked: b => `${b.delta < 0 ? 'Withdrawal' : 'Deposit'} of ${showAmount(Math.abs(b.delta))}, account ${b.account}, drawer ${b.teller}`,
+    asked: b => say(b.delta < 0 ? 'asked.withdrawal' : 'asked.deposit', {...b, amount: showAmount(Math.abs(b.delta))}),
     end: endOfPost,
   },
   'transfer': {
     members: ['branch', 'first', 'second', 'source', 'target'],
-    asked: b => `Transfer of ${showAmount(b.amount)} from account ${b.source} to account ${b.target}`,
+    asked: b => say('asked.transfer', {...b, amount: showAmount(b.amount)}),
     end: (b, r) => endOfTransfer(b.source, b.target, r),
   },
   'correct': {
     members: ['branch'],
-    asked: b => {
-      const accounts = b.other === 0 ? `account ${b.account}` : `accounts ${b.account} and ${b.other}`;
-      return `Correct entry ${b.entry} (${showChange(b.delta)}, ${accounts}), drawer ${b.teller}`;
-    },
+    asked: b => say(b.other === 0 ? 'asked.correct' : 'asked.correctTransfer', {...b, change: showChange(b.delta)}),
     end: (b, r) => (b.other === 0 ? endOfPost(b, r) : endOfTransfer(b.account, b.other, r)),
   },
   'drawer-on': {
     members: ['cash', 'teller', 'vault'],
-    asked: b => `Drawer ${b.teller} on with ${showAmount(b.cash)}`,
-    end: (b, r) => ({label: `Cash in drawer ${r.teller}`, figure: showAmount(r.cash), more: `The vault has ${showAmount(r.vault)}`}),
+    asked: b => say('asked.drawerOn', {...b, cash: showAmount(b.cash)}),
+    end: (b, r) => ({label: say('end.drawerOn', r), figure: showAmount(r.cash), more: say('end.vault', {vault: showAmount(r.vault)})}),
   },
   'drawer-off': {
     members: ['difference', 'teller', 'vault'],
-    asked: b => `Drawer ${b.teller} off, counted ${showAmount(b.counted)}`,
+    asked: b => say('asked.drawerOff', {...b, counted: showAmount(b.counted)}),
     end: (b, r) => ({
       label: differenceText(r.difference), figure: showAmount(r.difference),
-      more: `Drawer ${r.teller} is empty and free. The vault has ${showAmount(r.vault)}`,
+      more: say('end.drawerOff', {teller: r.teller, vault: showAmount(r.vault)}),
     }),
   },
   'move-cash': {
     members: ['moved', 'source', 'target'],
-    asked: b => `Cash of ${showAmount(b.amount)} from ${place(b.source)} to ${place(b.target)}`,
+    asked: b => say(`asked.move.${placesOf(b)}`, {...b, amount: showAmount(b.amount)}),
     end: (b, r) => ({
-      label: 'Moved', figure: showAmount(r.moved),
-      more: `${capital(place(b.source))} has ${showAmount(r.source)}, ${place(b.target)} has ${showAmount(r.target)}`,
+      label: say('end.moved'), figure: showAmount(r.moved),
+      more: say(`end.move.${placesOf(b)}`, {...b, left: showAmount(r.source), there: showAmount(r.target)}),
     }),
   },
   'new-account': {
     members: ['account', 'branch'],
-    asked: b => `New account ${b.account} at branch ${b.branch}, overdraft ${showAmount(-b.floor)}`,
-    end: (b, r) => ({label: 'Account opened', figure: String(r.account), more: `At home at branch ${r.branch}, with a balance of 0.00`}),
+    asked: b => say('asked.newAccount', {...b, overdraft: showAmount(-b.floor)}),
+    end: (b, r) => ({label: say('end.newAccount'), figure: String(r.account), more: say('end.home', {...r, balance: showAmount(0)})}),
   },
   'release': {
     members: ['beneficiary', 'release'],
-    asked: b => `Release for user ${b.beneficiary}: ${OPERATIONS[b.operation.procedure].asked(b.operation)}`,
-    end: (b, r) => ({
-      label: 'Number of the release', figure: String(r.release),
-      more: `For user ${r.beneficiary}, today, once. Pass the number on.`,
-    }),
+    asked: b => say('asked.release', {user: nameOf(b.beneficiary), asked: OPERATIONS[b.operation.procedure].asked(b.operation)}),
+    end: (b, r) => ({label: say('end.release'), figure: String(r.release), more: say('end.released', {user: nameOf(r.beneficiary)})}),
   },
   'close-day': {
     members: ['balance', 'cash', 'closed', 'entries'],
-    asked: b => `Close the day of branch ${b.branch}`,
+    asked: b => say('asked.closeDay', b),
     end: (b, r) => ({
-      label: `Day ${r.closed} is closed. Balance of branch ${b.branch}`, figure: showAmount(r.balance),
-      more: `The vault has ${showAmount(r.cash)}. ${r.entries} entries so far`,
+      label: say('end.closed', {...b, day: r.closed}), figure: showAmount(r.balance),
+      more: say('end.closedCash', {vault: showAmount(r.cash), count: r.entries}),
     }),
   },
 };
 
 export function differenceText(difference) {
-  if (difference === 0) return 'The count agrees';
-  return difference < 0 ? 'Cash is missing' : 'Cash is over';
+  if (difference === 0) return say('count.agrees');
+  return say(difference < 0 ? 'count.missing' : 'count.surplus');
 }
 
 /** Whether a 200 is a reply to this operation. */
-export function isReply(name, reply) {
+export function isReply(/** @type {string} */ name, /** @type {BankReply} */ reply) {
   return reply.body !== null && OPERATIONS[name].members.every(member => Number.isInteger(reply.body[member]));
 }

@@ -1,5 +1,6 @@
 // The bodies of the commands of the policy (docs/COMMANDS.md), from what was typed.
 import {parseMoment} from './dates.js';
+import {say} from './words.js';
 
 export const PROCEDURES = ['post', 'transfer', 'correct', 'drawer-on', 'drawer-off', 'move-cash', 'new-account', 'release', 'balance',
   'statement', 'accounts', 'proof', 'close-day'];
@@ -10,12 +11,16 @@ export const KINDS = ['account', 'teller', 'branch', 'history', 'drawer', 'vault
 /** The last moment of a triple that never ends. */
 export const FOREVER = 99999999999;
 
-/** `account 101-150, drawer 11` as intervals of items, or null. */
+/** The names of kinds in the language of the page, as they are typed. */
+const kindNames = () => KINDS.map(kind => say(`item.${kind}`));
+
+/** `account 101-150, drawer 11`, in the language of the page, as intervals of items, or null. */
 export function parseMembers(text) {
   const members = [];
+  const names = kindNames().map(name => name.toLowerCase());
   for (const piece of text.split(',')) {
-    const found = /^ *([a-z]+) +([1-9][0-9]{0,8})(?: *- *([1-9][0-9]{0,8}))? *$/.exec(piece);
-    const kind = found ? KINDS.indexOf(found[1]) + 1 : 0;
+    const found = /^ *(\p{Letter}+) +([1-9][0-9]{0,8})(?: *- *([1-9][0-9]{0,8}))? *$/u.exec(piece);
+    const kind = found ? names.indexOf(found[1].toLowerCase()) + 1 : 0;
     if (kind === 0) return null;
     const [low, high] = [Number(found[2]), Number(found[3] ?? found[2])];
     if (high < low) return null;
@@ -34,15 +39,15 @@ export function bodyOf(name, values) {
 function bodyOfSet({members: text, set}) {
   const members = parseMembers(text);
   if (members) return {body: {members, set}};
-  return {faults: {members: `Pieces such as "account 101-150", separated by commas. Kinds: ${KINDS.join(', ')}.`}};
+  return {faults: {members: say('members.fault', {kinds: kindNames().join(', ')})}};
 }
 
 function bodyOfGrant({first, last, ...rest}) {
   if (first === null && last === null) return {body: rest};
   const from = first === null ? 0 : parseMoment(first, false);
   const to = last === null ? FOREVER : parseMoment(last, true);
-  if (from === null) return {faults: {first: 'There is no such day or time.'}};
-  if (to === null) return {faults: {last: 'There is no such day or time.'}};
-  if (to < from) return {faults: {last: 'It ends before it begins.'}};
+  if (from === null) return {faults: {first: say('moment.none')}};
+  if (to === null) return {faults: {last: say('moment.none')}};
+  if (to < from) return {faults: {last: say('moment.order')}};
   return {body: {...rest, first: from, last: to}};
 }

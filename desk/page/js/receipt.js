@@ -1,31 +1,69 @@
-// What a customer takes home of a deposit, a withdrawal or a transfer.
+// What is printed of a request: for a customer of a deposit, a withdrawal or a transfer; for the books of a correction, a move of
+// cash or a count.
 import {showAmount} from './amounts.js';
 import {showTime} from './dates.js';
+import {notedText} from './journal.js';
+import {differenceText, placesOf} from './operations.js';
+import {BANK, CURRENCY} from './settings.js';
+import {say} from './words.js';
 
-/** Whether a row of the journal has a receipt. */
-export function hasReceipt(row) {
-  return row.state === 'done' && (row.name === 'post' || row.name === 'transfer');
+/** @typedef {[string, string | number]} Line A label and its value. */
+
+/** By operation: the key of its title, and its own lines between those that all have. */
+const RECEIPTS = {
+  'post': {title: b => (b.delta < 0 ? 'way.out' : 'way.in'), lines: postLines},
+  'transfer': {title: () => 'procedure.transfer', lines: (b, r, shows) => [...placeLines(b), amountLine(b.amount), ...transferLines(b.source, r, shows)]},
+  'correct': {title: () => 'procedure.correct', lines: correctLines},
+  'move-cash': {title: () => 'procedure.move-cash', lines: b => [moveLine(b), amountLine(b.amount)]},
+  'drawer-on': {title: () => 'procedure.drawer-on', lines: b => [line('counted', showAmount(b.cash))]},
+  'drawer-off': {title: () => 'procedure.drawer-off', lines: countLines},
+};
+
+/** @returns {Line} */
+const line = (key, value) => [say(`receipt.${key}`), value];
+const amountLine = cents => line('amount', showAmount(cents));
+const placeLines = b => [line('from', b.source), line('to', b.target)];
+const moveLine = b => line('moved', say(`receipt.move.${placesOf(b)}`, b));
+const balanceLine = (account, cents) => [say('receipt.balance', {account}), showAmount(cents)];
+const entriesLine = r => line('entries', say('receipt.both', r));
+const transferLines = (source, r, shows) => [...shows ? [balanceLine(source, r.source)] : [], entriesLine(r)];
+
+function postLines(b, r, shows) {
+  return [line('account', b.account), amountLine(Math.abs(b.delta)), ...shows ? [balanceLine(b.account, r.balance)] : [], line('entry', r.entry)];
 }
 
-/** The account whose balance a receipt shows. That of an account which a transfer pays is nobody's at this counter. */
-export function accountOf(row) {
+function correctLines(b, r) {
+  const accounts = b.other === 0 ? [line('account', b.account)] : [line('account', b.account), line('other', b.other)];
+  return [line('corrects', b.entry), ...accounts, amountLine(Math.abs(b.delta)), b.other === 0 ? line('entry', r.entry) : entriesLine(r)];
+}
+
+function countLines(b, r, shows, row) {
+  const noted = notedText(row);
+  return [line('counted', showAmount(b.counted)), [differenceText(r.difference), showAmount(r.difference)], ...noted ? [line('noted', noted)] : []];
+}
+
+/** Whether a row of the journal has a receipt. */
+export function hasReceipt(/** @type {JournalRow} */ row) {
+  return row.state === 'done' && row.name in RECEIPTS;
+}
+
+/**
+ * The account whose balance a receipt shows, or null. That of an account which a transfer pays is nobody's at this counter.
+ */
+export function accountOf(/** @type {JournalRow} */ row) {
   const body = JSON.parse(row.body);
-  return row.name === 'post' ? body.account : body.source;
+  if (row.name === 'post') return body.account;
+  return row.name === 'transfer' ? body.source : null;
 }
 
 /** The receipt of a row: {title, lines}, each line [label, value]. Without `showsBalance` it has no balance. */
-export function receiptOf(row, showsBalance) {
+export function receiptOf(/** @type {JournalRow} */ row, /** @type {boolean} */ showsBalance) {
   const [body, reply] = [JSON.parse(row.body), JSON.parse(row.reply)];
-  const isPost = row.name === 'post';
-  const postTitle = body.delta < 0 ? 'Withdrawal' : 'Deposit';
-  const lines = [
-    ['Branch', body.branch],
-    ['Teller', `${row.badge}, drawer ${body.teller}`],
-    ...(isPost ? [['Account', body.account]] : [['From account', body.source], ['To account', body.target]]),
-    ['Amount', showAmount(isPost ? Math.abs(body.delta) : body.amount)],
-    ...(showsBalance ? [[`Balance of ${accountOf(row)}`, showAmount(isPost ? reply.balance : reply.source)]] : []),
-    isPost ? ['Entry', reply.entry] : ['Entries', `${reply.first} and ${reply.second}`],
-    ['Time', showTime(row.answered)],
-  ];
-  return {title: isPost ? postTitle : 'Transfer', lines: lines.map(([label, value]) => [label, String(value)])};
+  const {title, lines} = RECEIPTS[row.name];
+  const own = lines(body, reply, showsBalance, row);
+  const teller = body.teller === undefined ? row.badge : say('receipt.atDrawer', {badge: row.badge, teller: body.teller});
+  return {bank: BANK, title: say(title(body)), lines: [
+    line('branch', body.branch), line('teller', teller), ...own,
+    line('currency', CURRENCY.name), line('number', row.slip), line('time', showTime(row.answered)),
+  ].map(([label, value]) => [label, String(value)])};
 }

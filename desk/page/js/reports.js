@@ -33,7 +33,7 @@ export function readAccounts(text) {
   const lines = linesOf(text);
   headOf(lines, /^ACCOUNTS AFTER +[0-9]+ LINES +([0-9]+)$/);
   return lines.slice(1).map(line => ({
-    account: numberAt(line, 0, 9), home: numberAt(line, 10, 9), balance: reportedAmount(line.slice(20, 34)),
+    account: numberAt(line, 0, 9), home: numberAt(line, 10, 9), balance: reportedAmount(line.slice(20, 34)), line,
   }));
 }
 
@@ -54,13 +54,16 @@ export function readProof(text) {
   return {branch: Number(head[1]), day: Number(head[2]), tellers, sums};
 }
 
-/** What has to agree in a proof, as [whether it does, what]. */
+/**
+ * What has to agree in a proof, as [whether it does, the key of what].
+ * @returns {[boolean, string][]}
+ */
 export function checksOf({sums}) {
   const cash = sums['OPENING CASH'] + sums['CASH ENTRIES'] + sums['DIFFERENCES'];
   return [
-    [sums['TELLERS TOTAL'] === sums['BRANCH BALANCE'], 'the tellers\' balances and the branch\'s'],
-    [sums['OPENING BALANCE'] + sums['HISTORY TOTAL'] === sums['BRANCH BALANCE'], 'the entries and the branch\'s balance'],
-    [sums['VAULT CASH'] + sums['DRAWER CASH'] === cash, 'the cash in vault and drawers and the cash book'],
+    [sums['TELLERS TOTAL'] === sums['BRANCH BALANCE'], 'check.tellers'],
+    [sums['OPENING BALANCE'] + sums['HISTORY TOTAL'] === sums['BRANCH BALANCE'], 'check.history'],
+    [sums['VAULT CASH'] + sums['DRAWER CASH'] === cash, 'check.cash'],
   ];
 }
 

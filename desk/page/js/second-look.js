@@ -19,7 +19,7 @@ export function isRepeatMeant(last) {
   return confirmed(say('repeat.question'), say('repeat.yes'), [say('repeat.last', {asked: askedText(last), time: showClock(last.answered)})]);
 }
 
-/** A difference in words. */
+/** A difference as a sentence. */
 function differenceSentence(expected, counted, teller) {
   const values = {teller, expected: showAmount(expected), counted: showAmount(counted), difference: showAmount(Math.abs(counted - expected))};
   return say(counted > expected ? 'count.over' : 'count.short', values);

@@ -1,10 +1,17 @@
 // The journal of requests, and facts to remember, in IndexedDB. A transaction that keeps a slip is strict: it is on the disk
 // before it completes. (What localStorage got last is lost where the browser is killed.)
 import {nextSlip} from './slips.js';
+import {now} from './dates.js';
 import {JOURNAL_DAYS} from './settings.js';
 
 const DAY = 86400000;
 
+/**
+ * What a request of the browser's store has in the end.
+ * @template T
+ * @param {IDBRequest<T>} request
+ * @returns {Promise<T>}
+ */
 function resultOf(request) {
   return new Promise((resolve, reject) => {
     request.onsuccess = () => resolve(request.result);
@@ -50,8 +57,8 @@ export async function openStore(name = 'desk') {
     /** Keeps what bore no slip, once it was answered. */
     note: row => kept('readwrite', 'relaxed', requests => resultOf(requests.add(row))),
     /** Removes what was asked longer ago than the journal is kept, and no longer waits. */
-    forget: now => kept('readwrite', 'relaxed', async requests => {
-      const old = IDBKeyRange.upperBound(now - JOURNAL_DAYS * DAY, true);
+    forget: at => kept('readwrite', 'relaxed', async requests => {
+      const old = IDBKeyRange.upperBound(at - JOURNAL_DAYS * DAY, true);
       for (const row of await resultOf(requests.index('at').getAll(old))) {
         if (row.state !== 'waiting') await resultOf(requests.delete(row.id));
       }
@@ -82,7 +89,7 @@ function journalOf(badge, kept, waiting) {
     firstWaiting: async () => (await waiting()).find(row => row.badge === badge),
     tried: request => kept('readwrite', 'relaxed', requests => resultOf(requests.put(request))),
     strike: (request, state, reply) => {
-      Object.assign(request, {state, status: reply.status, reply: reply.text, answered: Date.now()});
+      Object.assign(request, {state, status: reply.status, reply: reply.text, answered: reply.at ?? now()});
       return kept('readwrite', 'strict', requests => resultOf(requests.put(request)));
     },
   };

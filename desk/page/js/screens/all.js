@@ -13,7 +13,10 @@ import journal from './journal.js';
 import policy from './policy.js';
 import session from './session.js';
 
-/** The screens in the order of the menu: {id, key, label, title, isWide, make(desk, shell)}. */
+/**
+ * The screens in the order of the menu.
+ * @type {DeskScreen[]}
+ */
 export const SCREENS = [
   post, transfer, balance, statement, correct, drawer, moveCash, newAccount, accounts, release, closeDay, journal, policy, session,
 ];

@@ -1,6 +1,6 @@
 import {h, button} from '../dom.js';
 import {form} from '../form.js';
-import {field, account, amount, release} from '../fields.js';
+import {field, account, amount, release, amountText} from '../fields.js';
 import {lacksDrawer} from './post.js';
 import {moveAfter} from '../cash-due.js';
 import {moveLink} from './move-cash.js';
@@ -26,7 +26,7 @@ function kindField(given) {
 /** What would be sent, and whose drawer moves by it. */
 function sentence(desk, {entry, kind, amount: cents, account: of, drawer}) {
   if (entry === null || kind === null) return '';
-  const values = {entry, amount: cents === null ? '…' : showAmount(cents), account: of ?? '…', teller: desk.place.teller ?? '…', drawer: drawer ?? '…'};
+  const values = {entry, amount: amountText(cents), account: of, teller: desk.place.teller, drawer};
   return say(isTransfer(kind) ? `correct.reads.${kind}` : `correct.reads.${wayOf(kind)}${drawer === desk.place.teller ? '.same' : ''}`, values);
 }
 
@@ -75,4 +75,5 @@ async function make(desk, {given}) {
   return {elements: [h('p', {class: 'lead'}, say('correct.lead')), correct.element], focus: correct.focus};
 }
 
-export default {id: 'correct', key: 'e', label: 'Correct an entry', make};
+/** @type {DeskScreen} */
+export default {id: 'correct', key: 'e', asks: ['correct'], make};

@@ -1,62 +1,82 @@
 import {h} from '../dom.js';
 import {form} from '../form.js';
-import {field, release, numberText} from '../fields.js';
+import {field, release} from '../fields.js';
 import {counting} from '../counting.js';
 import {cashOver, expectedCash} from '../drawer-cash.js';
 import {cashChart} from '../chart.js';
 import {showAmount} from '../amounts.js';
-import {say} from '../words.js';
 import {countMeant} from '../second-look.js';
+import {say} from '../words.js';
 import * as outcome from '../outcome.js';
 
 /** A line that opens to what the drawer should hold; it is closed at first, so that the count comes from the cash. */
-function expectedLine(cents) {
-  const text = cents === null ? 'This shift did not begin in this browser, so the page can\'t say.'
-    : `${showAmount(cents)}, by what was done here since it was put on`;
-  return h('details', {class: 'expected'}, h('summary', {}, 'What it should hold'), h('p', {'data-name': 'expected'}, text));
+function expectedLine({cents, isOfBank}) {
+  const key = cents === null ? 'drawer.unknown' : isOfBank ? 'drawer.expected.bank' : 'drawer.expected';
+  const text = say(key, {expected: cents === null ? '' : showAmount(cents)});
+  return h('details', {class: 'expected'}, h('summary', {}, say('drawer.should')), h('p', {'data-name': 'expected'}, text));
 }
 
-async function make(desk, {given, changed, again}) {
-  const {branch, teller} = desk.place;
+/**
+ * What is known of a drawer: {isOn, cents, isOfBank}, by what was done at this machine, or else by the proof, where the bank shows
+ * it to this user.
+ */
+async function knownOf(/** @type {Desk} */ desk, teller) {
   const rows = await desk.drawerRows();
-  const isOn = teller !== null && cashOver(rows, teller).isOn;
-  const count = counting('cash', 'Cash');
-  const by = release();
-  const expected = expectedLine(teller === null ? null : expectedCash(rows, teller));
+  const cents = expectedCash(rows, teller);
+  const isOn = cashOver(rows, teller).isOn;
+  if (cents !== null || teller === null) return {isOn, cents, isOfBank: false};
+  const found = (await desk.quietProof(desk.place.branch))?.tellers.find(one => one.teller === teller);
+  if (!found) return {isOn, cents, isOfBank: false};
+  return {isOn: found.holder !== 0, cents: found.holder === 0 ? null : found.cash, isOfBank: true};
+}
 
-  async function sent({way, teller: of, cash, release: number}) {
-    if (branch === null) {
-      location.hash = 'session?lacks=branch&then=drawer';
-      return 'lacks branch';
-    }
-    const noted = way === 'on' ? {} : await countMeant(of, expectedCash(await desk.drawerRows(), of), cash);
-    if (noted === null) return 'kept';
-    const state = way === 'on' ? await desk.act('drawer-on', {branch, cash, teller: of}, number)
-      : await desk.act('drawer-off', {branch, counted: cash, teller: of}, null, noted);
+/** Puts a drawer on or off, or says why not: the state that a form gets. */
+async function sent(/** @type {Desk} */ desk, {way, teller: of, cash, release: number}) {
+  const {branch} = desk.place;
+  if (branch === null) {
+    location.hash = 'session?lacks=branch&then=drawer';
+    return 'lacks branch';
+  }
+  if (way === 'on') {
+    const state = await desk.act('drawer-on', {branch, cash, teller: of}, number);
+    if (state === 'done') await desk.setPlace({branch, teller: of});
+    return state;
+  }
+  const noted = await countMeant(of, (await knownOf(desk, of)).cents, cash);
+  return noted === null ? 'kept' : desk.act('drawer-off', {branch, counted: cash, teller: of}, null, noted);
+}
+
+async function make(/** @type {Desk} */ desk, {given, changed, again}) {
+  const {teller} = desk.place;
+  const known = await knownOf(desk, teller);
+  const count = counting('cash', say('drawer.cash'));
+  const by = release();
+  const expected = expectedLine(known);
+
+  async function send(values) {
+    const state = await sent(desk, values);
     if (state !== 'done') return state;
-    if (way === 'on') await desk.setPlace({branch, teller: of});
-    const then = given.get('then');
     changed();
     await again();
-    const shift = cashOver(await desk.drawerRows(), of);
-    if (way === 'off' && shift.points.length > 1) outcome.add(cashChart(shift));
-    if (way === 'on' && then && then !== 'post') outcome.add(h('p', {}, h('a', {href: `#${then}`}, say('drawer.then'))));
+    const shift = cashOver(await desk.drawerRows(), values.teller);
+    if (values.way === 'off' && shift.points.length > 1) outcome.add(cashChart(shift));
+    const then = given.get('then');
+    if (values.way === 'on' && then && then !== 'post') outcome.add(h('p', {}, h('a', {href: `#${then}`}, say('drawer.then'))));
     return state;
   }
 
-  const ways = [['on', 'Put on', 'in'], ['off', 'Put off', 'out']];
+  const ways = [['on', say('drawer.on'), 'in'], ['off', say('drawer.off'), 'out']];
   const drawer = form({
     fields: [
-      field({name: 'way', label: 'What', kind: 'choice', value: isOn ? 'off' : 'on', options: ways}),
-      field({name: 'teller', label: 'Drawer', kind: 'number', value: teller ?? ''}),
+      field({name: 'way', label: say('way.label'), kind: 'choice', value: known.isOn ? 'off' : 'on', options: ways}),
+      field({name: 'teller', label: say('drawer.number'), kind: 'number', value: teller ?? ''}),
       count, by,
     ],
-    button: 'Send',
+    button: ({way}) => ({text: say(way === 'on' ? 'drawer.button.on' : 'drawer.button.off'), kind: ''}),
     isBeside: true,
     clear: ['cash', 'release'],
-    reads: ({way, teller: of}) => (way === 'on' ? `Drawer ${numberText(of)} on, with this cash from the vault`
-      : `Drawer ${numberText(of)} off, and this cash to the vault`),
-    send: sent,
+    reads: ({way, teller: of}) => say(way === 'on' ? 'drawer.reads.on' : 'drawer.reads.off', {teller: of}),
+    send,
   });
   const fit = () => {
     const {way, teller: of} = drawer.fields;
@@ -71,4 +91,5 @@ async function make(desk, {given, changed, again}) {
   return {elements: drawer.element, focus: () => count.input.focus()};
 }
 
-export default {id: 'drawer', key: 'd', label: 'Drawer on, off', make};
+/** @type {DeskScreen} */
+export default {id: 'drawer', key: 'd', asks: ['drawer-on', 'drawer-off'], make};

@@ -1,21 +1,23 @@
 import {h, table, button} from '../dom.js';
-import {STATES, askedText, endText, notedText, journalFile} from '../journal.js';
+import {stateText, askedText, endText, notedText, journalFile} from '../journal.js';
 import {differenceText} from '../operations.js';
 import {cashOver} from '../drawer-cash.js';
 import {cashChart} from '../chart.js';
 import {hasReceipt} from '../receipt.js';
 import {printReceipt} from '../paper.js';
 import {showChange} from '../amounts.js';
-import {showDay, showTime, showWhen} from '../dates.js';
+import {now, plainDay, showTime, showWhen} from '../dates.js';
 import {JOURNAL_DAYS} from '../settings.js';
+import {say} from '../words.js';
 
-const COLUMNS = [
-  ['Time', ''], ['Request', ''], ['State', ''], ['What came of it', ''], ['Slip', 'n'], ['Sent', 'n'], ['Receipt', 'screen'],
+const columns = () => [
+  [say('column.time'), ''], [say('column.asked'), ''], [say('column.state'), ''], [say('column.end'), ''], [say('column.number'), 'n'],
+  [say('column.tries'), 'n'], [say('column.receipt'), 'screen'],
 ];
 
 function save(desk, rows) {
   const href = URL.createObjectURL(new Blob([journalFile(rows)], {type: 'text/csv'}));
-  h('a', {href, download: `journal-${desk.badge}-${showDay(Date.now())}.csv`}).click();
+  h('a', {href, download: `${say('file.name')}-${desk.badge}-${plainDay(now())}.csv`}).click();
   setTimeout(() => URL.revokeObjectURL(href), 10000);
 }
 
@@ -25,39 +27,49 @@ function cashSection(desk, rows) {
   const shift = cashOver(rows, teller);
   if (shift.points.length === 0) return null;
   const {difference} = shift;
-  const counted = difference === 0 ? 'The count agreed.' : `${differenceText(difference)} at the count: ${showChange(difference ?? 0)}.`;
+  const counted = difference === 0 ? say('count.agreed')
+    : say('count.differed', {what: differenceText(difference), difference: showChange(difference ?? 0)});
   return h('section', {class: 'past'},
-    h('h2', {}, shift.isKnown ? `Cash in drawer ${teller}` : `What came to drawer ${teller} and went`), cashChart(shift),
+    h('h2', {}, say(shift.isKnown ? 'journal.cash' : 'journal.change', {teller})), cashChart(shift),
     difference === null ? null : h('p', {class: difference === 0 ? 'agrees' : 'differs'}, counted));
 }
 
-function cellsOf(desk, row, isAll) {
-  const attributes = {class: 'line', 'aria-label': `Print the receipt of slip ${row.slip}`};
-  const receipt = hasReceipt(row) ? button('Print', () => printReceipt(desk, row), attributes) : '';
-  const state = h('span', {class: `mark ${row.state}`}, STATES[row.state]);
-  const time = isAll ? showTime(row.at) : showWhen(row.at);
-  return [time, askedText(row), state, [endText(row), ' ', notedText(row)], row.slip ?? '', row.tries ?? 1, receipt];
+/** What can be printed or shown again of a row. */
+function paperOf(desk, row) {
+  if (row.paper) return h('a', {href: `#day?kept=${row.id}`, 'aria-label': say('journal.show', {asked: row.text})}, say('show'));
+  if (!hasReceipt(row)) return '';
+  return button(say('print'), () => printReceipt(desk, row), {class: 'line', 'aria-label': say('journal.print', {number: row.slip})});
 }
 
-async function make(desk) {
+function cellsOf(desk, row, isAll) {
+  const state = h('span', {class: `mark ${row.state}`}, stateText(row));
+  const noted = notedText(row);
+  const end = noted ? [h('p', {}, endText(row)), h('p', {}, noted)] : endText(row);
+  return [isAll ? showTime(row.at) : showWhen(row.at), askedText(row), state, end, row.slip ?? '', row.tries ?? 1, paperOf(desk, row)];
+}
+
+async function make(/** @type {Desk} */ desk) {
   const paper = h('div', {class: 'paper'});
   const shiftRows = await desk.rows();
   let rows = shiftRows;
-  const which = h('select', {id: 'which', change: () => show(which.value === 'all')},
-    [['shift', 'This shift'], ['all', `All of ${JOURNAL_DAYS} days`]].map(([value, label]) => h('option', {value}, label)));
+  const options = [['shift', say('journal.shift')], ['all', say('journal.all', {count: JOURNAL_DAYS})]];
+  const which = /** @type {HTMLSelectElement} */ (h('select', {id: 'which', change: () => show(which.value === 'all')},
+    options.map(([value, label]) => h('option', {value}, label))));
 
   async function show(isAll) {
     const found = isAll ? await desk.rows(true) : shiftRows;
     if (isAll !== (which.value === 'all')) return; // the other was chosen meanwhile
     rows = found;
-    const since = !isAll && desk.shiftBegan ? ` since ${showTime(desk.shiftBegan)}` : '';
-    paper.replaceChildren(table(`Journal of ${desk.badge}${since}`, COLUMNS, rows.map(row => cellsOf(desk, row, isAll)).reverse()));
+    const isSince = !isAll && desk.shiftBegan > 0;
+    const caption = say(isSince ? 'journal.since' : 'journal.caption', {badge: desk.badge, time: isSince ? showTime(desk.shiftBegan) : ''});
+    paper.replaceChildren(table(caption, columns(), rows.map(row => cellsOf(desk, row, isAll)).reverse(), {class: 'journal'}));
   }
 
   await show(false);
-  const tools = h('div', {class: 'tools'}, h('label', {for: 'which'}, 'Show'), which,
-    button('Save as CSV', () => save(desk, rows)), button('Print', () => print()));
+  const tools = h('div', {class: 'tools'}, h('label', {for: 'which'}, say('show')), which,
+    button(say('journal.save'), () => save(desk, rows)), button(say('print'), () => print()));
   return {elements: [cashSection(desk, await desk.drawerRows()), tools, paper]};
 }
 
-export default {id: 'journal', key: 'j', label: 'Journal of the shift', isWide: true, make};
+/** @type {DeskScreen} */
+export default {id: 'journal', key: 'j', isWide: true, asks: [], make};

@@ -1,16 +1,16 @@
 import {h} from '../dom.js';
 import {form} from '../form.js';
-import {field, amount, release} from '../fields.js';
+import {field, amount, release, amountText} from '../fields.js';
 import {showAmount} from '../amounts.js';
 import {withoutMove} from '../cash-due.js';
+import {placesOf} from '../operations.js';
 import {say} from '../words.js';
 
 const placeOf = (which, other) => (which === 'other' ? other : Number(which));
 
 /** A move as a sentence, by which of its places is the vault. */
-export function moveText({source, target, amount: cents}) {
-  const key = source === 0 ? 'cash.fromVault' : target === 0 ? 'cash.toVault' : 'cash.between';
-  return say(key, {amount: showAmount(cents), source: source ?? '…', target: target ?? '…'});
+function moveText(move) {
+  return say(`cash.${placesOf(move)}`, {...move, amount: amountText(move.amount)});
 }
 
 /** The address of this screen with a move filled in. */
@@ -26,10 +26,10 @@ function dueList(desk) {
 }
 
 /** The choices of places, and of these the one that an address names. */
-function placesOf(desk, given) {
+function choicesOf(desk, given) {
   const {teller} = desk.place;
   const places = [['0', say('cash.vault')], ...teller === null ? [] : [[String(teller), say('cash.own', {teller})]], ['other', say('cash.other')]];
-  const chosen = (name, otherwise) => {
+  const chosen = (name, otherwise = null) => {
     const wanted = given.get(name);
     return wanted === null ? otherwise : places.some(([value]) => value === wanted) ? wanted : 'other';
   };
@@ -39,7 +39,7 @@ function placesOf(desk, given) {
 }
 
 async function make(desk, {given, again}) {
-  const {places, from: source, to: target, other: number} = placesOf(desk, given);
+  const {places, from: source, to: target, other: number} = choicesOf(desk, given);
 
   async function sent({from, to, other, amount: cents, release: by}) {
     if ((from === 'other' || to === 'other') && other === null) return {faults: {other: say('cash.other.fault')}};
@@ -77,4 +77,5 @@ async function make(desk, {given, again}) {
   return {elements: [dueList(desk), move.element], focus: move.focus};
 }
 
-export default {id: 'cash', key: 'm', label: 'Move cash', make};
+/** @type {DeskScreen} */
+export default {id: 'cash', key: 'm', asks: ['move-cash'], make};

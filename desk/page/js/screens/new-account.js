@@ -1,21 +1,23 @@
 import {form} from '../form.js';
-import {account, amount, branchField, amountText, numberText} from '../fields.js';
-
-const HINT = '0.00: never below nothing';
+import {account, amount, branchField, amountText} from '../fields.js';
+import {showAmount} from '../amounts.js';
+import {say} from '../words.js';
 
 async function make(desk) {
+  const none = showAmount(0);
   const opened = form({
     fields: [
-      account({label: 'Number of the new account'}), branchField(desk),
-      amount({name: 'overdraft', label: 'It may be overdrawn by', value: '0.00', least: 0, most: 999999999, hint: HINT}),
+      account({label: say('newAccount.number')}), branchField(desk),
+      amount({name: 'overdraft', label: say('newAccount.overdraft'), value: none, least: 0, most: 999999999, hint: say('newAccount.hint', {none})}),
     ],
-    button: 'Open the account',
+    button: say('newAccount.button'),
     clear: ['account'],
     reads: ({account: of, branch, overdraft}) => (of === null ? ''
-      : `Account ${of} at branch ${numberText(branch)}, down to ${overdraft ? '-' : ''}${amountText(overdraft)}`),
+      : say('newAccount.reads', {account: of, branch, floor: overdraft === null ? amountText(null) : showAmount(overdraft === 0 ? 0 : -overdraft)})),
     send: ({account: of, branch, overdraft}) => desk.act('new-account', {account: of, branch, floor: overdraft === 0 ? 0 : -overdraft}),
   });
   return {elements: opened.element, focus: opened.focus};
 }
 
-export default {id: 'new-account', key: 'n', label: 'New account', make};
+/** @type {DeskScreen} */
+export default {id: 'new-account', key: 'n', asks: ['new-account'], make};

@@ -5,89 +5,96 @@ import {showAmount} from '../amounts.js';
 import {showTime} from '../dates.js';
 import {readPolicy} from '../reports.js';
 import {confirmed} from '../dialog.js';
-import {PROCEDURES, FOREVER, bodyOf} from '../policy-commands.js';
+import {KINDS, PROCEDURES, FOREVER, bodyOf} from '../policy-commands.js';
+import {say} from '../words.js';
 import * as outcome from '../outcome.js';
 
 const MOMENT = /^[0-9]{4}-[0-9]{2}-[0-9]{2}( [0-9]{2}:[0-9]{2}(:[0-9]{2})?)?$/;
-const user = () => field({name: 'user', label: 'User number', kind: 'number', most: 9999});
-const set = () => field({name: 'set', label: 'Set', kind: 'number'});
-const procedure = () => field({name: 'procedure', label: 'Operation', kind: 'pick', options: PROCEDURES.map(name => [name, name])});
-const limit = () => amount({name: 'limit', label: 'Limit', least: 0, most: 999999999});
-const moment = (name, label) => field({
-  name, label, kind: 'text', optional: true, pattern: MOMENT, hint: 'Such as 2026-11-28 17:30',
-  fault: 'Write it as 2026-11-28, or 2026-11-28 17:30.',
+const user = () => field({name: 'user', label: say('office.user'), kind: 'number', most: 9999});
+const set = () => field({name: 'set', label: say('column.set'), kind: 'number'});
+const procedure = () => field({
+  name: 'procedure', label: say('column.operation'), kind: 'pick', options: PROCEDURES.map(name => [name, say(`procedure.${name}`)]),
 });
-const userName = () => field({
-  name: 'name', label: 'Name', kind: 'text', pattern: /^[ -~]{1,20}$/, fault: '1 to 20 plain letters, digits and signs.',
+const limit = () => amount({name: 'limit', label: say('column.limit'), least: 0, most: 999999999});
+const moment = name => field({
+  name, label: say(`office.${name}`), kind: 'text', optional: true, pattern: MOMENT, hint: say('moment.hint'), fault: say('moment.fault'),
 });
-const officer = () => field({name: 'officer', label: 'An officer', kind: 'tick'});
+const userName = () => field({name: 'name', label: say('column.name'), kind: 'text', pattern: /^[ -~]{1,20}$/, fault: say('office.name.fault')});
+const officer = () => field({name: 'officer', label: say('office.officer'), kind: 'tick'});
 const members = () => field({
-  name: 'members', label: 'What is in it', kind: 'text', pattern: /^.{1,200}$/, fault: 'Write what is in it.',
-  hint: 'Such as: account 101-150, drawer 11',
+  name: 'members', label: say('office.members'), kind: 'text', pattern: /^.{1,200}$/, fault: say('office.members.fault'),
+  hint: say('office.members.hint'),
 });
 
-/** The commands, each with what it does and its fields. */
+/** The commands, each with its fields. */
 const COMMANDS = {
-  'suspend': ['Suspend a user', () => [user()]],
-  'restore': ['Restore a user', () => [user()]],
-  'enrol': ['Enrol a user', () => [user(), userName(), officer()]],
-  'appoint': ['Make a user a certifier', () => [user(), procedure()]],
-  'dismiss': ['Make a user no certifier', () => [user(), procedure()]],
-  'grant': ['Grant a triple',
-    () => [user(), procedure(), set(), limit(), moment('first', 'From, if not at once'), moment('last', 'To, if not for good')]],
-  'revoke': ['Revoke a triple', () => [user(), procedure(), set()]],
-  'certify': ['Certify an operation on a set', () => [procedure(), set()]],
-  'withdraw': ['Withdraw a certification', () => [procedure(), set()]],
-  'define-set': ['Define a set', () => [set(), members()]],
+  'suspend': () => [user()],
+  'restore': () => [user()],
+  'enrol': () => [user(), userName(), officer()],
+  'appoint': () => [user(), procedure()],
+  'dismiss': () => [user(), procedure()],
+  'grant': () => [user(), procedure(), set(), limit(), moment('first'), moment('last')],
+  'revoke': () => [user(), procedure(), set()],
+  'certify': () => [procedure(), set()],
+  'withdraw': () => [procedure(), set()],
+  'define-set': () => [set(), members()],
 };
-const WITHDRAWAL = 'Withdraw it? The triples on it go with it, whosever they are.';
 const DANGERS = ['suspend', 'revoke', 'withdraw', 'dismiss'];
 const CLEARED = ['user', 'set', 'name', 'members', 'first', 'last'];
 
-const HEADS = {user: 'Users', triple: 'Triples', relation: 'Relations', certifier: 'Certifiers', set: 'Sets'};
+const LISTED = ['user', 'triple', 'relation', 'certifier', 'set'];
+const columnsOf = (/** @type {Record<string, string>} */ kinds) => Object.entries(kinds).map(([name, kind]) => [say(`column.${name}`), kind]);
 const COLUMNS = {
-  user: [['User', 'n'], ['Name', ''], ['Officer', ''], ['Suspended', '']],
-  triple: [['User', 'n'], ['Name', ''], ['Operation', ''], ['Set', 'n'], ['Limit', 'n'], ['From', ''], ['To', '']],
-  relation: [['Operation', ''], ['Set', 'n'], ['By', 'n'], ['Name', '']],
-  certifier: [['User', 'n'], ['Name', ''], ['Operation', '']],
-  set: [['Set', 'n'], ['Kind', ''], ['From', 'n'], ['To', 'n']],
+  user: {user: 'n', name: '', officer: '', suspended: ''},
+  triple: {user: 'n', name: '', operation: '', set: 'n', limit: 'n', first: '', last: ''},
+  relation: {operation: '', set: 'n', by: 'n', name: ''},
+  certifier: {user: 'n', name: '', operation: ''},
+  set: {set: 'n', kind: '', low: 'n', high: 'n'},
 };
 
 function cellsOf(kind, cells, names) {
-  const name = number => names.get(number) ?? '';
+  const name = names.get(cells.user ?? cells.by) ?? '';
+  const operation = say(`procedure.${cells.procedure}`);
   switch (kind) {
-    case 'user': return [cells.user, cells.name, cells.isOfficer ? 'officer' : '', cells.isSuspended ? 'suspended' : ''];
+    case 'user': return [cells.user, cells.name, cells.isOfficer ? say('office.isOfficer') : '', cells.isSuspended ? say('office.isSuspended') : ''];
     case 'triple': {
-      const first = cells.first === 0 ? 'always' : showTime(cells.first * 1000);
-      const last = cells.last === FOREVER ? 'for good' : showTime(cells.last * 1000);
-      return [cells.user, name(cells.user), cells.procedure, cells.set, showAmount(cells.limit), first, last];
+      const first = cells.first === 0 ? say('office.always') : showTime(cells.first * 1000);
+      const last = cells.last === FOREVER ? say('office.forever') : showTime(cells.last * 1000);
+      return [cells.user, name, operation, cells.set, showAmount(cells.limit), first, last];
     }
-    case 'relation': return [cells.procedure, cells.set, cells.by, name(cells.by)];
-    case 'certifier': return [cells.user, name(cells.user), cells.procedure];
-    default: return [cells.set, cells.items, cells.low, cells.high];
+    case 'relation': return [operation, cells.set, cells.by, name];
+    case 'certifier': return [cells.user, name, operation];
+    default: return [cells.set, KINDS.includes(cells.items) ? say(`item.${cells.items}`) : cells.items, cells.low, cells.high];
   }
 }
 
+/** A value of a command as a text. */
+function valueText(name, value) {
+  if (name === 'limit') return showAmount(value);
+  if (name === 'procedure') return say(`procedure.${value}`);
+  return typeof value === 'boolean' ? say(value ? 'yes' : 'no') : value;
+}
+
 /** A command as the journal and the panel show it. */
-function commandText(name, values) {
-  const given = Object.entries(values).filter(([, value]) => value !== null);
-  return `${COMMANDS[name][0]}: ${given.map(([key, value]) => `${key} ${key === 'limit' ? showAmount(value) : value}`).join(', ')}`;
+function commandText(name, values, fields) {
+  const given = fields.filter(({spec}) => values[spec.name] !== null)
+    .map(({spec}) => say('office.given', {label: spec.label, value: valueText(spec.name, values[spec.name])}));
+  return say('office.asked', {command: say(`command.${name}`), given: given.join(say('office.comma'))});
 }
 
 function commandForm(desk, name, listAgain) {
-  const [label, fields] = COMMANDS[name];
-  const made = fields();
-  const names = made.map(one => one.spec.name);
+  const fields = COMMANDS[name]();
+  const names = fields.map(one => one.spec.name);
   return form({
-    fields: made,
-    button: label,
+    fields,
+    button: say(`command.${name}`),
     isDanger: DANGERS.includes(name),
     clear: CLEARED.filter(one => names.includes(one)),
     async send(values) {
       const {body, faults} = bodyOf(name, values);
       if (faults) return {faults};
-      if (name === 'withdraw' && !await confirmed(WITHDRAWAL, 'Withdraw')) return 'kept';
-      const state = await desk.command(name, body, commandText(name, values));
+      if (name === 'withdraw' && !await confirmed(say('office.withdraw'), say('office.withdraw.yes'))) return 'kept';
+      const state = await desk.command(name, body, commandText(name, values, fields));
       if (state === 'done') await listAgain();
       return state;
     },
@@ -95,51 +102,56 @@ function commandForm(desk, name, listAgain) {
 }
 
 /** The listing of the policy, with what was typed to search it. */
-function listing({rows, text}) {
-  const names = new Map(rows.filter(row => row.kind === 'user').map(({cells}) => [cells.user, cells.name]));
-  const kinds = [['', 'All'], ...Object.entries(HEADS)];
-  const kind = h('select', {id: 'kind', change: show}, kinds.map(([value, label]) => h('option', {value}, label)));
-  const search = h('input', {id: 'search', type: 'search', autocomplete: 'off', input: show});
+function listing({rows, text}, names) {
+  const kinds = [['', say('office.all')], ...LISTED.map(name => [name, say(`listed.${name}`)])];
+  const kind = /** @type {HTMLSelectElement} */ (h('select', {id: 'kind', change: show}, kinds.map(([value, label]) => h('option', {value}, label))));
+  const search = /** @type {HTMLInputElement} */ (h('input', {id: 'search', type: 'search', autocomplete: 'off', input: show}));
   const listed = h('div', {});
-  const exact = h('pre', {tabindex: 0, 'aria-label': 'As the bank wrote it'}, text);
+  const exact = h('pre', {tabindex: 0, 'aria-label': say('exact')}, text);
 
   function tableOf(one) {
     const wanted = search.value.trim().toLowerCase();
     const found = rows.filter(row => row.kind === one).map(({cells}) => cellsOf(one, cells, names))
       .filter(cells => cells.some(cell => String(cell).toLowerCase().includes(wanted)));
-    return found.length === 0 ? null : table(`${HEADS[one]} (${found.length})`, COLUMNS[one], found);
+    const caption = say('office.caption', {kind: say(`listed.${one}`), count: found.length});
+    return found.length === 0 ? null : table(caption, columnsOf(COLUMNS[one]), found);
   }
   function show() {
-    const shown = Object.keys(HEADS).filter(one => kind.value === '' || kind.value === one);
-    listed.replaceChildren(...shown.map(tableOf).filter(Boolean));
+    const shown = LISTED.filter(one => kind.value === '' || kind.value === one);
+    listed.replaceChildren(...shown.map(tableOf).filter(one => one !== null));
   }
   show();
-  const tools = h('div', {class: 'tools'}, h('label', {for: 'kind'}, 'Show'), kind, h('label', {for: 'search'}, 'that has'), search,
-    exactToggle(listed, exact), button('Print', () => print()));
+  const tools = h('div', {class: 'tools'}, h('label', {for: 'kind'}, say('show')), kind, h('label', {for: 'search'}, say('office.search')), search,
+    exactToggle(listed, exact), button(say('print'), () => print()));
   return [tools, h('div', {class: 'paper'}, listed, exact)];
 }
 
-async function make(desk) {
+async function make(/** @type {Desk} */ desk) {
   const paper = h('div', {class: 'results'});
   const holder = h('div', {});
-  const commands = Object.entries(COMMANDS).map(([name, [label]]) => h('option', {value: name}, label));
-  const which = h('select', {id: 'command', change: choose}, commands);
+  const commands = Object.keys(COMMANDS).map(name => h('option', {value: name}, say(`command.${name}`)));
+  const which = /** @type {HTMLSelectElement} */ (h('select', {id: 'command', change: choose}, commands));
 
   async function list() {
-    const found = await desk.ask('policy', null, 'Listing of the policy', ({text}) => ({rows: readPolicy(text), text}));
-    paper.replaceChildren(...(found ? listing(found) : []));
+    const found = await desk.ask('policy', null, say('asked.policy'), ({text}) => ({rows: readPolicy(text), text}));
+    if (!found) return paper.replaceChildren();
+    const pairs = found.rows.filter(row => row.kind === 'user').map(({cells}) => [cells.user, cells.name]);
+    await desk.keepNames(pairs);
+    return paper.replaceChildren(...listing(found, new Map(pairs)));
   }
   function choose() {
     const listAgain = async () => { if (paper.childElementCount > 0) await list(); };
     holder.replaceChildren(commandForm(desk, which.value, listAgain).element);
   }
   choose();
-  const listButton = button('Show the listing', () => {
+  const listButton = button(say('office.list'), () => {
     outcome.clear();
     list();
   });
-  const head = h('div', {class: 'row'}, h('div', {class: 'field'}, h('label', {for: 'command'}, 'Command'), which), listButton);
-  return {elements: [head, h('div', {class: 'row'}, holder), paper], focus: () => which.focus()};
+  const lead = h('p', {class: 'lead'}, say(desk.allowed.policy === false ? 'office.blind' : 'office.lead'));
+  const pick = h('div', {class: 'field', 'data-name': 'command'}, h('label', {for: 'command'}, say('office.command')), which);
+  return {elements: [lead, h('div', {class: 'row'}, pick, listButton), h('div', {class: 'row'}, holder), paper], focus: () => which.focus()};
 }
 
-export default {id: 'policy', key: 'o', label: 'Office', title: 'Office: who may do what', isWide: true, make};
+/** @type {DeskScreen} */
+export default {id: 'policy', key: 'o', hasTitle: true, isWide: true, asks: ['policy', 'command'], make};

@@ -1,11 +1,11 @@
 import {form} from '../form.js';
-import {account, amount, release} from '../fields.js';
+import {account, amount, release, amountText} from '../fields.js';
 import {wayField} from '../ways.js';
 import {showAmount} from '../amounts.js';
 import {say} from '../words.js';
 
 /** Where no drawer is named, that has to come first: another screen, and the state that a form gets. */
-export function lacksDrawer(desk, screen) {
+export function lacksDrawer(/** @type {Desk} */ desk, /** @type {string} */ screen) {
   if (desk.place.branch !== null && desk.place.teller !== null) return null;
   location.hash = `session?lacks=drawer&then=${screen}`;
   return 'lacks drawer';
@@ -19,7 +19,7 @@ function buttonOf({way, amount: cents}) {
 
 function sentence({way, account: of, amount: cents}) {
   if (of === null && cents === null) return '';
-  return say(way === null ? 'post.reads.none' : `post.reads.${way}`, {account: of ?? '…', amount: cents === null ? '…' : showAmount(cents)});
+  return say(`post.reads.${way ?? 'none'}`, {account: of, amount: amountText(cents)});
 }
 
 async function make(desk, {given}) {
@@ -36,4 +36,5 @@ async function make(desk, {given}) {
   return {elements: post.element, focus: () => post.fields.account.input.focus()};
 }
 
-export default {id: 'post', key: 'p', label: 'Deposit, withdrawal', make};
+/** @type {DeskScreen} */
+export default {id: 'post', key: 'p', asks: ['post'], make};

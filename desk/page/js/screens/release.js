@@ -3,54 +3,60 @@ import {form} from '../form.js';
 import {field, account, amount, branchField, amountText} from '../fields.js';
 import {wayField} from '../ways.js';
 import {operationOf} from '../released.js';
+import {nameOf} from '../names.js';
+import {say} from '../words.js';
 
-const LEAD = 'It is valid for exactly this, today, for this colleague alone, once. They send it with the number that you pass on.';
-
-/** The operations that can be released: each with its name at the counter and the fields that it has beside the branch. */
+/** The operations that can be released, each with the fields that it has beside the branch. */
 const RELEASED = {
-  'post': ['Deposit, withdrawal', ['teller', 'way', 'account', 'amount']],
-  'transfer': ['Transfer', ['teller', 'source', 'target', 'amount']],
-  'correct': ['Correct an entry', ['teller', 'entry', 'account', 'way', 'amount', 'other']],
-  'drawer-on': ['Put a drawer on', ['teller', 'cash']],
-  'move-cash': ['Move cash', ['from', 'to', 'cash']],
+  'post': ['teller', 'way', 'account', 'amount'],
+  'transfer': ['teller', 'source', 'target', 'amount'],
+  'correct': ['teller', 'entry', 'account', 'way', 'amount', 'other'],
+  'drawer-on': ['teller', 'cash'],
+  'move-cash': ['from', 'to', 'cash'],
 };
-
-const PROCEDURES = Object.entries(RELEASED).map(([name, [label]]) => [name, label]);
 
 function fieldsOf(desk) {
   const place = (name, label) => field({name, label, kind: 'number', least: 0});
+  const procedures = Object.keys(RELEASED).map(name => [name, say(`procedure.${name}`)]);
   return [
-    field({name: 'beneficiary', label: 'User number of the colleague', kind: 'number', most: 9999}),
-    field({name: 'procedure', label: 'What they may do', kind: 'pick', options: PROCEDURES}),
+    field({name: 'beneficiary', label: say('release.user'), kind: 'number', most: 9999}),
+    field({name: 'procedure', label: say('release.what'), kind: 'pick', options: procedures}),
     branchField(desk),
-    field({name: 'teller', label: 'Their drawer', kind: 'number'}),
-    field({name: 'entry', label: 'Number of the entry', kind: 'number'}),
+    field({name: 'teller', label: say('release.drawer'), kind: 'number'}),
+    field({name: 'entry', label: say('correct.entry'), kind: 'number'}),
     wayField(),
-    account(), account({name: 'source', label: 'From account'}), account({name: 'target', label: 'To account'}),
-    account({name: 'other', label: 'Other account', hint: 'If it was a transfer', optional: true}),
-    place('from', 'From drawer, 0 for the vault'), place('to', 'To drawer, 0 for the vault'),
-    amount(), amount({name: 'cash', label: 'Cash', least: 0, most: 999999999}),
+    account(), account({name: 'source', label: say('transfer.from')}), account({name: 'target', label: say('transfer.to')}),
+    account({name: 'other', label: say('correct.other'), hint: say('release.other.hint'), optional: true}),
+    place('from', say('release.from')), place('to', say('release.to')),
+    amount(), amount({name: 'cash', label: say('drawer.cash'), least: 0, most: 999999999}),
   ];
+}
+
+/** What would be given, once it is known to whom. */
+function sentence({beneficiary, procedure, amount: cents, cash}) {
+  if (beneficiary === null) return '';
+  const amountOf = amountText(RELEASED[procedure].includes('cash') ? cash : cents);
+  return say('release.reads', {user: nameOf(beneficiary), what: say(`procedure.${procedure}`), amount: amountOf});
 }
 
 async function make(desk) {
   const given = form({
     fields: fieldsOf(desk),
-    button: 'Give the release',
+    button: say('release.button'),
     isBeside: true,
     clear: ['way', 'account', 'source', 'target', 'amount', 'cash', 'entry', 'other'],
-    reads: ({beneficiary, procedure, amount: cents, cash}) => (beneficiary === null ? ''
-      : `User ${beneficiary} may do this once, today: ${amountText(RELEASED[procedure][1].includes('cash') ? cash : cents)}`),
+    reads: sentence,
     send: ({beneficiary, ...values}) => desk.act('release', {beneficiary, operation: operationOf(values)}),
   });
   const pick = given.fields.procedure.input;
   const fit = () => {
-    const shown = ['beneficiary', 'procedure', 'branch', ...RELEASED[pick.value][1]];
+    const shown = ['beneficiary', 'procedure', 'branch', ...RELEASED[pick.value]];
     for (const [name, one] of Object.entries(given.fields)) one.row.hidden = !shown.includes(name);
   };
   pick.addEventListener('change', fit);
   fit();
-  return {elements: [h('p', {class: 'lead'}, LEAD), given.element], focus: given.focus};
+  return {elements: [h('p', {class: 'lead'}, say('release.lead')), given.element], focus: given.focus};
 }
 
-export default {id: 'release', key: 'r', label: 'Give a release', title: 'Release for a colleague', make};
+/** @type {DeskScreen} */
+export default {id: 'release', key: 'r', hasTitle: true, asks: ['release'], make};

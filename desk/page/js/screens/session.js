@@ -2,9 +2,8 @@ import {h, button} from '../dom.js';
 import {form} from '../form.js';
 import {field} from '../fields.js';
 import {confirmed} from '../dialog.js';
+import {say} from '../words.js';
 import * as outcome from '../outcome.js';
-
-const HINT = 'Leave it empty if you work without one';
 
 /** Whether a drawer was put on in these rows and not off since. */
 function leavesDrawerOn(rows) {
@@ -13,29 +12,49 @@ function leavesDrawerOn(rows) {
 }
 
 function signOutButton(desk, again) {
-  return button('Sign out', async () => {
-    const question = await desk.waits() ? 'A request of yours still waits. Sign out all the same?'
-      : leavesDrawerOn(await desk.rows()) ? 'Your drawer is still on. Sign out all the same?' : null;
-    if (question && !await confirmed(question, 'Sign out')) return;
+  return button(say('signOut'), async () => {
+    const question = await desk.waits() ? say('signOut.waits') : leavesDrawerOn(await desk.rows()) ? say('signOut.drawer') : null;
+    if (question && !await confirmed(question, say('signOut'))) return;
     const reply = await desk.end();
     await again();
-    if (desk.session) outcome.unanswered(reply, 'You are still signed in.');
-    else outcome.answered('Signed out', reply.status === 200 ? 'Session ended' : 'Session was over', String(reply.body.ended ?? ''));
+    if (desk.session) outcome.unanswered(reply, say('signOut.still'));
+    else outcome.answered(say('signOut.done'), say(reply.status === 200 ? 'signOut.ended' : 'signOut.over'), String(reply.body.ended ?? ''));
   });
 }
 
-async function make(desk, {given, changed, again, signIn}) {
+/**
+ * What is wrong with a branch and a drawer by the proof of that branch, or null: where the bank shows no proof to this user nobody
+ * can say. One that was shown the proof of another branch may work here all the same, once they say so again.
+ */
+async function faultsOf(/** @type {Desk} */ desk, {branch, teller}, isSure) {
+  let rule = null;
+  const proof = await desk.quietProof(branch, reply => { rule = reply.body?.rule ?? null; });
+  if (proof && teller !== null && !proof.tellers.some(one => one.teller === teller)) return {teller: say('session.noDrawer', {branch, teller})};
+  if (rule === 6) return {branch: say('session.noBranch', {branch})};
+  return rule !== null && desk.allowed.proof === true && !isSure ? {branch: say('session.hidden', {branch})} : null;
+}
+
+async function make(/** @type {Desk} */ desk, {given, changed, again, signIn}) {
   const {branch, teller} = desk.place;
+  let warned = null; // the place that nothing is shown of, which was said
 
   async function sent(values) {
-    await desk.setPlace(values);
-    if (!desk.session) {
+    const isBegun = !desk.session;
+    if (isBegun) {
       const hasWaited = await desk.waits();
       if (!await signIn()) return null;
-      if (hasWaited) return again(); // what comes of it is shown here, and belongs to the shift before
-      if (!leavesDrawerOn(await desk.rows())) await desk.beginShift();
-      outcome.answered('Signed in', 'Session', String(desk.session), 'It stays open until you sign out, or sign in elsewhere.');
+      if (hasWaited) {
+        await desk.setPlace(values);
+        return again(); // what comes of it is shown here, and belongs to the shift before
+      }
     }
+    const faults = await faultsOf(desk, values, warned === values.branch);
+    if (faults) {
+      warned = values.branch;
+      return {faults};
+    }
+    await desk.setPlace(values);
+    if (isBegun && !leavesDrawerOn(await desk.rows())) await desk.beginShift();
     changed();
     const then = given.get('then') ?? 'post';
     const isDrawerFirst = teller === null && values.teller !== null;
@@ -45,17 +64,18 @@ async function make(desk, {given, changed, again, signIn}) {
 
   const begin = form({
     fields: [
-      field({name: 'branch', label: 'Branch', kind: 'number', value: branch ?? ''}),
-      field({name: 'teller', label: 'Drawer', kind: 'number', value: teller ?? '', optional: true, hint: HINT}),
+      field({name: 'branch', label: say('branch'), kind: 'number', value: branch ?? ''}),
+      field({name: 'teller', label: say('drawer.number'), kind: 'number', value: teller ?? '', optional: true, hint: say('session.hint')}),
     ],
-    button: desk.session ? 'Work here' : 'Sign in',
+    button: say(desk.session ? 'session.here' : 'signIn'),
     send: sent,
   });
-  const state = desk.session ? `, at work in session ${desk.session}.` : ', and not signed in.';
-  const place = given.get('lacks') === 'drawer' ? 'branch and drawer' : 'branch';
-  const lead = h('p', {class: 'lead', role: 'alert'}, `Nothing was sent. Say first at which ${place} you work.`);
-  const elements = [given.has('lacks') ? lead : null, h('p', {class: 'who'}, 'You are ', h('strong', {}, desk.badge), state), begin.element];
+  const lacks = given.get('lacks');
+  const lead = lacks ? h('p', {class: 'lead', role: 'alert'}, say(lacks === 'drawer' ? 'session.lacks.drawer' : 'session.lacks.branch')) : null;
+  const who = desk.session ? say('session.at', {badge: desk.badge, session: desk.session}) : say('session.none', {badge: desk.badge});
+  const elements = [lead, h('p', {class: 'who'}, who), begin.element];
   return {elements: desk.session ? [...elements, signOutButton(desk, again)] : elements, focus: begin.focus};
 }
 
-export default {id: 'session', key: 'i', label: 'Sign in and out', make};
+/** @type {DeskScreen} */
+export default {id: 'session', key: 'i', asks: [], make};

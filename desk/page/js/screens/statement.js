@@ -2,15 +2,18 @@ import {h, table, button, exactToggle, refocus} from '../dom.js';
 import {form} from '../form.js';
 import {field, account} from '../fields.js';
 import {showAmount, showChange} from '../amounts.js';
-import {showTime} from '../dates.js';
+import {now, showTime} from '../dates.js';
 import {readStatement} from '../reports.js';
+import {canCorrect, knownEntries, lastClosing} from '../known-entries.js';
 import {lastTurn, LINES_PER_PAGE} from '../last-turn.js';
+import {say} from '../words.js';
 import * as outcome from '../outcome.js';
 
 class Stopped extends Error {}
 
-const COLUMNS = [
-  ['No.', 'n'], ['When', ''], ['Amount', 'n'], ['Balance', 'n'], ['Branch', 'n'], ['Entry', 'n'], ['Drawer', 'n'], ['Correct', 'screen'],
+const columns = () => [
+  [say('column.turn'), 'n'], [say('column.time'), ''], [say('amount'), 'n'], [say('column.balance'), 'n'], [say('branch'), 'n'],
+  [say('correct.entry'), 'n'], [say('drawer.number'), 'n'], [say('column.mark'), ''], [say('column.correct'), 'screen'],
 ];
 
 /** Reads lines of an account's statement; `isCurrent` says whether they are still wanted. */
@@ -48,40 +51,56 @@ async function lastLines(desk, of, wanted, read, progress) {
   return rows;
 }
 
-function correctLink(of, row) {
-  const way = row.delta < 0 ? 'out' : 'in';
-  const href = `#correct?entry=${row.entry}&account=${of}&way=${way}&amount=${showAmount(Math.abs(row.delta))}&drawer=${row.teller}`;
-  return h('a', {href, 'aria-label': `Correct entry ${row.entry}`}, 'Correct');
+/** The screen that corrects a line, filled in with all that is known of its entry. */
+function correctLink(of, row, found) {
+  const given = new URLSearchParams({
+    entry: row.entry, account: of, way: row.delta < 0 ? 'out' : 'in', amount: showAmount(Math.abs(row.delta)), drawer: row.teller,
+  });
+  if (found?.kind) given.set('kind', found.kind);
+  if (found?.other) given.set('other', found.other);
+  return h('a', {href: `#correct?${given}`, 'aria-label': say('statement.correct', {entry: row.entry})}, say('column.correct'));
 }
 
-function paperOf(of, rows, earlier) {
+/** What is known of a line's entry, as a text. */
+function markOf(found) {
+  if (!found) return '';
+  if (found.kind === 'correction') return say('mark.correction');
+  if (found.isCorrected) return say('mark.corrected');
+  return found.other ? say(`mark.${found.kind}`, {account: found.other}) : '';
+}
+
+function paperOf(desk, of, rows, journal, earlier) {
   const [first, last] = [rows[0], rows.at(-1)];
-  const range = last ? `entries ${first.turn} to ${last.turn}, balance ${showAmount(last.balance)}` : 'no entry yet';
-  const cells = rows.map(row => [
-    row.turn, showTime(row.moment * 1000), showChange(row.delta), showAmount(row.balance), row.branch, row.entry, row.teller,
-    correctLink(of, row),
-  ]);
-  const readable = table(`Account ${of}: ${range}, ${showTime(Date.now())}`, COLUMNS, cells, {class: 'statement'});
-  const exact = h('div', {}, h('p', {class: 'head'}, readable.caption.textContent),
-    h('pre', {tabindex: 0, 'aria-label': 'As the bank wrote it'}, rows.map(row => `${row.line}\n`).join('')));
+  const values = {account: of, first: first?.turn, last: last?.turn, balance: last ? showAmount(last.balance) : '', time: showTime(now())};
+  const known = knownEntries(journal, desk.badge);
+  const cells = rows.map(row => {
+    const found = known.get(`${row.branch} ${row.entry}`);
+    const isOpen = canCorrect(row, known, desk.place, lastClosing(journal, row.branch), now());
+    return [row.turn, showTime(row.moment * 1000), showChange(row.delta), showAmount(row.balance), row.branch, row.entry, row.teller,
+      markOf(found), isOpen ? correctLink(of, row, found) : ''];
+  });
+  const caption = say(last ? 'statement.caption' : 'statement.empty', values);
+  const readable = table(caption, columns(), cells, {class: 'statement'});
+  const exact = h('div', {}, h('p', {class: 'head'}, caption),
+    h('pre', {tabindex: 0, 'aria-label': say('exact')}, rows.map(row => `${row.line}\n`).join('')));
   const toggle = exactToggle(readable, exact);
-  const more = first?.turn > 1 ? button('Earlier ones, too', earlier) : null;
-  return [h('div', {class: 'tools'}, button('Print', () => print()), toggle, more), h('div', {class: 'paper'}, readable, exact)];
+  const more = first?.turn > 1 ? button(say('statement.earlier'), earlier) : null;
+  return [h('div', {class: 'tools'}, button(say('print'), () => print()), toggle, more), h('div', {class: 'paper'}, readable, exact)];
 }
 
 /** How many lines are there by now, with a button that ends the reading. */
 function makeProgress(stopped) {
-  const bar = h('progress', {'aria-label': 'Lines read'});
-  const text = h('span', {role: 'status'}, 'Looking for the last entry');
-  const stop = button('Stop', stopped);
+  const bar = /** @type {HTMLProgressElement} */ (h('progress', {'aria-label': say('statement.progress')}));
+  const text = h('span', {role: 'status'}, say('statement.looking'));
+  const stop = button(say('statement.stop'), stopped);
   const show = (count, all) => {
     [bar.max, bar.value] = [all, count];
-    text.textContent = `${count} of ${all} lines`;
+    text.textContent = say('statement.lines', {read: count, count: all});
   };
   return {element: h('div', {class: 'progress'}, bar, text, stop), stop, show};
 }
 
-async function make(desk, {given}) {
+async function make(/** @type {Desk} */ desk, {given}) {
   const paper = h('div', {class: 'results'});
   let asked = 0;
 
@@ -99,13 +118,13 @@ async function make(desk, {given}) {
     let isNoted = false;
     const read = readerOf(desk, of, () => mine === asked);
     const noting = (start, count) => {
-      const note = isNoted ? null : `Statement of account ${of}`;
+      const note = isNoted ? null : say('asked.statement', {account: of});
       isNoted = true;
       return read(start, count, note);
     };
     try {
       const rows = await lastLines(desk, of, wanted, noting, progress.show);
-      paper.replaceChildren(...paperOf(of, rows, () => show(of, wanted * 5)));
+      paper.replaceChildren(...paperOf(desk, of, rows, await desk.allRows(), () => show(of, wanted * 5)));
       refocus(paper.querySelector('button'));
       return 'done';
     } catch (error) {
@@ -115,13 +134,14 @@ async function make(desk, {given}) {
     }
   }
 
-  const options = [['20', 'The last 20'], ['100', 'The last 100'], ['Infinity', 'All']];
+  const options = [['20', say('statement.last', {count: 20})], ['100', say('statement.last', {count: 100})], ['Infinity', say('statement.all')]];
   const ask = form({
-    fields: [account({value: given.get('account') ?? ''}), field({name: 'which', label: 'Entries', kind: 'pick', value: '20', options})],
-    button: 'Show',
+    fields: [account({value: given.get('account') ?? ''}), field({name: 'which', label: say('statement.which'), kind: 'pick', value: '20', options})],
+    button: say('show'),
     send: ({account: of, which}) => show(of, Number(which)),
   });
   return {elements: [h('div', {class: 'row'}, ask.element), paper], focus: ask.focus};
 }
 
-export default {id: 'statement', key: 's', label: 'Statement', isWide: true, make};
+/** @type {DeskScreen} */
+export default {id: 'statement', key: 's', isWide: true, asks: ['statement'], make};

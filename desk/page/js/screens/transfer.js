@@ -1,16 +1,17 @@
 import {form} from '../form.js';
-import {account, amount, release, amountText, numberText} from '../fields.js';
+import {account, amount, release, amountText} from '../fields.js';
 import {lacksDrawer} from './post.js';
+import {say} from '../words.js';
 
 async function make(desk) {
   const transfer = form({
-    fields: [account({name: 'source', label: 'From account'}), account({name: 'target', label: 'To account'}), amount(), release()],
-    button: 'Send',
+    fields: [account({name: 'source', label: say('transfer.from')}), account({name: 'target', label: say('transfer.to')}), amount(), release()],
+    button: say('transfer.button'),
     clear: ['source', 'target', 'amount', 'release'],
     reads: ({source, target, amount: cents}) => (source === null && cents === null ? ''
-      : `${amountText(cents)} from account ${numberText(source)} to account ${numberText(target)}`),
+      : say('transfer.reads', {amount: amountText(cents), source, target})),
     async send({source, target, amount: cents, release: by}) {
-      if (source === target) return {faults: {target: 'That is the same account.'}};
+      if (source === target) return {faults: {target: say('fault.sameAccount')}};
       const {branch, teller} = desk.place;
       return lacksDrawer(desk, 'transfer') ?? desk.act('transfer', {amount: cents, branch, source, target, teller}, by);
     },
@@ -18,4 +19,5 @@ async function make(desk) {
   return {elements: transfer.element, focus: transfer.focus};
 }
 
-export default {id: 'transfer', key: 't', label: 'Transfer', make};
+/** @type {DeskScreen} */
+export default {id: 'transfer', key: 't', asks: ['transfer'], make};

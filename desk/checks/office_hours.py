@@ -1,0 +1,157 @@
+"""What the page says above all screens, and to whom it shows which: certificates, clocks, rest, places, paper."""
+import re
+from datetime import datetime, timedelta, timezone
+
+from selenium.webdriver.common.keys import Keys
+
+from branches import require
+from day import amount_of, has
+
+IN_VIEW = "const b = document.querySelector('#work form button[type=submit]').getBoundingClientRect(); return [b.top >= 0, b.bottom <= innerHeight]"
+# Labels of a drawing that begin left of it.
+CUT_LABELS = "return [...document.querySelectorAll('.chart text')].filter(e => e.getBBox().x < 0).map(e => e.textContent)"
+POINTS_PER_MM = 72 / 25.4
+
+
+def refused_certificate(day):
+    """Whose certificate was revoked gets a page in plain words from the front."""
+    desk = day.desk
+    day.relay.card = "lost"
+    desk.driver.get("about:blank")
+    desk.driver.get(desk.url)
+    has(desk.until(lambda: desk.text("body"), "a page"), "This certificate is not accepted", "Dieses Zertifikat", "see whoever makes")
+    day.relay.card = "tess"
+
+
+def certificate_that_ends(day):
+    """From thirty days on before a certificate ends the page says so, and from seven days on more plainly."""
+    desk = day.desk
+    desk.as_user("tess")
+    require(desk.text("#notices"), "", "a certificate that lasts")
+    for days, kind, text in ((29, "notice", "Ask for another."), (6, "notice urgent", "After that you can't work")):
+        last = datetime.now(timezone.utc) + timedelta(days=days, hours=1)
+        reply = f'{{"badge":"tess","ends":"{last:%b %d %H:%M:%S %Y} GMT"}}'.encode()
+        day.relay.before = lambda path, _, found=reply: (200, "application/json", found) if path == "/who" else None
+        desk.load()
+        has(desk.until(lambda: desk.text("#notices"), "a notice"), f"in {days} days", text)
+        require(desk.js("return document.querySelector('#notices p').className"), kind, "how plainly")
+        day.look(f"certificate-{days}")
+    day.relay.calm()
+
+
+def clock_that_is_wrong(day):
+    """A machine's clock that differs from the front's is said, and a receipt bears the front's time."""
+    desk = day.desk
+    day.relay.seconds_ahead = 3 * 86400
+    desk.as_user("tess", "#post")
+    has(desk.until(lambda: desk.text("#notices"), "a notice"), "clock is slow")
+    desk.enter(way="in", account=101, amount="0.03")
+    there = datetime.now() + timedelta(days=3)
+    text = printed(day, lambda: desk.keys_after_escape("k"))
+    has(text, f"{there:%b} {there.day}, {there.year}")
+    day.relay.calm()
+    desk.load("#post")
+    desk.until(lambda: not desk.text("#notices"), "no notice")
+
+
+def printed(day, action):
+    """What is on the paper that an action prints, whose width is measured, too."""
+    desk = day.desk
+    desk.js("window.print = () => { window.printed = document.getElementById('receipt').textContent; }; window.printed = null")
+    action()
+    text = desk.until(lambda: desk.js("return window.printed"), "a receipt")
+    if hasattr(desk.driver, "execute_cdp_cmd"):
+        path = day.folder / "receipt.pdf"
+        desk.paper(path)
+        box = re.search(rb"/MediaBox ?\[ ?0 0 ([0-9.]+) ([0-9.]+)", path.read_bytes())
+        require(abs(float(box[1]) - 72 * POINTS_PER_MM) < 2, True, f"the paper is 72 mm wide: {box[0]}")
+    desk.js("dispatchEvent(new Event('afterprint'))")
+    return text
+
+
+def kept_meanwhile(day):
+    """A balance in the midst of a deposit: what was typed is there again, and the last receipt can be printed all the while."""
+    desk = day.desk
+    desk.load("#post")
+    desk.enter(way="in", account=101, amount="0.04")
+    desk.fill(way="out", account="102", amount="3.00")
+    desk.go("b", "Balance")
+    has(desk.enter(account=101), amount_of(day.balance(101)))
+    has(printed(day, lambda: desk.keys_after_escape("k")), "Deposit", "Amount0.04", "Receipt no.", "Signature", "EUR")
+    desk.go("p", "Deposit, withdrawal")
+    found = [desk.value("account"), desk.value("amount"), desk.text("#work button[type=submit]")]
+    require(found, ["102", "3.00", "Pay out 3.00"], "what was typed")
+    desk.enter(account=102, amount="3.00")
+    desk.go("b", "Balance")
+    desk.go("p", "Deposit, withdrawal")
+    require((desk.value("account"), desk.text("#work button[type=submit]")), ("", "Choose deposit or withdrawal"), "after it was sent")
+
+
+def place_that_is_not_there(day):
+    """Who may see the proof of a branch finds out at once that a drawer is not there, and that a branch is one that they are shown nothing of."""
+    desk = day.desk
+    desk.as_user("sue", "#session")
+    desk.send(branch="1", teller="99")
+    desk.fault("Branch 1 has no drawer 99")
+    desk.send(branch="9", teller="")
+    desk.fault("shows you nothing of branch 9")
+    desk.send(branch="1", teller="")
+    desk.until_text("h1", "Deposit, withdrawal")
+
+
+def screens_step_back(day):
+    """A screen whose requests the bank refuses this user, whatever is named, steps back in the menu; its letter still leads there."""
+    desk = day.desk
+    desk.as_user("tess")
+    offered = "#menu > ul a"
+    require([it for it in desk.texts(offered) if "Close the day" in it or "Transfer" in it], [], "what Tess was refused")
+    require(any("Deposit" in it for it in desk.texts(offered)), True, "what Tess may do")
+    desk.go("t", "Transfer")
+    require(any("Transfer" in it.text for it in desk.all("#menu details a")), True, "the screen, stepped back")
+    desk.as_user("sue")
+    require(any("Close the day" in it for it in desk.texts(offered)), True, "what Sue may do")
+
+
+def rest(day):
+    """After minutes of rest, here of seconds, the page is covered until Enter is pressed with the same card in."""
+    desk = day.desk
+    day.relay.swaps = {"/js/settings.js": (b"LOCK_MINUTES = 10;", b"LOCK_MINUTES = 0.02;")}
+    desk.as_user("tess", "#post")
+    desk.fill(account="101")
+    desk.until_text("dialog.cover", "Locked")
+    require(desk.js("return getComputedStyle(document.getElementById('work')).visibility"), "hidden", "the work while it is locked")
+    desk.keys(Keys.ESCAPE)
+    desk.until_text("dialog.cover", "Locked")
+    day.relay.before = lambda path, _: (502, "text/html", b"") if path == "/who" else None
+    desk.keys(Keys.ENTER)
+    desk.until_text("dialog.cover", "Nothing answers")
+    day.relay.calm()
+    desk.keys(Keys.ENTER)
+    desk.until(lambda: not desk.js("return document.querySelector('.cover')") and desk.value("account") == "101", "the work again")
+    desk.until_text("dialog.cover", "Locked")
+    day.relay.card = "tom"
+    desk.keys(Keys.ENTER)
+    desk.until(lambda: "tom" in desk.text("header"), "Tom's page, and not Tess's")
+    day.relay.swaps = {}
+    desk.as_user("tess")
+
+
+def screen_of_a_laptop(day):
+    """At 1366x768 the button of a count is seen, by keys it is sent from any field, and labels of the drawing are whole."""
+    desk = day.desk
+    desk.size(1366, 768)
+    desk.as_user("tess", "#drawer")
+    desk.until(lambda: desk.all("#cash-typed"), "the count")
+    require(desk.js(IN_VIEW), [True, True], "the button is seen")
+    day.look("drawer-1366")
+    desk.size(1280, 800)
+    before = day.asked()
+    desk.keys(Keys.NUMPAD1, Keys.ENTER) # one note of the largest, and on
+    require(desk.js("return document.activeElement.ariaLabel"), "How many of 200.00", "the next after Enter")
+    desk.js("document.activeElement.value = 'x'")
+    desk.keys(Keys.CONTROL + Keys.ENTER)
+    desk.fault("200.00: Only digits")
+    require(day.asked(), before, "requests of a wrong count")
+    desk.load("#journal")
+    desk.until(lambda: desk.all("#work h1"), "the journal")
+    require(desk.js(CUT_LABELS), [], "labels that are cut")

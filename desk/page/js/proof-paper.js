@@ -1,0 +1,33 @@
+// The proof of a branch as tables, with what has to agree in it.
+import {h, table, button, exactToggle} from './dom.js';
+import {showAmount} from './amounts.js';
+import {checksOf} from './reports.js';
+import {nameOf} from './names.js';
+import {say} from './words.js';
+
+/** The sums of a proof as the bank names them, in its order, each with its key. */
+const SUMS = {
+  'TELLERS TOTAL': 'proof.tellers', 'BRANCH BALANCE': 'proof.balance', 'HISTORY TOTAL': 'proof.history', 'OPENING BALANCE': 'proof.opening',
+  'VAULT CASH': 'proof.vault', 'DRAWER CASH': 'proof.drawers', 'OPENING CASH': 'proof.openingCash', 'CASH ENTRIES': 'proof.cashEntries',
+  'DIFFERENCES': 'proof.differences',
+};
+
+/** The checks of a proof, and the drawers that keep the day from being closed. */
+export function checkList(proof) {
+  const on = proof.tellers.filter(teller => teller.holder !== 0);
+  return h('ul', {class: 'checks'},
+    checksOf(proof).map(([agrees, what]) => h('li', {class: agrees ? 'agrees' : 'differs'}, say(`${what}.${agrees ? 'agrees' : 'differs'}`))),
+    on.map(({teller, holder}) => h('li', {class: 'differs'}, say('proof.held', {teller, user: nameOf(holder)}))),
+    on.length === 0 ? h('li', {class: 'agrees'}, say('proof.free')) : null);
+}
+
+/** A proof on paper; `caption` says of which branch and day, and when it was asked for by whom. */
+export function proofPaper(proof, /** @type {string} */ text, /** @type {string} */ caption) {
+  const tellers = proof.tellers.map(({teller, balance, cash, holder}) => [teller, showAmount(balance), showAmount(cash), holder === 0 ? '' : nameOf(holder)]);
+  const sums = Object.entries(SUMS).map(([name, key]) => [say(key), showAmount(proof.sums[name])]);
+  const readable = h('div', {}, h('p', {class: 'head'}, caption),
+    table(say('proof.drawersTable'), [[say('drawer.number'), 'n'], [say('column.balance'), 'n'], [say('drawer.cash'), 'n'], [say('column.holder'), '']], tellers),
+    table(say('proof.sumsTable'), [[say('column.sum'), ''], [say('amount'), 'n']], sums));
+  const exact = h('div', {}, h('p', {class: 'head'}, caption), h('pre', {tabindex: 0, 'aria-label': say('exact')}, text));
+  return [h('div', {class: 'tools'}, button(say('print'), () => print()), exactToggle(readable, exact)), h('div', {class: 'paper'}, readable, exact)];
+}
