@@ -107,7 +107,7 @@ def screens_step_back(day):
     require([it for it in desk.texts(offered) if "Close the day" in it or "Transfer" in it], [], "what Tess was refused")
     require(any("Deposit" in it for it in desk.texts(offered)), True, "what Tess may do")
     desk.go("t", "Transfer")
-    require(any("Transfer" in it.text for it in desk.all("#menu details a")), True, "the screen, stepped back")
+    require(any("Transfer" in it.text for it in desk.all("#menu details a")), True, "the screen, stepped back, is seen while it is shown")
     desk.as_user("sue")
     require(any("Close the day" in it for it in desk.texts(offered)), True, "what Sue may do")
 

@@ -34,7 +34,7 @@ export function mark(/** @type {string} */ id) {
     else one.removeAttribute('aria-current');
   }
   const details = menu.querySelector('details');
-  if (details && link(`#${id}`)?.closest('details')) details.open = true;
+  if (details) details.open = Boolean(link(`#${id}`)?.closest('details'));
 }
 
 /** The links that can be seen. */

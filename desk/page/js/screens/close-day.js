@@ -74,4 +74,4 @@ async function make(/** @type {Desk} */ desk, {given}) {
 }
 
 /** @type {DeskScreen} */
-export default {id: 'day', key: 'c', isWide: true, asks: ['proof', 'close-day'], make};
+export default {id: 'day', key: 'c', isWide: true, asks: ['proof'], make};
