@@ -90,7 +90,8 @@ class Relay(http.server.ThreadingHTTPServer):
 
     `before(path, body)` is called before a request is passed on, `after(path, status)` once its reply is there. Either may return
     a reply in place of the front's: status, type and bytes; then `before` keeps the request from it. `swaps` has texts of files
-    that are exchanged on their way, by path: (old, new). `seconds_ahead` is by how much the front's clock is ahead of the browser's.
+    that are exchanged on their way, by path: (old, new). `seconds_ahead` is by how much the front's clock is ahead of the
+    browser's.
     """
     daemon_threads = True
     request_queue_size = 128
@@ -150,7 +151,8 @@ class Handler(http.server.BaseHTTPRequestHandler):
             status, kind, text = changed
             fields = [("Content-Type", kind), ("Cache-Control", "no-store"), ("Date", self.date_time_string())]
         if relay.seconds_ahead:
-            fields = [(name, self.date_time_string(time.time() + relay.seconds_ahead) if name.lower() == "date" else value) for name, value in fields]
+            date = self.date_time_string(time.time() + relay.seconds_ahead)
+            fields = [(name, date if name.lower() == "date" else value) for name, value in fields]
         old, new = relay.swaps.get(path, (b"", b""))
         self.say(status, fields, text.replace(old, new) if old else text)
 

@@ -10,11 +10,12 @@ LANGUAGES = ["de", "es", "fr"]
 # The module of texts, with all in brackets, so that any other text is seen, and any that is glued of several.
 BRACKETS = (b"export const WORDS = {en, de, es, fr};", b"""
 const put = text => `\xe2\x9f\xa6${text}\xe2\x9f\xa7`;
-const marked = text => (typeof text === 'string' ? put(text) : Object.fromEntries(Object.entries(text).map(([form, each]) => [form, put(each)])));
-export const WORDS = {en: Object.fromEntries(Object.entries(en).map(([key, text]) => [key, /letter$/.test(key) ? text : marked(text)]))};
+const each = (texts, change) => Object.fromEntries(Object.entries(texts).map(([key, text]) => [key, change(text, key)]));
+const marked = (text, key) => (/letter$/.test(key) ? text : typeof text === 'string' ? put(text) : each(text, put));
+export const WORDS = {en: each(en, marked)};
 """)
-# Texts that are seen or read aloud and are no sentence in brackets. What is typed, a letter of a key, whose card is in, and what the
-# journal kept before are none.
+# Texts that are seen or read aloud and are no sentence in brackets. What is typed, a letter of a key, whose card is in, and what
+# the journal kept before are none.
 UNMARKED = """
 const wrong = [];
 const isSentence = text => {
@@ -29,7 +30,7 @@ while (walker.nextNode()) {
   if (!element.closest('kbd, dd, pre, noscript, script, .journal tbody')) look(textContent, element.tagName);
 }
 for (const element of document.querySelectorAll('[aria-label], [placeholder], [title]')) {
-  for (const name of ['aria-label', 'placeholder', 'title']) if (element.hasAttribute(name)) look(element.getAttribute(name), name);
+  for (const name of ['aria-label', 'placeholder', 'title']) look(element.getAttribute(name) ?? '', name);
 }
 look(document.title, 'title');
 return wrong;
@@ -48,7 +49,8 @@ import('/js/words.js').then(({WORDS, language}) => {
       work.replaceChildren(room);
       for (const element of room.children) {
         const {right} = element.getBoundingClientRect();
-        if (element.scrollWidth > element.clientWidth + 1 || right > innerWidth) wrong.push(`${key} as ${element.tagName}: ${sentence}`);
+        const isWide = element.scrollWidth > element.clientWidth + 1 || right > innerWidth;
+        if (isWide) wrong.push(`${key} as ${element.tagName}: ${sentence}`);
       }
     }
   }
@@ -59,14 +61,16 @@ import('/js/words.js').then(({WORDS, language}) => {
 
 def speak(day, language):
     """The branch's settings name a language."""
-    day.relay.swaps = {"/js/settings.js": (b"LANGUAGE = 'browser'", f"LANGUAGE = '{language}'".encode())} if language else {}
+    swap = (b"LANGUAGE = 'browser'", f"LANGUAGE = '{language}'".encode())
+    day.relay.swaps = {"/js/settings.js": swap} if language else {}
 
 
 def texts_are_words(day):
     """Each text of each screen is one sentence of the modules of texts."""
     desk = day.desk
     day.relay.swaps = {"/js/words.js": BRACKETS}
-    for badge, more in (("tess", ["post", "correct?entry=1&account=101&way=in&amount=1.00&drawer=11&kind=in"]), ("sue", []), ("olga", [])):
+    filled_in = "correct?entry=1&account=101&way=in&amount=1.00&drawer=11&kind=in"
+    for badge, more in (("tess", ["post", filled_in]), ("sue", []), ("olga", [])):
         desk.as_user(badge)
         for screen in [*SCREENS, *more]:
             name = screen.partition("?")[0]

@@ -55,7 +55,8 @@ def twice(day):
 
 
 def cash_of_a_correction(day):
-    """Tom's correction of Tess's deposit moved his drawer's cash. Tess is offered the move between both, and each holds its own again."""
+    """Tom's correction of Tess's deposit moved his drawer's cash. Tess is offered the move between both, and each holds its own
+    again."""
     desk, before = day.desk, [day.cash(11), day.cash(12)]
     has(desk.text("#work .lead"), "colleague")
     desk.as_user("tess", "#cash")
@@ -84,7 +85,7 @@ def kept_without_a_drawer(day):
 
 
 def count_that_differs(day):
-    """A count of 2,468.68 too much is asked about, with the difference, and not sent without a reason and a colleague's number."""
+    """A count of 2,468.68 too much is asked about, with the difference; it takes a reason and a colleague's number."""
     desk = day.desk
     desk.go("d", "Drawer on, off")
     cash, before = day.cash(11), day.asked()

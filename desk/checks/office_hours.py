@@ -7,7 +7,10 @@ from selenium.webdriver.common.keys import Keys
 from branches import require
 from day import amount_of, has
 
-IN_VIEW = "const b = document.querySelector('#work form button[type=submit]').getBoundingClientRect(); return [b.top >= 0, b.bottom <= innerHeight]"
+IN_VIEW = """
+const {top, bottom} = document.querySelector('#work form button[type=submit]').getBoundingClientRect();
+return [top >= 0, bottom <= innerHeight];
+"""
 # Labels of a drawing that begin left of it.
 CUT_LABELS = "return [...document.querySelectorAll('.chart text')].filter(e => e.getBBox().x < 0).map(e => e.textContent)"
 POINTS_PER_MM = 72 / 25.4
@@ -19,7 +22,8 @@ def refused_certificate(day):
     day.relay.card = "lost"
     desk.driver.get("about:blank")
     desk.driver.get(desk.url)
-    has(desk.until(lambda: desk.text("body"), "a page"), "This certificate is not accepted", "Dieses Zertifikat", "see whoever makes")
+    text = desk.until(lambda: desk.text("body"), "a page")
+    has(text, "This certificate is not accepted", "Dieses Zertifikat", "see whoever makes")
     day.relay.card = "tess"
 
 
@@ -84,11 +88,12 @@ def kept_meanwhile(day):
     desk.enter(account=102, amount="3.00")
     desk.go("b", "Balance")
     desk.go("p", "Deposit, withdrawal")
-    require((desk.value("account"), desk.text("#work button[type=submit]")), ("", "Choose deposit or withdrawal"), "after it was sent")
+    found = [desk.value("account"), desk.text("#work button[type=submit]")]
+    require(found, ["", "Choose deposit or withdrawal"], "after it was sent")
 
 
 def place_that_is_not_there(day):
-    """Who may see the proof of a branch finds out at once that a drawer is not there, and that a branch is one that they are shown nothing of."""
+    """Who may see the proof of a branch finds out at once that a drawer is not there, or that a branch is not shown to them."""
     desk = day.desk
     desk.as_user("sue", "#session")
     desk.send(branch="1", teller="99")
@@ -100,14 +105,15 @@ def place_that_is_not_there(day):
 
 
 def screens_step_back(day):
-    """A screen whose requests the bank refuses this user, whatever is named, steps back in the menu; its letter still leads there."""
+    """A screen whose requests the bank refuses this user, whatever is named, steps back; its letter still leads there."""
     desk = day.desk
     desk.as_user("tess")
     offered = "#menu > ul a"
     require([it for it in desk.texts(offered) if "Close the day" in it or "Transfer" in it], [], "what Tess was refused")
     require(any("Deposit" in it for it in desk.texts(offered)), True, "what Tess may do")
     desk.go("t", "Transfer")
-    require(any("Transfer" in it.text for it in desk.all("#menu details a")), True, "the screen, stepped back, is seen while it is shown")
+    seen = [it.text for it in desk.all("#menu details a")]
+    require(any("Transfer" in it for it in seen), True, "the screen, stepped back, is seen while it is shown")
     desk.as_user("sue")
     require(any("Close the day" in it for it in desk.texts(offered)), True, "what Sue may do")
 
@@ -119,7 +125,8 @@ def rest(day):
     desk.as_user("tess", "#post")
     desk.fill(account="101")
     desk.until_text("dialog.cover", "Locked")
-    require(desk.js("return getComputedStyle(document.getElementById('work')).visibility"), "hidden", "the work while it is locked")
+    visibility = desk.js("return getComputedStyle(document.getElementById('work')).visibility")
+    require(visibility, "hidden", "the work while it is locked")
     desk.keys(Keys.ESCAPE)
     desk.until_text("dialog.cover", "Locked")
     day.relay.before = lambda path, _: (502, "text/html", b"") if path == "/who" else None
@@ -127,7 +134,8 @@ def rest(day):
     desk.until_text("dialog.cover", "Nothing answers")
     day.relay.calm()
     desk.keys(Keys.ENTER)
-    desk.until(lambda: not desk.js("return document.querySelector('.cover')") and desk.value("account") == "101", "the work again")
+    desk.until(lambda: not desk.js("return document.querySelector('.cover')"), "the work again")
+    require(desk.value("account"), "101", "what was typed before")
     desk.until_text("dialog.cover", "Locked")
     day.relay.card = "tom"
     desk.keys(Keys.ENTER)

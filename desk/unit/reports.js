@@ -19,7 +19,7 @@ export function reports() {
   throws(() => readStatement(`STATEMENT ACCOUNT       101 FROM         1 LINES     2\n${LINE}`), 'a statement that is cut');
   throws(() => readStatement('<html>\n'), 'no statement');
   const accounts = readAccounts('ACCOUNTS AFTER         0 LINES     2\n      101         1         500.00\n      102         1           0.00\n');
-  same(accounts.map(({line, ...rest}) => rest), [{account: 101, home: 1, balance: 50000}, {account: 102, home: 1, balance: 0}], 'accounts');
+  same(accounts.map(({line: _line, ...rest}) => rest), [{account: 101, home: 1, balance: 50000}, {account: 102, home: 1, balance: 0}], 'accounts');
   const proof = readProof(PROOF);
   same([proof.day, proof.tellers[1], proof.sums['VAULT CASH']], [1, {teller: 12, balance: 0, cash: 5000, holder: 8}, 55000], 'proof');
   same(checksOf(proof).map(([agrees]) => agrees), [true, true, true], 'proof that agrees');

@@ -40,11 +40,11 @@ async function filled(screen, values) {
 }
 
 export async function newAccounts() {
-  for (const [overdraft, floor, shown] of [
+  for (const [overdraft, floor, least] of [
     ['0.00', 0, '0.00'], ['0.01', -1, '-0.01'], ['500', -50000, '-500.00'], ['9999999.99', -999999999, '-9,999,999.99'],
   ]) {
     const found = await filled(newAccount, {account: '103', branch: '1', overdraft});
-    same(found, [`Account 103 at branch 1, down to ${shown}`, ['new-account', {account: 103, branch: 1, floor}]], `an overdraft of ${overdraft}`);
+    same(found, [`Account 103 at branch 1, down to ${least}`, ['new-account', {account: 103, branch: 1, floor}]], `an overdraft of ${overdraft}`);
   }
 }
 

@@ -25,7 +25,8 @@ function typedMarks() {
 }
 
 /** An expression that finds a mark, or one of several. */
-const found = (/** @type {string[]} */ ...signs) => `[${signs.map(sign => `\\u${sign.charCodeAt(0).toString(16).padStart(4, '0')}`).join('')}]`;
+const found = (/** @type {string[]} */ ...signs) => `[${signs.map(escaped).join('')}]`;
+const escaped = (/** @type {string} */ sign) => `\\u${sign.charCodeAt(0).toString(16).padStart(4, '0')}`;
 
 /** What an amount looks like: its units, and its cents where they are typed. */
 function patterns({group, decimals}, digits) {

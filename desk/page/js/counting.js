@@ -32,16 +32,16 @@ function sumText(text, denomination) {
 /** @returns {DeskField} */
 export function counting(/** @type {string} */ name, /** @type {string} */ label) {
   const total = h('output', {class: 'figure', 'data-name': 'total'}, '…');
-  const inputs = DENOMINATIONS.map(worth => /** @type {HTMLInputElement} */ (h('input', {
+  const inputs = DENOMINATIONS.map(worth => h('input', {
     type: 'text', inputmode: 'numeric', autocomplete: 'off', maxlength: 6, class: 'count', keydown: next,
     'aria-label': say('counting.many', {worth: showAmount(worth)}), 'aria-describedby': `${name}-hint ${name}-error`,
-  })));
+  }));
   const sums = DENOMINATIONS.map(() => h('output', {class: 'sum'}, ''));
   const error = h('p', {class: 'error', id: `${name}-error`});
-  const typed = /** @type {HTMLInputElement} */ (h('input', {
+  const typed = h('input', {
     type: 'text', inputmode: 'decimal', autocomplete: 'off', maxlength: 24, class: 'amount', id: `${name}-typed`,
     'aria-describedby': error.id,
-  }));
+  });
 
   /** Enter, on the keypad, too, goes on, and after the last sends; with Ctrl it sends from each. */
   function next(event) {

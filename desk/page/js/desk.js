@@ -200,7 +200,8 @@ function questionsOf(/** @type {Desk} */ desk, {wait, report}) {
       const found = state === 'done' ? readable(reply, read, tell) : null;
       const shown = name === 'balance' && found ? showAmount(reply.body.balance) : say('end.shown');
       if (text) await desk.note(text, reply, found === null ? null : shown);
-      if (await desk.learn(name, state, reply)) report('learned');
+      const isUnreadable = state === 'done' && found === null;
+      if (!isUnreadable && await desk.learn(name, state, reply)) report('learned');
       if (state === 'done') return found;
       tell(state === 'again' ? 'noreply' : state, {name, text: text ?? name, kind: 'question'}, reply);
       return null;

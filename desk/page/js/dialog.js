@@ -19,7 +19,7 @@ function asked(question, fill) {
       if (document.activeElement === document.body) before?.focus?.();
       resolve(box.returnValue);
     };
-    const box = /** @type {HTMLDialogElement} */ (h('dialog', {class: 'sure', 'aria-labelledby': 'question', close: closed}, h('h2', {id: 'question'}, question)));
+    const box = h('dialog', {class: 'sure', 'aria-labelledby': 'question', close: closed}, h('h2', {id: 'question'}, question));
     box.append(...fill(value => box.close(value)));
     document.body.append(box);
     box.showModal();
@@ -35,7 +35,7 @@ export async function confirmed(question, yes, lines = [], no = say('dialog.no')
 /** A field of a dialog: its row, and what was typed, which `read` turns into {value} or {fault}. */
 function dialogField(name, label, attributes, read) {
   const error = h('p', {id: `${name}-error`, class: 'error'});
-  const input = /** @type {HTMLInputElement} */ (h('input', {id: name, type: 'text', autocomplete: 'off', 'aria-describedby': error.id, ...attributes}));
+  const input = h('input', {id: name, type: 'text', autocomplete: 'off', 'aria-describedby': error.id, ...attributes});
   const row = h('div', {class: 'field', 'data-name': name}, h('label', {for: name}, label), input, error);
   return {row, value() {
     const {value, fault} = read(input.value.trim());
@@ -78,7 +78,8 @@ export async function reasonFor(question, text, yes) {
 
 /** Asks for a reason and a colleague's user number, and returns {reason, colleague}, or null where nothing is to be done. */
 export async function witnessFor(question, lines, yes) {
-  const answer = await asked(question, close => [...lines.map(line => h('p', {}, line)), dialogForm([reasonField(), colleagueField()], close, yes)]);
+  const fill = close => [...lines.map(line => h('p', {}, line)), dialogForm([reasonField(), colleagueField()], close, yes)];
+  const answer = await asked(question, fill);
   if (answer === '') return null;
   const [reason, colleague] = JSON.parse(answer);
   return {reason, colleague};

@@ -17,12 +17,12 @@ export function field(/** @type {FieldSpec} */ spec) {
   if (spec.kind === 'choice') return choiceField(spec, id);
   const error = h('p', {id: `${id}-error`, class: 'error'});
   const hint = spec.hint ? h('p', {id: `${id}-hint`, class: 'hint'}, spec.hint) : null;
-  const input = inputOf(spec, id, hint ? `${error.id} ${hint.id}` : error.id);
+  const input = /** @type {HTMLInputElement} */ (inputOf(spec, id, hint ? `${error.id} ${hint.id}` : error.id));
   const inner = h('div', {class: 'field', 'data-name': spec.name}, h('label', {for: id}, spec.label), input, hint, error);
   const row = spec.tucked ? h('details', {}, h('summary', {}, spec.tucked), inner) : inner;
   const set = value => {
     input.value = value ?? '';
-    if (spec.tucked) row.open = false;
+    if (row instanceof HTMLDetailsElement) row.open = false;
   };
   return {spec, row, input, error, read: () => readOf(spec, input), set};
 }
@@ -33,7 +33,7 @@ function choiceField(spec, id) {
     h('div', {class: 'choices'}, spec.options.map(option => optionOf(option, spec, id))),
     error);
   const read = () => {
-    const value = row.querySelector('input:checked')?.value ?? null;
+    const value = /** @type {HTMLInputElement | null} */ (row.querySelector('input:checked'))?.value ?? null;
     return value === null && spec.fault ? {fault: spec.fault} : {value};
   };
   const set = value => { for (const radio of row.querySelectorAll('input')) radio.checked = radio.value === value; };
@@ -78,9 +78,12 @@ function readOf(spec, input) {
 // The fields that many forms have.
 export const account = (more = {}) => field({name: 'account', label: say('account'), kind: 'number', ...more});
 export const amount = (more = {}) => field({
-  name: 'amount', label: say('amount'), kind: 'amount', hint: say('amount.hint', {example: showAmount(2500)}), least: 1, most: 999999, ...more,
+  name: 'amount', label: say('amount'), kind: 'amount', hint: say('amount.hint', {example: showAmount(2500)}), least: 1, most: 999999,
+  ...more,
 });
-export const branchField = (/** @type {Desk} */ desk) => field({name: 'branch', label: say('branch'), kind: 'number', value: desk.place.branch ?? ''});
+export const branchField = (/** @type {Desk} */ desk) => field({
+  name: 'branch', label: say('branch'), kind: 'number', value: desk.place.branch ?? '',
+});
 export const release = () => field({
   name: 'release', label: say('end.release'), kind: 'number', most: 100000, optional: true, tucked: say('release.tucked'),
 });

@@ -126,8 +126,9 @@ export function form({fields, button, isDanger = false, isBeside = false, send, 
     for (const field of fields) if (field.error.textContent && !field.read().fault) showFault(field, undefined);
     readBack();
   };
-  const attributes = {novalidate: true, class: isBeside ? 'beside' : null, submit: submitted, input: typed, change: typed, keydown: pressed};
-  const element = /** @type {HTMLFormElement} */ (h('form', attributes, fields.map(field => field.row), reads ? sentence : null, submit, progress.line));
+  const listeners = {submit: submitted, input: typed, change: typed, keydown: pressed};
+  const attributes = {novalidate: true, class: isBeside ? 'beside' : null, ...listeners};
+  const element = h('form', attributes, fields.map(field => field.row), reads ? sentence : null, submit, progress.line);
   readBack();
   return {element, fields: byName, focus: () => fields.find(field => !field.row.hidden)?.input.focus()};
 }

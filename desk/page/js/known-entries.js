@@ -2,7 +2,10 @@
 // reports leave that out.
 import {plainDay} from './dates.js';
 
-/** @typedef {{kind: string, other: number | null, isOwn: boolean, isCorrected: boolean}} Known An entry; its kind is a correction's, or as a correction names it. */
+/**
+ * @typedef {{kind: string, other: number | null, isOwn: boolean, isCorrected: boolean}} Known An entry; its kind is `correction`,
+ * or what the screen of corrections calls it.
+ */
 
 /**
  * Entries by branch and number, of all that was done at this machine; `badge` is whoever works here.
@@ -10,7 +13,9 @@ import {plainDay} from './dates.js';
  */
 export function knownEntries(/** @type {JournalRow[]} */ rows, /** @type {string} */ badge) {
   const known = new Map();
-  const put = (branch, entry, kind, other, row) => known.set(`${branch} ${entry}`, {kind, other, isOwn: row.badge === badge, isCorrected: false});
+  const put = (branch, entry, kind, other, row) => {
+    known.set(`${branch} ${entry}`, {kind, other, isOwn: row.badge === badge, isCorrected: false});
+  };
   for (const row of rows.filter(one => one.state === 'done' && one.name)) {
     const [body, reply] = [JSON.parse(row.body), JSON.parse(row.reply)];
     if (row.name === 'post') put(reply.branch, reply.entry, body.delta < 0 ? 'out' : 'in', null, row);

@@ -31,8 +31,9 @@ export function lockAfter({isSame, leave, milliseconds = LOCK_MINUTES * 60000}) 
       else if (same === null) text.textContent = say('lock.noReply');
       else open(before);
     };
-    const cover = /** @type {HTMLDialogElement} */ (h('dialog', {class: 'cover', 'aria-labelledby': 'locked', cancel: event => event.preventDefault()},
-      h('h2', {id: 'locked'}, say('lock.title')), text, button(say('lock.button'), lift)));
+    const cover = h('dialog',
+      {class: 'cover', 'aria-labelledby': 'locked', cancel: event => event.preventDefault()},
+      h('h2', {id: 'locked'}, say('lock.title')), text, button(say('lock.button'), lift));
     function open(element) {
       cover.close();
       cover.remove();

@@ -37,7 +37,8 @@ function showHeader() {
   const {branch, teller} = desk.place;
   const none = say('header.none');
   const facts = {you: desk.badge, session: desk.session ?? none, branch: branch ?? none, drawer: teller ?? none};
-  place.replaceChildren(...Object.entries(facts).map(([name, value]) => h('div', {}, h('dt', {}, say(`header.${name}`)), h('dd', {}, String(value)))));
+  place.replaceChildren(...Object.entries(facts).map(([name, value]) => h('div', {},
+    h('dt', {}, say(`header.${name}`)), h('dd', {}, String(value)))));
   showNotices(ends);
 }
 
@@ -69,7 +70,7 @@ async function setAside(row) {
 function offerReceipt(/** @type {JournalRow} */ row) {
   receipt = row;
   lastReceipt.replaceChildren(h('span', {}, askedText(row)),
-    button([say('receipt.print'), h('kbd', {'aria-hidden': 'true'}, 'Esc'), h('kbd', {'aria-hidden': 'true'}, 'K')], () => printReceipt(desk, row)));
+    button([say('receipt.print'), ...['Esc', 'K'].map(key => h('kbd', {'aria-hidden': 'true'}, key))], () => printReceipt(desk, row)));
 }
 
 /** What the desk reports. */
@@ -101,7 +102,8 @@ function draw(screen, made, given) {
   document.title = say('page.title', {screen: say(`screen.${screen.id}`)});
   document.body.classList.toggle('wide', screen.isWide === true);
   menu.mark(screen.id);
-  work.replaceChildren(h('h1', {}, say(screen.hasTitle ? `title.${screen.id}` : `screen.${screen.id}`)), ...[made.elements].flat().filter(Boolean));
+  const title = say(screen.hasTitle ? `title.${screen.id}` : `screen.${screen.id}`);
+  work.replaceChildren(h('h1', {}, title), ...[made.elements].flat().filter(Boolean));
   if (isOther && !isFilledIn) restoreDraft(screen.id, work);
   showHeader();
   if (isOther) scrollTo(0, 0);
@@ -177,7 +179,9 @@ async function isSameCard() {
 function fillPage() {
   document.documentElement.lang = language();
   document.title = say('page.name');
-  for (const element of /** @type {NodeListOf<HTMLElement>} */ (document.querySelectorAll('[data-say]'))) element.textContent = say(element.dataset.say);
+  for (const element of /** @type {NodeListOf<HTMLElement>} */ (document.querySelectorAll('[data-say]'))) {
+    element.textContent = say(element.dataset.say);
+  }
   for (const element of /** @type {NodeListOf<HTMLElement>} */ (document.querySelectorAll('[data-label]'))) {
     element.setAttribute('aria-label', say(element.dataset.label));
   }

@@ -64,5 +64,7 @@ export function show(/** @type {string} */ event, request, /** @type {BankReply}
   else if (event === 'refused' || event === 'session') refused(request, reply);
   else if (event === 'noreply') unanswered(reply, say('ask.again'));
   else if (event === 'unsure') unanswered(reply, say('look.listing'));
-  else if (NOTES.includes(event)) note(say(`note.${event}.title`), say(`note.${event}.text`), event === 'nosession' ? h('p', {}, signInLink()) : null);
+  else if (NOTES.includes(event)) {
+    note(say(`note.${event}.title`), say(`note.${event}.text`), event === 'nosession' ? h('p', {}, signInLink()) : null);
+  }
 }

@@ -16,18 +16,25 @@ const SUMS = {
 export function checkList(proof) {
   const on = proof.tellers.filter(teller => teller.holder !== 0);
   return h('ul', {class: 'checks'},
-    checksOf(proof).map(([agrees, what]) => h('li', {class: agrees ? 'agrees' : 'differs'}, say(`${what}.${agrees ? 'agrees' : 'differs'}`))),
+    checksOf(proof).map(([agrees, what]) => {
+      const how = agrees ? 'agrees' : 'differs';
+      return h('li', {class: how}, say(`${what}.${how}`));
+    }),
     on.map(({teller, holder}) => h('li', {class: 'differs'}, say('proof.held', {teller, user: nameOf(holder)}))),
     on.length === 0 ? h('li', {class: 'agrees'}, say('proof.free')) : null);
 }
 
 /** A proof on paper; `caption` says of which branch and day, and when it was asked for by whom. */
 export function proofPaper(proof, /** @type {string} */ text, /** @type {string} */ caption) {
-  const tellers = proof.tellers.map(({teller, balance, cash, holder}) => [teller, showAmount(balance), showAmount(cash), holder === 0 ? '' : nameOf(holder)]);
+  const drawers = [[say('drawer.number'), 'n'], [say('column.balance'), 'n'], [say('drawer.cash'), 'n'], [say('column.holder'), '']];
+  const tellers = proof.tellers.map(({teller, balance, cash, holder}) => [
+    teller, showAmount(balance), showAmount(cash), holder === 0 ? '' : nameOf(holder),
+  ]);
   const sums = Object.entries(SUMS).map(([name, key]) => [say(key), showAmount(proof.sums[name])]);
   const readable = h('div', {}, h('p', {class: 'head'}, caption),
-    table(say('proof.drawersTable'), [[say('drawer.number'), 'n'], [say('column.balance'), 'n'], [say('drawer.cash'), 'n'], [say('column.holder'), '']], tellers),
+    table(say('proof.drawersTable'), drawers, tellers),
     table(say('proof.sumsTable'), [[say('column.sum'), ''], [say('amount'), 'n']], sums));
   const exact = h('div', {}, h('p', {class: 'head'}, caption), h('pre', {tabindex: 0, 'aria-label': say('exact')}, text));
-  return [h('div', {class: 'tools'}, button(say('print'), () => print()), exactToggle(readable, exact)), h('div', {class: 'paper'}, readable, exact)];
+  const tools = h('div', {class: 'tools'}, button(say('print'), () => print()), exactToggle(readable, exact));
+  return [tools, h('div', {class: 'paper'}, readable, exact)];
 }

@@ -12,7 +12,7 @@ import {say} from './words.js';
 /** By operation: the key of its title, and its own lines between those that all have. */
 const RECEIPTS = {
   'post': {title: b => (b.delta < 0 ? 'way.out' : 'way.in'), lines: postLines},
-  'transfer': {title: () => 'procedure.transfer', lines: (b, r, shows) => [...placeLines(b), amountLine(b.amount), ...transferLines(b.source, r, shows)]},
+  'transfer': {title: () => 'procedure.transfer', lines: transferLines},
   'correct': {title: () => 'procedure.correct', lines: correctLines},
   'move-cash': {title: () => 'procedure.move-cash', lines: b => [moveLine(b), amountLine(b.amount)]},
   'drawer-on': {title: () => 'procedure.drawer-on', lines: b => [line('counted', showAmount(b.cash))]},
@@ -22,14 +22,18 @@ const RECEIPTS = {
 /** @returns {Line} */
 const line = (key, value) => [say(`receipt.${key}`), value];
 const amountLine = cents => line('amount', showAmount(cents));
-const placeLines = b => [line('from', b.source), line('to', b.target)];
 const moveLine = b => line('moved', say(`receipt.move.${placesOf(b)}`, b));
 const balanceLine = (account, cents) => [say('receipt.balance', {account}), showAmount(cents)];
 const entriesLine = r => line('entries', say('receipt.both', r));
-const transferLines = (source, r, shows) => [...shows ? [balanceLine(source, r.source)] : [], entriesLine(r)];
 
 function postLines(b, r, shows) {
-  return [line('account', b.account), amountLine(Math.abs(b.delta)), ...shows ? [balanceLine(b.account, r.balance)] : [], line('entry', r.entry)];
+  const balance = shows ? [balanceLine(b.account, r.balance)] : [];
+  return [line('account', b.account), amountLine(Math.abs(b.delta)), ...balance, line('entry', r.entry)];
+}
+
+function transferLines(b, r, shows) {
+  const balance = shows ? [balanceLine(b.source, r.source)] : [];
+  return [line('from', b.source), line('to', b.target), amountLine(b.amount), ...balance, entriesLine(r)];
 }
 
 function correctLines(b, r) {
@@ -39,7 +43,8 @@ function correctLines(b, r) {
 
 function countLines(b, r, shows, row) {
   const noted = notedText(row);
-  return [line('counted', showAmount(b.counted)), [differenceText(r.difference), showAmount(r.difference)], ...noted ? [line('noted', noted)] : []];
+  const difference = [differenceText(r.difference), showAmount(r.difference)];
+  return [line('counted', showAmount(b.counted)), difference, ...noted ? [line('noted', noted)] : []];
 }
 
 /** Whether a row of the journal has a receipt. */

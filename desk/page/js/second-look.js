@@ -16,12 +16,14 @@ export function isSame(last, {name, body}) {
 
 /** Asks whether a request is meant that is the same as the last one. */
 export function isRepeatMeant(last) {
-  return confirmed(say('repeat.question'), say('repeat.yes'), [say('repeat.last', {asked: askedText(last), time: showClock(last.answered)})]);
+  const line = say('repeat.last', {asked: askedText(last), time: showClock(last.answered)});
+  return confirmed(say('repeat.question'), say('repeat.yes'), [line]);
 }
 
 /** A difference as a sentence. */
 function differenceSentence(expected, counted, teller) {
-  const values = {teller, expected: showAmount(expected), counted: showAmount(counted), difference: showAmount(Math.abs(counted - expected))};
+  const difference = showAmount(Math.abs(counted - expected));
+  const values = {teller, expected: showAmount(expected), counted: showAmount(counted), difference};
   return say(counted > expected ? 'count.over' : 'count.short', values);
 }
 

@@ -22,7 +22,8 @@ function termsOf(/** @type {string} */ locale) {
   const numbers = new Intl.NumberFormat(locale, {useGrouping: /** @type {any} */ ('always'), maximumFractionDigits: 1});
   const parts = numbers.formatToParts(1234567.8);
   const mark = (/** @type {string} */ type) => parts.find(part => part.type === type)?.value ?? '';
-  return {locale, words: WORDS[locale.split('-')[0]], plurals: new Intl.PluralRules(locale), numbers, group: mark('group'), decimal: mark('decimal')};
+  const words = WORDS[locale.split('-')[0]];
+  return {locale, words, plurals: new Intl.PluralRules(locale), numbers, group: mark('group'), decimal: mark('decimal')};
 }
 
 const preferred = LANGUAGE === 'browser' ? globalThis.navigator?.languages ?? [] : [LANGUAGE];
@@ -45,7 +46,8 @@ export function setLocale(/** @type {string} */ name) {
 /** The text of a key with these values in its places. A key that is nowhere is shown itself, so that what was done is still said. */
 export function say(/** @type {string} */ key, /** @type {Values} */ values = {}) {
   const found = terms.words[key] ?? key;
-  const sentence = typeof found === 'string' ? found : found[/** @type {'one'} */ (terms.plurals.select(Number(values.count)))] ?? found.other;
+  const plural = /** @type {'one'} */ (terms.plurals.select(Number(values.count)));
+  const sentence = typeof found === 'string' ? found : found[plural] ?? found.other;
   return sentence.replace(/\{([a-zA-Z]+)\}/g, (place, name) => (name in values ? placed(values[name]) : place));
 }
 

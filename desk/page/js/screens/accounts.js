@@ -11,7 +11,10 @@ const columns = () => [
   [say('column.account'), 'n'], [say('column.home'), 'n'], [say('column.balance'), 'n'], [say('screen.statement'), 'screen'],
 ];
 
-const statementLink = account => h('a', {href: `#statement?account=${account}`, 'aria-label': say('accounts.statement', {account})}, say('screen.statement'));
+function statementLink(account) {
+  const attributes = {href: `#statement?account=${account}`, 'aria-label': say('accounts.statement', {account})};
+  return h('a', attributes, say('screen.statement'));
+}
 
 async function make(desk) {
   const paper = h('div', {class: 'results'});

@@ -27,7 +27,8 @@ function kindField(given) {
 function sentence(desk, {entry, kind, amount: cents, account: of, drawer}) {
   if (entry === null || kind === null) return '';
   const values = {entry, amount: amountText(cents), account: of, teller: desk.place.teller, drawer};
-  return say(isTransfer(kind) ? `correct.reads.${kind}` : `correct.reads.${wayOf(kind)}${drawer === desk.place.teller ? '.same' : ''}`, values);
+  if (isTransfer(kind)) return say(`correct.reads.${kind}`, values);
+  return say(drawer === desk.place.teller ? `correct.reads.${kind}.same` : `correct.reads.${kind}`, values);
 }
 
 /** The next request after a correction: cash that has to be moved between the two drawers. */
@@ -47,7 +48,9 @@ async function make(desk, {given}) {
       kindField(given),
       amount({value: given.get('amount') ?? ''}),
       account({name: 'other', label: say('correct.other'), value: given.get('other') ?? ''}),
-      field({name: 'drawer', label: say('correct.drawer'), hint: say('correct.drawer.hint'), kind: 'number', value: given.get('drawer') ?? ''}),
+      field({
+        name: 'drawer', label: say('correct.drawer'), hint: say('correct.drawer.hint'), kind: 'number', value: given.get('drawer') ?? '',
+      }),
       release(),
     ],
     button: say('correct.button'),

@@ -53,8 +53,8 @@ async function make(/** @type {Desk} */ desk) {
   const shiftRows = await desk.rows();
   let rows = shiftRows;
   const options = [['shift', say('journal.shift')], ['all', say('journal.all', {count: JOURNAL_DAYS})]];
-  const which = /** @type {HTMLSelectElement} */ (h('select', {id: 'which', change: () => show(which.value === 'all')},
-    options.map(([value, label]) => h('option', {value}, label))));
+  const which = h('select', {id: 'which', change: () => show(which.value === 'all')},
+    options.map(([value, label]) => h('option', {value}, label)));
 
   async function show(isAll) {
     const found = isAll ? await desk.rows(true) : shiftRows;

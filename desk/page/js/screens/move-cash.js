@@ -28,7 +28,8 @@ function dueList(desk) {
 /** The choices of places, and of these the one that an address names. */
 function choicesOf(desk, given) {
   const {teller} = desk.place;
-  const places = [['0', say('cash.vault')], ...teller === null ? [] : [[String(teller), say('cash.own', {teller})]], ['other', say('cash.other')]];
+  const own = teller === null ? [] : [[String(teller), say('cash.own', {teller})]];
+  const places = [['0', say('cash.vault')], ...own, ['other', say('cash.other')]];
   const chosen = (name, otherwise = null) => {
     const wanted = given.get(name);
     return wanted === null ? otherwise : places.some(([value]) => value === wanted) ? wanted : 'other';

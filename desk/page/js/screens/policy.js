@@ -19,7 +19,9 @@ const limit = () => amount({name: 'limit', label: say('column.limit'), least: 0,
 const moment = name => field({
   name, label: say(`office.${name}`), kind: 'text', optional: true, pattern: MOMENT, hint: say('moment.hint'), fault: say('moment.fault'),
 });
-const userName = () => field({name: 'name', label: say('column.name'), kind: 'text', pattern: /^[ -~]{1,20}$/, fault: say('office.name.fault')});
+const userName = () => field({
+  name: 'name', label: say('column.name'), kind: 'text', pattern: /^[ -~]{1,20}$/, fault: say('office.name.fault'),
+});
 const officer = () => field({name: 'officer', label: say('office.officer'), kind: 'tick'});
 const members = () => field({
   name: 'members', label: say('office.members'), kind: 'text', pattern: /^.{1,200}$/, fault: say('office.members.fault'),
@@ -43,7 +45,7 @@ const DANGERS = ['suspend', 'revoke', 'withdraw', 'dismiss'];
 const CLEARED = ['user', 'set', 'name', 'members', 'first', 'last'];
 
 const LISTED = ['user', 'triple', 'relation', 'certifier', 'set'];
-const columnsOf = (/** @type {Record<string, string>} */ kinds) => Object.entries(kinds).map(([name, kind]) => [say(`column.${name}`), kind]);
+const columnsOf = kinds => Object.entries(kinds).map(([name, kind]) => [say(`column.${name}`), kind]);
 const COLUMNS = {
   user: {user: 'n', name: '', officer: '', suspended: ''},
   triple: {user: 'n', name: '', operation: '', set: 'n', limit: 'n', first: '', last: ''},
@@ -56,7 +58,10 @@ function cellsOf(kind, cells, names) {
   const name = names.get(cells.user ?? cells.by) ?? '';
   const operation = say(`procedure.${cells.procedure}`);
   switch (kind) {
-    case 'user': return [cells.user, cells.name, cells.isOfficer ? say('office.isOfficer') : '', cells.isSuspended ? say('office.isSuspended') : ''];
+    case 'user': {
+      const marks = [cells.isOfficer ? say('office.isOfficer') : '', cells.isSuspended ? say('office.isSuspended') : ''];
+      return [cells.user, cells.name, ...marks];
+    }
     case 'triple': {
       const first = cells.first === 0 ? say('office.always') : showTime(cells.first * 1000);
       const last = cells.last === FOREVER ? say('office.forever') : showTime(cells.last * 1000);
@@ -104,8 +109,8 @@ function commandForm(desk, name, listAgain) {
 /** The listing of the policy, with what was typed to search it. */
 function listing({rows, text}, names) {
   const kinds = [['', say('office.all')], ...LISTED.map(name => [name, say(`listed.${name}`)])];
-  const kind = /** @type {HTMLSelectElement} */ (h('select', {id: 'kind', change: show}, kinds.map(([value, label]) => h('option', {value}, label))));
-  const search = /** @type {HTMLInputElement} */ (h('input', {id: 'search', type: 'search', autocomplete: 'off', input: show}));
+  const kind = h('select', {id: 'kind', change: show}, kinds.map(([value, label]) => h('option', {value}, label)));
+  const search = h('input', {id: 'search', type: 'search', autocomplete: 'off', input: show});
   const listed = h('div', {});
   const exact = h('pre', {tabindex: 0, 'aria-label': say('exact')}, text);
 
@@ -121,7 +126,8 @@ function listing({rows, text}, names) {
     listed.replaceChildren(...shown.map(tableOf).filter(one => one !== null));
   }
   show();
-  const tools = h('div', {class: 'tools'}, h('label', {for: 'kind'}, say('show')), kind, h('label', {for: 'search'}, say('office.search')), search,
+  const tools = h('div', {class: 'tools'}, h('label', {for: 'kind'}, say('show')), kind,
+    h('label', {for: 'search'}, say('office.search')), search,
     exactToggle(listed, exact), button(say('print'), () => print()));
   return [tools, h('div', {class: 'paper'}, listed, exact)];
 }
@@ -130,7 +136,7 @@ async function make(/** @type {Desk} */ desk) {
   const paper = h('div', {class: 'results'});
   const holder = h('div', {});
   const commands = Object.keys(COMMANDS).map(name => h('option', {value: name}, say(`command.${name}`)));
-  const which = /** @type {HTMLSelectElement} */ (h('select', {id: 'command', change: choose}, commands));
+  const which = h('select', {id: 'command', change: choose}, commands);
 
   async function list() {
     const found = await desk.ask('policy', null, say('asked.policy'), ({text}) => ({rows: readPolicy(text), text}));
@@ -150,7 +156,8 @@ async function make(/** @type {Desk} */ desk) {
   });
   const lead = h('p', {class: 'lead'}, say(desk.allowed.policy === false ? 'office.blind' : 'office.lead'));
   const pick = h('div', {class: 'field', 'data-name': 'command'}, h('label', {for: 'command'}, say('office.command')), which);
-  return {elements: [lead, h('div', {class: 'row'}, pick, listButton), h('div', {class: 'row'}, holder), paper], focus: () => which.focus()};
+  const rows = [h('div', {class: 'row'}, pick, listButton), h('div', {class: 'row'}, holder)];
+  return {elements: [lead, ...rows, paper], focus: () => which.focus()};
 }
 
 /** @type {DeskScreen} */

@@ -18,7 +18,10 @@ function signOutButton(desk, again) {
     const reply = await desk.end();
     await again();
     if (desk.session) outcome.unanswered(reply, say('signOut.still'));
-    else outcome.answered(say('signOut.done'), say(reply.status === 200 ? 'signOut.ended' : 'signOut.over'), String(reply.body.ended ?? ''));
+    else {
+      const how = say(reply.status === 200 ? 'signOut.ended' : 'signOut.over');
+      outcome.answered(say('signOut.done'), how, String(reply.body.ended ?? ''));
+    }
   });
 }
 
@@ -29,7 +32,8 @@ function signOutButton(desk, again) {
 async function faultsOf(/** @type {Desk} */ desk, {branch, teller}, isSure) {
   let rule = null;
   const proof = await desk.quietProof(branch, reply => { rule = reply.body?.rule ?? null; });
-  if (proof && teller !== null && !proof.tellers.some(one => one.teller === teller)) return {teller: say('session.noDrawer', {branch, teller})};
+  const isMissing = proof && teller !== null && !proof.tellers.some(one => one.teller === teller);
+  if (isMissing) return {teller: say('session.noDrawer', {branch, teller})};
   if (rule === 6) return {branch: say('session.noBranch', {branch})};
   return rule !== null && desk.allowed.proof === true && !isSure ? {branch: say('session.hidden', {branch})} : null;
 }
@@ -71,7 +75,8 @@ async function make(/** @type {Desk} */ desk, {given, changed, again, signIn}) {
     send: sent,
   });
   const lacks = given.get('lacks');
-  const lead = lacks ? h('p', {class: 'lead', role: 'alert'}, say(lacks === 'drawer' ? 'session.lacks.drawer' : 'session.lacks.branch')) : null;
+  const nothing = say(lacks === 'drawer' ? 'session.lacks.drawer' : 'session.lacks.branch');
+  const lead = lacks ? h('p', {class: 'lead', role: 'alert'}, nothing) : null;
   const who = desk.session ? say('session.at', {badge: desk.badge, session: desk.session}) : say('session.none', {badge: desk.badge});
   const elements = [lead, h('p', {class: 'who'}, who), begin.element];
   return {elements: desk.session ? [...elements, signOutButton(desk, again)] : elements, focus: begin.focus};

@@ -13,7 +13,7 @@ class Stopped extends Error {}
 
 const columns = () => [
   [say('column.turn'), 'n'], [say('column.time'), ''], [say('amount'), 'n'], [say('column.balance'), 'n'], [say('branch'), 'n'],
-  [say('correct.entry'), 'n'], [say('drawer.number'), 'n'], [say('column.mark'), ''], [say('column.correct'), 'screen'],
+  [say('correct.entry'), 'n'], [say('drawer.number'), 'n'], [say('column.mark'), 'note'], [say('column.correct'), 'screen'],
 ];
 
 /** Reads lines of an account's statement; `isCurrent` says whether they are still wanted. */
@@ -90,7 +90,7 @@ function paperOf(desk, of, rows, journal, earlier) {
 
 /** How many lines are there by now, with a button that ends the reading. */
 function makeProgress(stopped) {
-  const bar = /** @type {HTMLProgressElement} */ (h('progress', {'aria-label': say('statement.progress')}));
+  const bar = h('progress', {'aria-label': say('statement.progress')});
   const text = h('span', {role: 'status'}, say('statement.looking'));
   const stop = button(say('statement.stop'), stopped);
   const show = (count, all) => {
@@ -134,9 +134,12 @@ async function make(/** @type {Desk} */ desk, {given}) {
     }
   }
 
-  const options = [['20', say('statement.last', {count: 20})], ['100', say('statement.last', {count: 100})], ['Infinity', say('statement.all')]];
+  const options = [...[20, 100].map(count => [String(count), say('statement.last', {count})]), ['Infinity', say('statement.all')]];
   const ask = form({
-    fields: [account({value: given.get('account') ?? ''}), field({name: 'which', label: say('statement.which'), kind: 'pick', value: '20', options})],
+    fields: [
+      account({value: given.get('account') ?? ''}),
+      field({name: 'which', label: say('statement.which'), kind: 'pick', value: '20', options}),
+    ],
     button: say('show'),
     send: ({account: of, which}) => show(of, Number(which)),
   });

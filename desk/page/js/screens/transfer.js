@@ -5,7 +5,9 @@ import {say} from '../words.js';
 
 async function make(desk) {
   const transfer = form({
-    fields: [account({name: 'source', label: say('transfer.from')}), account({name: 'target', label: say('transfer.to')}), amount(), release()],
+    fields: [
+      account({name: 'source', label: say('transfer.from')}), account({name: 'target', label: say('transfer.to')}), amount(), release(),
+    ],
     button: say('transfer.button'),
     clear: ['source', 'target', 'amount', 'release'],
     reads: ({source, target, amount: cents}) => (source === null && cents === null ? ''
