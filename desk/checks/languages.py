@@ -1,4 +1,6 @@
 """The page in each of its languages: no text outside the modules of texts, none that does not fit, and a short day in German."""
+import re
+
 from selenium.webdriver.common.keys import Keys
 
 from branches import require
@@ -7,6 +9,13 @@ from looks import NAMES, SHOWN, SIZES
 from widths import SCREENS, take_pictures
 
 LANGUAGES = ["de", "es", "fr"]
+COMMENT = re.compile(r"/\*.*?\*/|(?<!:)//[^\n]*|throw new Error\([^\n]*", re.DOTALL)
+LITERAL = re.compile(r"'((?:[^'\\\n]|\\.)*)'|`((?:[^`\\]|\\.)*)`")
+# A literal that is a text: it begins with a capital letter, or has two spaces between letters.
+TEXT = re.compile(r"[A-Z][a-z]+|.*[A-Za-z]{2,} [a-z]{2,} [a-z]{2,}")
+# What begins like a text and is a key, a field of a head, a number, or the bank's name in the settings.
+NO_TEXT = re.compile(r"(Enter|Esc|Escape|Infinity|Date|Content-Type|Desk-Badge|Bank-\w+|Savings Office)$")
+KEY = re.compile(r"\bsay\('([^']+)'|data-(?:say|label)=\"([^\"]+)\"")
 # The module of texts, with all in brackets, so that any other text is seen, and any that is glued of several.
 BRACKETS = (b"export const WORDS = {en, de, es, fr};", b"""
 const put = text => `\xe2\x9f\xa6${text}\xe2\x9f\xa7`;
@@ -63,6 +72,25 @@ def speak(day, language):
     """The branch's settings name a language."""
     swap = (b"LANGUAGE = 'browser'", f"LANGUAGE = '{language}'".encode())
     day.relay.swaps = {"/js/settings.js": swap} if language else {}
+
+
+def literals(day):
+    """No module but those of texts has a text, and each key that is named there is a key of theirs."""
+    keys = set(re.findall(r"^  '([^']+)':", page_of(day, "js/words/en.js"), re.MULTILINE))
+    for path, text in day.page.items():
+        if path.suffix not in (".js", ".html") or path.parent.name == "words":
+            continue
+        bare = COMMENT.sub("", text)
+        given = LITERAL.findall(bare) if path.suffix == ".js" else []
+        found = [re.sub(r"\$\{[^{}]*\}", "", one or other) for one, other in given]
+        require([it for it in found if TEXT.match(it) and not NO_TEXT.match(it)], [], f"texts in {path.name}")
+        named = {one or other for one, other in KEY.findall(bare)}
+        require(named - keys, set(), f"keys in {path.name} that are none")
+
+
+def page_of(day, path):
+    """A file of the page."""
+    return day.page[day.counter.files.top / "page" / path]
 
 
 def texts_are_words(day):

@@ -1,6 +1,7 @@
 import {LAST_RULE, refusalText, delayText} from '../js/refusals.js';
 import {WORDS} from '../js/words.js';
 import {OPERATIONS, isReply} from '../js/operations.js';
+import {nameOf, setNames} from '../js/names.js';
 import {askedText, endText, notedText, branchOf, journalFile} from '../js/journal.js';
 import {receiptOf, hasReceipt} from '../js/receipt.js';
 import {BANK, CURRENCY} from '../js/settings.js';
@@ -29,6 +30,10 @@ export function operations() {
   same(isReply('post', reply(200, {balance: 1, branch: 1})), false, 'no reply of a post');
   same(isReply('post', reply(200, {balance: '<b>', branch: 1, entry: 1})), false, 'text for a number');
   same(OPERATIONS.post.asked({...DEPOSIT, delta: -2500}), 'Withdrawal of 25.00, account 101, drawer 11', 'asked');
+  setNames([[8, 'Tom <b>']]);
+  same([nameOf(8), nameOf(9)], ['8 (Tom <b>)', '9'], 'users by name, where it is known');
+  same(OPERATIONS.release.asked({beneficiary: 8, operation: {...DEPOSIT, procedure: 'post'}}).startsWith('Release for user 8 (Tom <b>)'), true, 'in a request');
+  setNames([]);
   same(OPERATIONS['new-account'].asked({account: 103, branch: 1, floor: -50}), 'New account 103 at branch 1, overdraft 0.50', 'an overdraft');
 }
 

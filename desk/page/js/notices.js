@@ -30,10 +30,11 @@ function clockNotice() {
 
 let shown = '';
 
-/** Shows what is to be said, where it is another than before. */
+/** Shows what is to be said, where it is another than before; a clock is said anew once per minute at most. */
 export function showNotices(/** @type {string | undefined} */ ends) {
   const notices = [certificateNotice(ends), clockNotice()].filter(one => one !== null);
-  const text = notices.map(one => one.className + one.textContent).join('\n');
+  const minute = Math.trunc(now() / 60000);
+  const text = notices.map(one => `${one.className} ${one.dataset.name === 'clock' ? minute : one.textContent}`).join('\n');
   if (text !== shown) document.getElementById('notices').replaceChildren(...notices);
   shown = text;
 }
