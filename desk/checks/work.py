@@ -323,7 +323,7 @@ def long_statement(day):
     counter.sessions["tom"] = day.one("SELECT session FROM users WHERE user_no = ?", TOM)
     client, made = Client(counter, "tom"), 0
     while made < 1500:
-        status, _ = client.ask("/do/post", {"account": 201, "branch": 1, "delta": 1, "teller": 12})
+        status, _ = client.ask("/do/post", {"account": 201, "branch": 1, "delta": 1 - 2 * (made % 2), "teller": 12})
         require(status in (200, 429), True, f"status {status}")
         made += status == 200
         if status == 429: # the front lets each certificate ask twenty times per second

@@ -3,7 +3,7 @@ import post from '../js/screens/post.js';
 import correct from '../js/screens/correct.js';
 import moveCash from '../js/screens/move-cash.js';
 import {isSame} from '../js/second-look.js';
-import {moveAfter, withoutMove} from '../js/cash-due.js';
+import {isDue, moveAfter, withoutMove} from '../js/cash-due.js';
 import {keepDraft, restoreDraft} from '../js/drafts.js';
 import {same, row} from './check.js';
 import {shown, sent} from './screens.js';
@@ -66,7 +66,9 @@ export async function moves() {
   room.querySelector('[value="out-transfer"]').click();
   same([inputOf(room, 'other').closest('.field').hidden, inputOf(room, 'drawer').closest('.field').hidden], [false, true], 'of a transfer');
   room.remove();
-  await movesOffered(due);
+  const noon = new Date(2026, 10, 28, 12).getTime();
+  same([isDue({...due, at: noon - 60000}, noon), isDue({...due, at: noon - 86400000}, noon)], [true, false], 'due on its day alone');
+  await movesOffered({...due, at: Date.now()});
 }
 
 async function movesOffered(due) {

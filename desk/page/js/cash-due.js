@@ -1,7 +1,9 @@
 // A correction moves the cash of the drawer of whoever corrects, and the notes lie in another. What has to be moved between the
 // two, so that each holds what the bank has for it.
 
-/** @typedef {{branch: number, source: number, target: number, amount: number}} Move A move of cash between two drawers. */
+import {plainDay} from './dates.js';
+
+/** @typedef {{branch: number, source: number, target: number, amount: number, at?: number}} Move A move between drawers, due since. */
 
 /**
  * The move that a correction leaves to be made, or null. The body of the correction has the delta of the entry; `drawer` is where
@@ -13,6 +15,9 @@ export function moveAfter({branch, delta, other, teller}, drawer) {
   const [source, target] = delta > 0 ? [drawer, teller] : [teller, drawer];
   return {branch, source, target, amount: Math.abs(delta)};
 }
+
+/** Whether a move is still due: a drawer is emptied by the end of its day. */
+export const isDue = (/** @type {Move} */ move, /** @type {number} */ at) => plainDay(move.at ?? 0) === plainDay(at);
 
 /** What is still to be moved after this move was made. */
 export function withoutMove(/** @type {Move[]} */ moves, /** @type {Move} */ made) {

@@ -2,9 +2,10 @@ import {h, button} from '../dom.js';
 import {form} from '../form.js';
 import {field, account, amount, release, amountText} from '../fields.js';
 import {lacksDrawer} from './post.js';
-import {moveAfter} from '../cash-due.js';
+import {isDue, moveAfter} from '../cash-due.js';
 import {moveLink} from './move-cash.js';
 import {showAmount} from '../amounts.js';
+import {now} from '../dates.js';
 import {say} from '../words.js';
 import * as outcome from '../outcome.js';
 
@@ -33,7 +34,8 @@ function sentence(desk, {entry, kind, amount: cents, account: of, drawer}) {
 
 /** The next request after a correction: cash that has to be moved between the two drawers. */
 async function offerMove(desk, move) {
-  await desk.setDueMoves([...desk.dueMoves, move]);
+  const at = now();
+  await desk.setDueMoves([...desk.dueMoves.filter(one => isDue(one, at)), {...move, at}]);
   const values = {amount: showAmount(move.amount), source: move.source, target: move.target};
   const isOwn = move.source === desk.place.teller;
   outcome.add(h('p', {class: 'due'}, say(isOwn ? 'due.own' : 'due.other', values)),

@@ -2,7 +2,8 @@ import {h} from '../dom.js';
 import {form} from '../form.js';
 import {field, amount, release, amountText} from '../fields.js';
 import {showAmount} from '../amounts.js';
-import {withoutMove} from '../cash-due.js';
+import {isDue, withoutMove} from '../cash-due.js';
+import {now} from '../dates.js';
 import {placesOf} from '../operations.js';
 import {say} from '../words.js';
 
@@ -19,7 +20,7 @@ export const moveLink = ({source, target, amount: cents}) => `#cash?from=${sourc
 /** What is to be moved out of the drawer of whoever works here, each as a link that fills it in. */
 function dueList(desk) {
   const {branch, teller} = desk.place;
-  const own = desk.dueMoves.filter(move => move.branch === branch && move.source === teller);
+  const own = desk.dueMoves.filter(move => move.branch === branch && move.source === teller && isDue(move, now()));
   if (own.length === 0) return null;
   return h('section', {class: 'past'}, h('h2', {}, say('due.title')), h('ul', {class: 'due'}, own.map(move => h('li', {},
     h('a', {href: moveLink(move)}, say('due.link', {amount: showAmount(move.amount), source: move.source, target: move.target}))))));
