@@ -7,6 +7,7 @@ use std::io::Write;
 const DISK_FAILED: &[u8] = b"disk: failed\n";
 
 /// What is reported on the machine's standard error. A line that can't be written is passed over.
+#[derive(Drop)]
 pub(crate) struct ErrorLines<'a> {
     pub(crate) rt: &'a HostRuntime,
 }

@@ -11,6 +11,7 @@ use std::test::Fail;
 use store_rows::Bank;
 
 /// Nobody, as no store of these tests has a disk.
+#[derive(Drop)]
 struct Nobody;
 
 impl Notices for Nobody {
