@@ -1,0 +1,90 @@
+"""What a run pays or takes: interest on each day's closing balance, and fees.
+
+Interest of a period is the sum over its days of the balance at the day's end, where that is above zero, times the rate of a year,
+divided by 365; it is rounded once, per account and run, to the nearest whole cent, and up at one half.
+"""
+import datetime
+from collections.abc import Iterator
+from typing import NamedTuple
+
+from .copies import Copy
+from .money import half_up, parts_of, plain
+from .settings import Scheme
+from .statements import Chain, begins, chain_of
+from .store import Refused
+
+MILLION = 1_000_000
+DAYS_PER_YEAR = 365
+MOST_DAYS = 3_660
+
+
+class Transfer(NamedTuple):
+    """One transfer of a run, or one part of an amount above what an entry can move."""
+
+    account: int
+    part: int
+    parts: int
+    source: int
+    target: int
+    amount: int
+    why: str
+
+
+def dates_of(first: datetime.date, last: datetime.date) -> Iterator[datetime.date]:
+    """All days of a period."""
+    for day in range((last - first).days + 1):
+        yield first + datetime.timedelta(day)
+
+
+def closing_balances(chain: Chain, first: datetime.date, last: datetime.date) -> list[int]:
+    """The balance of an account at the end of each day: after the last entry, by its turn, that was made by then."""
+    balances, at, balance = list[int](), 0, chain.opening
+    for date in dates_of(first, last):
+        end = begins(date + datetime.timedelta(1))
+        while at < len(chain.lines) and chain.lines[at].entry.moment < end:
+            balance = chain.lines[at].entry.balance_after
+            at += 1
+        balances.append(balance)
+    return balances
+
+
+def interest_of(balances: list[int], millionths: int) -> int:
+    """The cents of interest on these closing balances."""
+    return half_up(sum(it for it in balances if it > 0) * millionths, MILLION * DAYS_PER_YEAR)
+
+
+def in_parts(account: int, source: int, target: int, cents: int, why: str) -> list[Transfer]:
+    """An amount as transfers, each of which one entry can move."""
+    parts = parts_of(cents)
+    return [Transfer(account, number, len(parts), source, target, amount, why) for number, amount in enumerate(parts, 1)]
+
+
+def require_period(copies: list[Copy], first: datetime.date, last: datetime.date) -> None:
+    """Refuses a period that isn't over by the newest copy, or that is too long."""
+    if not 0 <= (last - first).days < MOST_DAYS:
+        raise Refused(f"{first} to {last} is no period: at most {MOST_DAYS} days")
+    if copies[-1].made < begins(last + datetime.timedelta(1)):
+        raise Refused(
+            f"The newest copy is of {datetime.datetime.fromtimestamp(copies[-1].made)}: a period ends before its copy is made"
+        )
+
+
+def transfers_of(copies: list[Copy], scheme: Scheme, first: datetime.date, last: datetime.date) -> list[Transfer]:
+    """The transfers of one scheme: between each account of its branch and the account that is kept for this."""
+    found: list[Transfer] = []
+    rows = copies[-1].rows(
+        "SELECT account FROM accounts WHERE home = ? AND account BETWEEN ? AND ? AND account != ? ORDER BY account",
+        scheme.branch,
+        scheme.low,
+        scheme.high,
+        scheme.account,
+    )
+    for account in (int(it["account"]) for it in rows):
+        if scheme.kind == "fee":
+            found += in_parts(account, account, scheme.account, scheme.cents, f"fee of {plain(scheme.cents)}")
+            continue
+        cents = interest_of(closing_balances(chain_of(copies, account), first, last), scheme.millionths)
+        found += in_parts(
+            account, scheme.account, account, cents, f"interest of {plain(cents)} at {scheme.millionths / 10_000:g} %"
+        )
+    return found

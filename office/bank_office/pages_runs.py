@@ -1,0 +1,66 @@
+"""Pages of runs: what is proposed, approved and carried out."""
+from typing import Any
+
+from flask import Blueprint, redirect, render_template, request
+
+from . import register, runs
+from .pages_books import date_of
+from .store import Refused
+from .web import Forbidden, desk, number_of
+
+pages = Blueprint("runs", __name__)
+
+
+def require_approver() -> None:
+    """Refuses all who don't approve runs."""
+    if not desk().is_approver:
+        raise Forbidden("You approve no runs")
+
+
+@pages.get("/runs")
+def list_page() -> str:
+    """All runs, the newest first, and the form of a new one."""
+    require_approver()
+    rows = (
+        desk()
+        .found.execute(
+            "SELECT runs.*, count(*) AS lines, sum(amount) AS amount, sum(run_lines.state = 'done') AS done, "
+            "sum(run_lines.state = 'refused') AS refused FROM runs JOIN run_lines USING (run) GROUP BY run ORDER BY run DESC"
+        )
+        .fetchall()
+    )
+    return render_template("runs.html", runs=rows, kinds=runs.KINDS)
+
+
+@pages.post("/runs")
+def propose() -> Any:
+    """Computes a run."""
+    require_approver()
+    here, kind = desk(), request.form.get("kind", "")
+    if kind not in runs.KINDS:
+        raise Refused("A run is of interest or of a fee")
+    period = date_of(request.form.get("first"), "first"), date_of(request.form.get("last"), "last")
+    branch = number_of(request.form.get("branch"), "branch")
+    run = runs.propose(here.found, here.copies, here.settings, here.badge, here.settings.badge, kind, branch, *period)
+    return redirect(f"/office/runs/{run}", 303)
+
+
+@pages.get("/runs/<int:run>")
+def run_page(run: int) -> str:
+    """One run with its transfers."""
+    require_approver()
+    here = desk()
+    row, lines = runs.run_of(here.found, run), runs.lines_of(here.found, run)
+    names = register.names_of_accounts(here.found, {it.account for it in lines})
+    return render_template("run.html", run=row, lines=lines, approvals=runs.approvals_of(here.found, run), names=names)
+
+
+@pages.post("/runs/<int:run>/<act>")
+def act_on(run: int, act: str) -> Any:
+    """Approves or withdraws a run, or has what was refused sent again."""
+    require_approver()
+    acts = {"approve": runs.approve, "withdraw": runs.withdraw, "again": runs.try_refused_again}
+    if act not in acts:
+        raise Refused("A run is approved or withdrawn")
+    acts[act](desk().found, desk().settings, desk().badge, run)
+    return redirect(f"/office/runs/{run}", 303)

@@ -1,0 +1,91 @@
+"""The statement of an account over all years: the files of closed years and the present one, joined by the account's balances."""
+import datetime
+import time
+from contextlib import ExitStack
+from typing import NamedTuple
+
+from .books import ENTRIES, Entry
+from .copies import Copies, Copy
+from .store import Refused
+
+
+class Line(NamedTuple):
+    """An entry in a statement, and the file that has it."""
+
+    copy: str
+    entry: Entry
+
+
+class Statement(NamedTuple):
+    """What an account did from one date to another, both included."""
+
+    account: int
+    first: datetime.date
+    last: datetime.date
+    opening: int
+    lines: list[Line]
+    closing: int
+    until: int
+
+
+class Chain(NamedTuple):
+    """All entries of an account over all files, and the balance before the first of them."""
+
+    opening: int
+    lines: list[Line]
+    until: int
+
+
+def begins(date: datetime.date) -> int:
+    """The moment at which a date begins by the machine's clock."""
+    return int(time.mktime((date.year, date.month, date.day, 0, 0, 0, 0, 0, -1)))
+
+
+def chain_of(copies: list[Copy], account: int) -> Chain:
+    """The entries of an account in the order of its turns, year by year. A balance that does not follow is refused."""
+    opening: int | None = None
+    balance, lines, until = 0, list[Line](), 0
+    for copy in copies:
+        until = copy.made
+        found = copy.row("SELECT opening FROM accounts WHERE account = ?", account)
+        if found is None:
+            continue
+        if opening is None:
+            opening = balance = found["opening"]
+        if found["opening"] != balance:
+            raise Refused(
+                f"Account {account} begins {copy.name} with {found['opening']} cents, and ended the year before with {balance}"
+            )
+        for row in copy.rows(f"{ENTRIES} WHERE it.account = ? ORDER BY it.turn", account):
+            entry = Entry(*row)
+            balance += entry.delta
+            if entry.balance_after != balance:
+                raise Refused(
+                    f"Account {account}, {copy.name}, turn {entry.turn}: {entry.balance_after} cents after it, and not {balance}"
+                )
+            lines.append(Line(copy.name, entry))
+    if opening is None:
+        raise Refused(f"There is no account {account} in the copies")
+    return Chain(opening, lines, until)
+
+
+def within(chain: Chain, account: int, first: datetime.date, last: datetime.date) -> Statement:
+    """The part of a chain between two dates. A clock that was set back moves no line: they stay in the order of the turns."""
+    if first > last:
+        raise Refused(f"{first} is after {last}")
+    start, end = begins(first), begins(last + datetime.timedelta(1))
+    moments = [it.entry.moment for it in chain.lines]
+    low = next((at for at, moment in enumerate(moments) if moment >= start), len(moments))
+    high = next((at for at in range(len(moments), 0, -1) if moments[at - 1] < end), 0)
+    shown = chain.lines[low : max(low, high)]
+    opening = chain.lines[low - 1].entry.balance_after if low else chain.opening
+    return Statement(account, first, last, opening, shown, shown[-1].entry.balance_after if shown else opening, chain.until)
+
+
+def statement(copies: Copies, account: int, first: datetime.date, last: datetime.date) -> Statement:
+    """The statement of an account between two dates."""
+    stack = ExitStack()
+    try:
+        return within(chain_of([stack.enter_context(it) for it in copies.all()], account), account, first, last)
+    finally:
+        stack.close()
