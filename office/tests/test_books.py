@@ -1,0 +1,218 @@
+"""Day books, the ledger and camt.053 over random days: sums are the proof's, debits equal credits; statements over years."""
+import datetime
+import shutil
+import sqlite3
+import subprocess
+import tempfile
+import time
+from pathlib import Path
+from xml.etree import ElementTree
+
+import pytest
+from bank_file import BRANCHES, OPENING, BankFile
+from bank_office import books, camt, ledger, statements
+from bank_office.copies import Copies, Copy, opened_copy
+from bank_office.store import Refused
+from conftest import Office
+from hypothesis import given, settings, strategies
+
+SCHEMA = Path(__file__).resolve().parent.parent / "schemas/camt.053.001.08.xsd"
+ALL = [it for accounts in BRANCHES.values() for it in accounts]
+AMOUNTS = strategies.integers(0, 999_999)
+STEPS = strategies.lists(
+    strategies.one_of(
+        strategies.tuples(strategies.just("post"), strategies.sampled_from(ALL), strategies.integers(-999_999, 999_999)),
+        strategies.tuples(strategies.just("correct"), strategies.integers(0, 30), AMOUNTS),
+        strategies.tuples(strategies.just("transfer"), strategies.permutations(ALL).map(lambda it: it[:2]), AMOUNTS),
+        strategies.tuples(strategies.just("move"), strategies.sampled_from([(0, 11), (11, 12), (12, 0)]), AMOUNTS),
+        strategies.tuples(strategies.just("off"), strategies.sampled_from([11, 12]), AMOUNTS),
+        strategies.tuples(strategies.just("close"), strategies.just(0), strategies.just(0)),
+    ),
+    max_size=30,
+)
+
+
+def live(bank: BankFile, steps: list[tuple[str, object, int]]) -> None:
+    """Carries steps out at branch 1."""
+    posts: list[tuple[int, int, int]] = []
+    for step, what, amount in steps:
+        match step, what:
+            case "post", int(account):
+                posts.append((bank.post(1, account, amount), account, amount))
+            case "correct", int(which) if posts:
+                number, account, delta = posts.pop(which % len(posts))
+                bank.post(1, account, -delta, teller=12, undoes=number, user=8)
+            case "transfer", (source, target):
+                bank.transfer(1, source, target, amount)
+            case "move", (source, target):
+                bank.move(1, source, target, amount)
+            case "off", int(teller):
+                bank.drawer_off(1, teller, amount)
+            case "close", _:
+                bank.close_day(1)
+                posts = []
+
+
+def require_true_day(copy: Copy, branch: int, day: int) -> list[ledger.Posting]:
+    """A day whose book agrees with its proof, and whose postings balance and move what it says."""
+    book = books.day_book(copy, branch, day)
+    assert book.faults == []
+    assert sum(it.delta for it in book.entries) == book.after.balance - book.before.balance
+    postings = ledger.postings_of(book)
+    assert sum(it.cents for it in postings) == 0 and ledger.imbalance(postings) == []
+    for name in ("vault", "drawer", "differences"):
+        moved = sum(it.cents for it in postings if it.ledger.split()[0] == name)
+        due = {
+            "vault": book.after.vault - book.before.vault,
+            "drawer": book.after.drawers - book.before.drawers,
+            "differences": book.before.differences - book.after.differences,
+        }[name]
+        assert moved == due, name
+    return postings
+
+
+@given(STEPS)
+@settings(max_examples=80)
+def test_random_days_agree_and_balance(steps: list[tuple[str, object, int]]) -> None:
+    with tempfile.TemporaryDirectory() as folder:
+        bank = BankFile(Path(folder, "present"))
+        live(bank, steps)
+        bank.close()
+        with Copies(Path(folder)).present() as copy:
+            days = books.days_of(copy, 1)
+            postings = [it for day in days for it in require_true_day(copy, 1, day.day)]
+            owed = {account: sum(-it.cents for it in postings if it.ledger == f"customer {account}") for account in ALL}
+            for row in copy.rows("SELECT account, balance - opening AS moved FROM accounts"):
+                assert owed[row["account"]] == row["moved"]
+            # What one branch owes another, that other has to claim.
+            between = {
+                it: sum(one.cents for one in postings if one.branch == it and one.ledger.startswith("branch ")) for it in (1, 2)
+            }
+            assert between[1] == -between[2]
+
+
+def test_a_row_that_is_changed_shows(tmp_path: Path) -> None:
+    for text, told in (
+        ("UPDATE entries SET delta = delta + 1 WHERE number = 1", "balance: "),
+        ("UPDATE lines SET amount = amount + 1 WHERE place = 0", "vault: "),
+        ("DELETE FROM entries WHERE number = 2", "entries: "),
+        ("UPDATE lines SET amount = amount + 1 WHERE number = 3 ", ""),
+    ):
+        bank = BankFile(tmp_path / "present")
+        bank.move(1, 0, 11, 5_000, 2)
+        bank.post(1, 101, 700)
+        bank.post(1, 102, 900)
+        bank.close_day(1)
+        bank.bank.execute(text)
+        bank.close()
+        with Copies(tmp_path).present() as copy:
+            book = books.day_book(copy, 1, 1)
+            assert any(it.startswith(told) for it in book.faults) if told else not book.faults
+            with pytest.raises(Refused):
+                ledger.postings_of(book)
+        (tmp_path / "present").unlink()
+
+
+def test_corrections_name_what_they_correct_and_by_whom(tmp_path: Path) -> None:
+    bank = BankFile(tmp_path / "present")
+    wrong = bank.post(1, 101, 12_000)
+    bank.post(1, 101, -12_000, teller=12, undoes=wrong, user=8)
+    bank.close()
+    with Copies(tmp_path).present() as copy:
+        first, second = books.day_book(copy, 1, 1).entries
+    assert (first.undone_by, first.undone_by_user, second.undoes, second.undoes_user) == (2, 8, 1, 7)
+
+
+def validated(text: str) -> subprocess.CompletedProcess[str]:
+    """What xmllint says of a document."""
+    return subprocess.run(["xmllint", "--noout", "--nonet", "--schema", SCHEMA, "-"], input=text, capture_output=True, text=True)
+
+
+@pytest.mark.skipif(not shutil.which("xmllint"), reason="xmllint (package libxml2-utils)")
+def test_camt_is_of_its_schema_and_adds_up(tmp_path: Path) -> None:
+    bank = BankFile(tmp_path / "present")
+    live(bank, [("post", 101, 250), ("post", 201, -300), ("transfer", (101, 202), 100), ("correct", 0, 0), ("off", 11, 40)])
+    bank.close_day(1)
+    bank.close()
+    with Copies(tmp_path).present() as copy:
+        text = camt.statement_xml(books.day_book(copy, 1, 1), "EUR", copy.made, "2026-11-29")
+    assert (ran := validated(text)).returncode == 0, ran.stderr
+    names = {"c": camt.NAMESPACE}
+    sides = {"CRDT": 1, "DBIT": -1}
+
+    def signed(found: ElementTree.Element) -> int:
+        side, number = found.find("c:CdtDbtInd", names), found.find("c:Amt", names)
+        assert side is not None and number is not None
+        return sides[str(side.text)] * round(float(str(number.text)) * 100)
+
+    root = ElementTree.fromstring(text)
+    opening, closing = (signed(it) for it in root.iterfind(".//c:Bal", names))
+    assert opening + sum(signed(it) for it in root.iterfind(".//c:Ntry", names)) == closing
+    for old, new in (
+        ("<CdtDbtInd>CRDT", "<CdtDbtInd>PLUS"),
+        ('Ccy="EUR"', 'Ccy="euro"'),
+        ("<Ntry>", "<Ntry><X/>"),
+        ("<Id>BRANCH", f"<Id>{'x' * 40}"),
+    ):
+        assert validated(text.replace(old, new, 1)).returncode != 0, old
+
+
+def two_years(office: Office) -> tuple[int, int]:
+    """A bank of two years; a moment in each."""
+    old = office.bank("2025")
+    old.moment = int(time.mktime((2025, 6, 1, 12, 0, 0, 0, 0, -1)))
+    old.post(1, 101, 1_000)
+    old.transfer(1, 101, 102, 300)
+    new = office.bank(openings=old.balances())
+    new.moment = int(time.mktime((2026, 3, 1, 12, 0, 0, 0, 0, -1)))
+    new.post(1, 101, -200)
+    moments = old.moment, new.moment
+    old.close()
+    new.close()
+    return moments
+
+
+def test_a_statement_goes_over_two_years(office: Office) -> None:
+    two_years(office)
+    copies = Copies(office.copies)
+    found = statements.statement(copies, 101, datetime.date(2025, 1, 1), datetime.date(2026, 12, 31))
+    assert (found.opening, [(it.copy, it.entry.delta) for it in found.lines], found.closing) == (
+        OPENING,
+        [("2025", 1_000), ("2025", -300), ("present", -200)],
+        OPENING + 500,
+    )
+    assert found.lines[1].entry.other == 102
+    middle = statements.statement(copies, 101, datetime.date(2025, 6, 2), datetime.date(2026, 2, 28))
+    assert (middle.opening, middle.lines, middle.closing) == (OPENING + 700, [], OPENING + 700)
+    early = statements.statement(copies, 101, datetime.date(2024, 1, 1), datetime.date(2024, 12, 31))
+    assert (early.opening, early.lines, early.closing) == (OPENING, [], OPENING)
+
+
+@pytest.mark.parametrize(
+    "name, text, why",
+    [
+        ("present", "UPDATE accounts SET opening = opening + 1 WHERE account = 101", "begins present"),
+        ("years/2025", "UPDATE entries SET balance_after = 7 WHERE account = 101 AND turn = 2", "turn 2"),
+    ],
+)
+def test_a_chain_that_breaks_is_refused(office: Office, name: str, text: str, why: str) -> None:
+    two_years(office)
+
+    with sqlite3.connect(office.copies / name) as found:
+        found.execute(text)
+    found.close()
+    with pytest.raises(Refused, match=why):
+        statements.statement(Copies(office.copies), 101, datetime.date(2025, 1, 1), datetime.date(2026, 12, 31))
+
+
+def test_a_copy_with_a_log_is_refused_and_none_is_written(office: Office) -> None:
+    office.bank().close()
+    file = office.copies / "present"
+    before = file.read_bytes()
+    with opened_copy(file, "present") as copy, pytest.raises(Exception, match="readonly"):
+        copy.bank.execute("UPDATE accounts SET balance = 0")
+    assert file.read_bytes() == before and sorted(it.name for it in office.copies.iterdir()) == ["badges.csv", "present", "years"]
+    file.with_name("present-wal").write_bytes(b"x")
+    with pytest.raises(Refused, match="log"):
+        with opened_copy(file, "present"):
+            pass

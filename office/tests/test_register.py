@@ -1,0 +1,170 @@
+"""The register: names of all kinds, search, CSV, and that nothing is lost."""
+import sqlite3
+
+import pytest
+from bank_office import register, sheets, store
+from bank_office.register import Holder
+from bank_office.store import Refused
+from conftest import Office
+from hypothesis import given, settings, strategies
+from odd_names import ODD_NAMES
+
+
+def sheet_of(names: list[str]) -> bytes:
+    """A sheet of holders with these names."""
+    return sheets.sheet_text(
+        Holder._fields,
+        [(number, name, f"{number} Main Street, Town\nUpstairs", "", "", "2026-01-31") for number, name in enumerate(names, 1)],
+    ).encode()
+
+
+def test_odd_names_go_in_and_come_out_equal(office: Office) -> None:
+    with office.opened() as found:
+        assert sheets.imported(found, "kim", "holders", sheet_of(ODD_NAMES)) == len(ODD_NAMES) >= 40
+        assert [it.name for it in register.holders(found)] == ODD_NAMES
+        text = sheets.exported(found, "holders")
+        assert sheets.imported(found, "kim", "holders", text.encode()) == 0
+        assert sheets.exported(found, "holders") == text
+
+
+def test_each_odd_name_is_found_by_the_beginning_of_its_words(office: Office) -> None:
+    with office.opened() as found:
+        sheets.imported(found, "kim", "holders", sheet_of(ODD_NAMES))
+        for number, name in enumerate(ODD_NAMES, 1):
+            words = [it for it in register.asked_words(name) if register.is_enough({it})]
+            assert words, name
+            for word in words:
+                begins = word if len(word) < 3 else word[:-1]
+                if register.is_enough({begins}):
+                    assert number in [it.holder for it in register.search(found, begins)], (name, begins)
+
+
+@pytest.mark.parametrize(
+    "asked, name",
+    [
+        ("muller", "Jürgen Müller"),
+        ("MÜL", "Jürgen Müller"),
+        ("o'neil", "Shaun O'Neil"),
+        ("oneil", "Shaun O'Neil"),
+        ("neil", "Shaun O'Neil"),
+        ("漢", "漢字 太郎"),
+        ("jo da", "João da Silva"),
+        ("strass", "Anna Straße"),
+    ],
+)
+def test_accents_and_letter_case_do_not_matter(office: Office, asked: str, name: str) -> None:
+    with office.opened() as found:
+        sheets.imported(found, "kim", "holders", sheet_of([name, "Somebody Else"]))
+        assert [it.name for it in register.search(found, asked)] == [name]
+
+
+@pytest.mark.parametrize("asked", ["", "a", "-", "a b"])
+def test_a_search_begins_with_two_letters(office: Office, asked: str) -> None:
+    with office.opened() as found, pytest.raises(Refused):
+        register.search(found, asked)
+
+
+@pytest.mark.parametrize(
+    "record, why",
+    [
+        ("1,Ann,,,,", "6 fields"),
+        ("x,Ann,,,,", "holder is a whole number"),
+        ("0,Ann,,,,", "whole number"),
+        ("1000000000,Ann,,,,", "whole number"),
+        ("01,Ann,,,,", "whole number"),
+        ("1,,,,,", "name has 1 to 200"),
+        ("1, ,,,,", "name has 1 to 200"),
+        (f"1,{'x' * 201},,,,", "and not 201"),
+        ("1,Ann,,,,31.1.2026", "since is a date"),
+        ("1,Ann\x07,,,,", "U+0007"),
+        ("1,\u202enna,,,,", "U+202E"),
+        ('1,"Ann,,,,', "unexpected end"),
+        ("1,Ann", "2 fields"),
+        ("1,Ann,,,,,", "7 fields"),
+    ],
+)
+def test_a_bad_record_is_refused_by_its_line_and_nothing_is_taken(office: Office, record: str, why: str) -> None:
+    good = "holder,name,address,document,note,since\r\n5,Good,,,,\r\n"
+    with office.opened() as found:
+        if why == "6 fields":  # what is good is taken
+            assert sheets.imported(found, "kim", "holders", (good + record).encode()) == 2
+            return
+        with pytest.raises(sheets.SheetRefused, match="holders.csv, line 3: ") as refused:
+            sheets.imported(found, "kim", "holders", (good + record).encode())
+        assert why in str(refused.value)
+        assert register.holders(found) == []
+
+
+@pytest.mark.parametrize(
+    "name, text, why",
+    [
+        ("holders", "", "line 1: the file is empty"),
+        ("holders", "name,holder\n", "line 1: the heading is holder,name"),
+        ("holders", "holder;name;address;document;note;since\n", "line 1: the heading"),
+        ("holdings", "account,holder,may\n101,1,owns\n", "line 2: there is no holder 1"),
+        ("users", "badge,user,name\ntess,7,Tess\ntess,8,Tom\n", "line 3: the same as line 2"),
+        ("users", "badge,user,name\na b,7,Tess\n", "line 2: 'a b' is no badge"),
+        ("users", "badge,user,name\ntess,10000,Tess\n", "line 2: user is a number from 1 to 9,999"),
+    ],
+)
+def test_a_bad_sheet_is_refused_by_its_line(office: Office, name: str, text: str, why: str) -> None:
+    with office.opened() as found, pytest.raises(sheets.SheetRefused) as refused:
+        sheets.imported(found, "kim", name, text.encode())
+    assert why in str(refused.value)
+
+
+def test_lines_count_line_ends_within_fields(office: Office) -> None:
+    text = 'holder,name,address,document,note,since\r\n1,Ann,"one\r\ntwo\r\nthree",,,\r\nx,Ben,,,,\r\n'
+    with office.opened() as found, pytest.raises(sheets.SheetRefused, match="line 5"):
+        sheets.imported(found, "kim", "holders", text.encode())
+
+
+def test_latin_1_is_refused_by_its_line(office: Office) -> None:
+    with office.opened() as found, pytest.raises(sheets.SheetRefused, match="line 2: it is not UTF-8"):
+        sheets.imported(found, "kim", "holders", "holder,name,address,document,note,since\n1,Zoë,,,,\n".encode("latin-1"))
+
+
+@given(
+    strategies.lists(
+        strategies.text(
+            strategies.characters(blacklist_categories=("Cc", "Cs", "Co", "Zl", "Zp")), min_size=1, max_size=200
+        ).filter(lambda it: it.strip() and not set(it) & register.TURNS),
+        max_size=5,
+    )
+)
+@settings(max_examples=60)
+def test_any_names_come_out_equal(names: list[str]) -> None:
+    found = sqlite3.connect(":memory:", isolation_level=None)
+    found.row_factory = sqlite3.Row
+    found.executescript(store.SCHEMA.read_text(encoding="utf-8"))
+    sheets.imported(found, "kim", "holders", sheet_of(names))
+    assert [it.name for it in register.holders(found)] == names
+    text = sheets.exported(found, "holders")
+    assert sheets.imported(found, "kim", "holders", text.encode()) == 0
+
+
+@given(strategies.text())
+def test_a_guarded_field_is_no_formula_and_comes_back(text: str) -> None:
+    assert sheets.bare(sheets.guarded(text)) == text
+    assert not sheets.guarded(text).startswith(tuple("=+-@\t"))
+
+
+def test_each_change_is_kept_with_who_and_when(office: Office) -> None:
+    with office.opened() as found:
+        sheets.imported(found, "kim", "holders", sheet_of(["Ann"]))
+        sheets.imported(found, "kim", "holdings", b"account,holder,may\n101,1,owns\n")
+        sheets.imported(found, "lee", "holders", sheet_of(["Ann Smith"]))
+        sheets.imported(found, "lee", "holdings", b"account,holder,may\n101,1,none\n")
+        kept = [
+            (it["badge"], it["what"], it["old"] is None, it["new"] is None)
+            for it in found.execute("SELECT * FROM changes ORDER BY change")
+        ]
+        assert kept == [
+            ("kim", "holder", True, False),
+            ("kim", "holding", True, False),
+            ("lee", "holder", False, False),
+            ("lee", "holding", False, True),
+        ]
+        for text in ("DELETE FROM changes", "UPDATE changes SET badge = 'tom'"):
+            with pytest.raises(sqlite3.IntegrityError, match="never"):
+                found.execute(text)
