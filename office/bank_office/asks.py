@@ -1,16 +1,17 @@
-"""The queue of requests that wait for a release. The bank judges each release and each request."""
+"""The queue of requests that wait for a release, or for a colleague who makes a correction. The bank judges all that comes of it."""
 import json
 import sqlite3
 from typing import NamedTuple
 
 from .copies import Copy
-from .policy import Operation, may_release, require_operation
+from .policy import Operation, may_correct, may_release, require_operation
 from .store import Refused, changing, now
 
 # A request waits so many seconds. A release is valid on one day of its branch only, so an old one would be of no use.
 WAITS = 3_600
 MOST_WAITING = 5
 MOST_REASON = 200
+WISHES = ("release", "correct")
 
 
 class Ask(NamedTuple):
@@ -21,10 +22,11 @@ class Ask(NamedTuple):
     badge: str
     user: int
     operation: Operation
+    wish: str
     state: str
     answered: int | None
     answerer: str | None
-    release: int | None
+    number: int | None
     reason: str
 
 
@@ -57,41 +59,49 @@ def of_badge(found: sqlite3.Connection, badge: str) -> list[Ask]:
     ]
 
 
+def may_answer(copy: Copy, user: int, one: Ask) -> bool:
+    """Whether a user could do what is wished for. Nobody releases a request of their own, or corrects their own entry."""
+    could = may_release if one.wish == "release" else may_correct
+    return one.user != user and could(copy, user, one.operation, now())
+
+
 def for_user(found: sqlite3.Connection, copy: Copy, user: int) -> list[Ask]:
-    """What waits that a user could release: not their own, as nobody releases that."""
-    return [it for it in waiting(found) if it.user != user and may_release(copy, user, it.operation, now())]
+    """What waits that a user could answer."""
+    return [it for it in waiting(found) if may_answer(copy, user, it)]
 
 
-def ask(found: sqlite3.Connection, badge: str, user: int, given: object) -> Ask:
+def ask(found: sqlite3.Connection, badge: str, user: int, wish: object, given: object) -> Ask:
     """Puts a request into the queue."""
     operation = require_operation(given)
+    if wish not in WISHES or wish == "correct" != operation["procedure"]:
+        raise Refused("wish is release, or correct of a correction")
     with changing(found):
         if sum(it.badge == badge for it in waiting(found)) >= MOST_WAITING:
             raise Refused(f"{MOST_WAITING} of your requests wait already")
         number = found.execute(
-            "INSERT INTO asks (moment, badge, user, operation, state) VALUES (?, ?, ?, ?, 'waiting') RETURNING ask",
-            (now(), badge, user, json.dumps(operation, sort_keys=True)),
+            "INSERT INTO asks (moment, badge, user, operation, wish, state) VALUES (?, ?, ?, ?, ?, 'waiting') RETURNING ask",
+            (now(), badge, user, json.dumps(operation, sort_keys=True), wish),
         ).fetchone()[0]
     return ask_of(found, number)
 
 
-def answer(found: sqlite3.Connection, copy: Copy, badge: str, user: int, number: int, release: int | None, reason: str) -> Ask:
-    """The number of the release that the bank gave, or a refusal with its reason, from whoever could release it."""
+def answer(found: sqlite3.Connection, copy: Copy, badge: str, user: int, ask: int, number: int | None, reason: str) -> Ask:
+    """The number of the release or of the entry that the bank gave, or a refusal with its reason, from whoever could do it."""
     if len(reason) > MOST_REASON:
         raise Refused(f"A reason has at most {MOST_REASON} characters")
-    if release is not None and not 1 <= release <= 999_999_999:
-        raise Refused("A release has a number from 1 to 999,999,999")
+    if number is not None and not 1 <= number <= 999_999_999:
+        raise Refused("A release or an entry has a number from 1 to 999,999,999")
     with changing(found):
-        one = ask_of(found, number)
+        one = ask_of(found, ask)
         if one.state != "waiting":
-            raise Refused(f"Request {number} is {one.state}")
-        if one.user == user or not may_release(copy, user, one.operation, now()):
-            raise Refused(f"Request {number} waits for others")
+            raise Refused(f"Request {ask} is {one.state}")
+        if not may_answer(copy, user, one):
+            raise Refused(f"Request {ask} waits for others")
         found.execute(
-            "UPDATE asks SET state = ?, answered = ?, answerer = ?, release = ?, reason = ? WHERE ask = ?",
-            ("refused" if release is None else "released", now(), badge, release, reason, number),
+            "UPDATE asks SET state = ?, answered = ?, answerer = ?, number = ?, reason = ? WHERE ask = ?",
+            ("refused" if number is None else "done", now(), badge, number, reason, ask),
         )
-    return ask_of(found, number)
+    return ask_of(found, ask)
 
 
 def withdraw(found: sqlite3.Connection, badge: str, number: int) -> Ask:

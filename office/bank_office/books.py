@@ -168,11 +168,46 @@ class Day(NamedTuple):
     is_closed: bool
 
 
-def days_of(copy: Copy, branch: int) -> list[Day]:
-    """The days of a branch, the newest first."""
-    present = copy.row("SELECT day FROM branches WHERE branch = ?", branch)
-    if present is None:
+class Span(NamedTuple):
+    """The days of a branch that one file has: a year's file up to its last, the present one up to the day that is open."""
+
+    copy: Copy
+    first: int
+    last: int
+
+
+def spans_of(copies: list[Copy], branch: int) -> list[Span]:
+    """Which file has which days: the next year goes on with the number after the last day of this one."""
+    spans, first = list[Span](), 1
+    for copy in copies:
+        row = copy.row("SELECT day FROM branches WHERE branch = ?", branch)
+        if row is not None:
+            spans.append(Span(copy, first, row["day"] - (copy is not copies[-1])))
+            first = row["day"]
+    if not spans:
         raise Refused(f"There is no branch {branch}")
+    return spans
+
+
+def day_book_of(copies: list[Copy], branch: int, day: int) -> DayBook:
+    """The book of a day of whichever year."""
+    spans = spans_of(copies, branch)
+    for span in spans:
+        if span.first <= day <= span.last:
+            return day_book(span.copy, branch, day)
+    raise Refused(f"Branch {branch} has days 1 to {spans[-1].last}")
+
+
+def days_of(copies: list[Copy], branch: int) -> list[Day]:
+    """The days of a branch over all years, the newest first."""
+    return [day for span in reversed(spans_of(copies, branch)) for day in days_in(span, branch)]
+
+
+def days_in(span: Span, branch: int) -> list[Day]:
+    """The days of a branch that one file has, the newest first."""
+    copy = span.copy
+    present = copy.row("SELECT day FROM branches WHERE branch = ?", branch)
+    assert present is not None
     found = {
         it["day"]: it
         for it in copy.rows(
@@ -190,7 +225,7 @@ def days_of(copy: Copy, branch: int) -> list[Day]:
             *((found[day]["first"], found[day]["last"], found[day]["entries"]) if day in found else (0, 0, 0)),
             day < present["day"],
         )
-        for day in range(present["day"], 0, -1)
+        for day in range(span.last, span.first - 1, -1)
     ]
 
 

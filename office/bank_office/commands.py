@@ -3,6 +3,7 @@ import argparse
 import datetime
 import sqlite3
 import sys
+import time
 from collections.abc import Sequence
 from contextlib import closing
 from pathlib import Path
@@ -15,6 +16,7 @@ from .web import SETTINGS
 
 # Who a change is by that no badge made.
 BY_COMMAND = "(command)"
+MOST_SAVED = 30
 
 
 def import_sheet(settings: Settings, given: argparse.Namespace) -> int:
@@ -66,11 +68,19 @@ def carry_out(settings: Settings, given: argparse.Namespace) -> int:
 
 
 def save(settings: Settings, given: argparse.Namespace) -> int:
-    """Copies the office's file, whole, while the service runs."""
-    if given.file.exists():
-        raise Refused(f"{given.file} is there already")
-    with opened(settings.file) as found, closing(sqlite3.connect(given.file)) as other:
+    """Copies the office's file, whole, while the service runs, into a folder beside it; the newest thirty copies stay."""
+    folder = settings.file.with_name("saved")
+    folder.mkdir(mode=0o700, exist_ok=True)
+    begun, kept = folder / "begun", folder / time.strftime("%Y%m%dT%H%M%SZ", time.gmtime())
+    begun.unlink(missing_ok=True)
+    with opened(settings.file) as found, closing(sqlite3.connect(begun)) as other:
         found.backup(other)
+        if (fault := other.execute("PRAGMA integrity_check").fetchone()[0]) != "ok":
+            raise Refused(f"The copy is not sound: {fault}")
+    begun.rename(kept)
+    for old in sorted(folder.glob("[0-9]*Z"))[:-MOST_SAVED]:
+        old.unlink()
+    print(kept)
     return 0
 
 
@@ -92,9 +102,7 @@ def parser() -> argparse.ArgumentParser:
     one.add_argument("last", type=datetime.date.fromisoformat)
     one.set_defaults(act=propose)
     commands.add_parser("carry-out", help=carry_out.__doc__).set_defaults(act=carry_out)
-    one = commands.add_parser("save", help=save.__doc__)
-    one.add_argument("file", type=Path)
-    one.set_defaults(act=save)
+    commands.add_parser("save", help=save.__doc__).set_defaults(act=save)
     return top
 
 

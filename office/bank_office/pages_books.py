@@ -40,13 +40,13 @@ def branches() -> str:
     """The branches whose day books the user may see."""
     here = desk()
     found = [it for it in books.branches_of(here.copy) if policy.sees_branch(here.copy, here.user, it, now())]
-    return render_template("branches.html", branches={it: books.days_of(here.copy, it) for it in found}, made=here.copy.made)
+    return render_template("branches.html", branches={it: books.days_of(here.years, it) for it in found}, made=here.copy.made)
 
 
 def book_of(branch: int, day: int) -> books.DayBook:
     """A day book that the user may see."""
     desk().require_branch(branch)
-    return books.day_book(desk().copy, branch, day)
+    return books.day_book_of(desk().years, branch, day)
 
 
 @pages.get("/days/<int:branch>/<int:day>")

@@ -45,20 +45,21 @@ def waiting_answer() -> Response:
 
 @pages.post("/api/asks")
 def ask_answer() -> Response:
-    """Puts a request into the queue. The body is the operation as the bank takes it in a release."""
-    here = desk()
-    return jsonify(shown(asks.ask(here.found, here.badge, here.user, request.get_json())))
+    """Puts a request into the queue: what is wished for, and the operation as the bank takes it in a release."""
+    here, given = desk(), request.get_json()
+    wish, operation = (given.get("wish"), given.get("operation")) if isinstance(given, dict) else (None, None)
+    return jsonify(shown(asks.ask(here.found, here.badge, here.user, wish, operation)))
 
 
-@pages.post("/api/asks/<int:number>/answer")
-def answer_answer(number: int) -> Response:
-    """The number of a release that the bank gave, or none and a reason."""
+@pages.post("/api/asks/<int:ask>/answer")
+def answer_answer(ask: int) -> Response:
+    """The number of the release or of the entry that the bank gave, or none and a reason."""
     given = request.get_json()
-    release, reason = (given.get("release"), given.get("reason", "")) if isinstance(given, dict) else (0, "")
-    if not (release is None or type(release) is int) or not isinstance(reason, str):
-        raise Refused("An answer has release, a number or null, and reason, a text")
+    number, reason = (given.get("number"), given.get("reason", "")) if isinstance(given, dict) else ("", "")
+    if not (number is None or type(number) is int) or not isinstance(reason, str):
+        raise Refused("An answer has number, a number or null, and reason, a text")
     here = desk()
-    return jsonify(shown(asks.answer(here.found, here.copy, here.badge, here.user, number, release, reason)))
+    return jsonify(shown(asks.answer(here.found, here.copy, here.badge, here.user, ask, number, reason)))
 
 
 @pages.post("/api/asks/<int:number>/withdraw")

@@ -127,6 +127,12 @@ def amount_of(operation: Operation) -> int:
     return abs(int(operation.get("delta", operation.get("amount", operation.get("cash", 0)))))
 
 
+def may_correct(copy: Copy, user: int, operation: Operation, moment: int) -> bool:
+    """Whether a user could make a correction, at a drawer of their own."""
+    items = [it for it in touched(operation) if it[0] not in (Kind.TELLER, Kind.DRAWER)]
+    return may(copy, user, "correct", items, moment, amount_of(operation))
+
+
 def may_release(copy: Copy, user: int, operation: Operation, moment: int) -> bool:
     """Whether a user could give the release for an operation."""
     return may(copy, user, "release", touched(operation), moment, amount_of(operation))

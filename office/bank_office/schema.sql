@@ -17,11 +17,12 @@ CREATE TABLE IF NOT EXISTS changes (
 CREATE INDEX IF NOT EXISTS changes_by_row ON changes (what, row);
 CREATE TRIGGER IF NOT EXISTS changes_stay BEFORE UPDATE ON changes BEGIN SELECT RAISE(ABORT, 'a change is never changed'); END;
 CREATE TRIGGER IF NOT EXISTS changes_are_kept BEFORE DELETE ON changes BEGIN SELECT RAISE(ABORT, 'a change is never removed'); END;
--- Requests that wait for a release.
+-- Requests that wait for others: for a release, or for a colleague who makes the correction. `number` is that of the release, or of
+-- the entry that corrects.
 CREATE TABLE IF NOT EXISTS asks (
     ask INTEGER PRIMARY KEY AUTOINCREMENT, moment INTEGER NOT NULL, badge TEXT NOT NULL, user INTEGER NOT NULL, operation TEXT NOT NULL,
-    state TEXT NOT NULL CHECK (state IN ('waiting', 'released', 'refused', 'withdrawn')),
-    answered INTEGER, answerer TEXT, release INTEGER, reason TEXT NOT NULL DEFAULT ''
+    wish TEXT NOT NULL CHECK (wish IN ('release', 'correct')), state TEXT NOT NULL CHECK (state IN ('waiting', 'done', 'refused', 'withdrawn')),
+    answered INTEGER, answerer TEXT, number INTEGER, reason TEXT NOT NULL DEFAULT ''
 ) STRICT;
 CREATE INDEX IF NOT EXISTS asks_by_state ON asks (state, ask);
 -- Runs: lists of transfers that two persons approve before they are sent.

@@ -31,6 +31,7 @@ class Desk:
         self.copies = Copies(settings.copies)
         self._found: Any = None
         self._copy: Copy | None = None
+        self._years: list[Copy] = []
 
     @property
     def found(self) -> Any:
@@ -45,6 +46,13 @@ class Desk:
         if self._copy is None:
             self._copy = self.stack.enter_context(self.copies.present())
         return self._copy
+
+    @property
+    def years(self) -> list[Copy]:
+        """The files of closed years, and the newest copy."""
+        if not self._years:
+            self._years = [self.stack.enter_context(it) for it in self.copies.all()]
+        return self._years
 
     @property
     def user(self) -> int:

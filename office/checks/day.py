@@ -56,7 +56,9 @@ class Day:
         self.files = files
         self.settings_file = files.top / "settings.toml"
         self.socket = files.top / "office.socket"
-        self.branch = Branch(files, "branch", bank=False, changes=[*branches.NO_RATE, ("unix:/run/bank-office.socket", f"unix:{self.socket}")])
+        self.branch = Branch(
+            files, "branch", bank=False, changes=[*branches.NO_RATE, ("unix:/run/bank-office.socket", f"unix:{self.socket}")]
+        )
         self.copies, self.bank_copies = files.top / "copies-of-the-office", files.top / "copies"
         self.copies.mkdir()
         self.bank_copies.mkdir()
@@ -90,11 +92,11 @@ class Day:
         (branch.folder / "next").rename(branch.file)
 
     def run_at(self, moment: int, requests: list[tuple[str, str, dict[str, int]]]) -> bytes:
-        """What `run` writes for requests at a moment, each user's in session 2."""
+        """What `run` writes for requests at a moment, each user's in session 1."""
         given = b""
         for who, path, body in requests:
             text = json.dumps(body)
-            given += f"POST {path} HTTP/1.1\r\nHost: bank\r\nBank-Badge: {who}\r\nBank-Session: 2\r\nContent-Length: {len(text)}\r\n\r\n{text}".encode()
+            given += f"POST {path} HTTP/1.1\r\nHost: bank\r\nBank-Badge: {who}\r\nBank-Session: 1\r\nContent-Length: {len(text)}\r\n\r\n{text}".encode()
         badges = self.branch.folder / "lists/badges.csv"
         command = [self.files.top / "bank_cli", "run", self.branch.file, "--badges", badges, "--moment", str(moment)]
         return subprocess.run(command, input=given, capture_output=True, check=True).stdout
@@ -143,7 +145,9 @@ class Day:
         door.listen(64)
         hand_over = 'exec 3<&0 </dev/null; export LISTEN_PID=$$ LISTEN_FDS=1; exec "$@"'
         with open(self.files.top / "office.log", "ab") as log, door:
-            self.service = subprocess.Popen(["sh", "-c", hand_over, "sh", *words], env=self.environment, stdin=door, stdout=log, stderr=log)
+            self.service = subprocess.Popen(
+                ["sh", "-c", hand_over, "sh", *words], env=self.environment, stdin=door, stdout=log, stderr=log
+            )
         end = time.monotonic() + PATIENCE
         while self.branch.ask("amy", "/office/users")[0] != 200:
             require(time.monotonic() < end and self.service.poll() is None, True, f"the office answers: {self.log()}")
@@ -172,14 +176,25 @@ class Day:
         token = re.search(r'name="token" value="([^"]+)"', page)
         require(token is not None, True, "the page has a form")
         assert token is not None
-        more = [word for name, text in {"token": token[1], **fields}.items() for word in ("-F" if text.startswith("@") else "--form-string", f"{name}={text}")]
-        status, text = self.branch.ask(who, f"/office/{path}", fields=(f"Origin: {self.branch.url}", "Sec-Fetch-Site: same-origin"), more=more)
+        more = [
+            word
+            for name, text in {"token": token[1], **fields}.items()
+            for word in ("-F" if text.startswith("@") else "--form-string", f"{name}={text}")
+        ]
+        status, text = self.branch.ask(
+            who, f"/office/{path}", fields=(f"Origin: {self.branch.url}", "Sec-Fetch-Site: same-origin"), more=more
+        )
         require(status in (303, 403, 422), True, f"{path} of {who}: {status} {text[-300:]}")
         return int(status)
 
     def api(self, who: str, path: str, body: object) -> tuple[int, dict[str, Any]]:
         """A request of the teller's page to the office."""
-        fields = (f"Desk-Badge: {who}", "Content-Type: application/json", f"Origin: {self.branch.url}", "Sec-Fetch-Site: same-origin")
+        fields = (
+            f"Desk-Badge: {who}",
+            "Content-Type: application/json",
+            f"Origin: {self.branch.url}",
+            "Sec-Fetch-Site: same-origin",
+        )
         status, text = self.branch.ask(who, f"/office/api/{path}", json.dumps(body), fields)
         return status, json.loads(text)
 

@@ -37,9 +37,21 @@ def write_lists(folder: Path) -> None:
         *((1, kind, 1, 999) for kind in ("account", "teller", "branch", "history", "drawer", "vault")),
         (2, "account", 101, 199), (2, "account", 900, 900), (2, "teller", 11, 90), (2, "branch", 1, 1), (2, "history", 1, 1), (2, "drawer", 11, 90),
         (2, "vault", 1, 1), (3, "account", 101, 199)])  # fmt: skip
-    relations = [(name, number) for number in (1, 2) for name in PROCEDURES if name != "accounts"] + [("accounts", 1), ("accounts", 3)]
+    relations = [(name, number) for number in (1, 2) for name in PROCEDURES if name != "accounts"] + [
+        ("accounts", 1),
+        ("accounts", 3),
+    ]
     put("relations", "procedure,set,by", [(name, number, 2) for name, number in relations])
-    work = {"post": LIMIT, "transfer": LIMIT, "correct": LIMIT, "drawer-on": 100_000, "drawer-off": 0, "move-cash": 100_000, "balance": 0, "statement": 0}
+    work = {
+        "post": LIMIT,
+        "transfer": LIMIT,
+        "correct": LIMIT,
+        "drawer-on": 100_000,
+        "drawer-off": 0,
+        "move-cash": 100_000,
+        "balance": 0,
+        "statement": 0,
+    }
     lead = {"release": 999_999, "proof": 0, "close-day": 0, "statement": 0}
     runs = {"transfer": 999_999, "drawer-on": 0, "drawer-off": 0}
     put("triples", "user,procedure,set,limit", [

@@ -8,6 +8,7 @@ import re
 import signal
 import subprocess
 import time
+from pathlib import Path
 from urllib.parse import quote
 
 from branches import require
@@ -35,7 +36,9 @@ def first_night(day: Day) -> None:
     day.start_service()
     require(json.loads(day.get("kim", "api/here")), {"approver": False, "badge": "kim", "keeper": True}, "who asks")
     require(day.branch.ask(None, "/office/"), (403, '{"front":"certificate"}'), "without a certificate")
-    require(json.loads(day.branch.ask("amy", "/office/api/here", fields=("Bank-Badge: kim",))[1])["badge"], "amy", "a forged badge")
+    require(
+        json.loads(day.branch.ask("amy", "/office/api/here", fields=("Bank-Badge: kim",))[1])["badge"], "amy", "a forged badge"
+    )
     for fields in (("Origin: https://other.example",), ("Sec-Fetch-Site: cross-site",)):
         require(day.branch.ask("kim", "/office/", fields=fields), (403, '{"front":"other site"}'), fields)
     require(day.branch.ask("kim", "/office/", fields=("Desk-Badge: amy",)), (412, '{"front":"other badge"}'), "another card")
@@ -78,29 +81,33 @@ def release(day: Day) -> None:
     """A request above Amy's limit waits in the queue, is released by Sue at the bank, and goes on by the number."""
     body = {"account": 103, "branch": 1, "delta": 150_000, "teller": 11}
     require(day.branch.ask("amy", "/do/post", body), (403, '{"name":"limit","rule":4}'), "above the limit")
-    status, asked = day.api("amy", "asks", {"procedure": "post", **body})
+    status, asked = day.api("amy", "asks", {"wish": "release", "operation": {"procedure": "post", **body}})
     require((status, asked["state"]), (200, "waiting"), "asked for")
     require(json.loads(day.get("ben", "api/asks"))["waiting"], [], "what waits for a teller")
     waiting = json.loads(day.get("sue", "api/asks"))["waiting"]
-    require([(it["ask"], it["user"], it["name"], it["names"]) for it in waiting], [(asked["ask"], 7, "Amy Ångström", {"103": [ODD_NAMES[2]]})], "what waits")
+    require(
+        [(it["ask"], it["user"], it["name"], it["names"]) for it in waiting],
+        [(asked["ask"], 7, "Amy Ångström", {"103": [ODD_NAMES[2]]})],
+        "what waits",
+    )
     given = day.do("sue", "release", beneficiary=waiting[0]["user"], operation=waiting[0]["operation"])
-    require(day.api("sue", f"asks/{asked['ask']}/answer", {"release": given["release"]})[0], 200, "answered")
+    require(day.api("sue", f"asks/{asked['ask']}/answer", {"number": given["release"]})[0], 200, "answered")
     mine = json.loads(day.get("amy", "api/asks"))["mine"][0]
-    require((mine["state"], mine["answerer"]), ("released", "sue"), "what Amy sees")
-    day.do("amy", "post", (f"Bank-Release: {mine['release']}",), **body)
-    require(day.branch.ask("amy", "/do/post", body, (f"Bank-Release: {mine['release']}",))[0], 403, "the same again")
+    require((mine["state"], mine["answerer"]), ("done", "sue"), "what Amy sees")
+    day.do("amy", "post", (f"Bank-Release: {mine['number']}",), **body)
+    require(day.branch.ask("amy", "/do/post", body, (f"Bank-Release: {mine['number']}",))[0], 403, "the same again")
 
 
 def entries(day: Day) -> None:
     """A day of all kinds of entries, closed."""
     wrong = day.do("amy", "post", account=104, branch=1, delta=12_000, teller=11)["entry"]
+    day.do("amy", "move-cash", amount=12_000, branch=1, source=11, target=12)
     day.do("ben", "correct", account=104, branch=1, delta=12_000, entry=wrong, other=0, teller=12)
     day.do("amy", "transfer", amount=700, branch=1, source=101, target=102, teller=11)
     day.do("cai", "post", account=105, branch=2, delta=4_000, teller=21)
     day.do("cai", "post", account=201, branch=2, delta=-900, teller=21)
-    day.do("amy", "move-cash", amount=500, branch=1, source=11, target=12)
-    require(day.do("amy", "drawer-off", branch=1, counted=163_517, teller=11)["difference"] != 0, True, "Amy's drawer differs")
-    day.do("ben", "drawer-off", branch=1, counted=0, teller=12)
+    require(day.do("amy", "drawer-off", branch=1, counted=152_017, teller=11)["difference"], 17, "Amy's drawer differs")
+    require(day.do("ben", "drawer-off", branch=1, counted=900, teller=12)["difference"], -100, "Ben's drawer differs")
     require(day.branch.ask("sue", "/do/close-day", {"branch": 1})[0], 200, "branch 1 is closed")
 
 
@@ -110,23 +117,34 @@ def sums(day: Day) -> None:
     day.night()
     day_number = int(proof.split(" DAY ")[1].split()[0]) - 1
     page = day.get("sue", f"days/1/{day_number}")
-    require("It agrees with the day's proof" in page.replace("&#39;", "'"), True, "the page agrees")
+    require("It agrees with the day&#39;s proof" in page, True, "the page agrees")
+    require("It agrees with the day&#39;s proof" in day.get("sue", "days/1/1"), True, "the day of the year before agrees")
     with day.rows() as found:
         closed = found.execute("SELECT entries, balance, cash FROM proofs WHERE branch = 1 AND day = ?", (day_number,)).fetchone()
         opening = found.execute("SELECT opening, cash FROM branches WHERE branch = 1").fetchone()
     rows = list(csv.DictReader(io.StringIO(day.get("sue", f"days/1/{day_number}.csv"), newline="")))
-    cents = {kind: [(it["teller"], round(float(it["amount"]) * 100)) for it in rows if it["kind"] == kind] for kind in ("entry", "cash")}
+    cents = {
+        kind: [(it["teller"], round(float(it["amount"]) * 100)) for it in rows if it["kind"] == kind]
+        for kind in ("entry", "cash")
+    }
     require((len(cents["entry"]), opening[0] + sum_of(cents["entry"]), opening[1] + sum_of([it for it in cents["cash"] if it[0] == "vault"])), tuple(closed),
             "entries, balance and vault of the book and of the proof")  # fmt: skip
-    corrected = {it["number"]: (it["corrects"], it["corrected_by"]) for it in rows if it["kind"] == "entry" and (it["corrects"] or it["corrected_by"])}
+    corrected = {
+        it["number"]: (it["corrects"], it["corrected_by"])
+        for it in rows
+        if it["kind"] == "entry" and (it["corrects"] or it["corrected_by"])
+    }
     require(len(corrected), 2, f"an entry and its correction: {corrected}")
-    for branch, number in ((1, day_number), (2, 1)):
+    open_day = int(day.report("sue", "proof", branch=2).split(" DAY ")[1].split()[0])
+    for branch, number in ((1, day_number), (2, open_day), (1, 1)):
         ledger = list(csv.DictReader(io.StringIO(day.get("sue", f"ledger/{branch}/{number}.csv"), newline="")))
         sides = [sum(round(float(it[side] or 0) * 100) for it in ledger) for side in ("debit", "credit")]
         require((sides[0] == sides[1], sides[0] > 0), (True, True), f"debit and credit of branch {branch}: {sides}")
         document = day.get("sue", f"ledger/{branch}/{number}.xml")
         schema = day.files.top / "office-code/schemas/camt.053.001.08.xsd"
-        ran = subprocess.run(["xmllint", "--noout", "--nonet", "--schema", schema, "-"], input=document, capture_output=True, text=True)
+        ran = subprocess.run(
+            ["xmllint", "--noout", "--nonet", "--schema", schema, "-"], input=document, capture_output=True, text=True
+        )
         require(ran.returncode, 0, f"camt.053: {ran.stderr}")
 
 
@@ -137,7 +155,9 @@ def sum_of(pairs: list[tuple[str, int]]) -> int:
 
 def two_years(day: Day) -> None:
     """A statement over two years, by the balances of the files of both."""
-    rows = list(csv.DictReader(io.StringIO(day.get("amy", f"statements.csv?account=101&first=2025-01-01&last={TODAY}"), newline="")))
+    rows = list(
+        csv.DictReader(io.StringIO(day.get("amy", f"statements.csv?account=101&first=2025-01-01&last={TODAY}"), newline=""))
+    )
     require([(it["year"], it["amount"], it["balance"]) for it in rows], [
         ("", "", "500.00"), ("2025", "25.00", "525.00"), ("2025", "-3.00", "522.00"), ("present", "10.00", "532.00"), ("present", "-7.00", "525.00")],
         "the statement")  # fmt: skip
@@ -189,7 +209,9 @@ def interest(day: Day) -> None:
     require(day.command("carry-out"), (0, f"run {run}: 49 done, 0 refused\n"), "run again")
     require(day.command("carry-out"), (0, ""), "and once more")
     with day.rows() as found:
-        got = found.execute("SELECT account, count(*), sum(delta) FROM entries WHERE user_no = 50 AND account != 900 GROUP BY account").fetchall()
+        got = found.execute(
+            "SELECT account, count(*), sum(delta) FROM entries WHERE user_no = 50 AND account != 900 GROUP BY account"
+        ).fetchall()
     require(got, [(it.account, 1, it.amount) for it in lines], "accounts, entries and interest")
     days = (YESTERDAY - datetime.date(2025, 6, 2)).days + 1
     # From 2 June 2025 on 102 had 500.00 - 7.00 + 3.00 until today, and the day before 500.00.
@@ -224,9 +246,21 @@ def apart(day: Day) -> None:
         hidden = " ".join(re.findall(r"^InaccessiblePaths=(.*)$", unit, re.MULTILINE)).split()
         for path in ("/run/bank.socket", "/var/lib/bank", "/var/lib/bank-copies", "/etc/bank-front"):
             require(f"-{path}" in hidden, True, f"{name} hides {path}")
-        require(re.findall(r"^(?:User|Group|SupplementaryGroups)=(.*)$", unit, re.MULTILINE), ["bank-office"] * 2, f"{name}: user and groups")
-    require(re.findall(r"^[um]\s+(\S+)\s+(\S+)", (units / "bank-office.sysusers").read_text(), re.MULTILINE), [("bank-office", "-")], "sysusers")
-    require(re.findall(r"^Socket(?:User|Group|Mode)=(.*)$", (units / "bank-office.socket").read_text(), re.MULTILINE), ["bank-front", "0660"], "who opens its socket")
+        require(
+            re.findall(r"^(?:User|Group|SupplementaryGroups)=(.*)$", unit, re.MULTILINE),
+            ["bank-office"] * 2,
+            f"{name}: user and groups",
+        )
+    require(
+        re.findall(r"^[um]\s+(\S+)\s+(\S+)", (units / "bank-office.sysusers").read_text(), re.MULTILINE),
+        [("bank-office", "-")],
+        "sysusers",
+    )
+    require(
+        re.findall(r"^Socket(?:User|Group|Mode)=(.*)$", (units / "bank-office.socket").read_text(), re.MULTILINE),
+        ["bank-front", "0660"],
+        "who opens its socket",
+    )
 
 
 def killed(day: Day) -> None:
@@ -243,8 +277,7 @@ def killed(day: Day) -> None:
     require(day.branch.ask("amy", "/do/balance", {"account": 101})[0], 200, "the counter works")
     day.start_service()
     require(day.get("kim", "sheets/holders.csv"), before, "what it kept")
-    saved = day.files.top / "saved"
-    require(day.command("save", str(saved)), (0, ""), "a copy of its file")
-    with opened(saved) as found:
-        require(sheets.exported(found, "holders"), before.replace("\r\n", "\r\n"), "the copy")
-
+    status, said = day.command("save")
+    require(status, 0, said)
+    with opened(Path(said.strip())) as found:
+        require(sheets.exported(found, "holders").replace("\r\n", "\n"), before, "the copy")

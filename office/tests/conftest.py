@@ -42,7 +42,7 @@ class Office:
         """A bank whose file is a copy."""
         bank = BankFile(self.copies / ("present" if name == "present" else f"years/{name}"), openings)
         for user, ranges in ((7, BRANCH_1), (8, BRANCH_1), (9, EVERYTHING), (10, EVERYTHING)):
-            bank.grant(user, [1, 2, 9, 10, 11], ranges, 100_000)
+            bank.grant(user, [1, 2, 3, 9, 10, 11] if user < 9 else [1, 2, 9, 10, 11], ranges, 100_000)
         bank.grant(9, [8, 12], EVERYTHING)
         bank.grant(10, [8, 12], EVERYTHING)
         return bank

@@ -79,7 +79,7 @@ def test_random_days_agree_and_balance(steps: list[tuple[str, object, int]]) -> 
         live(bank, steps)
         bank.close()
         with Copies(Path(folder)).present() as copy:
-            days = books.days_of(copy, 1)
+            days = books.days_of([copy], 1)
             postings = [it for day in days for it in require_true_day(copy, 1, day.day)]
             owed = {account: sum(-it.cents for it in postings if it.ledger == f"customer {account}") for account in ALL}
             for row in copy.rows("SELECT account, balance - opening AS moved FROM accounts"):
@@ -216,3 +216,23 @@ def test_a_copy_with_a_log_is_refused_and_none_is_written(office: Office) -> Non
     with pytest.raises(Refused, match="log"):
         with opened_copy(file, "present"):
             pass
+
+
+def test_days_of_a_closed_year_are_those_of_its_file(office: Office) -> None:
+    old = office.bank("2025")
+    old.post(1, 101, 1_000)
+    old.close_day(1)
+    old.close_day(2)
+    new = office.bank(openings=old.balances())
+    new.bank.execute("UPDATE branches SET day = 2")
+    for row in old.bank.execute("SELECT * FROM proofs").fetchall():
+        new.bank.execute("INSERT INTO proofs VALUES (?, ?, ?, ?, ?)", row)
+    new.post(1, 101, -200)
+    old.close()
+    new.close()
+    page = office.ask("sue", "/office/days").text
+    assert page.count("Day 1<") == 2 and page.count("Day 2<") == 2
+    assert "10.00" in office.ask("sue", "/office/days/1/1").text and "-2.00" in office.ask("sue", "/office/days/1/2").text
+    for path in ("days/1/1", "days/1/2"):
+        assert "It agrees with" in office.ask("sue", f"/office/{path}").text
+    assert office.ask("sue", "/office/days/1/3").status_code == 422

@@ -124,19 +124,19 @@ def test_a_day_book_and_its_exports(office: Office) -> None:
 
 def test_a_release_by_the_queue(office: Office) -> None:
     body = {"procedure": "post", "account": 101, "branch": 1, "delta": 200_000, "teller": 11}
-    number = office.api("tess", "asks", body).json["ask"]
+    number = office.api("tess", "asks", {"wish": "release", "operation": body}).json["ask"]
     seen = office.ask("sue", "/office/api/asks").json["waiting"]
     assert [(it["ask"], it["user"], it["name"], it["operation"], it["names"]) for it in seen] == [
         (number, 7, "Tess T.", body, {"101": ["Ann <b>One</b>"]})
     ]
     assert office.ask("tess", "/office/api/asks").json["waiting"] == [] == office.ask("tom", "/office/api/asks").json["waiting"]
     for badge in ("tess", "tom"):
-        assert office.api(badge, f"asks/{number}/answer", {"release": 1}).status_code == 422
-    assert office.api("sue", f"asks/{number}/answer", {"release": "1"}).status_code == 422
-    assert office.api("sue", f"asks/{number}/answer", {"release": 1}).json["state"] == "released"
-    assert office.api("sam", f"asks/{number}/answer", {"release": 2}).status_code == 422
-    assert [(it["state"], it["release"]) for it in office.ask("tess", "/office/api/asks").json["mine"]] == [("released", 1)]
-    assert "released: number 1" in office.ask("tess", "/office/queue").text
+        assert office.api(badge, f"asks/{number}/answer", {"number": 1}).status_code == 422
+    assert office.api("sue", f"asks/{number}/answer", {"number": "1"}).status_code == 422
+    assert office.api("sue", f"asks/{number}/answer", {"number": 1}).json["state"] == "done"
+    assert office.api("sam", f"asks/{number}/answer", {"number": 2}).status_code == 422
+    assert [(it["state"], it["number"]) for it in office.ask("tess", "/office/api/asks").json["mine"]] == [("done", 1)]
+    assert "done: number 1" in office.ask("tess", "/office/queue").text
 
 
 @pytest.mark.parametrize(
@@ -153,14 +153,24 @@ def test_a_release_by_the_queue(office: Office) -> None:
     ],
 )
 def test_only_an_operation_that_can_be_released_is_asked_for(office: Office, body: object) -> None:
-    assert office.api("tess", "asks", body).status_code == 422
+    assert office.api("tess", "asks", {"wish": "release", "operation": body}).status_code == 422
 
 
 def test_an_ask_is_withdrawn_and_few_wait_at_once(office: Office) -> None:
-    body = {"procedure": "transfer", "amount": 100, "branch": 1, "source": 101, "target": 102, "teller": 11}
+    operation = {"procedure": "transfer", "amount": 100, "branch": 1, "source": 101, "target": 102, "teller": 11}
+    body = {"wish": "release", "operation": operation}
     numbers = [office.api("tess", "asks", body).json["ask"] for _ in range(5)]
     assert office.api("tess", "asks", body).status_code == 422
     assert office.api("tom", f"asks/{numbers[0]}/withdraw", {}).status_code == 422
     assert office.api("tess", f"asks/{numbers[0]}/withdraw", {}).json["state"] == "withdrawn"
-    assert office.api("sue", f"asks/{numbers[0]}/answer", {"release": 1}).status_code == 422
-    assert office.api("sue", f"asks/{numbers[1]}/answer", {"release": None, "reason": "No passport"}).json["state"] == "refused"
+    assert office.api("sue", f"asks/{numbers[0]}/answer", {"number": 1}).status_code == 422
+    assert office.api("sue", f"asks/{numbers[1]}/answer", {"number": None, "reason": "No passport"}).json["state"] == "refused"
+
+
+def test_a_correction_waits_for_a_colleague(office: Office) -> None:
+    operation = {"procedure": "correct", "account": 101, "branch": 1, "delta": 700, "entry": 1, "other": 0, "teller": 11}
+    assert office.api("tess", "asks", {"wish": "correct", "operation": {**operation, "procedure": "post"}}).status_code == 422
+    number = office.api("tess", "asks", {"wish": "correct", "operation": operation}).json["ask"]
+    assert [len(office.ask(badge, "/office/api/asks").json["waiting"]) for badge in ("tess", "tom", "sue")] == [0, 1, 0]
+    assert office.api("sue", f"asks/{number}/answer", {"number": 2}).status_code == 422
+    assert office.api("tom", f"asks/{number}/answer", {"number": 2}).json["state"] == "done"
