@@ -79,12 +79,12 @@ def folded(text: str) -> str:
 
 
 def asked_words(text: str) -> set[str]:
-    """The words of a search. An apostrophe belongs to its word."""
+    """What a search looks for, word by word. An apostrophe belongs to its word."""
     return set(WORD.findall(APOSTROPHE.sub("", folded(text))))
 
 
 def words_of(name: str) -> set[str]:
-    """The words by which a name is found; O'Neil as oneil and as neil."""
+    """All by which a name is found; O'Neil as oneil and as neil."""
     return asked_words(name) | set(WORD.findall(folded(name)))
 
 
@@ -199,7 +199,7 @@ def search(found: sqlite3.Connection, text: str) -> list[Holder]:
     words = asked_words(text)
     if not is_enough(words):
         raise Refused("A search begins with two letters")
-    # The ends of the ranges are the last character of Unicode, so that a range has all words with that beginning.
+    # The ends of the ranges are the last character of Unicode, so that a range has each word with that beginning.
     parts = " INTERSECT ".join(["SELECT holder FROM name_words WHERE word >= ? AND word < ?"] * len(words))
     ends = [end for word in sorted(words) for end in (word, word + "\U0010ffff")]
     rows = found.execute(f"SELECT * FROM holders WHERE holder IN ({parts}) ORDER BY name, holder LIMIT {MOST_FOUND}", ends)

@@ -106,7 +106,7 @@ def below(pattern):
 def files():
     """The files that are held to it."""
     found = ["README.md", "CHANGELOG.md", "CONTRIBUTING.md", *below("docs/*.md")]
-    for it in ("tools", "branch", "desk", "rows", "migrations", ".ci"):
+    for it in ("tools", "branch", "desk", "office", "rows", "migrations", ".ci"):
         found += below(f"{it}/**/*")
     found += below("crates/*/**/*.rt") + below("crates/*/**/*.antt")
     return [it for it in found if os.path.isfile(os.path.join(TOP, it)) and not it.endswith((".txt", ".csv", ".png"))]
