@@ -66,6 +66,10 @@ class Copies:
         """The newest copy that was checked."""
         return opened_copy(self.folder / PRESENT, PRESENT)
 
+    def has_present(self) -> bool:
+        """Whether there is a copy yet."""
+        return (self.folder / PRESENT).is_file()
+
     def years(self) -> list[Path]:
         """The files of closed years, the oldest first."""
         return sorted(it for it in (self.folder / "years").glob("[0-9]*") if it.is_file() and not it.name.endswith(LOGS))

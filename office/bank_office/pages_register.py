@@ -1,5 +1,7 @@
 """Pages and answers of the register: search, holders, accounts, users, changes, CSV."""
 import json
+from collections.abc import Iterable
+from itertools import islice
 from typing import Any
 
 from flask import Blueprint, Response, jsonify, redirect, render_template, request
@@ -11,13 +13,14 @@ from .web import Forbidden, attached, desk, missing, number_of
 
 pages = Blueprint("register", __name__)
 MOST_NAMES = 100
+MOST_FOUND = 50
 
 
-def visible(found: list[Holder]) -> list[tuple[Holder, list[Holding]]]:
-    """Those of holders who have an account that the user may see, each with these accounts; a keeper sees all."""
+def visible(found: Iterable[Holder]) -> list[tuple[Holder, list[Holding]]]:
+    """The first of these holders who have an account that the user may see, each with these accounts; a keeper sees all."""
     here = desk()
-    pairs = [(it, [one for one in register.accounts_of(here.found, it.holder) if here.sees_account(one.account)]) for it in found]
-    return [(it, own) for it, own in pairs if own or here.is_keeper]
+    pairs = ((it, [one for one in register.accounts_of(here.found, it.holder) if here.sees_account(one.account)]) for it in found)
+    return list(islice(((it, own) for it, own in pairs if own or here.is_keeper), MOST_FOUND))
 
 
 def names_on(accounts: set[int]) -> dict[int, list[str]]:

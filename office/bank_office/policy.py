@@ -47,6 +47,11 @@ def is_active(copy: Copy, user: int) -> bool:
     return copy.row("SELECT 1 FROM users WHERE user_no = ? AND suspended = 0", user) is not None
 
 
+def is_suspended(copy: Copy, user: int) -> bool:
+    """Whether a user is suspended; one who is not there yet is not."""
+    return copy.row("SELECT 1 FROM users WHERE user_no = ? AND suspended = 1", user) is not None
+
+
 def holds(copy: Copy, set_no: int, item: Item) -> bool:
     """Whether a set has an item."""
     return copy.row("SELECT 1 FROM members WHERE set_no = ? AND kind = ? AND ? BETWEEN low AND high", set_no, *item) is not None
@@ -65,9 +70,19 @@ def may(copy: Copy, user: int, procedure: str, items: Iterable[Item], moment: in
     return is_active(copy, user) and any(all(holds(copy, it["set_no"], item) for item in wanted) for it in sets)
 
 
-def sees_account(copy: Copy, user: int, account: int, moment: int) -> bool:
-    """Whether the bank lists an account to a user, or its balance or its statement."""
-    return any(may(copy, user, it, [(Kind.ACCOUNT, account)], moment) for it in ("accounts", "balance", "statement"))
+def accounts_seen(copy: Copy, user: int, moment: int) -> list[tuple[int, int]]:
+    """The ranges of accounts that the bank lists to a user, or whose balance or statement it shows to them."""
+    if not is_active(copy, user):
+        return []
+    shown = [PROCEDURES[it] for it in ("accounts", "balance", "statement")]
+    rows = copy.rows(
+        "SELECT DISTINCT low, high FROM grants JOIN members USING (set_no) WHERE user_no = ? AND kind = 1 "
+        "AND procedure IN (?, ?, ?) AND ? BETWEEN first_at AND last_at",
+        user,
+        *shown,
+        moment,
+    )
+    return [(it["low"], it["high"]) for it in rows]
 
 
 def sees_branch(copy: Copy, user: int, branch: int, moment: int) -> bool:

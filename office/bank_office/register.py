@@ -2,7 +2,7 @@
 import re
 import sqlite3
 import unicodedata
-from collections.abc import Iterable
+from collections.abc import Iterable, Iterator
 from typing import NamedTuple
 
 from .store import Refused, note_change
@@ -18,7 +18,6 @@ APOSTROPHE = re.compile("['\u2019]")
 TURNS = frozenset("\u202a\u202b\u202c\u202d\u202e\u2066\u2067\u2068\u2069")
 UNSHOWN = ("Cc", "Cs", "Co", "Zl", "Zp")
 MAY = ("owns", "acts")
-MOST_FOUND = 50
 
 
 class Holder(NamedTuple):
@@ -194,7 +193,7 @@ def is_enough(words: set[str]) -> bool:
     return any(len(it) > 1 or unicodedata.east_asian_width(it) == "W" for it in words)
 
 
-def search(found: sqlite3.Connection, text: str) -> list[Holder]:
+def search(found: sqlite3.Connection, text: str) -> Iterator[Holder]:
     """The holders of whose names each word that is looked for begins one."""
     words = asked_words(text)
     if not is_enough(words):
@@ -202,5 +201,4 @@ def search(found: sqlite3.Connection, text: str) -> list[Holder]:
     # The ends of the ranges are the last character of Unicode, so that a range has each word with that beginning.
     parts = " INTERSECT ".join(["SELECT holder FROM name_words WHERE word >= ? AND word < ?"] * len(words))
     ends = [end for word in sorted(words) for end in (word, word + "\U0010ffff")]
-    rows = found.execute(f"SELECT * FROM holders WHERE holder IN ({parts}) ORDER BY name, holder LIMIT {MOST_FOUND}", ends)
-    return [Holder(*row) for row in rows]
+    return (Holder(*row) for row in found.execute(f"SELECT * FROM holders WHERE holder IN ({parts}) ORDER BY name, holder", ends))

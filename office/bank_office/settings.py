@@ -90,4 +90,6 @@ def read_settings(path: Path) -> Settings:
     values: dict[str, Any] = {
         name: Path(it) if name in PATHS else badges_of(name, it) if name in BADGES else it for name, it in found.items()
     }
+    if values.get("badge", Settings.badge) in values["approvers"] | values["keepers"]:
+        raise SettingsError(f"{path}: the service's own badge is nobody's who approves or keeps")
     return Settings(**values, schemes=tuple(schemes))

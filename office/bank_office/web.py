@@ -32,6 +32,7 @@ class Desk:
         self._found: Any = None
         self._copy: Copy | None = None
         self._years: list[Copy] = []
+        self._ranges: list[tuple[int, int]] | None = None
 
     @property
     def found(self) -> Any:
@@ -72,9 +73,19 @@ class Desk:
         """Whether they approve runs."""
         return self.badge in self.settings.approvers
 
+    def require_active(self) -> None:
+        """Refuses whom the newest copy has as suspended, whatever the settings say of them."""
+        number = self.copies.user_of(self.badge)
+        if number is not None and self.copies.has_present() and policy.is_suspended(self.copy, number):
+            raise Forbidden("You are suspended at the bank")
+
     def sees_account(self, account: int) -> bool:
         """Whether they may know whose an account is."""
-        return self.is_keeper or policy.sees_account(self.copy, self.user, account, now())
+        if self.is_keeper:
+            return True
+        if self._ranges is None:
+            self._ranges = policy.accounts_seen(self.copy, self.user, now())
+        return any(low <= account <= high for low, high in self._ranges)
 
     def require_keeper(self) -> None:
         """Refuses all who don't keep the register."""
@@ -152,6 +163,7 @@ def add_guards(app: Flask, settings: Settings) -> None:
         g.desk = Desk(settings, request.headers.get("Bank-Badge", ""))
         if not g.desk.badge:
             raise Forbidden("The front has named no badge")
+        g.desk.require_active()
         require_own_form()
 
     @app.teardown_request

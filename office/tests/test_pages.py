@@ -61,7 +61,16 @@ def test_a_suspended_user_sees_nothing(office: Office) -> None:
     with sqlite3.connect(office.copies / "present") as found:
         found.execute("UPDATE users SET suspended = 1 WHERE user_no = 7")
     found.close()
-    assert office.ask("tess", "/office/api/names?accounts=101").json["accounts"] == {}
+    assert office.ask("tess", "/office/api/names?accounts=101").status_code == 403
+
+
+def test_a_search_finds_what_stands_after_many_that_are_not_shown(office: Office) -> None:
+    with office.opened() as found:
+        rows = "".join(f"{number},Zoe {number:03},,,,\n" for number in range(100, 300))
+        sheets.imported(found, "kim", "holders", f"holder,name,address,document,note,since\n{rows}".encode())
+        sheets.imported(found, "kim", "holdings", b"account,holder,may\n101,299,acts\n")
+    assert [it["holder"] for it in office.ask("tess", "/office/api/search?q=zoe").json["holders"]] == [299]
+    assert len(office.ask("kim", "/office/api/search?q=zoe").json["holders"]) == 50
 
 
 def test_names_are_text_on_every_page(office: Office) -> None:

@@ -61,7 +61,7 @@ def test_accents_and_letter_case_do_not_matter(office: Office, asked: str, name:
 @pytest.mark.parametrize("asked", ["", "a", "-", "a b"])
 def test_a_search_begins_with_two_letters(office: Office, asked: str) -> None:
     with office.opened() as found, pytest.raises(Refused):
-        register.search(found, asked)
+        list(register.search(found, asked))
 
 
 @pytest.mark.parametrize(
