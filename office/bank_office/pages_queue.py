@@ -46,7 +46,7 @@ def waiting_answer() -> Response:
 @pages.post("/api/asks")
 def ask_answer() -> Response:
     """Puts a request into the queue: what is wished for, and the operation as the bank takes it in a release."""
-    here, given = desk(), request.get_json()
+    here, given = desk(), request.get_json(force=True)
     wish, operation = (given.get("wish"), given.get("operation")) if isinstance(given, dict) else (None, None)
     return jsonify(shown(asks.ask(here.found, here.badge, here.user, wish, operation)))
 
@@ -54,7 +54,7 @@ def ask_answer() -> Response:
 @pages.post("/api/asks/<int:ask>/answer")
 def answer_answer(ask: int) -> Response:
     """The number of the release or of the entry that the bank gave, or none and a reason."""
-    given = request.get_json()
+    given = request.get_json(force=True)
     number, reason = (given.get("number"), given.get("reason", "")) if isinstance(given, dict) else ("", "")
     if not (number is None or type(number) is int) or not isinstance(reason, str):
         raise Refused("An answer has number, a number or null, and reason, a text")

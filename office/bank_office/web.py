@@ -132,7 +132,7 @@ def require_own_form() -> None:
     if request.method in ("GET", "HEAD"):
         return
     if request.path.startswith("/office/api/"):
-        if request.headers.get("Desk-Badge") != desk().badge or request.mimetype != "application/json":
+        if request.headers.get("Desk-Badge") != desk().badge:
             raise Forbidden("This request is not of the teller's page")
         return
     serializer: URLSafeTimedSerializer = g.serializer

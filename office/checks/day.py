@@ -7,8 +7,7 @@ import socket
 import subprocess
 import sys
 import time
-from collections.abc import Iterator
-from pathlib import Path
+from collections.abc import Callable, Iterator
 from typing import Any
 
 import branches
@@ -18,7 +17,8 @@ from branches import PATIENCE, Branch, require
 from bank_office.carry import Bank
 from bank_office.settings import Settings, read_settings
 
-HERE = Path(__file__).resolve().parent
+# How many browsers there are at once.
+BROWSERS = 4
 # Noon of a day of the first year, by whose moments its requests are carried out.
 EARLIER = int(time.mktime((2025, 6, 2, 12, 0, 0, 0, 0, -1)))
 SETTINGS = """
@@ -49,16 +49,32 @@ teller = 90
 """
 
 
+class Served(Branch):  # type: ignore[misc]
+    """A branch by whose front pages of the relays of browsers are its own."""
+
+    relays: list[Any] = []
+
+    def write_settings(self, changes: Any) -> None:
+        super().write_settings(changes)
+        with open(self.folder / "etc/origins.map", "a", encoding="ascii") as file:
+            file.writelines(f'"http://127.0.0.1:{relay.server_port}" own;\n' for relay in self.relays)
+
+
 class Day:
     """The branch with its office. The first year is lived before the branch is served."""
 
-    def __init__(self, files: Any) -> None:
+    def __init__(self, files: Any, make_relay: Callable[[Any, Any], Any] | None = None) -> None:
         self.files = files
+        self.relays = [make_relay(None, files) for _ in range(BROWSERS)] if make_relay else []
+        self.browsers: list[Any] = []
         self.settings_file = files.top / "settings.toml"
         self.socket = files.top / "office.socket"
-        self.branch = Branch(
+        Served.relays = self.relays
+        self.branch = Served(
             files, "branch", bank=False, changes=[*branches.NO_RATE, ("unix:/run/bank-office.socket", f"unix:{self.socket}")]
         )
+        for relay in self.relays:
+            relay.counter = self.branch
         self.copies, self.bank_copies = files.top / "copies-of-the-office", files.top / "copies"
         self.copies.mkdir()
         self.bank_copies.mkdir()
@@ -225,5 +241,9 @@ class Day:
 
     def close(self) -> None:
         """Ends all."""
+        for browser in self.browsers:
+            browser.close()
+        for relay in self.relays:
+            relay.shutdown()
         self.stop_service()
         self.branch.close()

@@ -13,7 +13,7 @@ TELLERS = ["amy", "ben"]
 ACCOUNTS = range(101, 151)
 PAYS = 900
 OPENING, RICH = 50_000, 5_000_000
-LIMIT = 100_000
+LIMIT, HIGHEST = 100_000, 999_999
 
 
 def write_lists(folder: Path) -> None:
@@ -55,7 +55,8 @@ def write_lists(folder: Path) -> None:
     lead = {"release": 999_999, "proof": 0, "close-day": 0, "statement": 0}
     runs = {"transfer": 999_999, "drawer-on": 0, "drawer-off": 0}
     put("triples", "user,procedure,set,limit", [
-        *((USERS[badge], name, 1 if badge == "cai" else 2, limit) for badge in ("amy", "ben", "cai") for name, limit in work.items()),
+        *((USERS[badge], name, 1 if badge == "cai" else 2, limit) for badge in ("amy", "cai") for name, limit in work.items()),
+        *((USERS["ben"], name, 2, HIGHEST if limit == LIMIT else limit) for name, limit in work.items()),
         *((USERS[badge], "accounts", 3, 0) for badge in TELLERS),
         *((USERS[badge], name, 1, limit) for badge in ("sue", "sam") for name, limit in lead.items()),
         *((USERS["office"], name, 2, limit) for name, limit in runs.items())])  # fmt: skip
