@@ -4,7 +4,7 @@ from selenium.webdriver.common.keys import Keys
 from branches import require
 from looks import CONTRAST, FOCUS, NAMES, REACHABLE, SHOWN, SIZES
 
-SCREENS = "session post transfer balance statement correct drawer cash new-account accounts release day journal policy".split()
+SCREENS = "session post transfer balance statement correct drawer cash new-account accounts release day journal policy find".split()
 WIDTHS = [(1280, 800), (1024, 768), (768, 1024), (400, 800)]
 
 

@@ -10,7 +10,7 @@ from day import TESS, TOM, amount_of, has
 WRONG_AMOUNTS = [
     ("25.000", "2 digits"), ("25.5", "all digits"), ("25,00", "before the cents"), ("1,25.00", "wrong places"),
     ("-25.00", "sign"), ("25.00.0", "more than one"), ("abc", "Only digits"), ("", "Type an amount"), ("0.00", "At least 0.01"),
-    ("10,000.00", "At most 9,999.99"), (".50", "Put a 0")]
+    ("1,000,000.00", "At most 999,999.00"), (".50", "Put a 0")]
 DEPOSITS = [
     ("in", 101, "25.00"), ("in", 102, "1,250.00"), ("out", 101, "100.00"), ("in", 201, "0.07"), ("out", 102, "250.50"),
     ("in", 101, "8.29"), ("in", 101, "4.35"), ("out", 201, "300.07"), ("in", 102, "19.99"), ("in", 101, "99")]

@@ -8,10 +8,11 @@ import {cash} from './cash.js';
 import {ways, repeats, moves, drafts} from './money.js';
 import {words, languages, digits, times, corrections} from './words.js';
 import {newAccounts, movedCash} from './screens.js';
+import {parts, sentInParts, leftParts, wishes, officeAnswers} from './office.js';
 
 const TESTS = [amounts, reports, lastTurns, judged, slips, queues, queuesAcrossSessions, durable, stores, refusals, operations, ends,
   journals, receipts, papers, outcomes, commands, cash, newAccounts, movedCash, ways, repeats, moves, drafts, words, languages,
-  digits, times, corrections];
+  digits, times, corrections, parts, sentInParts, leftParts, wishes, officeAnswers];
 
 /** A test that waits for ever has failed. */
 const late = () => new Promise((_, reject) => setTimeout(() => reject(new Error('no end')), 15000));

@@ -238,7 +238,8 @@ function actionsOf(/** @type {Desk} */ desk, {store, queue, report, isMeant}) {
       if (!desk.session) return report('nosession');
       if (await desk.waits()) return report('held');
       const last = await desk.lastRequest();
-      if (isSame(last, {name, body: JSON.stringify(body)}) && !await isMeant(last)) return 'kept';
+      const isNextPart = noted.part > 1; // of one amount, which may be as the part before it
+      if (!isNextPart && isSame(last, {name, body: JSON.stringify(body)}) && !await isMeant(last)) return 'kept';
       const session = await store.fact(`${desk.badge} session`);
       const hasSlip = session && nextSlip(session.number, session.used) !== null;
       if (!hasSlip && !(await desk.open()).isOpened) return report('nosession');

@@ -11,6 +11,10 @@ import {keepDraft, restoreDraft} from './drafts.js';
 import {now} from './dates.js';
 import {lockAfter} from './lock.js';
 import {showNotices} from './notices.js';
+import {makeOffice} from './office.js';
+import {watchNames} from './account-names.js';
+import {makeAsking} from './asking.js';
+import {leftText} from './parts.js';
 import {language, say} from './words.js';
 import * as menu from './menu.js';
 import * as outcome from './outcome.js';
@@ -20,9 +24,10 @@ import {SCREENS} from './screens/all.js';
 /** What is quick is not worth a line: the strip comes after so many milliseconds. */
 const QUICK = 500;
 
-const [work, place, lastReceipt] = ['work', 'place', 'last'].map(id => document.getElementById(id));
+const [work, place, lastReceipt, asks] = ['work', 'place', 'last', 'asks'].map(id => document.getElementById(id));
 /** @type {Desk} */
 let desk;
+let asking;
 /** @type {DeskScreen | null} */
 let shown = null;
 let ends; // when the certificate ends, as the front writes it
@@ -86,6 +91,8 @@ async function report(event, request, reply) {
   }
   if (event !== 'again') outcome.show(event, request, reply);
   if (event === 'done' && hasReceipt(request)) offerReceipt(request);
+  if (event === 'refused') outcome.add(asking.offer(request, reply));
+  if (event === 'done') asking.noticed(request, reply);
   const bearsSlip = request && !request.kind;
   if (bearsSlip) last = event === 'again' ? {reply} : null;
   if (bearsSlip || event === 'session') await showWaiting();
@@ -198,6 +205,9 @@ async function begin() {
   navigator.storage.persist?.().catch(() => {}); // a browser short of room is not to take away what waits
   await store.forget(now());
   desk = await makeDesk({store, badge, report});
+  desk.office = makeOffice(badge);
+  asking = makeAsking({desk, office: desk.office, strip: asks, note: outcome.note});
+  watchNames(work, desk.office);
   menu.showMenu(SCREENS, desk.allowed);
   addEventListener('hashchange', () => showScreen());
   addEventListener('keydown', pressed);
@@ -209,6 +219,9 @@ async function begin() {
   if (!desk.session) history.replaceState(null, '', '#session');
   await showScreen();
   await showWaiting();
+  const left = leftText(await desk.lastRequest());
+  if (left) outcome.note(left, '');
+  asking.start();
   lockAfter({isSame: isSameCard, leave: () => location.reload()});
   if (desk.session) desk.run();
 }

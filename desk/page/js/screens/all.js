@@ -12,11 +12,12 @@ import closeDay from './close-day.js';
 import journal from './journal.js';
 import policy from './policy.js';
 import session from './session.js';
+import find from './find.js';
 
 /**
  * The screens in the order of the menu.
  * @type {DeskScreen[]}
  */
 export const SCREENS = [
-  post, transfer, balance, statement, correct, drawer, moveCash, newAccount, accounts, release, closeDay, journal, policy, session,
+  post, transfer, balance, statement, correct, drawer, moveCash, newAccount, accounts, release, closeDay, journal, policy, session, find,
 ];

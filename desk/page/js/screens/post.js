@@ -1,5 +1,7 @@
 import {form} from '../form.js';
 import {account, amount, release, amountText} from '../fields.js';
+import {actInParts, inParts, MOST_AT_ONCE} from '../parts.js';
+import * as outcome from '../outcome.js';
 import {wayField} from '../ways.js';
 import {showAmount} from '../amounts.js';
 import {say} from '../words.js';
@@ -19,18 +21,19 @@ function buttonOf({way, amount: cents}) {
 
 function sentence({way, account: of, amount: cents}) {
   if (of === null && cents === null) return '';
-  return say(`post.reads.${way ?? 'none'}`, {account: of, amount: amountText(cents)});
+  return inParts(cents, say(`post.reads.${way ?? 'none'}`, {account: of, amount: amountText(cents)}));
 }
 
 async function make(desk, {given}) {
   const post = form({
-    fields: [wayField(), account({value: given.get('account') ?? ''}), amount(), release()],
+    fields: [wayField(), account({value: given.get('account') ?? ''}), amount({most: MOST_AT_ONCE}), release()],
     button: buttonOf,
     clear: ['way', 'account', 'amount', 'release'],
     reads: sentence,
     async send({way, account: of, amount: cents, release: by}) {
       const {branch, teller} = desk.place;
-      return lacksDrawer(desk, 'post') ?? desk.act('post', {account: of, branch, delta: way === 'out' ? -cents : cents, teller}, by);
+      const bodyOf = part => ({account: of, branch, delta: way === 'out' ? -part : part, teller});
+      return lacksDrawer(desk, 'post') ?? actInParts(desk, 'post', cents, bodyOf, by, outcome.add);
     },
   });
   return {elements: post.element, focus: () => post.fields.account.input.focus()};
