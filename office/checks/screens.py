@@ -57,7 +57,7 @@ def release_on_the_page(day: Day) -> None:
     amy.press("Seen", "#asks [data-ask='1'] button")
     amy.js("document.getElementById('outcome').replaceChildren()")
     amy.press("Send it with release 2", "#asks button")
-    amy.outcome("Done once", "1,500.00")
+    amy.outcome("Done", "Deposit of 1,500.00, account 103")
     with day.rows() as found:
         got = found.execute("SELECT count(*) FROM entries WHERE account = 103 AND delta = 150000").fetchone()[0]
     require(got, 2, "by the queue's two ways")

@@ -2,7 +2,7 @@
 // decides nothing at the bank. Without it each question gets null, and the page works as ever.
 import {send} from './http.js';
 
-/** For so many seconds a reply is awaited; so many milliseconds an office that gave none is let alone, and names stay known. */
+/** How long a reply is awaited, in seconds; how long an office that gave none is let alone, and names stay known, in milliseconds. */
 const SECONDS = 4;
 const PAUSE = 30000;
 const FRESH = 300000;
