@@ -33,7 +33,7 @@ def queue_page() -> str:
     )
 
 
-@pages.get("/api/asks")
+@pages.get("/api/queue")
 def waiting_answer() -> Response:
     """What waits that the user could release, and what they asked for within the hour."""
     here = desk()

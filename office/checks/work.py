@@ -83,8 +83,8 @@ def release(day: Day) -> None:
     require(day.branch.ask("amy", "/do/post", body), (403, '{"name":"limit","rule":4}'), "above the limit")
     status, asked = day.api("amy", "asks", {"wish": "release", "operation": {"procedure": "post", **body}})
     require((status, asked["state"]), (200, "waiting"), "asked for")
-    require(json.loads(day.get("ben", "api/asks"))["waiting"], [], "what waits for a teller")
-    waiting = json.loads(day.get("sue", "api/asks"))["waiting"]
+    require(json.loads(day.get("ben", "api/queue"))["waiting"], [], "what waits for a teller")
+    waiting = json.loads(day.get("sue", "api/queue"))["waiting"]
     require(
         [(it["ask"], it["user"], it["name"], it["names"]) for it in waiting],
         [(asked["ask"], 7, "Amy Ångström", {"103": [ODD_NAMES[2]]})],
@@ -92,10 +92,12 @@ def release(day: Day) -> None:
     )
     given = day.do("sue", "release", beneficiary=waiting[0]["user"], operation=waiting[0]["operation"])
     require(day.api("sue", f"asks/{asked['ask']}/answer", {"number": given["release"]})[0], 200, "answered")
-    mine = json.loads(day.get("amy", "api/asks"))["mine"][0]
+    mine = json.loads(day.get("amy", "api/queue"))["mine"][0]
     require((mine["state"], mine["answerer"]), ("done", "sue"), "what Amy sees")
     day.do("amy", "post", (f"Bank-Release: {mine['number']}",), **body)
     require(day.branch.ask("amy", "/do/post", body, (f"Bank-Release: {mine['number']}",))[0], 403, "the same again")
+    paths = {it["path"] for it in day.branch.audit()}
+    require(("/office/api/asks" in paths, "/office/api/queue" in paths), (True, False), "the audit trail has requests, and not each look")
 
 
 def entries(day: Day) -> None:

@@ -133,17 +133,17 @@ def test_a_day_book_and_its_exports(office: Office) -> None:
 def test_a_release_by_the_queue(office: Office) -> None:
     body = {"procedure": "post", "account": 101, "branch": 1, "delta": 200_000, "teller": 11}
     number = office.api("tess", "asks", {"wish": "release", "operation": body}).json["ask"]
-    seen = office.ask("sue", "/office/api/asks").json["waiting"]
+    seen = office.ask("sue", "/office/api/queue").json["waiting"]
     assert [(it["ask"], it["user"], it["name"], it["operation"], it["names"]) for it in seen] == [
         (number, 7, "Tess T.", body, {"101": ["Ann <b>One</b>"]})
     ]
-    assert office.ask("tess", "/office/api/asks").json["waiting"] == [] == office.ask("tom", "/office/api/asks").json["waiting"]
+    assert office.ask("tess", "/office/api/queue").json["waiting"] == [] == office.ask("tom", "/office/api/queue").json["waiting"]
     for badge in ("tess", "tom"):
         assert office.api(badge, f"asks/{number}/answer", {"number": 1}).status_code == 422
     assert office.api("sue", f"asks/{number}/answer", {"number": "1"}).status_code == 422
     assert office.api("sue", f"asks/{number}/answer", {"number": 1}).json["state"] == "done"
     assert office.api("sam", f"asks/{number}/answer", {"number": 2}).status_code == 422
-    assert [(it["state"], it["number"]) for it in office.ask("tess", "/office/api/asks").json["mine"]] == [("done", 1)]
+    assert [(it["state"], it["number"]) for it in office.ask("tess", "/office/api/queue").json["mine"]] == [("done", 1)]
     assert "done: number 1" in office.ask("tess", "/office/queue").text
 
 
@@ -179,6 +179,6 @@ def test_a_correction_waits_for_a_colleague(office: Office) -> None:
     operation = {"procedure": "correct", "account": 101, "branch": 1, "delta": 700, "entry": 1, "other": 0, "teller": 11}
     assert office.api("tess", "asks", {"wish": "correct", "operation": {**operation, "procedure": "post"}}).status_code == 422
     number = office.api("tess", "asks", {"wish": "correct", "operation": operation}).json["ask"]
-    assert [len(office.ask(badge, "/office/api/asks").json["waiting"]) for badge in ("tess", "tom", "sue")] == [0, 1, 0]
+    assert [len(office.ask(badge, "/office/api/queue").json["waiting"]) for badge in ("tess", "tom", "sue")] == [0, 1, 0]
     assert office.api("sue", f"asks/{number}/answer", {"number": 2}).status_code == 422
     assert office.api("tom", f"asks/{number}/answer", {"number": 2}).json["state"] == "done"

@@ -39,7 +39,7 @@ export function makeOffice(badge, ask = send, now = Date.now) {
 
     /** What waits for this user, and what they asked for: {waiting, mine}, or null. */
     async asks() {
-      const reply = await asked('asks');
+      const reply = await asked('queue');
       return reply?.status === 200 ? reply.body : null;
     },
 
