@@ -23,7 +23,7 @@ def main() -> None:
         tried(folder, lambda: os.listdir(folder))
     tried("the list of badges", lambda: open("/etc/bank-badges.csv"))
     tried("writing a copy", lambda: open("/var/lib/bank-office-copies/present", "r+"))
-    tried("a network", lambda: socket.create_connection(("127.0.0.1", 443), 5))
+    tried("the front", lambda: socket.create_connection(("127.0.0.1", 443), 5))
     print("groups", os.getgroups() == [os.getgid()], os.listdir("/var/lib/bank-office-copies"), flush=True)
 
 
