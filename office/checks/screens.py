@@ -40,6 +40,15 @@ def names_at_the_counter(day: Day) -> None:
     amy.go("f", "Find a name")
     amy.send(name="muller")
     amy.until_text("#work table", "Jürgen Müller", "101")
+    amy.go("s", "Statement")
+    amy.send(account="103")
+    amy.until_text("#work .paper .names", f"103: {ODD_NAMES[2]}")
+    amy.js("window.print = () => { window.printed = document.getElementById('receipt').textContent; }; window.printed = null")
+    amy.go("p", "Deposit, withdrawal")
+    amy.enter(way="in", account=103, amount="7.00")
+    amy.keys_after_escape("k")
+    printed = amy.until(lambda: amy.js("return window.printed"), "a receipt")
+    require(f"Holder of 103{ODD_NAMES[2]}" in printed, True, printed)
     require(amy.complaints(), [], "what the console has")
 
 

@@ -22,6 +22,11 @@ function lineOf(form) {
 /** One account with its names, as a sentence. */
 export const namesText = (account, names) => say(names.length > 0 ? 'office.names' : 'office.unknown', {account, names: names.join(', ')});
 
+/** The names of those who own an account, if an office says so. */
+export async function ownersOf(/** @type {Desk} */ desk, /** @type {number} */ account) {
+  return (await desk.office?.names([account]))?.get(account) ?? [];
+}
+
 /** Shows in each form below `root` the names on the accounts that are typed there. */
 export function watchNames(root, office) {
   let timer = null;

@@ -1,22 +1,17 @@
 // A receipt on paper: it is printed alone, and is not on the screen.
 import {h} from './dom.js';
+import {ownersOf} from './account-names.js';
 import {accountOf, receiptOf} from './receipt.js';
 import {PAPER} from './settings.js';
 import {say} from './words.js';
 
 const paper = document.getElementById('receipt');
 
-/** Whose the account of a receipt is, if an office says so. */
-async function nameLines(/** @type {Desk} */ desk, /** @type {number | null} */ account) {
-  const names = account === null ? null : await desk.office?.names([account]);
-  return (names?.get(account) ?? []).map(name => [say('office.holder', {account}), name]);
-}
-
 /** Prints the receipt of a row of the journal, with the balance where the bank shows it to this user. */
 export async function printReceipt(/** @type {Desk} */ desk, /** @type {JournalRow} */ row) {
   const account = accountOf(row);
   const {bank, title, lines} = receiptOf(row, account !== null && await desk.showsBalance(account));
-  lines.push(...await nameLines(desk, account));
+  for (const name of account === null ? [] : await ownersOf(desk, account)) lines.push([say('office.holder', {account}), name]);
   paper.replaceChildren(h('p', {class: 'bank'}, bank), h('h2', {}, title),
     h('dl', {}, lines.map(([label, value]) => h('div', {}, h('dt', {}, label), h('dd', {}, value)))),
     h('p', {class: 'sign'}, say('receipt.sign')));

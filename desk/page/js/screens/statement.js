@@ -7,6 +7,7 @@ import {readStatement} from '../reports.js';
 import {canCorrect, knownEntries, lastClosing} from '../known-entries.js';
 import {lastTurn, LINES_PER_PAGE} from '../last-turn.js';
 import {say} from '../words.js';
+import {namesText, ownersOf} from '../account-names.js';
 import * as outcome from '../outcome.js';
 
 class Stopped extends Error {}
@@ -124,7 +125,9 @@ async function make(/** @type {Desk} */ desk, {given}) {
     };
     try {
       const rows = await lastLines(desk, of, wanted, noting, progress.show);
-      paper.replaceChildren(...paperOf(desk, of, rows, await desk.allRows(), () => show(of, wanted * 5)));
+      const [journal, owners] = [await desk.allRows(), await ownersOf(desk, of)];
+      paper.replaceChildren(...paperOf(desk, of, rows, journal, () => show(of, wanted * 5)));
+      if (owners.length > 0) paper.querySelector('.paper').prepend(h('p', {class: 'names'}, namesText(of, owners)));
       refocus(paper.querySelector('button'));
       return 'done';
     } catch (error) {
