@@ -30,10 +30,12 @@ export async function sentInParts() {
   same([one.asked, told], [[['post', {amount: 2500}, 7]], []], 'one as ever, with its release');
   const three = deskOf(['done', 'done', 'done']);
   same(await actInParts(three, 'post', 2500000, bodyOf, null, text => told.push(text)), 'done', 'three');
-  same(three.asked.map(([, body, , noted]) => [body.amount, noted.part, noted.parts]), [[999999, 1, 3], [999999, 2, 3], [500002, 3, 3]], 'three parts');
+  const sent = three.asked.map(([, body, , noted]) => [body.amount, noted.part, noted.parts]);
+  same(sent, [[999999, 1, 3], [999999, 2, 3], [500002, 3, 3]], 'three parts');
   const refused = deskOf(['done', 'refused']);
   same(await actInParts(refused, 'post', 2500000, bodyOf, null, text => told.push(text)), 'refused', 'refused');
-  same([refused.asked.length, told.length, told[1].includes('9,999.99')], [2, 2, true], 'no part after one that is refused, and how far it came');
+  const found = [refused.asked.length, told.length, told[1].includes('9,999.99')];
+  same(found, [2, 2, true], 'no part after one that is refused, and how far it came');
 }
 
 export function leftParts() {
@@ -44,13 +46,16 @@ export function leftParts() {
 }
 
 export function wishes() {
-  for (const [name, rule, wish] of [['post', 4, 'release'], ['close-day', 4, null], ['post', 11, null], ['correct', 9, 'correct'], ['release', 9, null], [undefined, undefined, null]]) {
+  for (const [name, rule, wish] of [
+    ['post', 4, 'release'], ['close-day', 4, null], ['post', 11, null], ['correct', 9, 'correct'], ['release', 9, null], [undefined, undefined, null],
+  ]) {
     same(wishOf(name, rule), wish, `${name} and rule ${rule}`);
   }
   same(requestOf({operation: {procedure: 'post', account: 101, delta: 5}}), {name: 'post', body: {account: 101, delta: 5}}, 'what is sent');
   const operation = {entry: 3, account: 101, other: 0, delta: -2500, teller: 11};
   same(correctionOf({operation}), 'correct?entry=3&account=101&kind=out&amount=25.00&drawer=11', 'a withdrawal to correct');
-  same(correctionOf({operation: {...operation, other: 102, delta: 2500}}), 'correct?entry=3&account=101&kind=in-transfer&amount=25.00&drawer=11&other=102', 'a transfer to correct');
+  const transfer = correctionOf({operation: {...operation, other: 102, delta: 2500}});
+  same(transfer, 'correct?entry=3&account=101&kind=in-transfer&amount=25.00&drawer=11&other=102', 'a transfer to correct');
 }
 
 export async function officeAnswers() {

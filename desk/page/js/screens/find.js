@@ -5,7 +5,7 @@ import {say} from '../words.js';
 
 /** The holders who were found, each with the accounts that the user may see. */
 function found(holders) {
-  const columns = [[say('find.name'), ''], [say('account'), 'n'], [say('find.may'), ''], [say('screen.post'), ''], [say('screen.statement'), '']];
+  const columns = ['find.name', 'account', 'find.may', 'screen.post', 'screen.statement'].map(key => [say(key), key === 'account' ? 'n' : '']);
   const rows = holders.flatMap(({name, accounts}) => accounts.map(({account, may}) => [
     name, account, say(`find.${may}`), h('a', {href: `#post?account=${account}`}, say('screen.post')),
     h('a', {href: `#statement?account=${account}`}, say('screen.statement'))]));
