@@ -12,7 +12,7 @@ import time
 from collections.abc import Iterator
 from contextlib import contextmanager
 from pathlib import Path
-from typing import NamedTuple
+from typing import NamedTuple, Protocol
 from urllib.parse import urlsplit
 
 from . import runs
@@ -43,6 +43,13 @@ def decides(reply: Reply | None) -> bool:
         return True
     fault = reply.body.get("fault")
     return "rule" in reply.body or fault == "F2" or isinstance(fault, str) and fault.startswith("M")
+
+
+class Asked(Protocol):
+    """What can be asked for an operation."""
+
+    def ask(self, name: str, body: dict[str, int], slip: int = 0) -> Reply:
+        """The reply that decides it."""
 
 
 class Bank:
@@ -109,7 +116,7 @@ def alone(file: Path) -> Iterator[None]:
         yield
 
 
-def carry_out(found: sqlite3.Connection, bank: Bank, run: int) -> tuple[int, int]:
+def carry_out(found: sqlite3.Connection, bank: Asked, run: int) -> tuple[int, int]:
     """Carries out an approved run from the first transfer without a reply on; how many of all are done, and how many refused."""
     row = runs.run_of(found, run)
     if row["state"] != "approved":

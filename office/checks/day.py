@@ -91,12 +91,16 @@ class Day:
         """A year of the bank by `run`, closed, and carried forward as branch/forward does it."""
         branch = self.branch
         branch.run_bank("init", branch.file, branch.folder / "lists", "--sums", says="made\n")
-        amy = [("/session", {}), ("/do/drawer-on", {"branch": 1, "cash": 1_000, "teller": 11}),
+        amy: list[tuple[str, dict[str, int]]] = [("/session", {}), ("/do/drawer-on", {"branch": 1, "cash": 1_000, "teller": 11}),
                ("/do/post", {"account": 101, "branch": 1, "delta": 2_500, "teller": 11}),
                ("/do/post", {"account": 102, "branch": 1, "delta": -700, "teller": 11}),
                ("/do/transfer", {"amount": 300, "branch": 1, "source": 101, "target": 102, "teller": 11}),
                ("/do/drawer-off", {"branch": 1, "counted": 2_800, "teller": 11})]  # fmt: skip
-        sue = [("/session", {}), ("/do/close-day", {"branch": 1}), ("/do/close-day", {"branch": 2})]
+        sue: list[tuple[str, dict[str, int]]] = [
+            ("/session", {}),
+            ("/do/close-day", {"branch": 1}),
+            ("/do/close-day", {"branch": 2}),
+        ]
         got = self.run_at(EARLIER, [("amy", it, body) for it, body in amy] + [("sue", it, body) for it, body in sue])
         require(re.findall(rb"HTTP/1\.1 (\d{3}) ", got), [b"200"] * (len(amy) + len(sue)), "statuses of the first year")
         year = branch.folder / "2025"
@@ -161,12 +165,12 @@ class Day:
         door.listen(64)
         hand_over = 'exec 3<&0 </dev/null; export LISTEN_PID=$$ LISTEN_FDS=1; exec "$@"'
         with open(self.files.top / "office.log", "ab") as log, door:
-            self.service = subprocess.Popen(
-                ["sh", "-c", hand_over, "sh", *words], env=self.environment, stdin=door, stdout=log, stderr=log
-            )
+            command_line = ["sh", "-c", hand_over, "sh", *words]
+            service = subprocess.Popen(command_line, env=self.environment, stdin=door.fileno(), stdout=log, stderr=log)
+        self.service = service
         end = time.monotonic() + PATIENCE
         while self.branch.ask("amy", "/office/users")[0] != 200:
-            require(time.monotonic() < end and self.service.poll() is None, True, f"the office answers: {self.log()}")
+            require(time.monotonic() < end and service.poll() is None, True, f"the office answers: {self.log()}")
             time.sleep(0.1)
 
     def stop_service(self) -> None:

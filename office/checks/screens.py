@@ -77,7 +77,7 @@ def amount_in_parts(day: Day) -> None:
     """25,000.00 at the page, in three parts; the bank is killed after the first, and each acts once."""
     day.do("ben", "drawer-on", branch=1, cash=1_000, teller=12)
     ben = opened(day, "ben", branch="1", teller="12")
-    killed = []
+    killed: list[str] = []
 
     def after(path: str, status: int) -> None:
         if path == "/do/post" and status == 200 and not killed:

@@ -9,6 +9,7 @@ import signal
 import subprocess
 import time
 from pathlib import Path
+from typing import Any
 from urllib.parse import quote
 
 from branches import require
@@ -40,7 +41,7 @@ def first_night(day: Day) -> None:
         json.loads(day.branch.ask("amy", "/office/api/here", fields=("Bank-Badge: kim",))[1])["badge"], "amy", "a forged badge"
     )
     for fields in (("Origin: https://other.example",), ("Sec-Fetch-Site: cross-site",)):
-        require(day.branch.ask("kim", "/office/", fields=fields), (403, '{"front":"other site"}'), fields)
+        require(day.branch.ask("kim", "/office/", fields=fields), (403, '{"front":"other site"}'), fields[0])
     require(day.branch.ask("kim", "/office/", fields=("Desk-Badge: amy",)), (412, '{"front":"other badge"}'), "another card")
 
 
@@ -79,9 +80,9 @@ def who_sees(day: Day) -> None:
 
 def release(day: Day) -> None:
     """A request above Amy's limit waits in the queue, is released by Sue at the bank, and goes on by the number."""
-    body = {"account": 103, "branch": 1, "delta": 150_000, "teller": 11}
+    body: dict[str, Any] = {"account": 103, "branch": 1, "delta": 150_000, "teller": 11}
     require(day.branch.ask("amy", "/do/post", body), (403, '{"name":"limit","rule":4}'), "above the limit")
-    status, asked = day.api("amy", "asks", {"wish": "release", "operation": {"procedure": "post", **body}})
+    status, asked = day.api("amy", "asks", {"wish": "release", "operation": dict(body, procedure="post")})
     require((status, asked["state"]), (200, "waiting"), "asked for")
     require(json.loads(day.get("ben", "api/queue"))["waiting"], [], "what waits for a teller")
     waiting = json.loads(day.get("sue", "api/queue"))["waiting"]
@@ -97,7 +98,11 @@ def release(day: Day) -> None:
     day.do("amy", "post", (f"Bank-Release: {mine['number']}",), **body)
     require(day.branch.ask("amy", "/do/post", body, (f"Bank-Release: {mine['number']}",))[0], 403, "the same again")
     paths = {it["path"] for it in day.branch.audit()}
-    require(("/office/api/asks" in paths, "/office/api/queue" in paths), (True, False), "the audit trail has requests, and not each look")
+    require(
+        ("/office/api/asks" in paths, "/office/api/queue" in paths),
+        (True, False),
+        "the audit trail has requests, and not each look",
+    )
 
 
 def entries(day: Day) -> None:

@@ -42,9 +42,9 @@ def live(bank: BankFile, steps: list[tuple[str, object, int]]) -> None:
             case "correct", int(which) if posts:
                 number, account, delta = posts.pop(which % len(posts))
                 bank.post(1, account, -delta, teller=12, undoes=number, user=8)
-            case "transfer", (source, target):
+            case "transfer", (int(source), int(target)):
                 bank.transfer(1, source, target, amount)
-            case "move", (source, target):
+            case "move", (int(source), int(target)):
                 bank.move(1, source, target, amount)
             case "off", int(teller):
                 bank.drawer_off(1, teller, amount)
