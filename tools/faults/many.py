@@ -240,7 +240,7 @@ def disk_that_fails_is_reported_once(program, file):
             require(json.loads(body_of(reply_of(client)))["fault"], fault, "a post after the disk has failed")
         os.remove(failing)
         counter.end_input()
-        require(counter.ended(), (0, b"", b"disk: failed\n"), "its end")
+        require(counter.ended(), (3, b"", b"disk: failed\nfile: not read\n"), "its end")
     require_sound(program, file)
 
 
