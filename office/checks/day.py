@@ -146,9 +146,10 @@ class Day:
         swaps = [("/var/lib/bank-office-copies", str(self.copies)), ("/var/lib/bank-copies", str(self.bank_copies)),
                  ("/var/lib/bank", str(self.branch.folder)), ("/etc/bank-badges.csv", str(self.branch.folder / "lists/badges.csv"))]  # fmt: skip
         environment = {**os.environ, "PATH": f"{self.files.top}:{branches.PATH}"}
-        for name in ("keep-copy", "check-copy", "hand-copies"):
+        for path in ("units/keep-copy", "units/check-copy", "office-code/units/hand-copies"):
+            name = Path(path).name
             script = self.files.top / f"{name}.here"
-            self.branch.swap(self.files.top / "units" / name, script, swaps)
+            self.branch.swap(self.files.top / path, script, swaps)
             ran = subprocess.run(["sh", script], env=environment, capture_output=True, text=True)
             require(ran.returncode, 0, f"{name}: {ran.stderr}")
 
@@ -156,7 +157,7 @@ class Day:
 
     def start_service(self) -> None:
         """Starts the service as its unit does, over a listening socket that is handed to it."""
-        command = re.search(r"^ExecStart=(.*)$", (self.files.top / "units/bank-office.service").read_text(), re.MULTILINE)
+        command = re.search(r"^ExecStart=(.*)$", (self.files.top / "office-code/units/bank-office.service").read_text(), re.MULTILINE)
         assert command is not None
         words = command[1].replace("/run/bank-office", str(self.files.top)).split()
         door = socket.socket(socket.AF_UNIX)

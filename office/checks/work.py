@@ -247,7 +247,7 @@ def in_parts(day: Day) -> None:
 
 def apart(day: Day) -> None:
     """The unit of the office can't reach the bank's socket or files, and its user is in none of the bank's groups."""
-    units = day.files.top / "units"
+    units = day.files.top / "office-code/units"
     for name in ("bank-office.service", "bank-office-runs.service"):
         unit = (units / name).read_text()
         hidden = " ".join(re.findall(r"^InaccessiblePaths=(.*)$", unit, re.MULTILINE)).split()
@@ -259,7 +259,7 @@ def apart(day: Day) -> None:
             f"{name}: user and groups",
         )
     require(
-        re.findall(r"^[um]\s+(\S+)\s+(\S+)", (units / "bank-office.sysusers").read_text(), re.MULTILINE),
+        re.findall(r"^[um]\s+(\S+)\s+(\S+)", (day.files.top / "tespiorvu-office.sysusers").read_text(), re.MULTILINE),
         [("bank-office", "-")],
         "sysusers",
     )

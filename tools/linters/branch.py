@@ -24,16 +24,16 @@ def moved(text: str, room: str) -> str:
 
 
 def nginx(top: str) -> list[str]:
-    """What nginx says of the front's settings, over new certificates."""
-    settings = os.path.join(top, "branch/front")
-    if not os.path.isdir(settings):
+    """What nginx says of the front's settings, those of the office among it, over new certificates."""
+    settings = [it for it in (os.path.join(top, name) for name in ("branch/front", "office/front")) if os.path.isdir(it)]
+    if not settings:
         return []
     with tempfile.TemporaryDirectory(prefix="bank-front-") as room:
         wrong = findings_of([os.path.join(top, "branch/certificates"), "begin", os.path.join(room, "ca"), "localhost"], top)
         if wrong:
             return wrong
         folder = os.path.join(room, "etc/bank-front")
-        for it in (os.path.join(room, "ca/front"), settings):
+        for it in (os.path.join(room, "ca/front"), *settings):
             shutil.copytree(it, folder, dirs_exist_ok=True)
         for path in (os.path.join(folder, it) for it in ending_in(folder, ".conf")):
             with open(path, encoding="utf-8") as file:
