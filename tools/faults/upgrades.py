@@ -70,20 +70,28 @@ IN_LOG = {
     "another_version": ("UPDATE bank SET version = 3", OTHER),
     "bank_without_its_row": ("DELETE FROM bank", (3, b"", b"file: not a bank\n")),
 }
-# A log that is shorter has no page: its head has 32 bytes, and that of a page 24.
-SHORTEST_LOG = 32 + 24
+# The bytes of a log's head, and those of the head of each page in it, which begins with the page's number.
+LOG_HEAD, PAGE_HEAD = 32, 24
+
+
+def pages_of_log(text):
+    """The bytes of a log up to its last page. What follows is no page: zeros, or the byte by which the program ends what it reads."""
+    frame = PAGE_HEAD + int.from_bytes(text[8:12], "big")
+    end = LOG_HEAD + max(0, len(text) - LOG_HEAD) // frame * frame
+    while end > LOG_HEAD and not any(text[end - frame : end - frame + 4]):
+        end -= frame
+    return text[:end]
 
 
 def bytes_in(room):
-    """The bytes of each file in a folder, by its path; of a log without the zeros at its end, which are no page. A log that has
-    no page is left out."""
+    """The bytes of each file in a folder, by its path; of a log up to its last page. A log that has no page is left out."""
     found = {}
     for folder, _, names in os.walk(room):
         for it in names:
             path = os.path.join(folder, it)
             text = Path(path).read_bytes()
-            found[path] = text.rstrip(b"\0") if it.endswith(LOG) else text
-    return {it: text for it, text in found.items() if not it.endswith(LOG) or len(text) >= SHORTEST_LOG}
+            found[path] = pages_of_log(text) if it.endswith(LOG) else text
+    return {it: text for it, text in found.items() if not it.endswith(LOG) or len(text) > LOG_HEAD}
 
 
 def require_same(room, before):
