@@ -58,7 +58,7 @@ fn tess(session: u32, slip: u32) -> Who {
 }
 
 /// After the row of the user who asks the slip alone is read, whether it is repeated or denied for another operation. For
-/// a new slip three rows are read more than without one: the user again, the slip, and how many slips they have.
+/// a new slip two rows are read more than without one: the slip, and how many slips they have.
 #[test]
 fn of_a_slip_few_rows_are_read(rt: HostRuntime) {
     let alloc = rt.alloc();
@@ -67,7 +67,7 @@ fn of_a_slip_few_rows_are_read(rt: HostRuntime) {
     };
     let without = reads_of_post(&rt, alloc, &mut bank, tess(1, 0), 2_500);
     let with = reads_of_post(&rt, alloc, &mut bank, tess(1, 5), 2_500);
-    assert!(rt; with == without.saturating_add(3), "{with} and {without}");
+    assert!(rt; with == without.saturating_add(2), "{with} and {without}");
     assert!(rt; reads_of_post(&rt, alloc, &mut bank, tess(1, 5), 2_500) == 2);
     assert!(rt; reads_of_post(&rt, alloc, &mut bank, tess(1, 5), 2_501) == 2);
     assert!(rt; reads_of_post(&rt, alloc, &mut bank, tess(2, 5), 2_500) == 1);
