@@ -20,7 +20,7 @@ from typing import Any, NamedTuple
 
 from repository import PROGRAM, TOP, are_built
 
-# Of more checks than these only those are printed that failed, and after so many seconds how far it is.
+# Of more checks than these only those are printed that failed, and after how many seconds how far it is.
 MOST_PRINTED, SECONDS_BETWEEN = 100, 60
 # What share of the checks may be late, and how many may be anyway.
 SHARE_OF_LATE, FEW_LATE = 1 / 5, 4
@@ -57,7 +57,7 @@ def require_time(passed: float, least: float, most: float, what: str) -> None:
 
 
 def wait_until(found: Callable[[], Any], seconds: float, what: str, pause: float = 0.02) -> Any:
-    """Waits until something is found, and returns that. Raises Late after so many seconds."""
+    """Waits until something is found, and returns that. Raises Late if it is not found in that time."""
     end = time.monotonic() + seconds
     while not (it := found()):
         if time.monotonic() > end:
@@ -143,7 +143,7 @@ class Report:
         return [it for it in found if not it.lacks]
 
     def make(self, checks: Iterable[Check], jobs: int = 1, go_by_clock: bool = False) -> None:
-        """Makes checks, so many at a time, and then those once more that were late, if they go by the clock."""
+        """Makes checks, `jobs` at a time, and then those once more that were late, if they go by the clock."""
         able = self.able(checks)
         for check, found in zip(able, in_order([it.make for it in able], jobs)):
             self.take(check, found, go_by_clock)
@@ -161,7 +161,7 @@ class Report:
             self.try_again(sum(pool.map(make_lane, lanes)))
 
     def try_again(self, count: int) -> None:
-        """Makes the checks a second time that were late, if they are few among so many."""
+        """Makes the checks a second time that were late, if they are few among all."""
         for check, why in self.late:
             if is_by_chance(len(self.late), count):
                 self.add_again(check.name, why, outcome(check.again or check.make))
@@ -184,7 +184,7 @@ class Report:
 
 
 def is_by_chance(late: int, count: int) -> bool:
-    """Whether so many of the checks may be late."""
+    """Whether this number of the checks may be late."""
     return late <= max(FEW_LATE, count * SHARE_OF_LATE)
 
 
