@@ -4,6 +4,7 @@ ghost use Rattle.exit_lines.specs.Streams.{stream_at};
 ghost use Rattle.cli_counter.specs.Actions.{IsAttended};
 
 use crate::in_file::attend_in;
+use crate::listening::Listening;
 use cli_file::{
     ActionFault, BadgeGate, FileLeft, Opener, PathLeft, Progress, open_existing, read_badge_list,
 };
@@ -43,6 +44,7 @@ pub fn attend_file<'a, D: Disk + Drop, O: Opener<D>, C: Clock, W: Write, P: Writ
         Err((left, fault)) => return (left, Err(fault)),
     };
     let gate = BadgeGate(&list);
-    let (left, done) = attend_in(rt, conn, &gate, clock, place, until, output, progress);
+    let at = Listening { place, until };
+    let (left, done) = attend_in(rt, conn, &gate, clock, at, output, progress);
     (PathLeft::Opened(left), done)
 }

@@ -3,13 +3,12 @@
 ghost use Rattle.exit_lines.specs.Streams.{stream_at};
 ghost use Rattle.cli_counter.specs.Attending.{IsAttendedBehindCache};
 
+use crate::listening::Listening;
 use crate::place::attend_at;
 use cli_file::ActionFault;
 use counter_api::{Clock, Gate};
-use counter_places::Place;
 use money::Tallied;
 use std::io::Write;
-use std::os::fd::RawFd;
 use store_cached::Cached;
 use store_rows::{Bank, Store};
 
@@ -18,13 +17,12 @@ use store_rows::{Bank, Store};
 pub(crate) fn attend_behind_cache<S: Store, G: Gate, C: Clock, W: Write>(
     rt: &HostRuntime,
     store: S,
-    place: Place<'_>,
-    until: Option<RawFd>,
+    at: Listening<'_>,
     gate: &G,
     clock: &mut C,
     output: &mut Tallied<W>,
 ) -> (S, Result<(), ActionFault<'static>>)
-    ensures { IsAttendedBehindCache S.status (G.users gate.now) C.may_give place.entry
+    ensures { IsAttendedBehindCache S.status (G.users gate.now) C.may_give at.entry.place
         (stream_at W.contents output.old) (stream_at W.contents output.new)
         (record { store = store; clock = clock.old })
         (record { store = result.0; clock = clock.new }) result.1 }
@@ -32,7 +30,7 @@ pub(crate) fn attend_behind_cache<S: Store, G: Gate, C: Clock, W: Write>(
     match Cached::new(rt.alloc(), store) {
         Ok(cached) => {
             let mut bank = Bank { store: cached };
-            let done = attend_at(rt, place, until, &mut bank, gate, clock, output);
+            let done = attend_at(rt, at, &mut bank, gate, clock, output);
             let Bank { store } = bank;
             (store.into_below(), done)
         }

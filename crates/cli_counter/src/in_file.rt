@@ -5,13 +5,12 @@ ghost use Rattle.exit_lines.specs.Streams.{stream_at};
 ghost use Rattle.cli_counter.specs.InFile.{IsAttendedIn, end_of_counter};
 
 use crate::attending::attend_behind_cache;
+use crate::listening::Listening;
 use cli_file::{ActionFault, FileConnection, FileLeft, Progress, close, find};
 use counter_api::{Clock, Gate};
-use counter_places::Place;
 use money::Tallied;
 use sqlite_disk::Disk;
 use std::io::Write;
-use std::os::fd::RawFd;
 
 /// How an action ends over connections and a file: a fault of the connections is reported before one of closing.
 fn ended(
@@ -35,13 +34,12 @@ pub fn attend_in<D: Disk + Drop, G: Gate, C: Clock, W: Write, P: Write + Drop>(
     conn: FileConnection<D>,
     gate: &G,
     clock: &mut C,
-    place: Place<'_>,
-    until: Option<RawFd>,
+    at: Listening<'_>,
     output: &mut Tallied<W>,
     progress: &mut Progress<P>,
 ) -> (FileLeft<D>, Result<(), ActionFault<'static>>)
     requires { conn.in_transaction ≡ false }
-    ensures { IsAttendedIn D.Disk (G.users gate.now) C.may_give conn place.entry
+    ensures { IsAttendedIn D.Disk (G.users gate.now) C.may_give conn at.entry.place
         (stream_at W.contents output.old) (stream_at W.contents output.new)
         clock.old clock.new result.0 result.1 }
 {
@@ -50,7 +48,7 @@ pub fn attend_in<D: Disk + Drop, G: Gate, C: Clock, W: Write, P: Write + Drop>(
         Ok(store) => store,
         Err((fault, conn)) => return (FileLeft::Open(conn), Err(fault)),
     };
-    let (store, attended) = attend_behind_cache(rt, store, place, until, gate, clock, output);
+    let (store, attended) = attend_behind_cache(rt, store, at, gate, clock, output);
     progress.begin("writing the log into the file ..\n");
     match close(store) {
         Ok(files) => (FileLeft::Closed(files), ended(attended, None)),

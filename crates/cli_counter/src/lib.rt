@@ -9,6 +9,7 @@ mod attending;
 mod faults;
 mod in_file;
 mod inherited;
+mod listening;
 mod notices;
 mod place;
 mod probed;
@@ -16,3 +17,4 @@ mod socket;
 
 pub use actions::attend_file;
 pub use in_file::attend_in;
+pub use listening::Listening;

@@ -8,4 +8,4 @@ pub mod Answering
 pub mod Handled
 pub mod Replies
 pub mod Reported
-pub mod TurnLemmas
+pub mod StepLemmas

@@ -10,14 +10,6 @@ use Rattle.counter_api.specs.Run.{IsAnswered, reply_to}
 use Rattle.counter_api.specs.Sent.{HasHead}
 use Rattle.counter_api.specs.declared.counter.Counter.{Counter}
 
--- The message was answered over its bank, at a moment of its clock, and these bytes stand so to its reply; bank, clock
--- and gate are the same references.
-pub record CounterAnswers {S G C : Type 0} (how : List ℕ → List ℕ → Type 0) (status : S → Status) (users : G → List ℕ → Option ℕ) (may_give : C → ℕ → C → Type 0) (old : Counter S G C) (message : MessageParts) (out : List ℕ) (new : Counter S G C) : Type 0 where
-  pub answered : IsAnswered how (users old.gate.now) may_give (status old.bank.now.store) (status new.bank.now.store) old.clock.now new.clock.now message out
-  pub same_bank : new.bank.ghost_name ≡ old.bank.ghost_name
-  pub same_clock : new.clock.ghost_name ≡ old.clock.ghost_name
-  pub same_gate : new.gate ≡ old.gate
-
 -- The message bore a moment that the clock gave, and asks for a report; and a fault broke its reply off, once its head
 -- had gone out: these bytes are a beginning of the reply, of each World that the store represented, and no rule denies
 -- what was asked there. It represents the same World, and where there is one it counted the fault.
@@ -33,9 +25,20 @@ pub record IsBroken {C : Type 0} (users : List ℕ → Option ℕ) (may_give : C
   pub allowed : Tells old new (λ w. IsOkAnd (request_of users moment message) (λ r. first w r ≡ None))
   pub begun : Tells old new (λ w. BeginsWith (reply_to users w (record { message = message; moment = moment; mark = None })) sent)
 
--- its reply broke so; bank, clock and gate are the same references
-pub record CounterBreaks {S G C : Type 0} (status : S → Status) (users : G → List ℕ → Option ℕ) (may_give : C → ℕ → C → Type 0) (old : Counter S G C) (message : MessageParts) (sent : List ℕ) (new : Counter S G C) : Type 0 where
-  pub broken : IsBroken (users old.gate.now) may_give (status old.bank.now.store) (status new.bank.now.store) old.clock.now new.clock.now message sent
+-- The clock of the first counter may give this moment, which leaves the second; bank, clock and gate are the same references.
+pub record CounterGives {S G C : Type 0} (may_give : C → ℕ → C → Type 0) (old : Counter S G C) (moment : ℕ) (new : Counter S G C) : Type 0 where
+  pub given : may_give old.clock.now moment new.clock.now
   pub same_bank : new.bank.ghost_name ≡ old.bank.ghost_name
   pub same_clock : new.clock.ghost_name ≡ old.clock.ghost_name
   pub same_gate : new.gate ≡ old.gate
+
+module _ {S G C : Type 0} (status : S → Status) (users : G → List ℕ → Option ℕ) (may_give : C → ℕ → C → Type 0) where
+  -- the message was answered over its bank, at a moment of its clock, and these bytes stand so to its reply
+  abbrev pub CounterAnswers : (List ℕ → List ℕ → Type 0) → Counter S G C → MessageParts → List ℕ → Counter S G C → Type 0
+  CounterAnswers how old message out new =
+      IsAnswered how (users old.gate.now) (CounterGives may_give) (status old.bank.now.store) (status new.bank.now.store) old new message out
+
+  -- its reply broke, after these bytes
+  abbrev pub CounterBreaks : Counter S G C → MessageParts → List ℕ → Counter S G C → Type 0
+  CounterBreaks old message sent new =
+      IsBroken (users old.gate.now) (CounterGives may_give) (status old.bank.now.store) (status new.bank.now.store) old new message sent

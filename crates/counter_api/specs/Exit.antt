@@ -4,7 +4,7 @@ use Rattle.std.specs.Io.KnownBytes.{Appends, Consumes, IsAtEnd}
 use Rattle.http_messages.specs.Blank.{AreLineEnds}
 use Rattle.http_messages.specs.Exit.{Ends, GoesOn, StopsWithin}
 use Rattle.http_messages.specs.Next.{IsPartial}
-use Rattle.http_messages.specs.Received.{max_message_len}
+use Rattle.http_messages.specs.Inbox.{max_message_len}
 use Rattle.http_messages.specs.Refusal.{IsRefusal}
 use Rattle.http_messages.specs.Whole.{Splits, WholeMessage, message_parts}
 use Rattle.http_messages.specs.declared.serving.ServeFault.{ServeFault}

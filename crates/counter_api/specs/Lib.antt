@@ -7,4 +7,4 @@ pub mod Handled
 pub mod Response
 pub mod Run
 pub mod Sent
-pub mod Turn
+pub mod Step

@@ -26,12 +26,17 @@ use store_rows::{Bank, Store};
 
 /// A bank that answers messages.
 #[derive(Drop)]
-pub(crate) struct Counter<'b, 'g, 'c, 'r, S, G, C> {
-    pub(crate) alloc: Global,
-    pub(crate) bank: &'b mut Bank<S>,
-    pub(crate) gate: &'g G,
-    pub(crate) clock: &'c mut C,
-    pub(crate) routes: &'r Routes,
+pub struct Counter<'b, 'g, 'c, 'r, S, G, C> {
+    /// The memory in which it works.
+    pub alloc: Global,
+    /// The bank.
+    pub bank: &'b mut Bank<S>,
+    /// What names users for the badges.
+    pub gate: &'g G,
+    /// What gives the moments.
+    pub clock: &'c mut C,
+    /// The paths that it knows.
+    pub routes: &'r Routes,
 }
 
 /// What a request came to.
@@ -219,10 +224,10 @@ impl<'b, 'g, 'c, 'r, S: Store, G: Gate, C: Clock> Engine for Counter<'b, 'g, 'c,
     ghost use Rattle.counter_api.specs.Run.{IsWhole};
     ghost use Rattle.reports.specs.Report.{BeginsWith};
 
-    ghost answers = { CounterAnswers IsWhole S.status G.users C.may_give };
+    ghost answers = { CounterAnswers S.status G.users C.may_give IsWhole };
 
     // A report is written row by row, and may stop within its text.
-    ghost stops = { CounterAnswers BeginsWith S.status G.users C.may_give };
+    ghost stops = { CounterAnswers S.status G.users C.may_give BeginsWith };
 
     // A report alone breaks.
     ghost breaks = { CounterBreaks S.status G.users C.may_give };

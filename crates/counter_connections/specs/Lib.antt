@@ -1,3 +1,2 @@
 pub mod Connections
-pub mod Limits
 pub mod Port

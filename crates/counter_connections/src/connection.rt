@@ -3,9 +3,10 @@
 ghost use Rattle.std.specs.Prelude.{◌≡◌, ◌≤◌, None, IfOk};
 ghost use Rattle.counter_connections.specs.Connections.{IsConnection, begun};
 
-use crate::limits::Limited;
+use crate::limited::Limited;
 use crate::parting::part;
 use counter_api::{Clock, Gate, ServeFault, Served, serve};
+use counter_limits::{MAX_READING, MAX_WAIT, MAX_WRITING};
 use money::Tallied;
 use std::alloc::Global;
 use std::io::{BufWriter, Read, Write};
@@ -14,17 +15,8 @@ use std::time;
 use std::time::Duration;
 use store_rows::{Bank, Store};
 
-/// How many seconds a read or a write may wait for the client.
-const MAX_WAIT: u64 = 30;
-
-/// For how many seconds a connection is read from.
-const MAX_READING: u64 = 120;
-
-/// For how many seconds it is written to: a message that was read last has its reply.
-const MAX_WRITING: u64 = 180;
-
-/// Serves a connection, with so many replies at most, and answers how that ended. Its client may let a read or a write wait
-/// for 30 seconds, and uses it for 120, or for its last replies for 180.
+/// Serves a connection, with n replies at most, and returns how that ended. No wait for its client, no reading and no
+/// writing lasts longer than counter_limits has it.
 pub(crate) fn serve_connection<M: time::Clock, S: Store, G: Gate, C: Clock>(
     machine: &M,
     alloc: Global,
@@ -48,7 +40,7 @@ pub(crate) fn serve_connection<M: time::Clock, S: Store, G: Gate, C: Clock>(
 }
 
 /// Serves a client by one value, from which its messages are read and to which the replies are written, so that none of
-/// them can go to another. It may be read from for 120 seconds, and written to for 180.
+/// them can go to another.
 fn serve_client<K: Read + Write + Copy, M: time::Clock, S: Store, G: Gate, C: Clock>(
     machine: &M,
     alloc: Global,
@@ -77,7 +69,7 @@ fn set_waits(stream: &TcpStream) {
     let _ = stream.set_nodelay(true);
 }
 
-/// Serves messages of a reader, with their replies gathered before a writer, so many at most. Where memory is refused for the
+/// Serves n messages of a reader at most, with their replies gathered before a writer. If memory is refused for the
 /// gathering, nothing is read.
 fn serve_streams<R: Read + Drop, W: Write + Drop, S: Store, G: Gate, C: Clock>(
     alloc: Global,

@@ -1,4 +1,4 @@
-//! Serving connections one after another, and how many messages each counts.
+//! Serving connections one after another, until enough messages are counted.
 
 ghost use Rattle.std.specs.Prelude.{◌≡◌};
 ghost use Rattle.counter_connections.specs.Connections.{AreAllServed, counted_by};
@@ -10,9 +10,9 @@ use std::alloc::Global;
 use std::{io, time};
 use store_rows::{Bank, Store};
 
-/// Serves connections, one after another, until so many messages are counted. Each counts those that were answered on it, at
-/// least one, and one where a fault of serving ended it, which ends no other. The error is that a connection could not be
-/// accepted. How long a connection lasts goes by the machine's running clock, and the moments of messages by `clock`.
+/// Serves connections, one after another, until `requests` messages are counted: of each connection those that were answered
+/// on it, at least one, and one if a fault of serving ended it, which ends no other. The error is that a connection could not
+/// be accepted. How long a connection lasts goes by the machine's running clock, and the moments of messages by `clock`.
 pub fn serve_connections<M: time::Clock, S: Store, G: Gate, C: Clock>(
     machine: &M,
     alloc: Global,
@@ -36,7 +36,7 @@ pub fn serve_connections<M: time::Clock, S: Store, G: Gate, C: Clock>(
     Ok(())
 }
 
-/// How many messages a connection counts that ended so.
+/// How many messages are counted of a connection that ended so.
 fn counted(exit: &Result<Served, ServeFault>) -> u32
     ensures { result ≡ counted_by exit.now }
 {

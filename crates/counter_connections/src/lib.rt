@@ -1,14 +1,14 @@
 //! Serves connections over any store, to the users of any gate. `serve_connections` serves them one after
 //! another until enough messages are counted: a fault of serving ends its connection alone, and each takes
 //! over the bank as the one before left it. `serve_port` binds a port of 127.0.0.1 first;
-//! `serve_port_behind_cache` puts a cache before the store. A client that is silent for 30 seconds, or stays
-//! for 120, is let go. How sockets keep these limits is only tested.
+//! `serve_port_behind_cache` puts a cache before the store. A client that is silent or stays too long, by
+//! counter_limits, is let go. How sockets keep these limits is only tested.
 #![tactic(auto)]
 
 mod connection;
 mod connections;
 mod fault;
-mod limits;
+mod limited;
 mod listener;
 mod parting;
 mod port;

@@ -1,4 +1,4 @@
-//! A listener that counts the connections that it fails to accept.
+//! A listener, and how many connections it failed to accept.
 
 ghost use Rattle.std.specs.Prelude.{◌≡◌, OnOk, OnErr};
 ghost use Rattle.money.specs.Counted.{counted_once_more};

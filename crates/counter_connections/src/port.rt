@@ -16,7 +16,7 @@ use std::time;
 use store_cached::Cached;
 use store_rows::{Bank, Store};
 
-/// Serves connections at a port of 127.0.0.1, once a line on `output` has said that it is bound, until so many messages
+/// Serves connections at a port of 127.0.0.1, after a line on `output` has said that it is bound, until `requests` messages
 /// are counted.
 pub fn serve_port<
     N: Net<Listener = TcpListener, Stream = TcpStream> + time::Clock,
@@ -52,8 +52,8 @@ pub fn serve_port<
     }
 }
 
-/// Serves a port as `serve_port` does, with a cache of the rows of its policy before the store, and hands back the store
-/// without it. Where memory was refused for the cache, that is the store as it was, and nothing is done.
+/// Serves a port as `serve_port` does, with a cache of the rows of its policy before the store, and returns the store
+/// without it. If memory was refused for the cache, that is the store as it was, and nothing is done.
 pub fn serve_port_behind_cache<
     N: Net<Listener = TcpListener, Stream = TcpStream> + time::Clock,
     S: Store,

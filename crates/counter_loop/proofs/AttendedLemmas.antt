@@ -2,16 +2,13 @@
 use Rattle.std.proofs.Common.{◌≡◌, ℕ, Bool, List, [], Option, Some, refl}
 use Rattle.store_rows.specs.Status.{Status}
 use Rattle.counter_loop.specs.Attended.{AreAttended, IsSince}
-use Rattle.counter_loop.specs.Boxes.{AreServed}
 use Rattle.counter_loop.specs.Turns.{AreTurns, At, Box, Boxes, Made, nothing_yet}
 use Rattle.counter_loop.specs.Ways.{Ways}
-use Rattle.counter_loop.specs.declared.clients.Clients.{Clients}
 use Rattle.counter_loop.proofs.StepLemmas.{as_steps}
 use Rattle.counter_loop.proofs.ListLemmas.{all_on}
 use Rattle.counter_loop.proofs.PartLemmas.{its_messages}
 use Rattle.counter_loop.proofs.DueLemmas.{its_replies}
 use Rattle.counter_loop.proofs.HandedLemmas.{its_bytes, its_stream}
-use Rattle.counter_loop.proofs.SuitLemmas.{all_ended}
 use Rattle.counter_loop.proofs.WayLemmas.{moves_none}
 
 -- nothing went out since
@@ -19,7 +16,7 @@ pub since_now : (box : Box) → IsSince box box.ways box.waits
 since_now box = record { out = []; waits = refl; heard = []; unheard = λ e. refl; moved = moves_none box.ways }
 
 module _ {S C : Type 0} (begins : Option Ways → Bool) (status : S → Status) (users : List ℕ → Option ℕ) (may_give : C → ℕ → C → Type 0) where
-  pub attended : (old new : At S C) (turns : List Made) (after : Boxes) → AreTurns begins status users may_give nothing_yet old turns after new
+  abbrev pub attended : (old new : At S C) (turns : List Made) (after : Boxes) → AreTurns begins status users may_give nothing_yet old turns after new
       → ((k : ℕ) (box : Box) → after k ≡ Some box → (last : Option Ways) × (rest : List ℕ) × IsSince box last rest) → AreAttended begins status users may_give old new
   attended old new turns after had ended = record {
     turns = turns;
@@ -38,7 +35,3 @@ module _ {S C : Type 0} (begins : Option Ways → Bool) (status : S → Status) 
 
   pub attended_none : (s : At S C) → AreAttended begins status users may_give s s
   attended_none s = attended_so_far s s [] nothing_yet (refl, refl)
-
-  pub attended_served : {T : Type 0} (ways : T → Option Ways) (clients : Clients T) (old new : At S C) → AreServed begins ways status users may_give nothing_yet clients old new
-      → AreAttended begins status users may_give old new
-  attended_served ways clients old new served = attended old new served.turns served.after served.had (all_ended begins ways clients served.after served.suits)

@@ -1,15 +1,14 @@
 -- Connections under their numbers, from turn to turn.
-use Rattle.std.proofs.Common.{◌≡◌, ◌⊎◌, ℕ, Bool, true, false, if◌then◌else◌, inl, inr, List, [], ◌∷◌, ◌++◌, Option, Some, Result, Ok, Err, refl, sym, ap, subst, ◌∙◌, append_assoc}
+use Rattle.std.proofs.Common.{◌≡◌, ◌⊎◌, ℕ, Bool, true, false, if◌then◌else◌, inl, inr, List, [], ◌∷◌, ◌++◌, Option, Some, Result, Ok, refl, sym, ap, subst, ◌∙◌, append-nil, append_assoc}
 use Rattle.std.specs.Prelude.{unwrap_or}
 use Rattle.std.proofs.lemmas.Bool.{eq-eqb, ne_eqb}
 use Rattle.store_rows.specs.Status.{Status}
-use Rattle.http_messages.specs.declared.serving.Turn.{Turn}
-use Rattle.http_messages.specs.declared.serving.Turn.TheVariants.{Answered}
-use Rattle.http_messages.specs.declared.serving.ServeFault.{ServeFault}
-use Rattle.http_messages.specs.declared.serving.ServeFault.TheVariants.{Read}
+use Rattle.http_messages.specs.declared.engine.AnswerFault.{AnswerFault}
+use Rattle.http_messages.specs.declared.step.Step.{Step}
+use Rattle.http_messages.specs.declared.step.Step.TheVariants.{Answered, Waiting}
 use Rattle.counter_loop.specs.Attended.{IsSince}
-use Rattle.counter_loop.specs.Turns.{AreTurns, At, Box, Boxes, GoesOn, IsHad, IsLast, IsOneTurn, IsThere, Made, with_box}
-use Rattle.counter_loop.specs.Boxes.{AreServed, AreVisited, Drains, HasTurns, IsBoxed, IsVisited, StaysSuited, Suits}
+use Rattle.counter_loop.specs.Turns.{AreTurns, At, Box, Boxes, GoesOn, IsHad, IsLast, IsOneTurn, IsThere, Made, both, whose, with_box}
+use Rattle.counter_loop.specs.Boxes.{AreServed, AreVisited, Drains, HasTurns, IsBoxed, IsVisited, Reads, StaysSuited, Suits}
 use Rattle.counter_loop.specs.Ways.{IsReadBy, Moves, Ways}
 use Rattle.counter_loop.specs.declared.client.Client.{Client}
 use Rattle.counter_loop.specs.declared.clients.Clients.{Clients}
@@ -75,6 +74,20 @@ module _ {T : Type 0} (ways : T → Option Ways) where
         moved = came.1;
       })
 
+  -- nothing was read yet
+  pub reads_none : (c : Client T) → Reads ways c c
+  reads_none c = record { serial = refl; closing = refl; outbox = refl; came = []; inbox = sym (append-nil c.inbox); moved = moves_none (ways c.stream) }
+
+  pub reads_then : (c d e : Client T) → Reads ways c d → Reads ways d e → Reads ways c e
+  reads_then c d e here later = record {
+    serial = later.serial ∙ here.serial;
+    closing = later.closing ∙ here.closing;
+    outbox = later.outbox ∙ here.outbox;
+    came = here.came ++ later.came;
+    inbox = later.inbox ∙ ap (λ l. l ++ later.came) here.inbox ∙ append_assoc c.inbox here.came later.came;
+    moved = moves_then (ways c.stream) (ways d.stream) (ways e.stream) here.came later.came [] [] here.moved later.moved;
+  }
+
 module _ {T : Type 0} (begins : Option Ways → Bool) (ways : T → Option Ways) where
   pub boxed_drains : (boxes : Boxes) (c d : Client T) → Drains ways c d → IsBoxed begins ways boxes c → IsBoxed begins ways boxes d
   boxed_drains boxes c d drains is = record {
@@ -103,44 +116,61 @@ module _ {S C : Type 0} (begins : Option Ways → Bool) (status : S → Status) 
   turns_then boxes between after a b c (t ∷ ts) us (before, there, next, mid, turn, rest) later =
       (before, there, next, mid, turn, turns_then (with_box boxes t.who next) between after mid b c ts us rest later)
 
-module _ {T S C : Type 0} (begins : Option Ways → Bool) (ways : T → Option Ways) (status : S → Status) (users : List ℕ → Option ℕ) (may_give : C → ℕ → C → Type 0) where
+whose_then : (ts us : List Made) (vs ws : List ℕ) → whose ts ≡ vs → whose us ≡ ws → whose (ts ++ us) ≡ vs ++ ws
+whose_then [] us vs ws here later = later ∙ ap (λ l. l ++ ws) here
+whose_then (t ∷ ts) us vs ws here later = ap (λ l. t.who ∷ l) (whose_then ts us (whose ts) ws refl later) ∙ ap (λ l. l ++ ws) here
+
+module _ {T E : Type 0} (begins : Option Ways → Bool) (ways : T → Option Ways) (status : E → Status) (users : E → List ℕ → Option ℕ) (may_give : E → ℕ → E → Type 0) where
+  -- later turns name the same users
+  named : (boxes after : Boxes) (old mid new : E) (us : List Made) → users mid ≡ users old → AreTurns begins status (users mid) may_give boxes (both mid) us after (both new)
+      → AreTurns begins status (users old) may_give boxes (both mid) us after (both new)
+  named boxes after old mid new us same turns = subst (λ u. AreTurns begins status u may_give boxes (both mid) us after (both new)) same turns
+
   -- ---- the turns of one connection
 
-  pub turns_none : (boxes : Boxes) (c d : Client T) (s : At S C) → Drains ways c d → IsBoxed begins ways boxes c → HasTurns begins ways status users may_give boxes c d s s
+  pub turns_none : (boxes : Boxes) (c d : Client T) (s : E) → Drains ways c d → IsBoxed begins ways boxes c → HasTurns begins ways status users may_give [] boxes c d s s
   turns_none boxes c d s drains is = record {
     turns = [];
     after = boxes;
     had = (refl, refl);
+    by = refl;
     others = λ n other. refl;
     serial = drains.serial;
     boxed = boxed_drains begins ways boxes c d drains is;
+    same = refl;
   }
 
-  pub drained : (c d : Client T) (s : At S C) → Drains ways c d → IsVisited begins ways status users may_give c d s s
+  pub drained : (c d : Client T) (s : E) → Drains ways c d → IsVisited begins ways status users may_give [] c d s s
   drained c d s drains boxes is = turns_none boxes c d s drains is
 
-  pub turns_more : (boxes : Boxes) (c d e : Client T) (old mid new : At S C) → HasTurns begins ways status users may_give boxes c d old mid → IsVisited begins ways status users may_give d e mid new
-      → HasTurns begins ways status users may_give boxes c e old new
-  turns_more boxes c d e old mid new here more =
+  pub turns_more : (boxes : Boxes) (c d e : Client T) (old mid new : E) (vs ws : List ℕ) → HasTurns begins ways status users may_give vs boxes c d old mid
+      → IsVisited begins ways status users may_give ws d e mid new → HasTurns begins ways status users may_give (vs ++ ws) boxes c e old new
+  turns_more boxes c d e old mid new vs ws here more =
       let later = more here.after here.boxed in
       record {
         turns = here.turns ++ later.turns;
         after = later.after;
-        had = turns_then begins status users may_give boxes here.after later.after old mid new here.turns later.turns here.had later.had;
+        had = turns_then begins status (users old) may_give boxes here.after later.after (both old) (both mid) (both new) here.turns later.turns here.had
+            (named here.after later.after old mid new later.turns here.same later.had);
+        by = whose_then here.turns later.turns vs ws here.by later.by;
         others = λ n other. later.others n (λ same. other (same ∙ here.serial)) ∙ here.others n other;
         serial = later.serial ∙ here.serial;
         boxed = later.boxed;
+        same = later.same ∙ here.same;
       }
 
-  pub visited_drained : (c d e : Client T) (old new : At S C) → IsVisited begins ways status users may_give c d old new → Drains ways d e → IsVisited begins ways status users may_give c e old new
-  visited_drained c d e old new visited drains boxes is = turns_more boxes c d e old new new (visited boxes is) (drained d e new drains)
+  pub visited_drained : (c d e : Client T) (old new : E) (ws : List ℕ) → IsVisited begins ways status users may_give ws c d old new → Drains ways d e
+      → IsVisited begins ways status users may_give ws c e old new
+  visited_drained c d e old new ws visited drains boxes is =
+      subst (λ l. HasTurns begins ways status users may_give l boxes c e old new) (append-nil ws) (turns_more boxes c d e old new new ws [] (visited boxes is) (drained d e new drains))
 
-  pub drained_visited : (c d e : Client T) (old new : At S C) → Drains ways c d → IsVisited begins ways status users may_give d e old new → IsVisited begins ways status users may_give c e old new
-  drained_visited c d e old new drains visited boxes is = turns_more boxes c d e old old new (turns_none boxes c d old drains is) visited
+  pub drained_visited : (c d e : Client T) (old new : E) (ws : List ℕ) → Drains ways c d → IsVisited begins ways status users may_give ws d e old new
+      → IsVisited begins ways status users may_give ws c e old new
+  drained_visited c d e old new ws drains visited boxes is = turns_more boxes c d e old old new [] ws (turns_none boxes c d old drains is) visited
 
-  pub visited_then : (c d e : Client T) (old mid new : At S C) → IsVisited begins ways status users may_give c d old mid → IsVisited begins ways status users may_give d e mid new
-      → IsVisited begins ways status users may_give c e old new
-  visited_then c d e old mid new here later boxes is = turns_more boxes c d e old mid new (here boxes is) later
+  pub visited_then : (c d e : Client T) (old mid new : E) (vs ws : List ℕ) → IsVisited begins ways status users may_give vs c d old mid → IsVisited begins ways status users may_give ws d e mid new
+      → IsVisited begins ways status users may_give (vs ++ ws) c e old new
+  visited_then c d e old mid new vs ws here later boxes is = turns_more boxes c d e old mid new vs ws (here boxes is) later
 
   -- ---- one turn
 
@@ -148,12 +178,22 @@ module _ {T S C : Type 0} (begins : Option Ways → Bool) (ways : T → Option W
   abbrev next_box : Client T → Client T → Made → Bool → Box
   next_box c d made is_over = record { ways = ways d.stream; held = made.held; waits = c.outbox.items ++ made.sent; is_over = is_over }
 
+  abbrev Goes : E → List ℕ → E → E → Made → Type 0
+  Goes e held old new made = GoesOn status (users e) may_give held (both old) (both new) made
+
+  abbrev Ends : E → List ℕ → E → E → Made → Type 0
+  Ends e held old new made = IsLast status (users e) may_give held (both old) (both new) made
+
+  -- this was said of a turn
+  abbrev pub Had : Client T → Client T → E → E → Result Step AnswerFault → List ℕ → Type 0
+  Had c d old new r gave =
+      IsHad status (users old) may_give c.serial gave (ways c.stream) (ways d.stream) c.inbox d.inbox c.outbox.items d.outbox.items (both old) (both new) r
+
   -- the turn of which this was said, as one of many
-  one_turn : (boxes : Boxes) (c d : Client T) (old new : At S C) (r : Result Turn ServeFault) (inbox : List ℕ) (is_over : Bool) (is : IsBoxed begins ways boxes c) → c.is_closing ≡ false
-      → (h : IsHad status users may_give c.serial is.since.out (ways c.stream) (ways d.stream) c.inbox inbox c.outbox.items d.outbox.items old new r)
-      → (GoesOn status users may_give is.box.held old new h.made × (is_over ≡ false)) ⊎ (IsLast status users may_give is.box.held old new h.made × (is_over ≡ true))
-      → IsOneTurn status users may_give is.box (next_box c d h.made is_over) old new h.made
-  one_turn boxes c d old new r inbox is_over is open_still h ends = record {
+  one_turn : (boxes : Boxes) (c d : Client T) (old new : E) (r : Result Step AnswerFault) (is_over : Bool) (is : IsBoxed begins ways boxes c) → c.is_closing ≡ false → (h : Had c d old new r is.since.out)
+      → (Goes old is.box.held old new h.made × (is_over ≡ false)) ⊎ (Ends old is.box.held old new h.made × (is_over ≡ true))
+      → IsOneTurn status (users old) may_give is.box (next_box c d h.made is_over) (both old) (both new) h.made
+  one_turn boxes c d old new r is_over is open_still h ends = record {
     open_still = is.over ∙ open_still;
     left = c.outbox.items;
     waited = is.since.waits ∙ ap (λ l. l ++ c.outbox.items) (sym h.given);
@@ -166,16 +206,17 @@ module _ {T S C : Type 0} (begins : Option Ways → Bool) (ways : T → Option W
     is = ends;
   }
 
-  had_one : (boxes : Boxes) (c d : Client T) (old new : At S C) (r : Result Turn ServeFault) (inbox : List ℕ) (is_over : Bool) (is : IsBoxed begins ways boxes c) → c.is_closing ≡ false
-      → (h : IsHad status users may_give c.serial is.since.out (ways c.stream) (ways d.stream) c.inbox inbox c.outbox.items d.outbox.items old new r)
-      → (GoesOn status users may_give is.box.held old new h.made × (is_over ≡ false)) ⊎ (IsLast status users may_give is.box.held old new h.made × (is_over ≡ true))
-      → d.serial ≡ c.serial → d.is_closing ≡ is_over → (is_over ≡ false → d.inbox ≡ h.made.held) → HasTurns begins ways status users may_give boxes c d old new
-  had_one boxes c d old new r inbox is_over is open_still h ends serial closing kept =
+  had_one : (boxes : Boxes) (c d : Client T) (old new : E) (r : Result Step AnswerFault) (is_over : Bool) (is : IsBoxed begins ways boxes c) → c.is_closing ≡ false → (h : Had c d old new r is.since.out)
+      → (Goes old is.box.held old new h.made × (is_over ≡ false)) ⊎ (Ends old is.box.held old new h.made × (is_over ≡ true))
+      → d.serial ≡ c.serial → d.is_closing ≡ is_over → (is_over ≡ false → d.inbox ≡ h.made.held) → users new ≡ users old
+      → HasTurns begins ways status users may_give (c.serial ∷ []) boxes c d old new
+  had_one boxes c d old new r is_over is open_still h ends serial closing kept same =
       let next = next_box c d h.made is_over in
       record {
         turns = h.made ∷ [];
         after = with_box boxes h.made.who next;
-        had = (is.box, subst (λ n. IsThere begins (boxes n) is.box) (sym h.its) is.there, next, new, one_turn boxes c d old new r inbox is_over is open_still h ends, (refl, refl));
+        had = (is.box, subst (λ n. IsThere begins (boxes n) is.box) (sym h.its) is.there, next, both new, one_turn boxes c d old new r is_over is open_still h ends, (refl, refl));
+        by = ap (λ n. n ∷ []) h.its;
         others = λ n other. other_place boxes h.made.who next n (λ same. other (sym same ∙ h.its));
         serial = serial;
         boxed = record {
@@ -185,53 +226,54 @@ module _ {T S C : Type 0} (begins : Option Ways → Bool) (ways : T → Option W
           held = λ goes. sym (kept goes);
           since = record { out = []; waits = sym h.sent; heard = []; unheard = λ goes. refl; moved = moves_none (ways d.stream) };
         };
+        same = same;
       }
 
   -- ---- by how a turn ended
 
-  pub visited_answered : (c d : Client T) (old new : At S C) → c.is_closing ≡ false → d.serial ≡ c.serial → d.is_closing ≡ false
-      → ((gave : List ℕ) → IsHad status users may_give c.serial gave (ways c.stream) (ways d.stream) c.inbox d.inbox c.outbox.items d.outbox.items old new (Ok Answered))
-      → IsVisited begins ways status users may_give c d old new
-  visited_answered c d old new open_still serial closing had boxes is =
+  pub visited_answered : (c d : Client T) (old new : E) → c.is_closing ≡ false → d.serial ≡ c.serial → d.is_closing ≡ false → users new ≡ users old → ((gave : List ℕ) → Had c d old new (Ok Answered) gave)
+      → IsVisited begins ways status users may_give (c.serial ∷ []) c d old new
+  visited_answered c d old new open_still serial closing same had boxes is =
       let h = had is.since.out in
-      had_one boxes c d old new (Ok Answered) d.inbox false is open_still h
-      (inl (subst (λ l. GoesOn status users may_give l old new h.made) (sym (is.held (is.over ∙ open_still))) h.goes_on.0, refl)) serial closing (λ goes. h.goes_on.1)
+      had_one boxes c d old new (Ok Answered) false is open_still h
+      (inl (subst (λ l. Goes old l old new h.made) (sym (is.held (is.over ∙ open_still))) h.goes_on.0, refl)) serial closing (λ goes. h.goes_on.1) same
 
-  pub visited_used_up : (c d : Client T) (old new : At S C) → c.is_closing ≡ false → d.serial ≡ c.serial → d.is_closing ≡ false
-      → ((gave : List ℕ) → IsHad status users may_give c.serial gave (ways c.stream) (ways d.stream) c.inbox d.inbox c.outbox.items d.outbox.items old new (Err Read))
-      → IsVisited begins ways status users may_give c d old new
-  visited_used_up c d old new open_still serial closing had boxes is =
+  pub visited_used_up : (c d : Client T) (old new : E) → c.is_closing ≡ false → d.serial ≡ c.serial → d.is_closing ≡ false → users new ≡ users old → ((gave : List ℕ) → Had c d old new (Ok Waiting) gave)
+      → IsVisited begins ways status users may_give (c.serial ∷ []) c d old new
+  visited_used_up c d old new open_still serial closing same had boxes is =
       let h = had is.since.out in
-      had_one boxes c d old new (Err Read) d.inbox false is open_still h
-      (inl (subst (λ l. GoesOn status users may_give l old new h.made) (sym (is.held (is.over ∙ open_still))) h.goes_on.0, refl)) serial closing (λ goes. h.goes_on.1)
+      had_one boxes c d old new (Ok Waiting) false is open_still h
+      (inl (subst (λ l. Goes old l old new h.made) (sym (is.held (is.over ∙ open_still))) h.goes_on.0, refl)) serial closing (λ goes. h.goes_on.1) same
 
-  pub visited_last : (c d : Client T) (old new : At S C) (inbox : List ℕ) (r : Result Turn ServeFault) → c.is_closing ≡ false → d.serial ≡ c.serial → d.is_closing ≡ true
-      → ((gave : List ℕ) → IsHad status users may_give c.serial gave (ways c.stream) (ways d.stream) c.inbox inbox c.outbox.items d.outbox.items old new r)
-      → IsVisited begins ways status users may_give c d old new
-  visited_last c d old new inbox r open_still serial closing had boxes is =
+  pub visited_last : (c d : Client T) (old new : E) (r : Result Step AnswerFault) → c.is_closing ≡ false → d.serial ≡ c.serial → d.is_closing ≡ true → users new ≡ users old → ((gave : List ℕ) → Had c d old new r gave)
+      → IsVisited begins ways status users may_give (c.serial ∷ []) c d old new
+  visited_last c d old new r open_still serial closing same had boxes is =
       let h = had is.since.out in
-      had_one boxes c d old new r inbox true is open_still h
-      (inr (subst (λ l. IsLast status users may_give l old new h.made) (sym (is.held (is.over ∙ open_still))) h.is, refl)) serial closing (λ goes. let e : true ≡ false = goes in absurd cc)
+      had_one boxes c d old new r true is open_still h
+      (inr (subst (λ l. Ends old l old new h.made) (sym (is.held (is.over ∙ open_still))) h.is, refl)) serial closing (λ goes. let e : true ≡ false = goes in absurd cc) same
 
   -- ---- all of them
 
-  pub served_none : (clients : Clients T) (boxes : Boxes) (s : At S C) → Suits begins ways clients boxes → AreServed begins ways status users may_give boxes clients s s
-  served_none clients boxes s suits = record { turns = []; after = boxes; had = (refl, refl); suits = suits }
+  pub served_none : (clients : Clients T) (boxes : Boxes) (s : E) → Suits begins ways clients boxes → AreServed begins ways status users may_give [] boxes clients s s
+  served_none clients boxes s suits = record { turns = []; after = boxes; had = (refl, refl); by = refl; suits = suits; same = refl }
 
-  pub served_more : (c d : Clients T) (boxes : Boxes) (old mid new : At S C) → AreServed begins ways status users may_give boxes c old mid → AreVisited begins ways status users may_give c d mid new
-      → AreServed begins ways status users may_give boxes d old new
-  served_more c d boxes old mid new here more =
+  pub served_more : (c d : Clients T) (boxes : Boxes) (old mid new : E) (vs ws : List ℕ) → AreServed begins ways status users may_give vs boxes c old mid
+      → AreVisited begins ways status users may_give ws c d mid new → AreServed begins ways status users may_give (vs ++ ws) boxes d old new
+  served_more c d boxes old mid new vs ws here more =
       let later = more here.after here.suits in
       record {
         turns = here.turns ++ later.turns;
         after = later.after;
-        had = turns_then begins status users may_give boxes here.after later.after old mid new here.turns later.turns here.had later.had;
+        had = turns_then begins status (users old) may_give boxes here.after later.after (both old) (both mid) (both new) here.turns later.turns here.had
+            (named here.after later.after old mid new later.turns here.same later.had);
+        by = whose_then here.turns later.turns vs ws here.by later.by;
         suits = later.suits;
+        same = later.same ∙ here.same;
       }
 
-  pub stays_visited : (c d : Clients T) (s : At S C) → StaysSuited begins ways c d → AreVisited begins ways status users may_give c d s s
+  pub stays_visited : (c d : Clients T) (s : E) → StaysSuited begins ways c d → AreVisited begins ways status users may_give [] c d s s
   stays_visited c d s stays boxes suits = served_none d boxes s (stays boxes suits)
 
-  pub all_then : (c d e : Clients T) (old mid new : At S C) → AreVisited begins ways status users may_give c d old mid → AreVisited begins ways status users may_give d e mid new
-      → AreVisited begins ways status users may_give c e old new
-  all_then c d e old mid new here later boxes suits = served_more d e boxes old mid new (here boxes suits) later
+  pub all_then : (c d e : Clients T) (old mid new : E) (vs ws : List ℕ) → AreVisited begins ways status users may_give vs c d old mid → AreVisited begins ways status users may_give ws d e mid new
+      → AreVisited begins ways status users may_give (vs ++ ws) c e old new
+  all_then c d e old mid new vs ws here later boxes suits = served_more d e boxes old mid new vs ws (here boxes suits) later

@@ -6,7 +6,7 @@ use Rattle.slab.specs.Slab.{Slab, Updates, get, with_value}
 use Rattle.slab.proofs.SlabLemmas.{Updates-with_value}
 use Rattle.store_rows.specs.Status.{Status}
 use Rattle.counter_loop.specs.Attended.{IsSince}
-use Rattle.counter_loop.specs.Turns.{At, Box, Boxes, IsThere, nothing_yet}
+use Rattle.counter_loop.specs.Turns.{Box, Boxes, IsThere, nothing_yet}
 use Rattle.counter_loop.specs.Boxes.{AreVisited, Drains, IsBoxed, IsHeld, IsVisited, StaysSuited, Suits}
 use Rattle.counter_loop.specs.Ways.{Ways}
 use Rattle.counter_loop.specs.declared.client.Client.{Client}
@@ -53,7 +53,7 @@ module _ {T : Type 0} (begins : Option Ways → Bool) (ways : T → Option Ways)
   pub refused : (old new : Clients T) (n : ℕ) → new.next ≡ old.next → new.slab ≡ record old.slab { capacity = n } → StaysSuited begins ways old new
   refused old new n next is = fewer old new next (λ key c got. sym (ap (λ (s : Slab (Client T)). get s key) is) ∙ got)
 
-  left_after : (old new : Slab (Client T)) (key : ℕ) → Updates old new key None → (at : ℕ) (c : Client T) → get new at ≡ Some c → get old at ≡ Some c
+  pub left_after : (old new : Slab (Client T)) (key : ℕ) → Updates old new key None → (at : ℕ) (c : Client T) → get new at ≡ Some c → get old at ≡ Some c
   left_after old new key updates at c got =
       elim (cases_eq at key) [
         | inl same ↦ let e : None ≡ Some c = sym updates.changed ∙ ap (get new) (sym same) ∙ got in absurd cc
@@ -170,7 +170,7 @@ module _ {T : Type 0} (begins : Option Ways → Bool) (ways : T → Option Ways)
         ];
       }
 
-  written : (old new : Clients T) (key : ℕ) (c d : Client T) → get old.slab key ≡ Some c → new.slab ≡ with_value old.slab key d → Updates old.slab new.slab key (Some d)
+  pub written : (old new : Clients T) (key : ℕ) (c d : Client T) → get old.slab key ≡ Some c → new.slab ≡ with_value old.slab key d → Updates old.slab new.slab key (Some d)
   written old new key c d was is = subst (λ s. Updates old.slab s key (Some d)) (sym is) (Updates-with_value old.slab key d (subst IsSome (sym was) refl))
 
   -- bytes went out of one, and no turn was taken
@@ -180,13 +180,15 @@ module _ {T : Type 0} (begins : Option Ways → Bool) (ways : T → Option Ways)
       (boxed_drains begins ways boxes c d drains (suits.boxed key c was)) suits
 
   -- one was visited
-  pub visited_there : {S C : Type 0} (status : S → Status) (users : List ℕ → Option ℕ) (may_give : C → ℕ → C → Type 0) (old new : Clients T) (key : ℕ) (c d : Client T) (a b : At S C)
-      → get old.slab key ≡ Some c → new.slab ≡ with_value old.slab key d → new.next ≡ old.next → IsVisited begins ways status users may_give c d a b → AreVisited begins ways status users may_give old new a b
-  visited_there status users may_give old new key c d a b was is next visited boxes suits =
+  pub visited_there : {E : Type 0} (status : E → Status) (users : E → List ℕ → Option ℕ) (may_give : E → ℕ → E → Type 0) (old new : Clients T) (key : ℕ) (c d : Client T) (a b : E) (ws : List ℕ)
+      → get old.slab key ≡ Some c → new.slab ≡ with_value old.slab key d → new.next ≡ old.next → IsVisited begins ways status users may_give ws c d a b → AreVisited begins ways status users may_give ws old new a b
+  visited_there status users may_give old new key c d a b ws was is next visited boxes suits =
       let had = visited boxes (suits.boxed key c was) in
       record {
         turns = had.turns;
         after = had.after;
         had = had.had;
+        by = had.by;
         suits = changed old new boxes had.after key c d was (written old new key c d was is) next had.serial had.others had.boxed suits;
+        same = had.same;
       }

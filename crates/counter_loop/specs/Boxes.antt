@@ -3,12 +3,21 @@ use Rattle.std.specs.Prelude.{◌≡◌, ◌≢◌, ◌⊎◌, ◌<◌, ◌≤�
 use Rattle.slab.specs.Slab.{get}
 use Rattle.store_rows.specs.Status.{Status}
 use Rattle.counter_loop.specs.Attended.{IsSince}
-use Rattle.counter_loop.specs.Turns.{AreTurns, At, Box, Boxes, IsThere, Made}
+use Rattle.counter_loop.specs.Turns.{AreTurns, Box, Boxes, IsThere, Made, both, whose}
 use Rattle.counter_loop.specs.Ways.{Moves, Ways}
 use Rattle.counter_loop.specs.declared.client.Client.{Client}
 use Rattle.counter_loop.specs.declared.clients.Clients.{Clients}
 
--- bytes went out of its outbox to its stream, from the front; where it is closing what was read of it was let go; and nothing else was done
+-- bytes were read of its stream into its inbox, and nothing else was done
+pub record Reads {T : Type 0} (ways : T → Option Ways) (old new : Client T) : Type 0 where
+  pub serial : new.serial ≡ old.serial
+  pub closing : new.is_closing ≡ old.is_closing
+  pub outbox : new.outbox.items ≡ old.outbox.items
+  pub came : List ℕ
+  pub inbox : new.inbox ≡ old.inbox ++ came
+  pub moved : Moves (ways old.stream) (ways new.stream) came []
+
+-- bytes went out of its outbox to its stream, from the front; if it is closing what was read of it was let go; and nothing else was done
 pub record Drains {T : Type 0} (ways : T → Option Ways) (old new : Client T) : Type 0 where
   pub serial : new.serial ≡ old.serial
   pub inbox : new.inbox ≡ old.inbox
@@ -46,26 +55,31 @@ module _ {T : Type 0} (begins : Option Ways → Bool) (ways : T → Option Ways)
   abbrev pub StaysSuited : Clients T → Clients T → Type 0
   StaysSuited old new = (boxes : Boxes) → Suits old boxes → Suits new boxes
 
-module _ {T S C : Type 0} (begins : Option Ways → Bool) (ways : T → Option Ways) (status : S → Status) (users : List ℕ → Option ℕ) (may_give : C → ℕ → C → Type 0) where
-  -- A connection had turns, some or none: so it is there under its number, and no other number is concerned.
-  pub record HasTurns (boxes : Boxes) (c d : Client T) (old new : At S C) : Type 0 where
+-- over what answers, which is one value, and names the same users throughout
+module _ {T E : Type 0} (begins : Option Ways → Bool) (ways : T → Option Ways) (status : E → Status) (users : E → List ℕ → Option ℕ) (may_give : E → ℕ → E → Type 0) where
+  -- A connection had turns, some or none, of these numbers one after another: so it is there under its number, and no other number is concerned.
+  pub record HasTurns (ws : List ℕ) (boxes : Boxes) (c d : Client T) (old new : E) : Type 0 where
     pub turns : List Made
     pub after : Boxes
-    pub had : AreTurns begins status users may_give boxes old turns after new
+    pub had : AreTurns begins status (users old) may_give boxes (both old) turns after (both new)
+    pub by : whose turns ≡ ws
     pub others : (n : ℕ) → n ≢ c.serial → after n ≡ boxes n
     pub serial : d.serial ≡ c.serial
     pub boxed : IsBoxed begins ways after d
+    pub same : users new ≡ users old
 
   -- the same from any boxes in which it is there
-  abbrev pub IsVisited : Client T → Client T → At S C → At S C → Type 0
-  IsVisited c d old new = (boxes : Boxes) → IsBoxed begins ways boxes c → HasTurns boxes c d old new
+  abbrev pub IsVisited : List ℕ → Client T → Client T → E → E → Type 0
+  IsVisited ws c d old new = (boxes : Boxes) → IsBoxed begins ways boxes c → HasTurns ws boxes c d old new
 
   -- connections had turns, some or none, and suit what there is of them then
-  pub record AreServed (boxes : Boxes) (clients : Clients T) (old new : At S C) : Type 0 where
+  pub record AreServed (ws : List ℕ) (boxes : Boxes) (clients : Clients T) (old new : E) : Type 0 where
     pub turns : List Made
     pub after : Boxes
-    pub had : AreTurns begins status users may_give boxes old turns after new
+    pub had : AreTurns begins status (users old) may_give boxes (both old) turns after (both new)
+    pub by : whose turns ≡ ws
     pub suits : Suits begins ways clients after
+    pub same : users new ≡ users old
 
-  abbrev pub AreVisited : Clients T → Clients T → At S C → At S C → Type 0
-  AreVisited from to old new = (boxes : Boxes) → Suits begins ways from boxes → AreServed boxes to old new
+  abbrev pub AreVisited : List ℕ → Clients T → Clients T → E → E → Type 0
+  AreVisited ws from to old new = (boxes : Boxes) → Suits begins ways from boxes → AreServed ws boxes to old new

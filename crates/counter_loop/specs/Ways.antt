@@ -1,5 +1,5 @@
 -- What a connection's stream reports of its two ways, and what reads and writes do to that.
-use Rattle.std.specs.Prelude.{◌≡◌, ◌<◌, ℕ, Bool, true, false, ◌&&◌, List, [], ◌∷◌, ◌++◌, length, take, nat_eq, if◌then◌else◌, ⊤, Option, Some, None, Result, MatchResult}
+use Rattle.std.specs.Prelude.{◌≡◌, ◌<◌, ℕ, Bool, true, false, List, [], ◌++◌, length, take, ⊤, Option, Some, None, Result, MatchResult}
 
 -- the bytes that it still has to give, and those that were written to it
 pub record Ways : Type 0 where
@@ -28,21 +28,3 @@ IsWrittenBy old new r buf = MatchResult r (λ n. Moves old new [] (take n buf)) 
 abbrev pub is_unreported : Option Ways → Bool
 is_unreported None = true
 is_unreported (Some w) = false
-
--- ---- a turn reads a stream by a reference
-
-abbrev pub got_of : Option Ways → Option (List ℕ)
-got_of None = None
-got_of (Some w) = Some w.got
-
-abbrev pub same_bytes : List ℕ → List ℕ → Bool
-same_bytes [] [] = true
-same_bytes [] (y ∷ ys) = false
-same_bytes (x ∷ xs) [] = false
-same_bytes (x ∷ xs) (y ∷ ys) = nat_eq x y && same_bytes xs ys
-
--- What a stream has left, as long as it is read by the reference of this name, and these bytes are all that was written to it.
-abbrev pub left_of : ℕ → Option (List ℕ) → ℕ → Option Ways → Option (List ℕ)
-left_of name written by None = None
-left_of name None by (Some w) = None
-left_of name (Some bytes) by (Some w) = if nat_eq name by && same_bytes bytes w.got then Some w.left else None

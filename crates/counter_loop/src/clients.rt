@@ -1,17 +1,21 @@
 //! The connections that are held: how they are taken in, visited and let go, and how many there may be.
 
-ghost use Rattle.std.specs.Prelude.{◌≡◌, [], true};
-ghost use Rattle.counter_loop.specs.Boxes.{AreVisited, StaysSuited};
+ghost use Rattle.std.specs.Prelude.{◌≡◌, ◌≢◌, [], None, Some, false, true, IfOk, ⊤};
+ghost use Rattle.slab.specs.Slab.{Updates, get};
+ghost use Rattle.counter_loop.specs.Boxes.{StaysSuited};
+ghost use Rattle.counter_loop.specs.Rounds.{StaysFit};
+ghost use Rattle.counter_loop.specs.Served.{EachIsServed, IsServedUnder};
+ghost use Rattle.counter_loop.specs.declared.client.Client.{Client};
 
 use crate::client::{Client, WaitsFor};
 use crate::door::{Door, TwoWay};
-use counter_api::{Clock, Desk, Gate};
+use counter_api::Service;
+use http_messages::FieldRoom;
 use mio::Registry;
 use slab::Slab;
-use std::alloc::Global;
+use std::alloc::{AllocError, Global};
 use std::io::ErrorKind;
 use std::time::{Duration, Instant};
-use store_rows::{Bank, Store};
 
 /// How many connections are held at once.
 const MOST_CONNECTIONS: usize = 1_000;
@@ -19,24 +23,27 @@ const MOST_CONNECTIONS: usize = 1_000;
 /// How many bytes may wait over all connections before one with bytes that wait has no further turn.
 const MOST_WAITING_OF_ALL: usize = 16_777_216;
 
-/// The connections that are held, each under a key, by which the system reports it, and the number of the next.
+/// The connections that are held, each under a key, by which the system reports it; the number of the next; how many bytes
+/// wait over all; and the room for a head's fields, which all share.
 #[derive(Drop)]
 pub(crate) struct Clients<T: Drop> {
     slab: Slab<Client<T>>,
     next: u64,
     waiting: usize,
+    fields: FieldRoom,
 }
 
 impl<T: Drop> Clients<T> {
-    /// None yet.
-    pub(crate) fn new(alloc: Global) -> Clients<T>
-        ensures { result.slab.slots ≡ [] }
+    /// None yet. An error comes if memory was refused.
+    pub(crate) fn new(alloc: Global) -> Result<Clients<T>, AllocError>
+        ensures { IfOk result (λ clients. clients.slab.slots ≡ []) }
     {
-        Clients {
+        Ok(Clients {
             slab: Slab::new(alloc),
             next: 0,
             waiting: 0,
-        }
+            fields: FieldRoom::new(alloc)?,
+        })
     }
 
     /// Whether none is held.
@@ -47,13 +54,22 @@ impl<T: Drop> Clients<T> {
     /// Whether one waits for another visit.
     pub(crate) fn any_has_more(&self) -> bool {
         for key in 0..self.slab.capacity() {
-            if let Some(client) = self.slab.get(key)
-                && client.waits_for() == WaitsFor::Visit
-            {
+            if self.waits_for_visit(key) {
                 return true;
             }
         }
         false
+    }
+
+    /// Whether a connection waits for another visit.
+    fn waits_for_visit(&self, key: usize) -> bool
+        ensures yes { result ≡ true → (c : Client T) × (get self.now.slab key ≡ Some c) × (c.waits_for ≡ WaitsFor.Visit) }
+        ensures no { result ≡ false → (c : Client T) → get self.now.slab key ≡ Some c → c.waits_for ≢ WaitsFor.Visit }
+    {
+        match self.slab.get(key) {
+            Some(client) => client.waits_for() == WaitsFor::Visit,
+            None => false,
+        }
     }
 
     /// The connection on which nothing is under way, and nothing has moved for longest.
@@ -84,7 +100,9 @@ impl<T: Drop> Clients<T> {
 impl<T: TwoWay + Drop> Clients<T> {
     /// Lets go of a connection.
     fn let_go(&mut self, key: usize)
-        ensures { StaysSuited T.begins T.ways self.old self.new }
+        ensures suited { StaysSuited T.begins T.ways self.old self.new }
+        ensures fit { StaysFit T.begins T.ways T.full self.old self.new }
+        ensures gone { Updates self.old.slab self.new.slab key None }
     {
         if let Some(client) = self.slab.try_remove(key) {
             self.waiting = self.waiting.saturating_sub(client.waiting());
@@ -93,7 +111,7 @@ impl<T: TwoWay + Drop> Clients<T> {
 
     /// Lets go of the connections on which something took too long.
     pub(crate) fn let_go_of_late(&mut self, now: Instant)
-        ensures { StaysSuited T.begins T.ways self.old self.new }
+        ensures { StaysFit T.begins T.ways T.full self.old self.new }
     {
         for key in 0..self.slab.capacity() {
             self.let_go_if_late(key, now);
@@ -102,7 +120,7 @@ impl<T: TwoWay + Drop> Clients<T> {
 
     /// Lets go of a connection on which something took too long.
     fn let_go_if_late(&mut self, key: usize, now: Instant)
-        ensures { StaysSuited T.begins T.ways self.old self.new }
+        ensures { StaysFit T.begins T.ways T.full self.old self.new }
     {
         match self.slab.get(key) {
             Some(client) => {
@@ -117,7 +135,7 @@ impl<T: TwoWay + Drop> Clients<T> {
 
     /// Makes room for one more connection where there is none: the one that was idle longest gives way.
     pub(crate) fn make_room(&mut self, now: Instant)
-        ensures { StaysSuited T.begins T.ways self.old self.new }
+        ensures { StaysFit T.begins T.ways T.full self.old self.new }
     {
         if self.slab.len() < MOST_CONNECTIONS {
             return;
@@ -132,7 +150,7 @@ impl<T: TwoWay + Drop> Clients<T> {
     /// not take it, it is let go.
     pub(crate) fn take_in(&mut self, alloc: Global, registry: &Registry, stream: T, now: Instant)
         requires { T.begins (T.ways stream) ≡ true }
-        ensures { StaysSuited T.begins T.ways self.old self.new }
+        ensures { StaysFit T.begins T.ways T.full self.old self.new }
     {
         let Some(key) = self.insert(alloc, stream, now) else {
             return;
@@ -146,7 +164,7 @@ impl<T: TwoWay + Drop> Clients<T> {
     /// Gives a connection that begins now the next number, and answers its key. There is none where memory was refused.
     fn insert(&mut self, alloc: Global, stream: T, now: Instant) -> Option<usize>
         requires { T.begins (T.ways stream) ≡ true }
-        ensures { StaysSuited T.begins T.ways self.old self.new }
+        ensures { StaysFit T.begins T.ways T.full self.old self.new }
     {
         let next = self.next.checked_add(1)?;
         let Ok(client) = Client::new(alloc, self.next, stream, now) else {
@@ -161,7 +179,7 @@ impl<T: TwoWay + Drop> Clients<T> {
 
     /// Has the system report when a connection is ready. Returns whether it will.
     fn register(&mut self, registry: &Registry, key: usize) -> bool
-        ensures { StaysSuited T.begins T.ways self.old self.new }
+        ensures { StaysFit T.begins T.ways T.full self.old self.new }
     {
         match self.slab.get_mut(key) {
             Some(client) => client.register(registry, key),
@@ -178,7 +196,7 @@ pub(crate) fn let_in<D: Door>(
     door: &mut D,
     now: Instant,
 )
-    ensures { StaysSuited D.Stream.begins D.Stream.ways clients.old clients.new }
+    ensures { StaysFit D.Stream.begins D.Stream.ways D.Stream.full clients.old clients.new }
 {
     for _ in 0..MOST_CONNECTIONS {
         if !let_in_one(clients, alloc, registry, door, now) {
@@ -195,7 +213,7 @@ fn let_in_one<D: Door>(
     door: &mut D,
     now: Instant,
 ) -> bool
-    ensures { StaysSuited D.Stream.begins D.Stream.ways clients.old clients.new }
+    ensures { StaysFit D.Stream.begins D.Stream.ways D.Stream.full clients.old clients.new }
 {
     if !clients.may_take_in(now) {
         return false;
@@ -211,88 +229,32 @@ fn let_in_one<D: Door>(
 }
 
 impl<T: TwoWay + Drop> Clients<T> {
-    /// Visits a connection, and lets it go where it is over.
-    pub(crate) fn visit<S: Store, G: Gate, C: Clock>(
-        &mut self,
-        key: usize,
-        desk: &mut Desk,
-        bank: &mut Bank<S>,
-        gate: &G,
-        clock: &mut C,
-        now: Instant,
-    )
-        ensures { AreVisited T.begins T.ways S.status (G.users gate.now) C.may_give self.old self.new
-            (record { store = bank.old.store; clock = clock.old }) (record { store = bank.new.store; clock = clock.new }) }
+    /// Visits a connection, and lets it go if it is over.
+    pub(crate) fn visit<E: Service>(&mut self, key: usize, service: &mut E, now: Instant)
+        ensures { IsServedUnder T.begins T.ways T.used_up T.full E.status E.users E.may_give key self.old self.new service.old service.new }
     {
-        if self.visit_there(key, desk, bank, gate, clock, now) == WaitsFor::Nothing {
+        let may_fill = self.waiting <= MOST_WAITING_OF_ALL;
+        let Some(client) = self.slab.get_mut(key) else {
+            return;
+        };
+        let waited = client.waiting();
+        client.visit(service, &mut self.fields, may_fill, now);
+        let others = self.waiting.saturating_sub(waited);
+        self.waiting = others.saturating_add(client.waiting());
+        if client.waits_for() == WaitsFor::Nothing {
             self.let_go(key);
         }
     }
 
-    /// Visits a connection, if it is there, and answers what it waits for then.
-    fn visit_there<S: Store, G: Gate, C: Clock>(
-        &mut self,
-        key: usize,
-        desk: &mut Desk,
-        bank: &mut Bank<S>,
-        gate: &G,
-        clock: &mut C,
-        now: Instant,
-    ) -> WaitsFor
-        ensures { AreVisited T.begins T.ways S.status (G.users gate.now) C.may_give self.old self.new
-            (record { store = bank.old.store; clock = clock.old }) (record { store = bank.new.store; clock = clock.new }) }
-    {
-        let may_fill = self.waiting <= MOST_WAITING_OF_ALL;
-        match self.slab.get_mut(key) {
-            Some(client) => {
-                let waited = client.waiting();
-                client.visit(desk, bank, gate, clock, may_fill, now);
-                let others = self.waiting.saturating_sub(waited);
-                self.waiting = others.saturating_add(client.waiting());
-                client.waits_for()
-            }
-            None => WaitsFor::Client,
-        }
-    }
-
-    /// Visits a connection, if it waits for another visit.
-    fn visit_once_more<S: Store, G: Gate, C: Clock>(
-        &mut self,
-        key: usize,
-        desk: &mut Desk,
-        bank: &mut Bank<S>,
-        gate: &G,
-        clock: &mut C,
-        now: Instant,
-    )
-        ensures { AreVisited T.begins T.ways S.status (G.users gate.now) C.may_give self.old self.new
-            (record { store = bank.old.store; clock = clock.old }) (record { store = bank.new.store; clock = clock.new }) }
-    {
-        match self.slab.get(key) {
-            Some(client) => {
-                if client.waits_for() != WaitsFor::Visit {
-                    return;
-                }
-            }
-            None => return,
-        }
-        self.visit(key, desk, bank, gate, clock, now);
-    }
-
     /// Visits the connections that wait for another visit.
-    pub(crate) fn visit_again<S: Store, G: Gate, C: Clock>(
-        &mut self,
-        desk: &mut Desk,
-        bank: &mut Bank<S>,
-        gate: &G,
-        clock: &mut C,
-        now: Instant,
-    )
-        ensures { AreVisited T.begins T.ways S.status (G.users gate.now) C.may_give self.old self.new
-            (record { store = bank.old.store; clock = clock.old }) (record { store = bank.new.store; clock = clock.new }) }
+    pub(crate) fn visit_again<E: Service>(&mut self, service: &mut E, now: Instant)
+        ensures { EachIsServed T.begins T.ways T.used_up T.full E.status E.users E.may_give (λ c. c.waits_for ≡ WaitsFor.Visit) self.old self.new service.old service.new }
     {
         for key in 0..self.slab.capacity() {
-            self.visit_once_more(key, desk, bank, gate, clock, now);
+            if !self.waits_for_visit(key) {
+                continue;
+            }
+            self.visit(key, service, now);
         }
     }
 
@@ -304,20 +266,12 @@ impl<T: TwoWay + Drop> Clients<T> {
     }
 
     /// Hears of no more than has come of any connection, and visits each.
-    pub(crate) fn visit_last<S: Store, G: Gate, C: Clock>(
-        &mut self,
-        desk: &mut Desk,
-        bank: &mut Bank<S>,
-        gate: &G,
-        clock: &mut C,
-        now: Instant,
-    )
-        ensures { AreVisited T.begins T.ways S.status (G.users gate.now) C.may_give self.old self.new
-            (record { store = bank.old.store; clock = clock.old }) (record { store = bank.new.store; clock = clock.new }) }
+    pub(crate) fn visit_last<E: Service>(&mut self, service: &mut E, now: Instant)
+        ensures { EachIsServed T.begins T.ways T.used_up T.full E.status E.users E.may_give (λ _. ⊤) self.old self.new service.old service.new }
     {
         for key in 0..self.slab.capacity() {
             self.end_reading(key);
-            self.visit(key, desk, bank, gate, clock, now);
+            self.visit(key, service, now);
         }
     }
 }

@@ -1,6 +1,6 @@
 //! What is reported beside the replies, to who looks after the machine.
 
-use store_rows::{Bank, Store};
+use counter_api::Service;
 
 /// Who is to know what happens while connections are served.
 pub trait Notices {
@@ -8,13 +8,13 @@ pub trait Notices {
     fn disk_failed(&mut self);
 }
 
-/// Reports once that a store has stopped, and returns whether that was reported, now or before.
-pub(crate) fn report_stop<S: Store, K: Notices>(
+/// Reports once that the store has stopped, and returns whether that was reported, now or before.
+pub(crate) fn report_stop<E: Service, K: Notices>(
     notices: &mut K,
-    bank: &Bank<S>,
+    service: &E,
     was_reported: bool,
 ) -> bool {
-    if was_reported || !bank.store.is_stopped() {
+    if was_reported || !service.is_stopped() {
         return was_reported;
     }
     notices.disk_failed();

@@ -1,21 +1,16 @@
-//! Since when a connection waits, and whether that is too long.
+//! Until when a connection may wait, and for how long nothing has moved on it.
 
+use counter_limits::{MAX_PARTING, MAX_WAIT, end_after, has_time};
 use std::time::{Duration, Instant};
 
-/// The seconds that a message may be on its way, from its first byte, and that a lot of bytes may wait to be taken.
-const MOST_SECONDS: u64 = 30;
-
-/// For how many seconds a client is heard that is not answered any more.
-const PARTING_SECONDS: u64 = 1;
-
-/// Bytes that a client is to take: since when, and how many are left. What is added while they wait is no part of them.
+/// Bytes that a client is to take: until when, and how many are left. What is added while they wait is no part of them.
 #[derive(Clone, Copy)]
 struct Lot {
-    since: Instant,
+    end: Instant,
     left: usize,
 }
 
-/// Since when a connection waits, by what it waits for.
+/// Until when a connection may wait, by what it waits for.
 #[derive(Clone, Copy)]
 pub(crate) struct Times {
     /// For the rest of a message.
@@ -24,7 +19,7 @@ pub(crate) struct Times {
     lot: Option<Lot>,
     /// For its client to end, as nothing more is written.
     parting: Option<Instant>,
-    /// For its client to do anything.
+    /// Since when it waits for its client to do anything, which has no end.
     idle: Instant,
 }
 
@@ -46,78 +41,56 @@ impl Times {
 
     /// The parting begins.
     pub(crate) fn part(&mut self, now: Instant) {
-        self.parting = Some(now);
+        self.parting = Some(end_after(now, MAX_PARTING));
     }
 
-    /// The client took so many bytes, and so many wait then. A lot that was taken whole gives way to what waits after
-    /// it: a client that takes a byte now and then does not keep its connection by that.
+    /// The client took some bytes, and some wait then. A lot that was taken whole gives way to what waits after it: a
+    /// client that takes a byte now and then does not keep its connection by that.
     pub(crate) fn note_taken(&mut self, taken: usize, waiting: usize, now: Instant) {
         if taken > 0 {
             self.idle = now;
         }
-        let left = match self.lot {
-            Some(lot) => lot.left.saturating_sub(taken),
-            None => 0,
-        };
         self.lot = match self.lot {
-            Some(lot) if left > 0 => Some(Lot {
-                since: lot.since,
-                left,
+            Some(lot) if lot.left > taken => Some(Lot {
+                end: lot.end,
+                left: lot.left - taken,
             }),
-            _ => lot_of(waiting, now),
+            _ if waiting > 0 => Some(Lot {
+                end: end_after(now, MAX_WAIT),
+                left: waiting,
+            }),
+            _ => None,
         };
     }
 
-    /// Turns were taken. A message is on its way from its first byte until it was answered. Where turns were held back,
-    /// its time begins anew.
+    /// Turns were taken. A message is on its way from its first byte until it was answered. If turns were held back, its
+    /// time begins anew.
     pub(crate) fn note_turns(&mut self, has_moved: bool, holds_part: bool, now: Instant) {
-        if has_moved || holds_part && self.message.is_none() {
+        if has_moved {
             self.idle = now;
         }
-        self.message = if !holds_part {
-            None
-        } else if has_moved || self.message.is_none() {
-            Some(now)
-        } else {
-            self.message
-        };
+        if has_moved || !holds_part {
+            self.message = None;
+        }
+        if holds_part && self.message.is_none() {
+            self.idle = now;
+            self.message = Some(end_after(now, MAX_WAIT));
+        }
     }
 
-    /// Whether something took too long.
+    /// Whether something took too long. A message is not late while bytes wait to be taken.
     pub(crate) fn is_late(&self, now: Instant) -> bool {
-        let lot = self.lot.map(|lot| lot.since);
-        has_passed(lot, MOST_SECONDS, now)
-            || lot.is_none() && has_passed(self.message, MOST_SECONDS, now)
-            || has_passed(self.parting, PARTING_SECONDS, now)
+        let end = self.lot.map(|lot| lot.end).or(self.message);
+        is_over(end, now) || is_over(self.parting, now)
     }
 
     /// For how long nothing has moved.
     pub(crate) fn idle_for(&self, now: Instant) -> Duration {
-        waited_since(self.idle, now)
+        now.duration_since(self.idle)
     }
 }
 
-/// How long it is since then, or nothing where the clock shows less.
-pub(crate) fn waited_since(then: Instant, now: Instant) -> Duration {
-    match now.checked_duration_since(then) {
-        Some(waited) => waited,
-        None => Duration::ZERO,
-    }
-}
-
-/// A lot of so many bytes, if there are any.
-fn lot_of(left: usize, since: Instant) -> Option<Lot> {
-    if left > 0 {
-        Some(Lot { since, left })
-    } else {
-        None
-    }
-}
-
-/// Whether more than so many seconds have passed since then.
-fn has_passed(since: Option<Instant>, seconds: u64, now: Instant) -> bool {
-    match since {
-        Some(since) => waited_since(since, now) > Duration::from_secs(seconds),
-        None => false,
-    }
+/// Whether this is the end of a wait, and no time is left before it.
+fn is_over(end: Option<Instant>, now: Instant) -> bool {
+    end.is_some() && !has_time(end, Some(now))
 }

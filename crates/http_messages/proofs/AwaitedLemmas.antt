@@ -13,7 +13,7 @@ use Rattle.http_heads.proofs.SeenLemmas.{seen_more}
 use Rattle.http_messages.specs.declared.looking.Awaited.{Awaited}
 use Rattle.http_messages.specs.declared.looking.Awaited.TheVariants.{Head, Body}
 use Rattle.http_messages.specs.Next.{BeginsSound, IsAwaited}
-use Rattle.http_messages.specs.Received.{Takes}
+use Rattle.http_messages.specs.Inbox.{Takes}
 
 front_same : (bytes more : List ℕ) → take (length bytes) (bytes ++ more) ≡ bytes
 front_same bytes more = take-append-le (length bytes) bytes more (omega arith) ∙ take_all (length bytes) bytes (omega arith)

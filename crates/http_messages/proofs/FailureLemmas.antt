@@ -4,19 +4,10 @@ use Rattle.money.specs.Counted.{counted_once_more}
 use Rattle.money.specs.declared.tallied.Tallied.{Tallied}
 use Rattle.http_messages.specs.declared.serving.ServeFault.{ServeFault}
 use Rattle.http_messages.specs.declared.serving.ServeFault.TheVariants.{Read, Write, Cut, Memory, Report}
-use Rattle.http_messages.specs.Failures.{CountsByCall, CountsByEnd, CountsByExit, CountsByTurnOf, CountsNone, CountsOne}
+use Rattle.http_messages.specs.Failures.{CountsByCall, CountsByEnd, CountsByExit, CountsNone, CountsOne}
 
 pub one_after : {T : Type 0} (old mid new : Tallied T) → CountsNone old mid → CountsOne mid new → CountsOne old new
 one_after old mid new none one = one ∙ ap counted_once_more none
-
--- an engine's answer after it
-pub turn_after : {R W : Type 0} (A B : Type 0) (r s : Tallied R) (u v w : Tallied W) (f : ServeFault) → CountsNone r s × CountsNone u v
-    → CountsByTurnOf {A = A} v w (Err f) → CountsByEnd {A = B} r s u w (Err f)
-turn_after A B r s u v w Write before one = (before.0, one_after u v w before.1 one)
-turn_after A B r s u v w Report before none = (before.0, none ∙ before.1)
-turn_after A B r s u v w Read before never = absurd never
-turn_after A B r s u v w Cut before never = absurd never
-turn_after A B r s u v w Memory before never = absurd never
 
 -- a turn after it
 pub end_after : {R W : Type 0} (A B : Type 0) (q r s : Tallied R) (u v w : Tallied W) (f : ServeFault) → CountsNone q r × CountsNone u v

@@ -5,7 +5,7 @@ use Rattle.std.proofs.lemmas.List.Concat.{flat_map-append}
 use Rattle.std.proofs.KnownBytes.{Consumes-nil, Appends-nil, Consumes-trans, Appends-trans}
 use Rattle.http_messages.specs.Exit.{StaysOpen, AnswersAll}
 use Rattle.http_messages.specs.Parts.{MessageParts}
-use Rattle.http_messages.specs.Received.{max_message_len}
+use Rattle.http_messages.specs.Inbox.{max_message_len}
 use Rattle.http_messages.specs.Whole.{WholeMessage, print_message, message_parts, IsMessage, Splits}
 use Rattle.http_messages.specs.Turn.{At, Answers}
 use Rattle.http_messages.specs.Run.{Runs}

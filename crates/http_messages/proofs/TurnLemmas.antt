@@ -1,25 +1,18 @@
--- What a turn of the loop says, from what its calls say.
-use Rattle.std.proofs.Common.{◌≡◌, ℕ, ◌+◌, ◌≤◌, Bool, List, ◌++◌, length, length-drop, take, drop, Option, None, Some, Result, Ok, Err, IfOk, IfErr, refl, sym, ap, ◌∙◌, subst, arith, append_assoc, inl, inr}
-use Rattle.std.proofs.lemmas.List.{length-take-le, take-append-drop}
-use Rattle.std.proofs.Math.Seq.{drop-drop}
+-- What a turn of the loop says, from the reads and the step after them.
+use borrow.Author.Tests.{ltb-false}
+use Rattle.std.proofs.Common.{◌≡◌, ℕ, ◌≤◌, false, nat_lt, List, [], ◌∷◌, ◌++◌, length, take, Option, None, Some, Ok, Err, refl, sym, ap, arith, ◌∙◌, subst, inl, inr}
+use Rattle.std.proofs.KnownBytes.{Consumes-kept, Keeps-trans}
 use Rattle.std.specs.Io.KnownBytes.{Appends, Keeps}
 use Rattle.money.specs.Counted.{AppendsBeginning}
-use Rattle.httparse.specs.declared.spans.HeaderSpan.{HeaderSpan}
-use Rattle.httparse.specs.declared.spans.RequestSpans.{RequestSpans}
-use Rattle.httparse.specs.Grammar.{RequestHead, print_request}
-use Rattle.http_heads.specs.declared.fault.MessageFault.{MessageFault}
-use Rattle.http_messages.specs.declared.serving.Turn.{Turn}
-use Rattle.http_messages.specs.declared.serving.Turn.TheVariants.{Answered, Closed, Ended}
-use Rattle.http_messages.specs.declared.serving.ServeFault.{ServeFault}
-use Rattle.http_messages.specs.declared.serving.ServeFault.TheVariants.{Read, Write, Cut, Memory, Report}
-use Rattle.http_messages.specs.Answered.{IsTurnOf}
-use Rattle.http_heads.specs.Framing.{asks_head}
-use Rattle.http_messages.specs.Next.{BeginsMessage, BeginsFaulty}
-use Rattle.http_heads.specs.Parts.{HeadParts, parts_of}
+use Rattle.http_messages.proofs.AwaitedLemmas.{takes_more}
+use Rattle.http_messages.specs.declared.engine.AnswerFault.{AnswerFault}
+use Rattle.http_messages.specs.declared.engine.AnswerFault.TheVariants.{Write, Report}
+use Rattle.http_messages.specs.declared.step.Step.TheVariants.{Answered, Closed, Waiting}
+use Rattle.http_messages.specs.Inbox.{Takes, max_message_len}
 use Rattle.http_messages.specs.Parts.{MessageParts}
-use Rattle.http_messages.specs.Received.{Takes, max_message_len}
-use Rattle.http_messages.specs.Refusal.{IsRefused, refusal_bytes}
-use Rattle.http_messages.specs.Turn.{At, Handles, IsTurn}
+use Rattle.http_messages.specs.Step.{HandsNone, HandsOn, IsStep, Side}
+use Rattle.http_messages.specs.Whole.{message_parts}
+use Rattle.http_messages.specs.Turn.{At, Handles, IsTurn, OnlyReads, fault_of}
 
 pub kept_Appends : (a b c : Option (List ℕ)) (bs : List ℕ) → Keeps a b → Appends b c bs → Appends a c bs
 kept_Appends None b c bs p q = tt
@@ -30,92 +23,84 @@ kept_Appends (Some x) (Some y) (Some z) bs p q = q ∙ ap (λ l. l ++ bs) p
 kept_beginning : (a b c : Option (List ℕ)) (bs : List ℕ) → Keeps a b → AppendsBeginning b c bs → AppendsBeginning a c bs
 kept_beginning a b c bs p (n, fits, some) = (n, fits, kept_Appends a b c (take n bs) p some)
 
--- the bytes are the message and what follows it
-split_message : (bytes : List ℕ) (h : RequestHead) (len n : ℕ) → bytes ≡ print_request h ++ drop len bytes
-    → bytes ≡ (print_request h ++ take n (drop len bytes)) ++ drop (len + n) bytes
-split_message bytes h len n whole =
-    let behind : drop len bytes ≡ take n (drop len bytes) ++ drop (len + n) bytes =
-    sym (take-append-drop n (drop len bytes)) ∙ ap (λ l. take n (drop len bytes) ++ l) (drop-drop n len bytes) in
-    whole ∙ ap (λ l. print_request h ++ l) behind ∙ sym (append_assoc (print_request h) (take n (drop len bytes)) (drop (len + n) bytes))
+-- what was read, and what was held and written when the last step began
+pub record Before {S : Type 0} (old : At S) (left : Option (List ℕ)) (mid : Side S) : Type 0 where
+  pub more : List ℕ
+  pub takes : Takes old.left left old.held mid.held more
+  pub engine : mid.engine ≡ old.engine
+  pub kept : Keeps old.written mid.written
 
--- the parts of the message that the bytes begin with
-abbrev pub begun_parts : (bytes : List ℕ) (headers : List HeaderSpan) (r : RequestSpans) (n : ℕ) → BeginsMessage bytes headers r n → MessageParts
-begun_parts bytes headers r n b = record { head = parts_of b.head; body = take n (drop r.len bytes) }
+module _ {S : Type 0} where
+  abbrev pub side : At S → Side S
+  side a = record { held = a.held; written = a.written; engine = a.engine }
 
-module _ {S : Type 0} (answers : S → MessageParts → List ℕ → S → Type 0) where
-  handled : (old new : At S) (bytes : List ℕ) (headers : List HeaderSpan) (r : RequestSpans) (n : ℕ) (rest reply more : List ℕ)
-      → Takes old.left new.left old.held bytes more → length bytes ≤ max_message_len → (b : BeginsMessage bytes headers r n) → rest ≡ drop (r.len + n) bytes
-      → answers old.engine (begun_parts bytes headers r n b) reply new.engine → Handles answers old new rest reply
-  handled old new bytes headers r n rest reply more takes within b behind answered =
-      let h = b.head in
-      let fits : n ≤ length (drop r.len bytes) = omega (arith, b.whole, length-drop r.len bytes) in
-      record {
-        more = more;
-        message = record { head = h; body = take n (drop r.len bytes) };
-        taken = takes.taken;
-        split =
-            sym takes.held ∙ split_message bytes h r.len n b.begins.covers.reads.1
-            ∙ ap (λ l. (print_request h ++ take n (drop r.len bytes)) ++ l) (sym behind);
-        is = record {
-          head = b.begins.covers.reads.0;
-          short = omega (arith, b.begins.short, b.begins.covers.len);
-          sound = b.sound;
-          body = length-take-le n (drop r.len bytes) fits ∙ b.body;
-        };
-        answered = answered;
-        bounded = omega (arith, ap length behind, length-drop (r.len + n) bytes, within);
-      }
+  only : (old new : At S) (mid : Side S) → Before old new.left mid → HandsNone mid (side new) → length new.held ≤ max_message_len → OnlyReads old new
+  only old new mid b x within =
+      record { more = b.more; taken = b.takes.taken; held = x.held ∙ b.takes.held; engine = x.engine ∙ b.engine; bounded = within }
+
+  handles : (way : S → MessageParts → List ℕ → S → Type 0) (old new : At S) (mid : Side S) (rest reply : List ℕ) → Before old new.left mid
+      → (h : HandsOn way mid (side new) rest reply) → Handles way old new rest reply
+  handles way old new mid rest reply b h = record {
+    more = b.more;
+    message = h.message;
+    taken = b.takes.taken;
+    split = sym b.takes.held ∙ h.split;
+    is = h.is;
+    answered = subst (λ e. way e (message_parts h.message) reply new.engine) b.engine h.answered;
+    bounded = h.bounded;
+  }
+
+  -- what was written before was flushed
+  pub flushed : (old : At S) (left : Option (List ℕ)) (mid : Side S) (written : Option (List ℕ)) → Before old left mid → Keeps mid.written written
+      → Before old left (record { held = mid.held; written = written; engine = mid.engine })
+  flushed old left mid written b keeps =
+      record { more = b.more; takes = b.takes; engine = b.engine; kept = Keeps-trans old.written mid.written written b.kept keeps }
+
+  -- bytes came
+  pub read_on : (old : At S) (left next : Option (List ℕ)) (mid : Side S) (held more : List ℕ) → Before old left mid → Takes left next mid.held held more
+      → Before old next (record { held = held; written = mid.written; engine = mid.engine })
+  read_on old left next mid held more b came =
+      let all = takes_more old.left left next old.held mid.held held b.more more b.takes came in
+      record { more = all.0; takes = all.1; engine = b.engine; kept = b.kept }
+
+  -- a read failed
+  pub read_none : (old : At S) (left next : Option (List ℕ)) (mid : Side S) (held : List ℕ) → Before old left mid → Keeps left next → held ≡ mid.held
+      → Before old next (record { held = held; written = mid.written; engine = mid.engine })
+  read_none old left next mid held b keeps same = record {
+    more = b.more;
+    takes = record { taken = Consumes-kept old.left left next b.more b.takes.taken keeps; held = same ∙ b.takes.held };
+    engine = b.engine;
+    kept = b.kept;
+  }
+
+pub none_came : (xs : List ℕ) → nat_lt 0 (length xs) ≡ false → xs ≡ []
+none_came [] is = refl
+none_came (x ∷ xs) is = absurd (omega (arith, ltb-false 0 (length (x ∷ xs)) is))
 
 module _ {S : Type 0} (answers stops breaks : S → MessageParts → List ℕ → S → Type 0) where
-  pub turn_ok : (old new : At S) (kept : Option (List ℕ)) (bytes : List ℕ) (headers : List HeaderSpan) (r : RequestSpans) (n : ℕ) (m : MessageParts) (more : List ℕ) (t : Turn)
-      → Takes old.left new.left old.held bytes more → length bytes ≤ max_message_len → (b : BeginsMessage bytes headers r n) → m ≡ begun_parts bytes headers r n b
-      → new.held ≡ drop (r.len + n) bytes → Keeps old.written kept
-      → IsTurnOf answers stops breaks old.engine new.engine m kept new.written (Ok t) → IsTurn answers stops breaks old new (Ok t)
-  unfolding handled
-  turn_ok old new kept bytes headers r n m more Answered takes within b is behind keeps x =
-      let y = subst (λ p. IsTurnOf answers stops breaks old.engine new.engine p kept new.written (Ok Answered)) is x in
-      (y.0, handled answers old new bytes headers r n new.held y.0 more takes within b behind y.1, y.3, kept_Appends old.written kept new.written y.0 keeps y.2)
-  turn_ok old new kept bytes headers r n m more Closed takes within b is behind keeps x =
-      let y = subst (λ p. IsTurnOf answers stops breaks old.engine new.engine p kept new.written (Ok Closed)) is x in
-      inl (y.0, handled answers old new bytes headers r n new.held y.0 more takes within b behind y.1, y.3, kept_Appends old.written kept new.written y.0 keeps y.2)
-  turn_ok old new kept bytes headers r n m more Ended takes within b is behind keeps x = absurd x
+  -- a step waited
+  pub waited : (old : At S) (left : Option (List ℕ)) (mid new : Side S) → Before old left mid → IsStep answers stops breaks mid new (Ok Waiting) → Before old left new
+  waited old left mid new b (x, part, fits, same) = record {
+    more = b.more;
+    takes = record { taken = b.takes.taken; held = x.held ∙ b.takes.held };
+    engine = x.engine ∙ b.engine;
+    kept = subst (λ w. Keeps old.written w) (sym same) b.kept;
+  }
 
-  pub turn_err : (old new : At S) (kept : Option (List ℕ)) (bytes : List ℕ) (headers : List HeaderSpan) (r : RequestSpans) (n : ℕ) (m : MessageParts) (more : List ℕ) (f : ServeFault)
-      → Takes old.left new.left old.held bytes more → length bytes ≤ max_message_len → (b : BeginsMessage bytes headers r n) → m ≡ begun_parts bytes headers r n b → Keeps old.written kept
-      → IsTurnOf answers stops breaks old.engine new.engine m kept new.written (Err f) → IsTurn answers stops breaks old new (Err f)
-  turn_err old new kept bytes headers r n m more Write takes within b is keeps x =
-      let y = subst (λ p. IsTurnOf answers stops breaks old.engine new.engine p kept new.written (Err Write)) is x in
-      inr (y.0, kept_beginning old.written kept new.written y.0 keeps y.2, inl (drop (r.len + n) bytes, handled stops old new bytes headers r n _ y.0 more takes within b refl y.1))
-  turn_err old new kept bytes headers r n m more Report takes within b is keeps x =
-      let y = subst (λ p. IsTurnOf answers stops breaks old.engine new.engine p kept new.written (Err Report)) is x in
-      (y.0, kept_Appends old.written kept new.written y.0 keeps y.2, drop (r.len + n) bytes, handled breaks old new bytes headers r n _ y.0 more takes within b refl y.1)
-  turn_err old new kept bytes headers r n m more Read takes within b is keeps x = absurd x
-  turn_err old new kept bytes headers r n m more Cut takes within b is keeps x = absurd x
-  turn_err old new kept bytes headers r n m more Memory takes within b is keeps x = absurd x
+  pub turn_answered : (old new : At S) (mid : Side S) → Before old new.left mid → IsStep answers stops breaks mid (side new) (Ok Answered) → IsTurn answers stops breaks old new (Ok Answered)
+  unfolding handles
+  turn_answered old new mid b (reply, h, closing, wrote) = (reply, handles answers old new mid new.held reply b h, closing, kept_Appends old.written mid.written new.written reply b.kept wrote)
 
-  pub turn_refused : (old new : At S) (kept : Option (List ℕ)) (more : List ℕ) (fault : MessageFault) (head_only : Bool) (r : Result Turn ServeFault)
-      → Takes old.left new.left old.held new.held more → length new.held ≤ max_message_len → new.engine ≡ old.engine → IsRefused new.held fault head_only → Keeps old.written kept
-      → IfOk r (λ t. (t ≡ Closed) × Appends kept new.written (refusal_bytes fault head_only))
-      → IfErr r (λ e. (e ≡ Write) × AppendsBeginning kept new.written (refusal_bytes fault head_only)) → IsTurn answers stops breaks old new r
-  turn_refused old new kept more fault head_only (Ok Closed) takes within same refused keeps ok err =
-      let reply = refusal_bytes fault head_only in
-      inr (record { more = more; taken = takes.taken; held = takes.held; engine = same; bounded = within }, reply, (fault, head_only, refused, refl), kept_Appends old.written kept new.written reply keeps ok.1)
-  turn_refused old new kept more fault head_only (Ok Answered) takes within same refused keeps ok err = let e = ok.0 in absurd cc
-  turn_refused old new kept more fault head_only (Ok Ended) takes within same refused keeps ok err = let e = ok.0 in absurd cc
-  turn_refused old new kept more fault head_only (Err Write) takes within same refused keeps ok err =
-      let reply = refusal_bytes fault head_only in
-      inr (
-        reply,
-        kept_beginning old.written kept new.written reply keeps err.1,
-        inr (record { more = more; taken = takes.taken; held = takes.held; engine = same; bounded = within }, (fault, head_only, refused, refl)),
-      )
-  turn_refused old new kept more fault head_only (Err Read) takes within same refused keeps ok err = let e = err.0 in absurd cc
-  turn_refused old new kept more fault head_only (Err Cut) takes within same refused keeps ok err = let e = err.0 in absurd cc
-  turn_refused old new kept more fault head_only (Err Memory) takes within same refused keeps ok err = let e = err.0 in absurd cc
-  turn_refused old new kept more fault head_only (Err Report) takes within same refused keeps ok err = let e = err.0 in absurd cc
+  pub turn_closed : (old new : At S) (mid : Side S) → Before old new.left mid → length new.held ≤ max_message_len → IsStep answers stops breaks mid (side new) (Ok Closed) → IsTurn answers stops breaks old new (Ok Closed)
+  unfolding handles
+  turn_closed old new mid b within (inl (reply, h, closing, wrote)) = inl (reply, handles answers old new mid new.held reply b h, closing, kept_Appends old.written mid.written new.written reply b.kept wrote)
+  turn_closed old new mid b within (inr (x, reply, refusal, wrote)) = inr (only old new mid b x within, reply, refusal, kept_Appends old.written mid.written new.written reply b.kept wrote)
 
--- a head that has a fault, where its spans begin the bytes
-pub faulty_refused : (bytes : List ℕ) (headers : List HeaderSpan) (r : RequestSpans) (fault : MessageFault) (p : HeadParts) (head_only : Bool)
-    → (b : BeginsFaulty bytes headers r fault) → p ≡ parts_of b.head → head_only ≡ asks_head p → IsRefused bytes fault head_only
-faulty_refused bytes headers r fault p head_only b is asks =
-    inr (b.head, drop r.len bytes, (b.begins.covers.reads, omega (arith, b.begins.short, b.begins.covers.len)), b.faulty, asks ∙ ap asks_head is)
+  pub turn_stopped : (old new : At S) (mid : Side S) (f : AnswerFault) → Before old new.left mid → length new.held ≤ max_message_len → IsStep answers stops breaks mid (side new) (Err f)
+      → IsTurn answers stops breaks old new (Err (fault_of f))
+  turn_stopped old new mid Write b within (reply, some, inl (rest, h)) =
+      inr (reply, kept_beginning old.written mid.written new.written reply b.kept some, inl (rest, handles stops old new mid rest reply b h))
+  turn_stopped old new mid Write b within (reply, some, inr (x, refusal)) =
+      inr (reply, kept_beginning old.written mid.written new.written reply b.kept some, inr (only old new mid b x within, refusal))
+  turn_stopped old new mid Report b within (begun, wrote, rest, h) =
+      (begun, kept_Appends old.written mid.written new.written begun b.kept wrote, rest, handles breaks old new mid rest begun b h)

@@ -9,7 +9,7 @@ use Rattle.http_heads.specs.Parts.{parts_of}
 use Rattle.http_messages.specs.Blank.{AreLineEnds}
 use Rattle.http_messages.specs.Next.{IsPartial}
 use Rattle.http_messages.specs.Parts.{MessageParts}
-use Rattle.http_messages.specs.Received.{max_message_len}
+use Rattle.http_messages.specs.Inbox.{max_message_len}
 use Rattle.http_messages.specs.Refusal.{IsRefusal}
 use Rattle.http_messages.specs.Whole.{WholeMessage, message_parts, Splits}
 

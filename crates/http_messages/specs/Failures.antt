@@ -20,20 +20,11 @@ abbrev pub CountsByCall : {T A B : Type 0} → Tallied T → Tallied T → Resul
 CountsByCall old new (Ok _) = CountsNone old new
 CountsByCall old new (Err _) = CountsOne old new
 
--- an engine's answer: a failed write, and no other
-abbrev pub CountsByAnswer : {W : Type 0} → Tallied W → Tallied W → Result Unit AnswerFault → Type 0
+-- an engine's answer, or a step: a failed write, and no other
+abbrev pub CountsByAnswer : {W A : Type 0} → Tallied W → Tallied W → Result A AnswerFault → Type 0
 CountsByAnswer old new (Ok _) = CountsNone old new
 CountsByAnswer old new (Err Answer.Write) = CountsOne old new
 CountsByAnswer old new (Err Answer.Report) = CountsNone old new
-
--- the same of the loop's turn
-abbrev pub CountsByTurnOf : {W A : Type 0} → Tallied W → Tallied W → Result A ServeFault → Type 0
-CountsByTurnOf old new (Ok _) = CountsNone old new
-CountsByTurnOf old new (Err Write) = CountsOne old new
-CountsByTurnOf old new (Err Report) = CountsNone old new
-CountsByTurnOf old new (Err Read) = ⊥
-CountsByTurnOf old new (Err Cut) = ⊥
-CountsByTurnOf old new (Err Memory) = ⊥
 
 -- a reader and a writer: the failed read or the failed write that ended the call, and no other
 abbrev pub CountsByEnd : {R W A : Type 0} → Tallied R → Tallied R → Tallied W → Tallied W → Result A ServeFault → Type 0

@@ -14,7 +14,7 @@ use Rattle.http_heads.specs.Stream.{max_head_len, BeginsHead, IsMalformed, IsToo
 use Rattle.http_heads.specs.Seen.{IsSeen}
 use Rattle.http_heads.specs.Framing.{max_body_len, head_fault, body_len}
 use Rattle.http_heads.specs.Parts.{parts_of}
-use Rattle.http_messages.specs.Received.{max_message_len}
+use Rattle.http_messages.specs.Inbox.{max_message_len}
 
 -- the bytes begin with the head that the spans cover
 pub record BeginsAt (bytes : List ℕ) (headers : List HeaderSpan) (r : RequestSpans) (h : RequestHead) : Type 0 where

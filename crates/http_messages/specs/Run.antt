@@ -3,10 +3,10 @@ use Rattle.std.specs.Prelude.{◌≡◌, ◌⊎◌, ℕ, ◌+◌, ◌<◌, ◌�
 use Rattle.std.specs.Io.KnownBytes.{Consumes, Appends}
 use Rattle.http_messages.specs.declared.serving.Served.{Served}
 use Rattle.http_messages.specs.declared.serving.ServeFault.{ServeFault}
-use Rattle.http_messages.specs.declared.serving.Turn.TheVariants.{Closed, Ended}
+use Rattle.http_messages.specs.declared.step.Step.TheVariants.{Closed, Waiting}
 use Rattle.http_messages.specs.Exit.{StaysOpen, AnswersAll}
 use Rattle.http_messages.specs.Parts.{MessageParts}
-use Rattle.http_messages.specs.Received.{max_message_len}
+use Rattle.http_messages.specs.Inbox.{max_message_len}
 use Rattle.http_messages.specs.Whole.{WholeMessage, Splits}
 use Rattle.http_messages.specs.Turn.{At, IsTurn}
 
@@ -29,7 +29,7 @@ module _ {S : Type 0} (answers stops breaks : S → MessageParts → List ℕ �
   EndsSo most k mid new (Ok s) =
       ((k ≡ most) × (s.messages ≡ k) × (new ≡ mid))
       ⊎ ((k < most)
-      × (((s.messages ≡ k + 1) × IsTurn answers stops breaks mid new (Ok Closed)) ⊎ ((s.messages ≡ k) × IsTurn answers stops breaks mid new (Ok Ended))))
+      × (((s.messages ≡ k + 1) × IsTurn answers stops breaks mid new (Ok Closed)) ⊎ ((s.messages ≡ k) × IsTurn answers stops breaks mid new (Ok Waiting))))
   EndsSo most k mid new (Err fault) = (k < most) × IsTurn answers stops breaks mid new (Err fault)
 
   -- messages that don't end the connection, and then its end

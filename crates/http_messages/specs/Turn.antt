@@ -1,17 +1,19 @@
--- What one turn of the loop does.
+-- What one turn of the loop does: reads, and a step after each, until one waits no more.
 use Rattle.std.specs.Prelude.{◌≡◌, ◌⊎◌, ℕ, ◌≤◌, Bool, List, ◌++◌, length, Option, Result, Ok, Err, true, false}
 use Rattle.std.specs.Io.KnownBytes.{Consumes, Appends, Keeps, IsAtEnd}
 use Rattle.money.specs.Counted.{AppendsBeginning}
-use Rattle.http_messages.specs.declared.serving.Turn.{Turn}
-use Rattle.http_messages.specs.declared.serving.Turn.TheVariants.{Answered, Closed, Ended}
+use Rattle.http_messages.specs.declared.engine.AnswerFault.{AnswerFault}
+use Rattle.http_messages.specs.declared.engine.AnswerFault.TheVariants as Answer
 use Rattle.http_messages.specs.declared.serving.ServeFault.{ServeFault}
 use Rattle.http_messages.specs.declared.serving.ServeFault.TheVariants.{Read, Write, Cut, Memory, Report}
+use Rattle.http_messages.specs.declared.step.Step.{Step}
+use Rattle.http_messages.specs.declared.step.Step.TheVariants.{Answered, Closed, Waiting}
 use Rattle.http_messages.specs.Blank.{AreLineEnds}
 use Rattle.http_heads.specs.Framing.{closes}
 use Rattle.http_messages.specs.Next.{IsPartial}
 use Rattle.http_heads.specs.Parts.{parts_of}
 use Rattle.http_messages.specs.Parts.{MessageParts}
-use Rattle.http_messages.specs.Received.{max_message_len}
+use Rattle.http_messages.specs.Inbox.{max_message_len}
 use Rattle.http_messages.specs.Refusal.{IsRefusal}
 use Rattle.http_messages.specs.Whole.{WholeMessage, print_message, message_parts, IsMessage}
 
@@ -42,6 +44,11 @@ pub record Handles {S : Type 0} (answers : S → MessageParts → List ℕ → S
   pub answered : answers old.engine (message_parts message) reply new.engine
   pub bounded : length rest ≤ max_message_len
 
+-- why a call stops where a step stopped for this reason
+abbrev pub fault_of : AnswerFault → ServeFault
+fault_of Answer.Write = Write
+fault_of Answer.Report = Report
+
 module _ {S : Type 0} (answers stops breaks : S → MessageParts → List ℕ → S → Type 0) where
   -- a message was answered, and its reply closes or not
   abbrev pub Answers : Bool → At S → At S → Type 0
@@ -49,13 +56,13 @@ module _ {S : Type 0} (answers stops breaks : S → MessageParts → List ℕ �
       (reply : List ℕ) × (a : Handles answers old new new.held reply) × (closes (parts_of a.message.head) ≡ ends)
       × Appends old.written new.written reply
 
-  -- how a turn ended. A failed write cut off a reply, or was a flush of what stood there before. After a read nothing is unflushed
-  abbrev pub IsTurn : At S → At S → Result Turn ServeFault → Type 0
+  -- how a turn ended: Waiting, where the input ended between two messages. A failed write cut off a reply, or was a flush of what stood there before. After a read nothing is unflushed
+  abbrev pub IsTurn : At S → At S → Result Step ServeFault → Type 0
   IsTurn old new (Ok Answered) = Answers false old new
   IsTurn old new (Ok Closed) =
       Answers true old new
       ⊎ (OnlyReads old new × (reply : List ℕ) × IsRefusal new.held reply × Appends old.written new.written reply)
-  IsTurn old new (Ok Ended) =
+  IsTurn old new (Ok Waiting) =
       OnlyReads old new × IsPartial new.held × AreLineEnds new.held × IsAtEnd new.left × Keeps old.written new.written × (new.unflushed ≡ false)
   IsTurn old new (Err Read) = OnlyReads old new × IsPartial new.held × Keeps old.written new.written × (new.unflushed ≡ false)
   IsTurn old new (Err Cut) =

@@ -1,25 +1,18 @@
-//! The loop that reads the messages of a stream and has each of them answered, and one turn of that loop.
+//! The loop that reads the messages of a stream and has each of them answered.
 
-ghost use Rattle.std.specs.Prelude.{◌≡◌, ◌≤◌, ◌<◌, ◌+◌, ◌⊎◌, ℕ, Bool, List, length, true, false, IfOk, IfErr, Ok, Err};
-ghost use Rattle.std.specs.Io.KnownBytes.{Appends, Keeps, IsAtEnd};
-ghost use Rattle.money.specs.Counted.{stream_of, AppendsBeginning};
-ghost use Rattle.http_messages.specs.Answered.{IsTurnOf};
+ghost use Rattle.std.specs.Prelude.{◌≡◌, ◌≤◌, ◌<◌, ℕ, List, length, nat_lt, true, false, IfOk, IfErr, Ok, Err};
+ghost use Rattle.std.specs.Io.KnownBytes.{Keeps, IsAtEnd};
+ghost use Rattle.money.specs.Counted.{stream_of};
 ghost use Rattle.http_messages.specs.Exit.{IsExit};
-ghost use Rattle.http_messages.specs.Failures.{CountsByEnd, CountsByExit, CountsByTurnOf, CountsByCall};
-ghost use Rattle.http_messages.specs.Next.{IsNext, IsPartial};
-ghost use Rattle.http_messages.specs.Received.{Takes, max_message_len};
-ghost use Rattle.http_messages.specs.Refusal.{refusal_bytes};
+ghost use Rattle.http_messages.specs.Failures.{CountsByEnd, CountsByExit, CountsByCall};
+ghost use Rattle.http_messages.specs.Inbox.{Takes, max_message_len};
 ghost use Rattle.http_messages.specs.Run.{IsServed};
 ghost use Rattle.http_messages.specs.Turn.{IsTurn};
-ghost use Rattle.http_heads.specs.Stream.{max_fields};
 
 use crate::engine::{AnswerFault, Engine};
-use crate::looking::Next;
-use crate::message::Message;
-use crate::received::{FieldRoom, Received};
-use crate::reply::write_reply;
-use http_heads::{Framing, Head, MessageFault, are_line_ends};
-use httparse::spans::HeaderSpan;
+use crate::inbox::{FieldRoom, Inbox, MAX_MESSAGE_LEN};
+use crate::step::Step;
+use http_heads::are_line_ends;
 use money::Tallied;
 use std::alloc::{AllocError, Global};
 use std::io::{Read, Write};
@@ -62,191 +55,131 @@ impl From<AllocError> for ServeFault {
     }
 }
 
-/// How a turn ended, which reads what is at hand and answers one message at most.
-#[derive(Clone, Copy, Debug, PartialEq, Eq)]
-pub enum Turn {
-    /// A message was answered, and the next may follow.
-    Answered,
-    /// A message was answered by a reply that ends the connection.
-    Closed,
-    /// The input ended between two messages.
-    Ended,
+impl From<AnswerFault> for ServeFault {
+    ghost use Rattle.std.specs.Prelude.{◌≡◌};
+    ghost use Rattle.http_messages.specs.Turn.{fault_of};
+
+    ghost from_gives = { λ stopped fault. fault ≡ fault_of stopped };
+
+    fn from(stopped: AnswerFault) -> ServeFault {
+        match stopped {
+            AnswerFault::Write => ServeFault::Write,
+            AnswerFault::Report => ServeFault::Report,
+        }
+    }
+}
+
+/// What a call keeps from one message to the next.
+#[derive(Drop)]
+struct Exchange {
+    inbox: Inbox,
+    fields: FieldRoom,
+    /// Whether something was written since the writer was flushed last.
+    unflushed: bool,
 }
 
 /// Flushes the writer where something was written since it was flushed last.
-fn flush_written<W: Write>(writer: &mut Tallied<W>, written: &mut bool) -> Result<(), ServeFault>
-    ensures err { IfErr result (λ fault. (fault ≡ ServeFault.Write) × (written.old ≡ true)) }
-    ensures spent { written.new ≡ false }
+fn flush_written<W: Write>(writer: &mut Tallied<W>, unflushed: &mut bool) -> Result<(), ServeFault>
+    ensures err { IfErr result (λ fault. (fault ≡ ServeFault.Write) × (unflushed.old ≡ true)) }
+    ensures spent { unflushed.new ≡ false }
     ensures kept { Keeps (W.contents (stream_of writer.old)) (W.contents (stream_of writer.new)) }
     ensures failures { CountsByCall writer.old writer.new result }
 {
-    if !*written {
+    if !*unflushed {
         return Ok(());
     }
-    *written = false;
+    *unflushed = false;
     match writer.flush() {
         Ok(()) => Ok(()),
         Err(_) => Err(ServeFault::Write),
     }
 }
 
-/// Reads until a whole message or a fault has come, or the input ends. Before each read the writer is flushed. What was
-/// found of the message is kept from read to read, also from one call to the next.
-fn read_next<R: Read, W: Write>(
-    reader: &mut Tallied<R>,
-    writer: &mut Tallied<W>,
-    written: &mut bool,
-    received: &mut Received,
-    headers: &mut [HeaderSpan],
-) -> Result<Next, ServeFault>
-    requires { max_fields ≤ length headers.old }
-    ensures takes { (more : List ℕ) × Takes (R.remaining (stream_of reader.old)) (R.remaining (stream_of reader.new)) received.old received.new more }
-    ensures bounded { length received.new ≤ max_message_len }
-    ensures next { IfOk result (IsNext received.new headers.new) }
-    ensures end { result ≡ Ok Next.Partial → IsAtEnd (R.remaining (stream_of reader.new)) × (written.new ≡ false) }
-    ensures err { IfErr result (λ fault. ((fault ≡ ServeFault.Read) × IsPartial received.new × (written.new ≡ false))
-        ⊎ ((fault ≡ ServeFault.Write) × (written.old ≡ true))) }
-    ensures kept { Keeps (W.contents (stream_of writer.old)) (W.contents (stream_of writer.new)) }
-    ensures failures { CountsByEnd reader.old reader.new writer.old writer.new result }
+/// Reads once into the room that is left, and returns whether any byte came.
+fn read_more<R: Read>(reader: &mut Tallied<R>, inbox: &mut Inbox) -> Result<bool, ServeFault>
+    requires { length inbox.old < max_message_len }
+    ensures ok { IfOk result (λ any. (more : List ℕ)
+        × Takes (R.remaining (stream_of reader.old)) (R.remaining (stream_of reader.new)) inbox.old inbox.new more
+        × (any ≡ nat_lt 0 (length more))) }
+    ensures bounded { length inbox.new ≤ max_message_len }
+    ensures end { result ≡ Ok false → IsAtEnd (R.remaining (stream_of reader.new)) }
+    ensures err { IfErr result (λ fault. (fault ≡ ServeFault.Read)
+        × Keeps (R.remaining (stream_of reader.old)) (R.remaining (stream_of reader.new)) × (inbox.new ≡ inbox.old)) }
+    ensures failures { CountsByCall reader.old reader.new result }
 {
-    loop {
-        match received.look(headers) {
-            Next::Partial => {}
-            next => return Ok(next),
+    let mut bytes = [0u8; MAX_MESSAGE_LEN];
+    match reader.read(&mut bytes[..inbox.room()]) {
+        Ok(n) => {
+            inbox.take(&bytes[..n]);
+            Ok(n > 0)
         }
-        flush_written(writer, written)?;
-        match received.fill(reader) {
-            Ok(true) => {}
-            Ok(false) => return Ok(Next::Partial),
-            Err(_) => return Err(ServeFault::Read),
-        }
+        Err(_) => Err(ServeFault::Read),
     }
 }
 
-/// Writes the reply to a fault that ends the connection.
-fn refuse<W: Write>(
-    writer: &mut Tallied<W>,
-    fault: MessageFault,
-    head_only: bool,
-) -> Result<Turn, ServeFault>
-    ensures ok { IfOk result (λ turn. (turn ≡ Turn.Closed)
-        × Appends (W.contents (stream_of writer.old)) (W.contents (stream_of writer.new)) (refusal_bytes fault head_only)) }
-    ensures err { IfErr result (λ stopped. (stopped ≡ ServeFault.Write)
-        × AppendsBeginning (W.contents (stream_of writer.old)) (W.contents (stream_of writer.new)) (refusal_bytes fault head_only)) }
-    ensures failures { CountsByCall writer.old writer.new result }
-{
-    let framing = Framing {
-        close: true,
-        head_only,
-    };
-    match write_reply(
-        writer,
-        fault.status(),
-        "application/json",
-        fault.text(),
-        framing,
-    ) {
-        Ok(()) => Ok(Turn::Closed),
-        Err(_) => Err(ServeFault::Write),
-    }
-}
-
-/// Has the engine answer a message.
-fn answer<E: Engine, W: Write>(
-    engine: &mut E,
-    message: &Message<'_>,
-    writer: &mut Tallied<W>,
-) -> Result<Turn, ServeFault>
-    ensures turn { IsTurnOf E.answers E.stops E.breaks engine.old engine.new message.now (W.contents (stream_of writer.old)) (W.contents (stream_of writer.new)) result }
-    ensures failures { CountsByTurnOf writer.old writer.new result }
-{
-    match engine.answer(message, writer) {
-        Ok(()) => {}
-        Err(AnswerFault::Write) => return Err(ServeFault::Write),
-        Err(AnswerFault::Report) => return Err(ServeFault::Report),
-    }
-    if message.closes() {
-        Ok(Turn::Closed)
-    } else {
-        Ok(Turn::Answered)
-    }
-}
-
-/// Reads and answers one message.
+/// Reads until a step has answered a message, or the input ends: `Waiting` where it ended between two messages. Before
+/// each read the writer is flushed.
 fn serve_one<E: Engine, R: Read, W: Write>(
     engine: &mut E,
     reader: &mut Tallied<R>,
     writer: &mut Tallied<W>,
-    written: &mut bool,
-    received: &mut Received,
-    headers: &mut [HeaderSpan],
-) -> Result<Turn, ServeFault>
-    requires { max_fields ≤ length headers.old }
+    exchange: &mut Exchange,
+) -> Result<Step, ServeFault>
     ensures turn { IsTurn E.answers E.stops E.breaks
-        (record { left = R.remaining (stream_of reader.old); held = received.old; written = W.contents (stream_of writer.old); unflushed = written.old; engine = engine.old })
-        (record { left = R.remaining (stream_of reader.new); held = received.new; written = W.contents (stream_of writer.new); unflushed = written.new; engine = engine.new })
+        (record { left = R.remaining (stream_of reader.old); held = exchange.old.inbox; written = W.contents (stream_of writer.old); unflushed = exchange.old.unflushed; engine = engine.old })
+        (record { left = R.remaining (stream_of reader.new); held = exchange.new.inbox; written = W.contents (stream_of writer.new); unflushed = exchange.new.unflushed; engine = engine.new })
         result }
     ensures failures { CountsByEnd reader.old reader.new writer.old writer.new result }
 {
-    match read_next(reader, writer, written, received, headers)? {
-        Next::Message(spans, body_len) => {
-            *written = true;
-            let bytes = received.bytes();
-            let end = spans.len + body_len;
-            let head = Head::new(bytes, headers, &spans);
-            let message = Message::new(head, &bytes[spans.len..end]);
-            match answer(engine, &message, writer) {
-                Ok(turn) => {
-                    received.drop_front(end);
-                    Ok(turn)
-                }
-                Err(fault) => Err(fault),
+    loop {
+        match exchange.inbox.advance(&mut exchange.fields, engine, writer) {
+            Ok(Step::Waiting) => {}
+            Ok(Step::Answered) => {
+                exchange.unflushed = true;
+                return Ok(Step::Answered);
+            }
+            Ok(Step::Closed) => {
+                exchange.unflushed = true;
+                return Ok(Step::Closed);
+            }
+            Err(fault) => {
+                exchange.unflushed = true;
+                return Err(fault.into());
             }
         }
-        Next::FaultyHead(spans, fault) => {
-            *written = true;
-            let head = Head::new(received.bytes(), headers, &spans);
-            refuse(writer, fault, head.framing().head_only)
-        }
-        Next::NoHead(fault) => {
-            *written = true;
-            refuse(writer, fault, false)
-        }
-        Next::Partial => {
-            if are_line_ends(received.bytes()) {
-                Ok(Turn::Ended)
+        flush_written(writer, &mut exchange.unflushed)?;
+        if !read_more(reader, &mut exchange.inbox)? {
+            return if are_line_ends(exchange.inbox.bytes()) {
+                Ok(Step::Waiting)
             } else {
                 Err(ServeFault::Cut)
-            }
+            };
         }
     }
 }
 
-/// Answers the messages of a stream one after another, and answers how many replies it gave.
+/// Answers the messages of a stream one after another, and returns how many replies it gave.
 fn serve_in<E: Engine, R: Read, W: Write>(
     engine: &mut E,
     reader: &mut Tallied<R>,
     writer: &mut Tallied<W>,
-    written: &mut bool,
-    received: &mut Received,
-    headers: &mut [HeaderSpan],
+    exchange: &mut Exchange,
     most: u32,
 ) -> Result<Served, ServeFault>
-    requires room { max_fields ≤ length headers.old }
-    requires flushed { written.old ≡ false }
-    requires bounded { length received.old ≤ max_message_len }
+    requires flushed { exchange.old.unflushed ≡ false }
+    requires bounded { length exchange.old.inbox ≤ max_message_len }
     ensures served { IsServed E.answers E.stops E.breaks most
-        (record { left = R.remaining (stream_of reader.old); held = received.old; written = W.contents (stream_of writer.old); unflushed = written.old; engine = engine.old })
-        (record { left = R.remaining (stream_of reader.new); held = received.new; written = W.contents (stream_of writer.new); unflushed = written.new; engine = engine.new })
+        (record { left = R.remaining (stream_of reader.old); held = exchange.old.inbox; written = W.contents (stream_of writer.old); unflushed = exchange.old.unflushed; engine = engine.old })
+        (record { left = R.remaining (stream_of reader.new); held = exchange.new.inbox; written = W.contents (stream_of writer.new); unflushed = exchange.new.unflushed; engine = engine.new })
         result }
     ensures most { IfOk result (λ served. served.messages ≤ most) }
     ensures failures { CountsByEnd reader.old reader.new writer.old writer.new result }
 {
     for done in 0..most {
-        match serve_one(engine, reader, writer, written, received, headers) {
-            Ok(Turn::Answered) => {}
-            Ok(Turn::Closed) => return Ok(Served { messages: done + 1 }),
-            Ok(Turn::Ended) => return Ok(Served { messages: done }),
+        match serve_one(engine, reader, writer, exchange) {
+            Ok(Step::Answered) => {}
+            Ok(Step::Closed) => return Ok(Served { messages: done + 1 }),
+            Ok(Step::Waiting) => return Ok(Served { messages: done }),
             Err(fault) => return Err(fault),
         }
     }
@@ -256,16 +189,16 @@ fn serve_in<E: Engine, R: Read, W: Write>(
 /// Flushes where a call ends without an error, and answers its end: a flush that fails makes it a failed write.
 fn flush_last<W: Write>(
     writer: &mut Tallied<W>,
-    written: &mut bool,
+    unflushed: &mut bool,
     served: Served,
 ) -> Result<Served, ServeFault>
-    ensures ok { IfOk result (λ told. told ≡ served) }
-    ensures err { IfErr result (λ fault. (fault ≡ ServeFault.Write) × (written.old ≡ true)) }
-    ensures spent { written.new ≡ false }
+    ensures ok { IfOk result (λ end. end ≡ served) }
+    ensures err { IfErr result (λ fault. (fault ≡ ServeFault.Write) × (unflushed.old ≡ true)) }
+    ensures spent { unflushed.new ≡ false }
     ensures kept { Keeps (W.contents (stream_of writer.old)) (W.contents (stream_of writer.new)) }
     ensures failures { CountsByCall writer.old writer.new result }
 {
-    flush_written(writer, written)?;
+    flush_written(writer, unflushed)?;
     Ok(served)
 }
 
@@ -291,52 +224,21 @@ pub fn serve_messages<E: Engine, R: Read, W: Write>(
     ensures most { IfOk result (λ served. served.messages ≤ most) }
     ensures failures { CountsByExit reader.old reader.new writer.old writer.new result }
 {
-    let mut received = Received::new(alloc)?;
-    let mut fields = FieldRoom::new(alloc)?;
-    let mut written = false;
-    let end = serve_in(
-        engine,
-        reader,
-        writer,
-        &mut written,
-        &mut received,
-        fields.spans.as_mut_slice(),
-        most,
-    );
+    let inbox = Inbox::new(alloc)?;
+    let fields = FieldRoom::new(alloc)?;
+    let mut exchange = Exchange {
+        inbox,
+        fields,
+        unflushed: false,
+    };
+    let end = serve_in(engine, reader, writer, &mut exchange, most);
     match end {
-        Ok(served) => flush_last(writer, &mut written, served),
+        Ok(served) => flush_last(writer, &mut exchange.unflushed, served),
         Err(ServeFault::Report) => {
             // What went out of the broken reply is passed on. The call ends the same where that fails.
-            let _ = flush_written(writer, &mut written);
+            let _ = flush_written(writer, &mut exchange.unflushed);
             Err(ServeFault::Report)
         }
         Err(fault) => Err(fault),
     }
-}
-
-/// Reads what is at hand, and answers one message where it has come whole. What has come of one that is not whole is held, and a
-/// later turn goes on with it. A turn that finds no more at hand ends by `Err(Read)`. After that, or after `Answered`, the
-/// connection may have another turn; after any other end it has none.
-pub fn serve_turn<E: Engine, R: Read, W: Write>(
-    engine: &mut E,
-    reader: &mut Tallied<R>,
-    writer: &mut Tallied<W>,
-    received: &mut Received,
-    fields: &mut FieldRoom,
-) -> Result<Turn, ServeFault>
-    ensures turn { (unflushed : Bool) × IsTurn E.answers E.stops E.breaks
-        (record { left = R.remaining (stream_of reader.old); held = received.old; written = W.contents (stream_of writer.old); unflushed = false; engine = engine.old })
-        (record { left = R.remaining (stream_of reader.new); held = received.new; written = W.contents (stream_of writer.new); unflushed = unflushed; engine = engine.new })
-        result }
-    ensures failures { CountsByEnd reader.old reader.new writer.old writer.new result }
-{
-    let mut written = false;
-    serve_one(
-        engine,
-        reader,
-        writer,
-        &mut written,
-        received,
-        fields.spans.as_mut_slice(),
-    )
 }

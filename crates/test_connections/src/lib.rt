@@ -10,4 +10,6 @@ mod clocks;
 #[cfg(test)]
 mod connections;
 #[cfg(test)]
+mod limits;
+#[cfg(test)]
 mod ports;

@@ -1,7 +1,7 @@
 //! Connections of the machine, served at once in one process.
 use crate::clients::{TESS, TOM, client, got, opened};
 use counter_clocks::{Fixed, Moment};
-use counter_loop::{Notices, serve_many};
+use counter_loop::{Notices, System, serve_many};
 use mio::net::TcpListener;
 use sample_service::{SampleBadges, listed_sample};
 use std::net::{Ipv4Addr, SocketAddr};
@@ -12,7 +12,7 @@ use store_rows::Bank;
 
 /// Nobody, as no store of these tests has a disk.
 #[derive(Drop)]
-struct Nobody;
+pub(crate) struct Nobody;
 
 impl Notices for Nobody {
     fn disk_failed(&mut self) {}
@@ -35,11 +35,10 @@ fn serve_waiting(rt: &HostRuntime, door: &mut TcpListener) -> Result<(), Fail> {
         moment: Moment::cut(700),
     };
     let until = Some(input.as_raw_fd());
+    let mut system = System::new(rt, rt.alloc(), door, until)?;
     serve_many(
-        rt,
-        rt.alloc(),
+        &mut system,
         door,
-        until,
         &mut bank,
         &SampleBadges,
         &mut clock,

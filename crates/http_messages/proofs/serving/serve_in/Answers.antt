@@ -1,6 +1,6 @@
 use Rattle.std.proofs.Common.{◌≡◌, ◌<◌, ℕ, length, [], ◌∷◌, ◌++◌, ◌+◌, length-append, refl, sym, ap, ◌∙◌, inl, inr, arith}
 use Rattle.http_messages.specs.declared.serving.Served.{Served}
-use Rattle.http_messages.specs.declared.serving.Turn.{Turn}
+use Rattle.http_messages.specs.declared.step.Step.{Step}
 use Rattle.http_messages.proofs.FailureLemmas.{end_after}
 use Rattle.http_messages.proofs.RunLemmas.{run_none, run_more}
 use Rattle.http_messages.proofs.serving.serve_in.Goals as goal
@@ -15,9 +15,9 @@ returns-in-Ok-Closed-clause-served g c =
     let fewer : length i.0 < c.args.most = omega (arith, i.2) in
     (_, i.0, i.1, i.3, inr (fewer, inl (ap (λ (n : ℕ). n + 1) (sym i.2), turn)))
 
-pub returns-in-Ok-Ended-clause-served : goal.returns-in-Ok-Ended-clause-served
-returns-in-Ok-Ended-clause-served g c =
-    let turn = rw c.in-Ok-Ended.field-0-is at c.in-Ok-Ended.ensures.turn in
+pub returns-in-Ok-Waiting-clause-served : goal.returns-in-Ok-Waiting-clause-served
+returns-in-Ok-Waiting-clause-served g c =
+    let turn = rw c.in-Ok-Waiting.field-0-is at c.in-Ok-Waiting.ensures.turn in
     let i = c.loop-done.invariant.0 in
     let fewer : length i.0 < c.args.most = omega (arith, i.2) in
     (_, i.0, i.1, i.3, inr (fewer, inr (sym i.2, turn)))
@@ -30,7 +30,7 @@ returns-in-Err-clause-served g c =
 
 pub returns-in-Err-clause-failures : goal.returns-in-Err-clause-failures
 returns-in-Err-clause-failures g c =
-    end_after Turn Served c.args.reader.now c.loop-done.reader c.serve_one.new.reader c.args.writer.now c.loop-done.writer c.serve_one.new.writer c.in-Err.fault (c.loop-done.invariant.1, c.loop-done.invariant.2) c.in-Err.ensures.failures
+    end_after Step Served c.args.reader.now c.loop-done.reader c.serve_one.new.reader c.args.writer.now c.loop-done.writer c.serve_one.new.writer c.in-Err.fault (c.loop-done.invariant.1, c.loop-done.invariant.2) c.in-Err.ensures.failures
 
 pub loop-done-preserved : goal.loop-done-preserved
 loop-done-preserved g c =

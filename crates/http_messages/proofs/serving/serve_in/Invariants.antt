@@ -7,8 +7,8 @@ abbrev pub invariant-loop-done : goal.invariant-loop-done
 invariant-loop-done g l =
     ((ms : List WholeMessage) × (out : List ℕ) × (length ms ≡ l.done)
     × Runs g.E.Engine.answers g.E.Engine.stops g.E.Engine.breaks
-    (record { left = g.R.Read.remaining l.fn.reader.stream; held = l.fn.received; written = g.W.Write.contents l.fn.writer.stream; unflushed = l.fn.written; engine = l.fn.engine })
-    (record { left = g.R.Read.remaining l.reader.stream; held = l.received; written = g.W.Write.contents l.writer.stream; unflushed = l.written; engine = l.engine })
+    (record { left = g.R.Read.remaining l.fn.reader.stream; held = l.fn.exchange.inbox; written = g.W.Write.contents l.fn.writer.stream; unflushed = l.fn.exchange.unflushed; engine = l.fn.engine })
+    (record { left = g.R.Read.remaining l.reader.stream; held = l.exchange.inbox; written = g.W.Write.contents l.writer.stream; unflushed = l.exchange.unflushed; engine = l.engine })
     ms out)
     × (l.reader.failures ≡ l.fn.reader.failures)
     × (l.writer.failures ≡ l.fn.writer.failures)

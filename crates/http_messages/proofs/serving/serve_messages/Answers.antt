@@ -9,7 +9,7 @@ use Rattle.http_messages.proofs.serving.serve_messages.Goals as goal
 
 pub returns-in-Ok-clause-exit : goal.returns-in-Ok-clause-exit
 returns-in-Ok-clause-exit g c =
-    exit_flushed g.E.Engine.answers g.E.Engine.stops g.E.Engine.breaks c.args.most _ _ _ c.in-Ok.served c.flush_last.result c.in_ok-received.ensures c.in-Ok.ensures.served c.flush_last.ensures.ok c.flush_last.ensures.err c.flush_last.ensures.kept
+    exit_flushed g.E.Engine.answers g.E.Engine.stops g.E.Engine.breaks c.args.most _ _ _ c.in-Ok.served c.flush_last.result c.in_ok-inbox.ensures c.in-Ok.ensures.served c.flush_last.ensures.ok c.flush_last.ensures.err c.flush_last.ensures.kept
 
 same_most : (most : ℕ) (s : Served) (r : Result Served ServeFault) → s.messages ≤ most → IfOk r (λ t. t ≡ s) → IfOk r (λ t. t.messages ≤ most)
 same_most most s (Ok t) within ok = subst (λ x. x.messages ≤ most) (sym ok) within
@@ -30,11 +30,11 @@ pub returns-in-Err-Report-clause-exit : goal.returns-in-Err-Report-clause-exit
 returns-in-Err-Report-clause-exit g c =
     let fault = rw c.in-Err-Report.is at c.in-Err-Report.field-0-is in
     let served = rw fault at (rw c.in-Err-Report.is at c.serve_in-end.ensures.served) in
-    exit_ended g.E.Engine.answers g.E.Engine.stops g.E.Engine.breaks c.args.most _ _ _ (Err Report) c.in_ok-received.ensures served c.flush_written.ensures.kept
+    exit_ended g.E.Engine.answers g.E.Engine.stops g.E.Engine.breaks c.args.most _ _ _ (Err Report) c.in_ok-inbox.ensures served c.flush_written.ensures.kept
 
 pub returns-clause-exit : goal.returns-clause-exit
 returns-clause-exit g c =
-    exit_ended g.E.Engine.answers g.E.Engine.stops g.E.Engine.breaks c.args.most _ _ _ (Err c.in-Err.fault) c.in_ok-received.ensures c.in-Err.ensures.served (Keeps-refl _)
+    exit_ended g.E.Engine.answers g.E.Engine.stops g.E.Engine.breaks c.args.most _ _ _ (Err c.in-Err.fault) c.in_ok-inbox.ensures c.in-Err.ensures.served (Keeps-refl _)
 
 pub returns-in-Err-Report-clause-failures : goal.returns-in-Err-Report-clause-failures
 returns-in-Err-Report-clause-failures g c =

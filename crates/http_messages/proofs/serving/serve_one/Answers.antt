@@ -1,50 +1,102 @@
-use Rattle.std.proofs.Common.{rules, ℕ, List, ◌≡◌, ◌+◌, ◌-◌, take, drop, arith, ap, sym, ◌∙◌, subst, refl, inl}
-use Rattle.httparse.specs.Spans.{IsRequestAt}
-use Rattle.http_messages.specs.declared.serving.Turn.{Turn}
-use Rattle.http_messages.proofs.FailureLemmas.{turn_after}
-use Rattle.http_messages.proofs.TurnLemmas.{begun_parts, turn_ok, turn_err, turn_refused, faulty_refused}
+-- The reads that were made, and the step after them.
+use Rattle.std.proofs.Common.{rules, ◌≡◌, ℕ, List, ◌++◌, append-nil, Bool, true, false, Ok, Err, sym, ap, subst, ◌∙◌, inl}
+use Rattle.http_messages.specs.declared.serving.ServeFault.TheVariants.{Read, Write}
+use Rattle.http_messages.specs.Blank.{AreLineEnds}
+use Rattle.http_messages.specs.Next.{IsPartial}
+use Rattle.http_messages.specs.Turn.{fault_of}
+use Rattle.http_messages.proofs.TurnLemmas.{flushed, none_came, read_none, read_on, turn_answered, turn_closed, turn_stopped, waited}
 use Rattle.http_messages.proofs.serving.serve_one.Goals as goal
 
-body_range : (bytes : List ℕ) (len n : ℕ) → take ((len + n) - len) (drop len bytes) ≡ take n (drop len bytes)
-body_range bytes len n = let e : (len + n) - len ≡ n = omega arith in ap (λ k. take k (drop len bytes)) e
+pub returns-in-Ok-Answered-clause-turn : goal.returns-in-Ok-Answered-clause-turn
+returns-in-Ok-Answered-clause-turn g c =
+    let step = rw c.in-Ok-Answered.field-0-is at c.in-Ok-Answered.ensures.step in
+    turn_answered g.E.Engine.answers g.E.Engine.stops g.E.Engine.breaks _
+    (record { left = g.R.Read.remaining c.loop-exchange.reader.stream; held = c.advance.new.self; written = g.W.Write.contents c.advance.new.writer.stream; unflushed = true; engine = c.advance.new.engine })
+    _ c.loop-exchange.invariant.0 step
 
-pub returns-in-Ok-clause-turn : goal.returns-in-Ok-clause-turn
-returns-in-Ok-clause-turn g c =
-    let begins = rw c.in-Message.is at c.in_ok-spans.ensures.next in
-    let r = c.in-Message.spans in
-    let n = c.in-Message.body_len in
-    let covers = subst (λ (l : List ℕ). IsRequestAt l c.read_next.new.headers r begins.head) (sym c.bytes-bytes.ensures.value) begins.begins.covers in
-    let body = ap (λ (l : List ℕ). take ((r.len + n) - r.len) (drop r.len l)) c.bytes-bytes.ensures.value ∙ body_range c.read_next.new.received r.len n in
-    let is : c.new-message.result ≡ begun_parts c.read_next.new.received c.read_next.new.headers r n begins =
-    c.new-message.ensures ∙ (λ i. record { head = c.new-head.ensures begins.head covers i; body = body i }) in
-    turn_ok g.E.Engine.answers g.E.Engine.stops g.E.Engine.breaks _ _ _ _ _ _ _ _ c.in_ok-spans.ensures.takes.0 c.in-Ok.turn c.in_ok-spans.ensures.takes.1 c.in_ok-spans.ensures.bounded begins is c.drop_front.ensures c.in_ok-spans.ensures.kept c.in-Ok.ensures.turn
+pub returns-in-Ok-Closed-clause-turn : goal.returns-in-Ok-Closed-clause-turn
+returns-in-Ok-Closed-clause-turn g c =
+    let step = rw c.in-Ok-Closed.field-0-is at c.in-Ok-Closed.ensures.step in
+    turn_closed g.E.Engine.answers g.E.Engine.stops g.E.Engine.breaks _
+    (record { left = g.R.Read.remaining c.loop-exchange.reader.stream; held = c.advance.new.self; written = g.W.Write.contents c.advance.new.writer.stream; unflushed = true; engine = c.advance.new.engine })
+    _ c.loop-exchange.invariant.0 c.in-Ok-Closed.ensures.bounded step
 
 pub returns-in-Err-clause-turn : goal.returns-in-Err-clause-turn
 returns-in-Err-clause-turn g c =
-    let begins = rw c.in-Message.is at c.in_ok-spans.ensures.next in
-    let r = c.in-Message.spans in
-    let n = c.in-Message.body_len in
-    let covers = subst (λ (l : List ℕ). IsRequestAt l c.read_next.new.headers r begins.head) (sym c.bytes-bytes.ensures.value) begins.begins.covers in
-    let body = ap (λ (l : List ℕ). take ((r.len + n) - r.len) (drop r.len l)) c.bytes-bytes.ensures.value ∙ body_range c.read_next.new.received r.len n in
-    let is : c.new-message.result ≡ begun_parts c.read_next.new.received c.read_next.new.headers r n begins =
-    c.new-message.ensures ∙ (λ i. record { head = c.new-head.ensures begins.head covers i; body = body i }) in
-    turn_err g.E.Engine.answers g.E.Engine.stops g.E.Engine.breaks _ _ _ _ _ _ _ _ c.in_ok-spans.ensures.takes.0 c.in-Err.fault c.in_ok-spans.ensures.takes.1 c.in_ok-spans.ensures.bounded begins is c.in_ok-spans.ensures.kept c.in-Err.ensures.turn
+    let is : c.into.result ≡ fault_of c.in-Err.fault = search rules in
+    rw is (turn_stopped g.E.Engine.answers g.E.Engine.stops g.E.Engine.breaks _
+    (record { left = g.R.Read.remaining c.loop-exchange.reader.stream; held = c.advance.new.self; written = g.W.Write.contents c.advance.new.writer.stream; unflushed = true; engine = c.advance.new.engine })
+    _ c.in-Err.fault c.loop-exchange.invariant.0 c.in-Err.ensures.bounded c.in-Err.ensures.step)
 
-pub returns-in-Err-clause-failures : goal.returns-in-Err-clause-failures
-returns-in-Err-clause-failures g c =
-    turn_after Turn Turn c.args.reader.now c.read_next.new.reader c.args.writer.now c.read_next.new.writer c.answer.new.writer c.in-Err.fault c.in_ok-spans.ensures.failures c.in-Err.ensures.failures
+pub returns-in_err-flush_written-clause-turn : goal.returns-in_err-flush_written-clause-turn
+returns-in_err-flush_written-clause-turn g c =
+    let stopped : c.from_residual.result ≡ Err Write = search rules in
+    let step = rw c.in-Ok-Waiting.field-0-is at c.in-Ok-Waiting.ensures.step in
+    let waits = waited g.E.Engine.answers g.E.Engine.stops g.E.Engine.breaks _ _ _ _ c.loop-exchange.invariant.0 step in
+    let before = flushed _ _ _ _ waits c.flush_written.ensures.kept in
+    rw stopped (inl (
+      c.loop-exchange.invariant.1 c.in_err-flush_written.ensures.err.1,
+      record { more = before.more; taken = before.takes.taken; held = before.takes.held; engine = before.engine; bounded = c.in-Ok-Waiting.ensures.bounded },
+      before.kept,
+    ))
 
-pub returns-in-FaultyHead-clause-turn : goal.returns-in-FaultyHead-clause-turn
-returns-in-FaultyHead-clause-turn g c =
-    let begins = rw c.in-FaultyHead.is at c.in_ok-spans.ensures.next in
-    let covers = subst (λ (l : List ℕ). IsRequestAt l c.read_next.new.headers c.in-FaultyHead.spans begins.head) (sym c.bytes.ensures.value) begins.begins.covers in
-    let refused = faulty_refused _ _ _ _ _ _ begins (c.new-head-in-FaultyHead.ensures begins.head covers) c.framing.ensures.head_only in
-    turn_refused g.E.Engine.answers g.E.Engine.stops g.E.Engine.breaks _ _ _ c.in_ok-spans.ensures.takes.0 _ _ c.refuse.result c.in_ok-spans.ensures.takes.1 c.in_ok-spans.ensures.bounded refl refused c.in_ok-spans.ensures.kept c.refuse.ensures.ok c.refuse.ensures.err
+pub returns-in_err-read_more-clause-turn : goal.returns-in_err-read_more-clause-turn
+returns-in_err-read_more-clause-turn g c =
+    let stopped : c.from_residual-in_err-read_more.result ≡ Err Read = search rules in
+    let step = rw c.in-Ok-Waiting.field-0-is at c.in-Ok-Waiting.ensures.step in
+    let waits = waited g.E.Engine.answers g.E.Engine.stops g.E.Engine.breaks _ _ _ _ c.loop-exchange.invariant.0 step in
+    let err = c.in_err-read_more.ensures.err in
+    let before = read_none _ _ _ _ _ (flushed _ _ _ _ waits c.flush_written.ensures.kept) err.1 err.2 in
+    rw stopped (
+      record { more = before.more; taken = before.takes.taken; held = before.takes.held; engine = before.engine; bounded = c.in_err-read_more.ensures.bounded },
+      subst (λ (l : List ℕ). IsPartial l) (sym err.2) step.1,
+      before.kept,
+      c.in_ok-flush_written.ensures.spent,
+    )
 
-pub returns-in-NoHead-clause-turn : goal.returns-in-NoHead-clause-turn
-returns-in-NoHead-clause-turn g c =
-    let fault = rw c.in-NoHead.is at c.in_ok-spans.ensures.next in
-    turn_refused g.E.Engine.answers g.E.Engine.stops g.E.Engine.breaks _ _ _ c.in_ok-spans.ensures.takes.0 _ _ c.refuse-in-NoHead.result c.in_ok-spans.ensures.takes.1 c.in_ok-spans.ensures.bounded refl (inl (fault, refl)) c.in_ok-spans.ensures.kept c.refuse-in-NoHead.ensures.ok c.refuse-in-NoHead.ensures.err
+pub returns-then-are_line_ends-clause-turn : goal.returns-then-are_line_ends-clause-turn
+returns-then-are_line_ends-clause-turn g c =
+    let none : c.in_ok-read_more.field-0 ≡ false = search rules in
+    let step = rw c.in-Ok-Waiting.field-0-is at c.in-Ok-Waiting.ensures.step in
+    let waits = waited g.E.Engine.answers g.E.Engine.stops g.E.Engine.breaks _ _ _ _ c.loop-exchange.invariant.0 step in
+    let came = c.in_ok-read_more.ensures.ok in
+    let same : c.read_more.new.inbox ≡ c.advance.new.self =
+    came.1.held ∙ ap (λ (l : List ℕ). c.advance.new.self ++ l) (none_came came.0 (sym came.2 ∙ none)) ∙ append-nil c.advance.new.self in
+    let before = read_on _ _ _ _ _ _ (flushed _ _ _ _ waits c.flush_written.ensures.kept) came.1 in
+    let blank : AreLineEnds c.read_more.new.inbox = search rules in (
+      record { more = before.more; taken = before.takes.taken; held = before.takes.held; engine = before.engine; bounded = c.in_ok-read_more.ensures.bounded },
+      subst (λ (l : List ℕ). IsPartial l) (sym same) step.1,
+      blank,
+      c.in_ok-read_more.ensures.end (ap (λ (b : Bool). Ok b) none),
+      before.kept,
+      c.in_ok-flush_written.ensures.spent,
+    )
 
-pub returns-else-are_line_ends-clause-failures : goal.returns-else-are_line_ends-clause-failures
-returns-else-are_line_ends-clause-failures g c = search rules
+pub returns-else-are_line_ends-clause-turn : goal.returns-else-are_line_ends-clause-turn
+returns-else-are_line_ends-clause-turn g c =
+    let none : c.in_ok-read_more.field-0 ≡ false = search rules in
+    let step = rw c.in-Ok-Waiting.field-0-is at c.in-Ok-Waiting.ensures.step in
+    let waits = waited g.E.Engine.answers g.E.Engine.stops g.E.Engine.breaks _ _ _ _ c.loop-exchange.invariant.0 step in
+    let came = c.in_ok-read_more.ensures.ok in
+    let same : c.read_more.new.inbox ≡ c.advance.new.self =
+    came.1.held ∙ ap (λ (l : List ℕ). c.advance.new.self ++ l) (none_came came.0 (sym came.2 ∙ none)) ∙ append-nil c.advance.new.self in
+    let before = read_on _ _ _ _ _ _ (flushed _ _ _ _ waits c.flush_written.ensures.kept) came.1 in
+    let inside : AreLineEnds c.read_more.new.inbox → ⊥ = search rules in (
+      record { more = before.more; taken = before.takes.taken; held = before.takes.held; engine = before.engine; bounded = c.in_ok-read_more.ensures.bounded },
+      subst (λ (l : List ℕ). IsPartial l) (sym same) step.1,
+      inside,
+      c.in_ok-read_more.ensures.end (ap (λ (b : Bool). Ok b) none),
+      before.kept,
+      c.in_ok-flush_written.ensures.spent,
+    )
+
+pub loop-exchange-preserved : goal.loop-exchange-preserved
+loop-exchange-preserved g c =
+    let step = rw c.in-Ok-Waiting.field-0-is at c.in-Ok-Waiting.ensures.step in
+    let waits = waited g.E.Engine.answers g.E.Engine.stops g.E.Engine.breaks _ _ _ _ c.loop-exchange.invariant.0 step in
+    let came = c.in_ok-read_more.ensures.ok in (
+      read_on _ _ _ _ _ _ (flushed _ _ _ _ waits c.flush_written.ensures.kept) came.1,
+      (λ is. let e = sym is ∙ c.in_ok-flush_written.ensures.spent in absurd cc),
+      c.in_ok-read_more.ensures.failures ∙ c.loop-exchange.invariant.2,
+      c.in_ok-flush_written.ensures.failures ∙ (c.in-Ok-Waiting.ensures.failures ∙ c.loop-exchange.invariant.3),
+    )

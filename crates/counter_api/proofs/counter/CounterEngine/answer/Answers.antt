@@ -17,15 +17,10 @@ returns-in_err-write_response-in-Ok-Response-clause-answered g c =
     rw told (
       bytes,
       record {
-        answered = record {
-          moment = c.moment-moment.result;
-          mark = None;
-          given = c.moment-moment.ensures.given;
-          handled = begun_of _ _ _ _ c.in-Ok-Response.response done;
-        };
-        same_bank = refl;
-        same_clock = refl;
-        same_gate = refl;
+        moment = c.moment-moment.result;
+        mark = None;
+        given = record { given = c.moment-moment.ensures.given; same_bank = refl; same_clock = refl; same_gate = refl };
+        handled = begun_of _ _ _ _ c.in-Ok-Response.response done;
       },
       subst (λ t. AppendsBeginning (g.W.Write.contents (stream_of t)) (g.W.Write.contents (stream_of c.write_response.new.writer)) bytes) same c.in_err-write_response-in-Ok-Response.ensures.beginning,
     )
@@ -34,12 +29,7 @@ pub returns-in-Ok-Report-Stopped-clause-answered : goal.returns-in-Ok-Report-Sto
 returns-in-Ok-Report-Stopped-clause-answered g c =
     let done = rw (c.in-Ok-Report-Stopped.field-0-is, c.in-Ok-Report-Stopped.field-0-0-is) at c.in-Ok-Report-Stopped.ensures.done in (
       done.0,
-      record {
-        answered = record { moment = c.moment-moment.result; mark = None; given = c.moment-moment.ensures.given; handled = done.2 };
-        same_bank = refl;
-        same_clock = refl;
-        same_gate = refl;
-      },
+      record { moment = c.moment-moment.result; mark = None; given = record { given = c.moment-moment.ensures.given; same_bank = refl; same_clock = refl; same_gate = refl }; handled = done.2 },
       all_begun _ _ done.0 done.1,
     )
 
@@ -48,20 +38,15 @@ returns-in-Ok-Report-Broken-clause-answered g c =
     let done = rw (c.in-Ok-Report-Broken.field-0-is, c.in-Ok-Report-Broken.field-0-0-is) at c.in-Ok-Report-Broken.ensures.done in (
       done.0,
       record {
-        broken = record {
-          moment = c.moment-moment.result;
-          fault = c.in-Ok-Report-Broken.field-0-0-0;
-          given = c.moment-moment.ensures.given;
-          report = done.2.report;
-          kept = done.2.kept;
-          cause = done.2.cause;
-          headed = done.2.headed;
-          allowed = done.2.allowed;
-          begun = done.2.begun;
-        };
-        same_bank = refl;
-        same_clock = refl;
-        same_gate = refl;
+        moment = c.moment-moment.result;
+        fault = c.in-Ok-Report-Broken.field-0-0-0;
+        given = record { given = c.moment-moment.ensures.given; same_bank = refl; same_clock = refl; same_gate = refl };
+        report = done.2.report;
+        kept = done.2.kept;
+        cause = done.2.cause;
+        headed = done.2.headed;
+        allowed = done.2.allowed;
+        begun = done.2.begun;
       },
       done.1,
     )
@@ -73,15 +58,10 @@ returns-in_ok-write_response-in-Err-clause-answered g c =
     c.faulted-response.ensures c.in_ok-write_response-in-Err.ensures.whole in (
       bytes,
       record {
-        answered = record {
-          moment = c.moment-moment.result;
-          mark = Some c.in-Err.fault;
-          given = c.moment-moment.ensures.given;
-          handled = whole_of _ _ _ _ (faulted_parts c.in-Err.fault) c.in-Err.ensures.done;
-        };
-        same_bank = refl;
-        same_clock = refl;
-        same_gate = refl;
+        moment = c.moment-moment.result;
+        mark = Some c.in-Err.fault;
+        given = record { given = c.moment-moment.ensures.given; same_bank = refl; same_clock = refl; same_gate = refl };
+        handled = whole_of _ _ _ _ (faulted_parts c.in-Err.fault) c.in-Err.ensures.done;
       },
       subst (λ t. Appends (g.W.Write.contents (stream_of t)) (g.W.Write.contents (stream_of c.write_response-in-Err.new.writer)) bytes) c.in-Err.ensures.writer whole,
     )
@@ -95,15 +75,10 @@ returns-in_err-write_response-in-Err-clause-answered g c =
     rw told (
       bytes,
       record {
-        answered = record {
-          moment = c.moment-moment.result;
-          mark = Some c.in-Err.fault;
-          given = c.moment-moment.ensures.given;
-          handled = begun_of _ _ _ _ (faulted_parts c.in-Err.fault) c.in-Err.ensures.done;
-        };
-        same_bank = refl;
-        same_clock = refl;
-        same_gate = refl;
+        moment = c.moment-moment.result;
+        mark = Some c.in-Err.fault;
+        given = record { given = c.moment-moment.ensures.given; same_bank = refl; same_clock = refl; same_gate = refl };
+        handled = begun_of _ _ _ _ (faulted_parts c.in-Err.fault) c.in-Err.ensures.done;
       },
       subst (λ t. AppendsBeginning (g.W.Write.contents (stream_of t)) (g.W.Write.contents (stream_of c.write_response-in-Err.new.writer)) bytes) c.in-Err.ensures.writer begun,
     )

@@ -1,5 +1,6 @@
-use Rattle.counter_loop.specs.Boxes.{AreVisited}
+use Rattle.std.specs.Prelude.{⊤}
+use Rattle.counter_loop.proofs.ServedLemmas.{UpTo}
 use Rattle.counter_loop.proofs.clients.Clients.visit_last.Given as goal
 
 abbrev pub invariant-loop-key : goal.invariant-loop-key
-invariant-loop-key g l = AreVisited g.T.TwoWay.begins g.T.TwoWay.ways g.S.Stands.status (g.G.Gate.users l.fn.gate) g.C.Clock.may_give l.fn.self l.self (record { store = l.fn.bank.store; clock = l.fn.clock }) (record { store = l.bank.store; clock = l.clock })
+invariant-loop-key g l = UpTo g.T.TwoWay.begins g.T.TwoWay.ways g.T.TwoWay.used_up g.T.TwoWay.full g.E.Service.status g.E.Service.users g.E.Service.may_give l.key (λ _. ⊤) l.fn.self l.self l.fn.service l.service
