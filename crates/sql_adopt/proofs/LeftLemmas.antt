@@ -1,7 +1,7 @@
 -- What is left where a crash may leave nothing more than before.
 use Rattle.std.proofs.Common.{◌≡◌, ◌∙◌, IsTrue, ap, refl, subst, sym}
 use Rattle.sqlite.specs.Effect.{Database}
-use Rattle.sqlite.specs.State.{HasCleanDisk, IsLive, IsRolledBack, State}
+use Rattle.sqlite.specs.State.{HasCleanDisk, IsLive, State}
 use Rattle.sqlite.specs.Tree.{Trees}
 use Rattle.sqlite_schema.specs.declared.schema.Schema.{Schema}
 use Rattle.sqlite_catalog.specs.Listing.{IsSound}
@@ -29,10 +29,3 @@ module _ (e : Edition) (old new : State) (file : IsBankFileIn e old) (was_open :
 
   pub left_with : IsLeft old new
   left_with = record { was_open = was_open; now = λ is_open. clean is_open ∙ same_commit is_open ∙ file.settled; settled = λ is_open. sym (clean is_open) }
-
--- A transaction that was rolled back, in which nothing was committed.
-pub left_by : (e : Edition) (old begun read new : State) → IsBankFileIn e old → (IsTrue begun.is_open → IsTrue old.is_open) → (IsTrue read.is_open → IsTrue begun.is_open) → begun.committed ≡ old.committed
-    → (IsTrue read.is_open → read.committed.trees ≡ begun.committed.trees) → IsRolledBack read new → IsLive old → IsLive new → IsLeft old new
-left_by e old begun read new file began stayed committed trees undone was_live live =
-    left_with e old new file (λ is_open. began (stayed (undone.was_open is_open))) (λ is_open. (undone.undone is_open).0 ∙ sym (undone.undone is_open).1)
-    (λ is_open. ap (λ (d : Database). d.trees) (undone.undone is_open).1 ∙ trees (undone.was_open is_open) ∙ ap (λ (d : Database). d.trees) committed) was_live live

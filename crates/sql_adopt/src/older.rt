@@ -23,10 +23,10 @@ ghost use Rattle.sql_adopt.specs.Refused.{HoldsSoundBankIn, IsNamedBy, IsOfOther
 use crate::adopt_fault::{AdoptFault, table_unread};
 use crate::bank_rows::BankRows;
 use crate::judging::judge_file;
-use crate::reading::{FileRows, rows_inside};
+use crate::reading::{FileRows, all_rows};
 use sql_schema::Edition;
 use sql_whole::{BankRow, bank_row};
-use sqlite::{Alter, Connection, Transaction};
+use sqlite::{Alter, Connection};
 use std::alloc::Global;
 
 /// A bank of a schema version before the newest.
@@ -80,42 +80,42 @@ fn older_in(found: Option<BankRow>) -> Result<Edition, AdoptFault>
     Err(AdoptFault::Version)
 }
 
-fn told_edition<S: Alter>(tx: &mut Transaction<'_, S>) -> Result<Edition, AdoptFault>
-    ensures same_reference { tx.new.conn.ghost_name ≡ tx.old.conn.ghost_name }
-    ensures whole { (e : TheEdition) → Reads e (state S.Store tx.old.conn.now) (state S.Store tx.new.conn.now) IsOlderRow result }
+fn told_edition<S: Alter>(conn: &mut Connection<S>) -> Result<Edition, AdoptFault>
+    ensures mode { conn.old.in_transaction ≡ false → conn.new.in_transaction ≡ false }
+    ensures whole { (e : TheEdition) → Reads e (state S.Store conn.old) (state S.Store conn.new) IsOlderRow result }
     ensures older { IfOk result (λ edition. edition ≢ newest) }
-    ensures refused { (e : TheEdition) → e ≢ newest → RefusesFor e (state S.Store tx.old.conn.now) (state S.Store tx.new.conn.now) result }
-    ensures other { HasCleanDisk (state S.Store tx.new.conn.now) → (e : TheEdition) → HasBankTables e (state S.Store tx.old.conn.now) → (version : ℕ) → IsBankRow newest (state S.Store tx.old.conn.now).now.trees version → IsErrAnd result IsOfOther }
-    ensures takes { (e : TheEdition) → e ≢ newest → OnReadable e (state S.Store tx.old.conn.now) (state S.Store tx.new.conn.now) (IfErr result IsOfStore) }
-    ensures open { WasOpen (state S.Store tx.old.conn.now) (state S.Store tx.new.conn.now) result }
-    ensures survives { LeavesNone (state S.Store tx.old.conn.now) (state S.Store tx.new.conn.now) }
+    ensures refused { (e : TheEdition) → e ≢ newest → RefusesFor e (state S.Store conn.old) (state S.Store conn.new) result }
+    ensures other { HasCleanDisk (state S.Store conn.new) → (e : TheEdition) → HasBankTables e (state S.Store conn.old) → (version : ℕ) → IsBankRow newest (state S.Store conn.old).now.trees version → IsErrAnd result IsOfOther }
+    ensures takes { (e : TheEdition) → e ≢ newest → OnReadable e (state S.Store conn.old) (state S.Store conn.new) (IfErr result IsOfStore) }
+    ensures open { WasOpen (state S.Store conn.old) (state S.Store conn.new) result }
+    ensures survives { LeavesNone (state S.Store conn.old) (state S.Store conn.new) }
 {
-    match bank_row(tx) {
+    match bank_row(conn) {
         Ok(found) => older_in(found),
         Err(fault) => Err(table_unread(fault)),
     }
 }
 
 /// The rows of all tables, in the schema version that the row of the bank names.
-fn older_inside<S: Alter>(
+fn all_older_rows<S: Alter>(
     alloc: Global,
-    tx: &mut Transaction<'_, S>,
+    conn: &mut Connection<S>,
 ) -> Result<OlderRows, AdoptFault>
-    ensures same_reference { tx.new.conn.ghost_name ≡ tx.old.conn.ghost_name }
-    ensures whole { (e : TheEdition) → BearsNoOther e (state S.Store tx.old.conn.now).now.trees → ReadsLast e (state S.Store tx.old.conn.now) (state S.Store tx.new.conn.now) (λ trees file. (file.edition ≡ e) × AreFileRows e trees file.rows) result }
+    ensures mode { conn.old.in_transaction ≡ false → conn.new.in_transaction ≡ false }
+    ensures whole { (e : TheEdition) → BearsNoOther e (state S.Store conn.old).now.trees → ReadsLast e (state S.Store conn.old) (state S.Store conn.new) (λ trees file. (file.edition ≡ e) × AreFileRows e trees file.rows) result }
     ensures older { IfOk result (λ file. file.edition ≢ newest) }
-    ensures refused { (e : TheEdition) → e ≢ newest → BearsNoOther e (state S.Store tx.old.conn.now).now.trees → RefusesFor e (state S.Store tx.old.conn.now) (state S.Store tx.new.conn.now) result }
-    ensures other { HasCleanDisk (state S.Store tx.new.conn.now) → (e : TheEdition) → HasBankTables e (state S.Store tx.old.conn.now) → (version : ℕ) → IsBankRow newest (state S.Store tx.old.conn.now).now.trees version → IsErrAnd result IsOfOther }
-    ensures takes { (e : TheEdition) → e ≢ newest → BearsNoOther e (state S.Store tx.old.conn.now).now.trees → OnReadable e (state S.Store tx.old.conn.now) (state S.Store tx.new.conn.now) (IfOk result (λ file. IsSome file.rows.policy) × IfErr result IsOfStore) }
-    ensures open { WasOpen (state S.Store tx.old.conn.now) (state S.Store tx.new.conn.now) result }
-    ensures survives { LeavesNone (state S.Store tx.old.conn.now) (state S.Store tx.new.conn.now) }
+    ensures refused { (e : TheEdition) → e ≢ newest → BearsNoOther e (state S.Store conn.old).now.trees → RefusesFor e (state S.Store conn.old) (state S.Store conn.new) result }
+    ensures other { HasCleanDisk (state S.Store conn.new) → (e : TheEdition) → HasBankTables e (state S.Store conn.old) → (version : ℕ) → IsBankRow newest (state S.Store conn.old).now.trees version → IsErrAnd result IsOfOther }
+    ensures takes { (e : TheEdition) → e ≢ newest → BearsNoOther e (state S.Store conn.old).now.trees → OnReadable e (state S.Store conn.old) (state S.Store conn.new) (IfOk result (λ file. IsSome file.rows.policy) × IfErr result IsOfStore) }
+    ensures open { WasOpen (state S.Store conn.old) (state S.Store conn.new) result }
+    ensures survives { LeavesNone (state S.Store conn.old) (state S.Store conn.new) }
 {
-    let edition = told_edition(tx)?;
-    let rows = rows_inside(alloc, tx, edition)?;
+    let edition = told_edition(conn)?;
+    let rows = all_rows(alloc, conn, edition)?;
     Ok(OlderRows { edition, rows })
 }
 
-/// The rows of all tables, read in one transaction that is rolled back.
+/// The rows of all tables. Nothing is changed.
 fn read_older_file<S: Alter>(
     alloc: Global,
     conn: &mut Connection<S>,
@@ -132,12 +132,11 @@ fn read_older_file<S: Alter>(
     ensures sound { OnOlderFile (state S.Store conn.old) (state S.Store conn.new) (λ e. OnOk result (IsDatabase (state S.Store conn.old).now)) }
     ensures survives { LeavesNone (state S.Store conn.old) (state S.Store conn.new) }
 {
-    // Reading the schema ensures that the connection's state is one that it can be in, which the clauses rest on.
+    // A connection's schema, and that nothing is begun in it, show that its state is one that it can be in.
     let _schema = conn.schema();
-    let mut tx = conn.transaction();
-    let rows = older_inside(alloc, &mut tx);
-    tx.rollback();
+    let rows = all_older_rows(alloc, conn);
     let _left = conn.schema();
+    let _idle = conn.is_autocommit();
     rows
 }
 

@@ -25,7 +25,7 @@ use sql_whole::{
     BankRow, BookRows, PolicyTables, ReadFault, all_book_rows, all_policy_tables, ask_tables,
     bank_row,
 };
-use sqlite::{Alter, Connection, Transaction};
+use sqlite::{Alter, Connection};
 use std::alloc::Global;
 
 /// The rows of all tables of a bank.
@@ -57,16 +57,16 @@ fn row_of_edition(found: Option<BankRow>, edition: Edition) -> Result<BankRow, A
     }
 }
 
-fn told_row<S: Alter>(tx: &mut Transaction<'_, S>, edition: Edition) -> Result<BankRow, AdoptFault>
-    ensures same_reference { tx.new.conn.ghost_name ≡ tx.old.conn.ghost_name }
-    ensures whole { Reads edition (state S.Store tx.old.conn.now) (state S.Store tx.new.conn.now) (λ trees row. IsBankNumber edition trees row.policy) result }
-    ensures refused { RefusesFor edition (state S.Store tx.old.conn.now) (state S.Store tx.new.conn.now) result }
-    ensures other { TellsOther edition (state S.Store tx.old.conn.now) (state S.Store tx.new.conn.now) result }
-    ensures takes { OnReadable edition (state S.Store tx.old.conn.now) (state S.Store tx.new.conn.now) (IfErr result IsOfStore) }
-    ensures open { WasOpen (state S.Store tx.old.conn.now) (state S.Store tx.new.conn.now) result }
-    ensures survives { LeavesNone (state S.Store tx.old.conn.now) (state S.Store tx.new.conn.now) }
+fn told_row<S: Alter>(conn: &mut Connection<S>, edition: Edition) -> Result<BankRow, AdoptFault>
+    ensures mode { conn.old.in_transaction ≡ false → conn.new.in_transaction ≡ false }
+    ensures whole { Reads edition (state S.Store conn.old) (state S.Store conn.new) (λ trees row. IsBankNumber edition trees row.policy) result }
+    ensures refused { RefusesFor edition (state S.Store conn.old) (state S.Store conn.new) result }
+    ensures other { TellsOther edition (state S.Store conn.old) (state S.Store conn.new) result }
+    ensures takes { OnReadable edition (state S.Store conn.old) (state S.Store conn.new) (IfErr result IsOfStore) }
+    ensures open { WasOpen (state S.Store conn.old) (state S.Store conn.new) result }
+    ensures survives { LeavesNone (state S.Store conn.old) (state S.Store conn.new) }
 {
-    match bank_row(tx) {
+    match bank_row(conn) {
         Ok(found) => row_of_edition(found, edition),
         Err(fault) => Err(table_unread(fault)),
     }
@@ -86,17 +86,17 @@ fn version_in(row: &BankRow) -> Result<u64, AdoptFault>
 
 /// The version of the policy. It is not judged before each of the other tables was asked for its rows: a fault of
 /// the bank's row is reported first, then a missing table, then what is out of its limits.
-fn bank_version<S: Alter>(tx: &mut Transaction<'_, S>, edition: Edition) -> Result<u64, AdoptFault>
-    ensures same_reference { tx.new.conn.ghost_name ≡ tx.old.conn.ghost_name }
-    ensures whole { Reads edition (state S.Store tx.old.conn.now) (state S.Store tx.new.conn.now) (IsBankRow edition) result }
-    ensures refused { RefusesFor edition (state S.Store tx.old.conn.now) (state S.Store tx.new.conn.now) result }
-    ensures other { TellsOther edition (state S.Store tx.old.conn.now) (state S.Store tx.new.conn.now) result }
-    ensures takes { OnReadable edition (state S.Store tx.old.conn.now) (state S.Store tx.new.conn.now) (IfErr result IsOfStore) }
-    ensures open { WasOpen (state S.Store tx.old.conn.now) (state S.Store tx.new.conn.now) result }
-    ensures survives { LeavesNone (state S.Store tx.old.conn.now) (state S.Store tx.new.conn.now) }
+fn bank_version<S: Alter>(conn: &mut Connection<S>, edition: Edition) -> Result<u64, AdoptFault>
+    ensures mode { conn.old.in_transaction ≡ false → conn.new.in_transaction ≡ false }
+    ensures whole { Reads edition (state S.Store conn.old) (state S.Store conn.new) (IsBankRow edition) result }
+    ensures refused { RefusesFor edition (state S.Store conn.old) (state S.Store conn.new) result }
+    ensures other { TellsOther edition (state S.Store conn.old) (state S.Store conn.new) result }
+    ensures takes { OnReadable edition (state S.Store conn.old) (state S.Store conn.new) (IfErr result IsOfStore) }
+    ensures open { WasOpen (state S.Store conn.old) (state S.Store conn.new) result }
+    ensures survives { LeavesNone (state S.Store conn.old) (state S.Store conn.new) }
 {
-    let row = told_row(tx, edition)?;
-    match ask_tables(tx, edition) {
+    let row = told_row(conn, edition)?;
+    match ask_tables(conn, edition) {
         Ok(()) => version_in(&row),
         Err(fault) => Err(table_unread(fault)),
     }
@@ -104,17 +104,17 @@ fn bank_version<S: Alter>(tx: &mut Transaction<'_, S>, edition: Edition) -> Resu
 
 fn book_rows<S: Alter>(
     alloc: Global,
-    tx: &mut Transaction<'_, S>,
+    conn: &mut Connection<S>,
     edition: Edition,
 ) -> Result<BookRows, AdoptFault>
-    ensures same_reference { tx.new.conn.ghost_name ≡ tx.old.conn.ghost_name }
-    ensures whole { Reads edition (state S.Store tx.old.conn.now) (state S.Store tx.new.conn.now) (AreBookRows edition) result }
+    ensures mode { conn.old.in_transaction ≡ false → conn.new.in_transaction ≡ false }
+    ensures whole { Reads edition (state S.Store conn.old) (state S.Store conn.new) (AreBookRows edition) result }
     ensures typed { IfOk result AreBooksTyped }
-    ensures takes { OnReadable edition (state S.Store tx.old.conn.now) (state S.Store tx.new.conn.now) (IfErr result IsOfStore) }
+    ensures takes { OnReadable edition (state S.Store conn.old) (state S.Store conn.new) (IfErr result IsOfStore) }
     ensures beyond { IfErr result IsOfUnread }
-    ensures survives { LeavesNone (state S.Store tx.old.conn.now) (state S.Store tx.new.conn.now) }
+    ensures survives { LeavesNone (state S.Store conn.old) (state S.Store conn.new) }
 {
-    match all_book_rows(alloc, tx, edition) {
+    match all_book_rows(alloc, conn, edition) {
         Ok(rows) => Ok(rows),
         Err(fault) => Err(books_unread(fault)),
     }
@@ -123,17 +123,17 @@ fn book_rows<S: Alter>(
 /// The rows of the policy, or none where one of them is out of its limits.
 fn policy_tables<S: Alter>(
     alloc: Global,
-    tx: &mut Transaction<'_, S>,
+    conn: &mut Connection<S>,
     edition: Edition,
 ) -> Result<Option<PolicyTables>, AdoptFault>
-    ensures same_reference { tx.new.conn.ghost_name ≡ tx.old.conn.ghost_name }
-    ensures whole { ReadsLast edition (state S.Store tx.old.conn.now) (state S.Store tx.new.conn.now) (λ trees found. IfSome found (ArePolicyTables edition trees)) result }
+    ensures mode { conn.old.in_transaction ≡ false → conn.new.in_transaction ≡ false }
+    ensures whole { ReadsLast edition (state S.Store conn.old) (state S.Store conn.new) (λ trees found. IfSome found (ArePolicyTables edition trees)) result }
     ensures typed { IfOk result (λ found. IfSome found AreTablesTyped) }
-    ensures takes { OnReadable edition (state S.Store tx.old.conn.now) (state S.Store tx.new.conn.now) (IfOk result IsSome × IfErr result IsOfStore) }
+    ensures takes { OnReadable edition (state S.Store conn.old) (state S.Store conn.new) (IfOk result IsSome × IfErr result IsOfStore) }
     ensures beyond { IfErr result IsOfUnread }
-    ensures survives { LeavesNone (state S.Store tx.old.conn.now) (state S.Store tx.new.conn.now) }
+    ensures survives { LeavesNone (state S.Store conn.old) (state S.Store conn.new) }
 {
-    match all_policy_tables(alloc, tx, edition) {
+    match all_policy_tables(alloc, conn, edition) {
         Ok(rows) => Ok(Some(rows)),
         Err(ReadFault::OutOfLimits(_)) => Ok(None),
         Err(fault) => Err(books_unread(fault)),
@@ -141,22 +141,22 @@ fn policy_tables<S: Alter>(
 }
 
 /// The rows of all tables: once each table was asked, those of the books are read, then those of the policy.
-pub(crate) fn rows_inside<S: Alter>(
+pub(crate) fn all_rows<S: Alter>(
     alloc: Global,
-    tx: &mut Transaction<'_, S>,
+    conn: &mut Connection<S>,
     edition: Edition,
 ) -> Result<FileRows, AdoptFault>
-    ensures same_reference { tx.new.conn.ghost_name ≡ tx.old.conn.ghost_name }
-    ensures whole { ReadsLast edition (state S.Store tx.old.conn.now) (state S.Store tx.new.conn.now) (AreFileRows edition) result }
-    ensures refused { RefusesFor edition (state S.Store tx.old.conn.now) (state S.Store tx.new.conn.now) result }
-    ensures other { TellsOther edition (state S.Store tx.old.conn.now) (state S.Store tx.new.conn.now) result }
-    ensures takes { OnReadable edition (state S.Store tx.old.conn.now) (state S.Store tx.new.conn.now) (IfOk result (λ rows. IsSome rows.policy) × IfErr result IsOfStore) }
-    ensures open { WasOpen (state S.Store tx.old.conn.now) (state S.Store tx.new.conn.now) result }
-    ensures survives { LeavesNone (state S.Store tx.old.conn.now) (state S.Store tx.new.conn.now) }
+    ensures mode { conn.old.in_transaction ≡ false → conn.new.in_transaction ≡ false }
+    ensures whole { ReadsLast edition (state S.Store conn.old) (state S.Store conn.new) (AreFileRows edition) result }
+    ensures refused { RefusesFor edition (state S.Store conn.old) (state S.Store conn.new) result }
+    ensures other { TellsOther edition (state S.Store conn.old) (state S.Store conn.new) result }
+    ensures takes { OnReadable edition (state S.Store conn.old) (state S.Store conn.new) (IfOk result (λ rows. IsSome rows.policy) × IfErr result IsOfStore) }
+    ensures open { WasOpen (state S.Store conn.old) (state S.Store conn.new) result }
+    ensures survives { LeavesNone (state S.Store conn.old) (state S.Store conn.new) }
 {
-    let version = bank_version(tx, edition)?;
-    let books = book_rows(alloc, tx, edition)?;
-    let policy = policy_tables(alloc, tx, edition)?;
+    let version = bank_version(conn, edition)?;
+    let books = book_rows(alloc, conn, edition)?;
+    let policy = policy_tables(alloc, conn, edition)?;
     Ok(FileRows {
         version,
         books,
@@ -164,7 +164,7 @@ pub(crate) fn rows_inside<S: Alter>(
     })
 }
 
-/// The rows of all tables, read in one transaction that is rolled back.
+/// The rows of all tables. Nothing is changed.
 pub(crate) fn read_file<S: Alter>(
     alloc: Global,
     conn: &mut Connection<S>,
@@ -181,11 +181,10 @@ pub(crate) fn read_file<S: Alter>(
     ensures sound { HasCleanDisk (state S.Store conn.new) → OnOk result (IsDatabase (state S.Store conn.old).now) }
     ensures survives { LeavesNone (state S.Store conn.old) (state S.Store conn.new) }
 {
-    // Reading the schema ensures that the connection's state is one that it can be in, which the clauses rest on.
+    // A connection's schema, and that nothing is begun in it, show that its state is one that it can be in.
     let _schema = conn.schema();
-    let mut tx = conn.transaction();
-    let rows = rows_inside(alloc, &mut tx, edition);
-    tx.rollback();
+    let rows = all_rows(alloc, conn, edition);
     let _left = conn.schema();
+    let _idle = conn.is_autocommit();
     rows
 }

@@ -3,8 +3,10 @@ pub mod BankWhole
 pub mod BookWhole
 pub mod CountLemmas
 pub mod HistoryWhole
+pub mod PlainLemmas
 pub mod PolicyWhole
 pub mod ReadsLemmas
 pub mod RefusalLemmas
+pub mod StreamLemmas
 pub mod WholeLemmas
 pub mod WidthLemmas

@@ -1,11 +1,10 @@
 -- Why a query for a whole table is refused on a connection to the tables of a bank: for the database, or for a limit on steps.
 use Rattle.std.proofs.Common.{◌≡◌, ◌⊎◌, ℕ, Option, List, [], length, true, append-nil, inl, inr, Ok, Err, Result, ap, sym, subst, arith, ◌∙◌}
-use Rattle.std.specs.Prelude.{IsSome}
 use Rattle.sqlite.specs.Clock.{timed}
 use Rattle.sqlite.specs.Command.TheVariants.{Select}
 use Rattle.sqlite.specs.Effect.{Database, RefusesQuery}
 use Rattle.sqlite.specs.Listing.{IsSourceOf, reads_listing, understood}
-use Rattle.sqlite.specs.State.{FailsToQuery, FailsToShow, HasCause, IsNoStatement, IsNotRun, IsStatement, IsTooLate, State, store_error}
+use Rattle.sqlite.specs.State.{FailsToQuery, FailsToShow, HasCause, IsNoStatement, IsNotRun, IsStatement, State, store_error}
 use Rattle.sqlite.specs.declared.error.Error.{Error}
 use Rattle.sqlite.proofs.Callers.{IsPlain}
 use Rattle.sqlite_resolve.specs.declared.compiled.Compiled.{Compiled}
@@ -50,9 +49,8 @@ module _ (edition : Edition) (text : List ℕ) (asks : IsAnswered edition text) 
       let db : shown.0 ≡ old.now = subst (λ b. IsSourceOf b old.now shown.0) (ap (λ s. reads_listing s text) has ∙ asks.unlisted) shown.1 in
       refused old.step_limit shown.0 db shown.2
 
-  pub of_database : FailsToQuery text [] old new e ⊎ IsTooLate text [] old new e → IsOfDatabase (read_fault_named e table)
+  pub of_database : FailsToQuery text [] old new e → IsOfDatabase (read_fault_named e table)
   unfolding FailsToQuery IsNotRun
-  of_database (inl (inl (inl h))) = absurd (no_statement h.0)
-  of_database (inl (inl (inr h))) = of_store old new table h.0 e h.1 h.2
-  of_database (inl (inr h)) = shows_not h.0 h.1 h.2
-  of_database (inr late) = absurd (let none = subst IsSome (subst IsPlain (at_bank (Ok late.0) late.1.is) asks.plain).0 late.2 in cc)
+  of_database (inl (inl h)) = absurd (no_statement h.0)
+  of_database (inl (inr h)) = of_store old new table h.0 e h.1 h.2
+  of_database (inr h) = shows_not h.0 h.1 h.2

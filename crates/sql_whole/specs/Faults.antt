@@ -24,3 +24,7 @@ read_fault_named _ table = Missing table
 abbrev pub IsOfDatabase : ReadFault → Type 0
 IsOfDatabase (Fault fault) = ⊤
 IsOfDatabase _ = ⊥
+
+-- the error is one of the database, whichever table was asked
+abbrev pub IsErrorOfDatabase : Error → Type 0
+IsErrorOfDatabase e = (table : Table) → IsOfDatabase (read_fault_named e table)

@@ -1,6 +1,6 @@
 //! The whole table of accounts: its query, and its rows as records of accounts.
 
-ghost use Rattle.std.specs.Prelude.{◌≡◌, IfErr, IfOk};
+ghost use Rattle.std.specs.Prelude.{◌≡◌, IfErr, IfOk, false};
 ghost use Rattle.sqlite.specs.Held.{state};
 ghost use Rattle.sql_schema.specs.Readable.{IsReadableAccount};
 ghost use Rattle.sql_schema.specs.Steps.{LeavesNone, WasOpen};
@@ -10,10 +10,10 @@ ghost use Rattle.sql_whole.specs.Typed.{Each};
 ghost use Rattle.sql_whole.specs.Whole.{OnReadable, Reads};
 
 use crate::fault::{ReadFault, Table};
-use crate::table_row::{WholeRow, whole_table};
+use crate::table_row::whole_table;
 use bank_books::AccountRecord;
 use sql_schema::{Edition, select_accounts};
-use sqlite::{Alter, Transaction};
+use sqlite::{Alter, Connection};
 use std::alloc::Global;
 
 pub(crate) const QUERY: &str = select_accounts!("ORDER BY account");
@@ -21,17 +21,15 @@ pub(crate) const QUERY: &str = select_accounts!("ORDER BY account");
 /// All accounts with the numbers that are kept beside them, by number.
 pub fn all_accounts<S: Alter>(
     alloc: Global,
-    tx: &mut Transaction<'_, S>,
+    conn: &mut Connection<S>,
     edition: Edition,
 ) -> Result<Vec<AccountRecord>, ReadFault>
-    ensures same_reference { tx.new.conn.ghost_name ≡ tx.old.conn.ghost_name }
-    ensures whole { Reads edition (state S.Store tx.old.conn.now) (state S.Store tx.new.conn.now) (λ trees rows. AreAccounts trees rows.items) result }
+    ensures mode { conn.old.in_transaction ≡ false → conn.new.in_transaction ≡ false }
+    ensures whole { Reads edition (state S.Store conn.old) (state S.Store conn.new) (λ trees rows. AreAccounts trees rows.items) result }
     ensures typed { IfOk result (λ rows. Each IsReadableAccount rows.items) }
-    ensures takes { OnReadable edition (state S.Store tx.old.conn.now) (state S.Store tx.new.conn.now) (IfErr result IsOfDatabase) }
-    ensures open { WasOpen (state S.Store tx.old.conn.now) (state S.Store tx.new.conn.now) result }
-    ensures survives { LeavesNone (state S.Store tx.old.conn.now) (state S.Store tx.new.conn.now) }
+    ensures takes { OnReadable edition (state S.Store conn.old) (state S.Store conn.new) (IfErr result IsOfDatabase) }
+    ensures open { WasOpen (state S.Store conn.old) (state S.Store conn.new) result }
+    ensures survives { LeavesNone (state S.Store conn.old) (state S.Store conn.new) }
 {
-    whole_table(alloc, tx, edition, QUERY, Table::Accounts)
+    whole_table(alloc, conn, edition, QUERY, Table::Accounts)
 }
-
-impl WholeRow for AccountRecord {}

@@ -1,6 +1,6 @@
 //! Whether all tables but the bank's own are there, asked by the queries that read them whole.
 
-ghost use Rattle.std.specs.Prelude.{◌≡◌, IfSome, IsTrue, ⊤};
+ghost use Rattle.std.specs.Prelude.{◌≡◌, IfSome, IsTrue, ⊤, false};
 ghost use Rattle.sqlite.specs.Held.{state};
 ghost use Rattle.sql_whole.specs.Whole.{IsAnswered, IsThere, Reads};
 ghost use Rattle.sql_schema.specs.Steps.{LeavesNone};
@@ -11,7 +11,7 @@ use crate::fault::Table::{
 };
 use crate::fault::{ReadFault, read_fault};
 use sql_schema::Edition;
-use sqlite::{Alter, Transaction};
+use sqlite::{Alter, Connection};
 
 /// All tables of a bank but that of its one row.
 const OTHERS: [Table; 15] = [
@@ -45,18 +45,18 @@ fn query_for(table: Table, edition: Edition) -> Option<&'static str>
 
 /// Asks whether the tables have an answer to a query, and reads none.
 fn ask<S: Alter>(
-    tx: &mut Transaction<'_, S>,
+    conn: &mut Connection<S>,
     edition: Edition,
     sql: &str,
     table: Table,
 ) -> Result<(), ReadFault>
     requires { IsAnswered edition sql.now }
-    ensures same_reference { tx.new.conn.ghost_name ≡ tx.old.conn.ghost_name }
-    ensures whole { Reads edition (state S.Store tx.old.conn.now) (state S.Store tx.new.conn.now) (λ _ _. ⊤) result }
-    ensures there { IsThere edition (state S.Store tx.old.conn.now) (state S.Store tx.new.conn.now) result }
-    ensures survives { LeavesNone (state S.Store tx.old.conn.now) (state S.Store tx.new.conn.now) }
+    ensures mode { conn.old.in_transaction ≡ false → conn.new.in_transaction ≡ false }
+    ensures whole { Reads edition (state S.Store conn.old) (state S.Store conn.new) (λ _ _. ⊤) result }
+    ensures there { IsThere edition (state S.Store conn.old) (state S.Store conn.new) result }
+    ensures survives { LeavesNone (state S.Store conn.old) (state S.Store conn.new) }
 {
-    let _statement = match tx.prepare(sql) {
+    let _statement = match conn.prepare(sql) {
         Ok(statement) => statement,
         Err(error) => return Err(read_fault(error, table)),
     };
@@ -65,31 +65,31 @@ fn ask<S: Alter>(
 
 /// Asks a table for all of its rows. A table that the schema version does not have is passed over.
 fn ask_table<S: Alter>(
-    tx: &mut Transaction<'_, S>,
+    conn: &mut Connection<S>,
     edition: Edition,
     table: Table,
 ) -> Result<(), ReadFault>
-    ensures same_reference { tx.new.conn.ghost_name ≡ tx.old.conn.ghost_name }
-    ensures whole { IsTrue (state S.Store tx.old.conn.now).is_open → Reads edition (state S.Store tx.old.conn.now) (state S.Store tx.new.conn.now) (λ _ _. ⊤) result }
-    ensures there { IsThere edition (state S.Store tx.old.conn.now) (state S.Store tx.new.conn.now) result }
-    ensures survives { LeavesNone (state S.Store tx.old.conn.now) (state S.Store tx.new.conn.now) }
+    ensures mode { conn.old.in_transaction ≡ false → conn.new.in_transaction ≡ false }
+    ensures whole { IsTrue (state S.Store conn.old).is_open → Reads edition (state S.Store conn.old) (state S.Store conn.new) (λ _ _. ⊤) result }
+    ensures there { IsThere edition (state S.Store conn.old) (state S.Store conn.new) result }
+    ensures survives { LeavesNone (state S.Store conn.old) (state S.Store conn.new) }
 {
     match query_for(table, edition) {
-        Some(sql) => ask(tx, edition, sql, table),
+        Some(sql) => ask(conn, edition, sql, table),
         None => Ok(()),
     }
 }
 
 /// Asks all tables but that of the bank's row for their rows, so that a missing table is reported before any
 /// value of the others is read.
-pub fn ask_tables<S: Alter>(tx: &mut Transaction<'_, S>, edition: Edition) -> Result<(), ReadFault>
-    ensures same_reference { tx.new.conn.ghost_name ≡ tx.old.conn.ghost_name }
-    ensures whole { IsTrue (state S.Store tx.old.conn.now).is_open → Reads edition (state S.Store tx.old.conn.now) (state S.Store tx.new.conn.now) (λ _ _. ⊤) result }
-    ensures there { IsTrue (state S.Store tx.old.conn.now).is_open → IsThere edition (state S.Store tx.old.conn.now) (state S.Store tx.new.conn.now) result }
-    ensures survives { LeavesNone (state S.Store tx.old.conn.now) (state S.Store tx.new.conn.now) }
+pub fn ask_tables<S: Alter>(conn: &mut Connection<S>, edition: Edition) -> Result<(), ReadFault>
+    ensures mode { conn.old.in_transaction ≡ false → conn.new.in_transaction ≡ false }
+    ensures whole { IsTrue (state S.Store conn.old).is_open → Reads edition (state S.Store conn.old) (state S.Store conn.new) (λ _ _. ⊤) result }
+    ensures there { IsTrue (state S.Store conn.old).is_open → IsThere edition (state S.Store conn.old) (state S.Store conn.new) result }
+    ensures survives { LeavesNone (state S.Store conn.old) (state S.Store conn.new) }
 {
     for table in OTHERS {
-        ask_table(tx, edition, table)?;
+        ask_table(conn, edition, table)?;
     }
     Ok(())
 }

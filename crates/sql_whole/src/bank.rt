@@ -1,6 +1,6 @@
 //! The table of the bank: its one row, with the versions of the tables and of the policy.
 
-ghost use Rattle.std.specs.Prelude.{◌≡◌, ◌≢◌, IfErr, IfOk};
+ghost use Rattle.std.specs.Prelude.{◌≡◌, ◌≢◌, IfErr, IfOk, false};
 ghost use Rattle.money.specs.declared.fault.Fault.TheVariants.{Memory};
 ghost use Rattle.sqlite.specs.Held.{state};
 ghost use Rattle.sql_schema.specs.Steps.{LeavesNone, WasOpen};
@@ -14,7 +14,7 @@ use crate::fault::{ReadFault, Table};
 use crate::table_row::shown_rows;
 use money::Fault;
 use sql_schema::whole_at;
-use sqlite::{Alter, Row, Transaction};
+use sqlite::{Alter, Connection, Row};
 
 /// The row of a bank, whatever numbers it bears.
 #[derive(Clone, Copy, Debug, PartialEq, Eq)]
@@ -31,14 +31,14 @@ pub(crate) const QUERY: &str = "SELECT id, version, policy FROM bank ORDER BY id
 
 /// The one row of the table of the bank, which is alike in all schema versions, or none where the table does not
 /// have exactly one row of whole numbers.
-pub fn bank_row<S: Alter>(tx: &mut Transaction<'_, S>) -> Result<Option<BankRow>, ReadFault>
-    ensures same_reference { tx.new.conn.ghost_name ≡ tx.old.conn.ghost_name }
-    ensures whole { (e : Edition) → Reads e (state S.Store tx.old.conn.now) (state S.Store tx.new.conn.now) IsBankTable result }
-    ensures there { (e : Edition) → IsThere e (state S.Store tx.old.conn.now) (state S.Store tx.new.conn.now) result }
-    ensures open { WasOpen (state S.Store tx.old.conn.now) (state S.Store tx.new.conn.now) result }
-    ensures survives { LeavesNone (state S.Store tx.old.conn.now) (state S.Store tx.new.conn.now) }
+pub fn bank_row<S: Alter>(conn: &mut Connection<S>) -> Result<Option<BankRow>, ReadFault>
+    ensures mode { conn.old.in_transaction ≡ false → conn.new.in_transaction ≡ false }
+    ensures whole { (e : Edition) → Reads e (state S.Store conn.old) (state S.Store conn.new) IsBankTable result }
+    ensures there { (e : Edition) → IsThere e (state S.Store conn.old) (state S.Store conn.new) result }
+    ensures open { WasOpen (state S.Store conn.old) (state S.Store conn.new) result }
+    ensures survives { LeavesNone (state S.Store conn.old) (state S.Store conn.new) }
 {
-    let rows = shown_rows(tx, QUERY, Table::Bank)?;
+    let rows = shown_rows(conn, QUERY, Table::Bank)?;
     only_row(&rows)
 }
 

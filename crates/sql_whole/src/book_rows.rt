@@ -1,6 +1,6 @@
 //! The tables that a check of the books needs, in groups, and the order in which they are read.
 
-ghost use Rattle.std.specs.Prelude.{◌≡◌, IfErr, IfOk, IsTrue};
+ghost use Rattle.std.specs.Prelude.{◌≡◌, IfErr, IfOk, IsTrue, false};
 ghost use Rattle.sqlite.specs.Held.{state};
 ghost use Rattle.sql_schema.specs.Readable.{IsReadableUser};
 ghost use Rattle.sql_schema.specs.Steps.{LeavesNone};
@@ -17,7 +17,7 @@ use crate::{
 use bank_books::{AccountRecord, BranchRecord, CashLine, EntryRecord, Proof, Release, Slip};
 use book_kept::{KeptTeller, KeptUser, SlipCount};
 use sql_schema::Edition;
-use sqlite::{Alter, Transaction};
+use sqlite::{Alter, Connection};
 use std::alloc::Global;
 
 /// Branches, tellers and accounts with the numbers that are kept beside them.
@@ -75,18 +75,18 @@ pub struct BookRows {
 
 fn ledger_rows<S: Alter>(
     alloc: Global,
-    tx: &mut Transaction<'_, S>,
+    conn: &mut Connection<S>,
     edition: Edition,
 ) -> Result<LedgerRows, ReadFault>
-    ensures same_reference { tx.new.conn.ghost_name ≡ tx.old.conn.ghost_name }
-    ensures whole { Reads edition (state S.Store tx.old.conn.now) (state S.Store tx.new.conn.now) AreLedgerRows result }
+    ensures mode { conn.old.in_transaction ≡ false → conn.new.in_transaction ≡ false }
+    ensures whole { Reads edition (state S.Store conn.old) (state S.Store conn.new) AreLedgerRows result }
     ensures typed { IfOk result IsLedgerTyped }
-    ensures takes { OnReadable edition (state S.Store tx.old.conn.now) (state S.Store tx.new.conn.now) (IfErr result IsOfDatabase) }
-    ensures survives { LeavesNone (state S.Store tx.old.conn.now) (state S.Store tx.new.conn.now) }
+    ensures takes { OnReadable edition (state S.Store conn.old) (state S.Store conn.new) (IfErr result IsOfDatabase) }
+    ensures survives { LeavesNone (state S.Store conn.old) (state S.Store conn.new) }
 {
-    let branches = all_branches(alloc, tx, edition)?;
-    let tellers = all_tellers(alloc, tx, edition)?;
-    let accounts = all_accounts(alloc, tx, edition)?;
+    let branches = all_branches(alloc, conn, edition)?;
+    let tellers = all_tellers(alloc, conn, edition)?;
+    let accounts = all_accounts(alloc, conn, edition)?;
     Ok(LedgerRows {
         branches,
         tellers,
@@ -96,18 +96,18 @@ fn ledger_rows<S: Alter>(
 
 fn history_rows<S: Alter>(
     alloc: Global,
-    tx: &mut Transaction<'_, S>,
+    conn: &mut Connection<S>,
     edition: Edition,
 ) -> Result<HistoryRows, ReadFault>
-    ensures same_reference { tx.new.conn.ghost_name ≡ tx.old.conn.ghost_name }
-    ensures whole { Reads edition (state S.Store tx.old.conn.now) (state S.Store tx.new.conn.now) AreHistoryRows result }
+    ensures mode { conn.old.in_transaction ≡ false → conn.new.in_transaction ≡ false }
+    ensures whole { Reads edition (state S.Store conn.old) (state S.Store conn.new) AreHistoryRows result }
     ensures typed { IfOk result IsHistoryTyped }
-    ensures takes { OnReadable edition (state S.Store tx.old.conn.now) (state S.Store tx.new.conn.now) (IfErr result IsOfDatabase) }
-    ensures survives { LeavesNone (state S.Store tx.old.conn.now) (state S.Store tx.new.conn.now) }
+    ensures takes { OnReadable edition (state S.Store conn.old) (state S.Store conn.new) (IfErr result IsOfDatabase) }
+    ensures survives { LeavesNone (state S.Store conn.old) (state S.Store conn.new) }
 {
-    let entries = all_entries(alloc, tx, edition)?;
-    let lines = all_lines(alloc, tx, edition)?;
-    let proofs = all_proofs(alloc, tx, edition)?;
+    let entries = all_entries(alloc, conn, edition)?;
+    let lines = all_lines(alloc, conn, edition)?;
+    let proofs = all_proofs(alloc, conn, edition)?;
     Ok(HistoryRows {
         entries,
         lines,
@@ -117,54 +117,54 @@ fn history_rows<S: Alter>(
 
 fn user_rows<S: Alter>(
     alloc: Global,
-    tx: &mut Transaction<'_, S>,
+    conn: &mut Connection<S>,
     edition: Edition,
 ) -> Result<UserRows, ReadFault>
-    ensures same_reference { tx.new.conn.ghost_name ≡ tx.old.conn.ghost_name }
-    ensures whole { Reads edition (state S.Store tx.old.conn.now) (state S.Store tx.new.conn.now) AreUserRows result }
+    ensures mode { conn.old.in_transaction ≡ false → conn.new.in_transaction ≡ false }
+    ensures whole { Reads edition (state S.Store conn.old) (state S.Store conn.new) AreUserRows result }
     ensures typed { IfOk result AreUsersTyped }
-    ensures takes { OnReadable edition (state S.Store tx.old.conn.now) (state S.Store tx.new.conn.now) (IfErr result IsOfDatabase) }
-    ensures survives { LeavesNone (state S.Store tx.old.conn.now) (state S.Store tx.new.conn.now) }
+    ensures takes { OnReadable edition (state S.Store conn.old) (state S.Store conn.new) (IfErr result IsOfDatabase) }
+    ensures survives { LeavesNone (state S.Store conn.old) (state S.Store conn.new) }
 {
-    let releases = all_releases(alloc, tx, edition)?;
-    let users = all_users(alloc, tx, edition)?;
+    let releases = all_releases(alloc, conn, edition)?;
+    let users = all_users(alloc, conn, edition)?;
     Ok(UserRows { releases, users })
 }
 
 /// The slips and their numbers beside these users, on a connection that is open.
 fn slip_rows<S: Alter>(
     alloc: Global,
-    tx: &mut Transaction<'_, S>,
+    conn: &mut Connection<S>,
     edition: Edition,
     users: &[KeptUser],
 ) -> Result<SlipRows, ReadFault>
-    ensures same_reference { tx.new.conn.ghost_name ≡ tx.old.conn.ghost_name }
-    ensures whole { IsTrue (state S.Store tx.old.conn.now).is_open → Reads edition (state S.Store tx.old.conn.now) (state S.Store tx.new.conn.now) (AreSlipRows edition users.now) result }
+    ensures mode { conn.old.in_transaction ≡ false → conn.new.in_transaction ≡ false }
+    ensures whole { IsTrue (state S.Store conn.old).is_open → Reads edition (state S.Store conn.old) (state S.Store conn.new) (AreSlipRows edition users.now) result }
     ensures typed { Each IsReadableUser users.now → IfOk result AreSlipsTyped }
-    ensures takes { IsTrue (state S.Store tx.old.conn.now).is_open → OnReadable edition (state S.Store tx.old.conn.now) (state S.Store tx.new.conn.now) (IfErr result IsOfDatabase) }
-    ensures survives { LeavesNone (state S.Store tx.old.conn.now) (state S.Store tx.new.conn.now) }
+    ensures takes { IsTrue (state S.Store conn.old).is_open → OnReadable edition (state S.Store conn.old) (state S.Store conn.new) (IfErr result IsOfDatabase) }
+    ensures survives { LeavesNone (state S.Store conn.old) (state S.Store conn.new) }
 {
-    let slips = all_slips(alloc, tx, edition)?;
-    let counts = all_slip_counts(alloc, tx, edition, users)?;
+    let slips = all_slips(alloc, conn, edition)?;
+    let counts = all_slip_counts(alloc, conn, edition, users)?;
     Ok(SlipRows { slips, counts })
 }
 
 /// All rows that a check of the books looks at: those of the books, and the users.
 pub fn all_book_rows<S: Alter>(
     alloc: Global,
-    tx: &mut Transaction<'_, S>,
+    conn: &mut Connection<S>,
     edition: Edition,
 ) -> Result<BookRows, ReadFault>
-    ensures same_reference { tx.new.conn.ghost_name ≡ tx.old.conn.ghost_name }
-    ensures whole { Reads edition (state S.Store tx.old.conn.now) (state S.Store tx.new.conn.now) (AreBookRows edition) result }
+    ensures mode { conn.old.in_transaction ≡ false → conn.new.in_transaction ≡ false }
+    ensures whole { Reads edition (state S.Store conn.old) (state S.Store conn.new) (AreBookRows edition) result }
     ensures typed { IfOk result AreBooksTyped }
-    ensures takes { OnReadable edition (state S.Store tx.old.conn.now) (state S.Store tx.new.conn.now) (IfErr result IsOfDatabase) }
-    ensures survives { LeavesNone (state S.Store tx.old.conn.now) (state S.Store tx.new.conn.now) }
+    ensures takes { OnReadable edition (state S.Store conn.old) (state S.Store conn.new) (IfErr result IsOfDatabase) }
+    ensures survives { LeavesNone (state S.Store conn.old) (state S.Store conn.new) }
 {
-    let ledger = ledger_rows(alloc, tx, edition)?;
-    let history = history_rows(alloc, tx, edition)?;
-    let users = user_rows(alloc, tx, edition)?;
-    let slips = slip_rows(alloc, tx, edition, &users.users)?;
+    let ledger = ledger_rows(alloc, conn, edition)?;
+    let history = history_rows(alloc, conn, edition)?;
+    let users = user_rows(alloc, conn, edition)?;
+    let slips = slip_rows(alloc, conn, edition, &users.users)?;
     Ok(BookRows {
         ledger,
         history,

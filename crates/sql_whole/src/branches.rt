@@ -1,6 +1,6 @@
 //! The whole table of branches: its query, and its rows as records of branches.
 
-ghost use Rattle.std.specs.Prelude.{◌≡◌, pos, IfErr, IfOk};
+ghost use Rattle.std.specs.Prelude.{◌≡◌, pos, IfErr, IfOk, false};
 ghost use Rattle.sqlite.specs.Held.{state};
 ghost use Rattle.sqlite.specs.declared.types.Value.TheVariants.{Int};
 ghost use Rattle.sqlite_value.specs.Order.{column};
@@ -14,10 +14,10 @@ ghost use Rattle.sql_whole.specs.Typed.{Each};
 ghost use Rattle.sql_whole.specs.Whole.{OnReadable, Reads};
 
 use crate::fault::{ReadFault, Table};
-use crate::table_row::{WholeRow, whole_table};
+use crate::table_row::whole_table;
 use bank_books::BranchRecord;
 use sql_schema::{Edition, select_branches};
-use sqlite::{Alter, Transaction};
+use sqlite::{Alter, Connection};
 use std::alloc::Global;
 
 pub(crate) const QUERY: &str = select_branches!("ORDER BY branch");
@@ -25,17 +25,15 @@ pub(crate) const QUERY: &str = select_branches!("ORDER BY branch");
 /// All branches with the numbers that are kept beside them, by number.
 pub fn all_branches<S: Alter>(
     alloc: Global,
-    tx: &mut Transaction<'_, S>,
+    conn: &mut Connection<S>,
     edition: Edition,
 ) -> Result<Vec<BranchRecord>, ReadFault>
-    ensures same_reference { tx.new.conn.ghost_name ≡ tx.old.conn.ghost_name }
-    ensures whole { Reads edition (state S.Store tx.old.conn.now) (state S.Store tx.new.conn.now) (λ trees rows. AreBranches trees rows.items) result }
+    ensures mode { conn.old.in_transaction ≡ false → conn.new.in_transaction ≡ false }
+    ensures whole { Reads edition (state S.Store conn.old) (state S.Store conn.new) (λ trees rows. AreBranches trees rows.items) result }
     ensures typed { IfOk result (λ rows. Each IsReadableBranch rows.items) }
-    ensures takes { OnReadable edition (state S.Store tx.old.conn.now) (state S.Store tx.new.conn.now) (IfErr result IsOfDatabase) }
-    ensures open { WasOpen (state S.Store tx.old.conn.now) (state S.Store tx.new.conn.now) result }
-    ensures survives { LeavesNone (state S.Store tx.old.conn.now) (state S.Store tx.new.conn.now) }
+    ensures takes { OnReadable edition (state S.Store conn.old) (state S.Store conn.new) (IfErr result IsOfDatabase) }
+    ensures open { WasOpen (state S.Store conn.old) (state S.Store conn.new) result }
+    ensures survives { LeavesNone (state S.Store conn.old) (state S.Store conn.new) }
 {
-    whole_table(alloc, tx, edition, QUERY, Table::Branches)
+    whole_table(alloc, conn, edition, QUERY, Table::Branches)
 }
-
-impl WholeRow for BranchRecord {}

@@ -1,6 +1,6 @@
 //! The whole table of proofs, one row for each day that a branch has closed.
 
-ghost use Rattle.std.specs.Prelude.{◌≡◌, IfErr, IfOk};
+ghost use Rattle.std.specs.Prelude.{◌≡◌, IfErr, IfOk, false};
 ghost use Rattle.sqlite.specs.Held.{state};
 ghost use Rattle.sql_schema.specs.Readable.{IsReadableProof};
 ghost use Rattle.sql_schema.specs.Steps.{LeavesNone, WasOpen};
@@ -10,10 +10,10 @@ ghost use Rattle.sql_whole.specs.Typed.{Each};
 ghost use Rattle.sql_whole.specs.Whole.{OnReadable, Reads};
 
 use crate::fault::{ReadFault, Table};
-use crate::table_row::{WholeRow, whole_table};
+use crate::table_row::whole_table;
 use bank_books::Proof;
 use sql_schema::{Edition, select_proofs};
-use sqlite::{Alter, Transaction};
+use sqlite::{Alter, Connection};
 use std::alloc::Global;
 
 pub(crate) const QUERY: &str = select_proofs!("ORDER BY branch, day");
@@ -21,17 +21,15 @@ pub(crate) const QUERY: &str = select_proofs!("ORDER BY branch, day");
 /// All proofs of ended days, by branch, then day.
 pub fn all_proofs<S: Alter>(
     alloc: Global,
-    tx: &mut Transaction<'_, S>,
+    conn: &mut Connection<S>,
     edition: Edition,
 ) -> Result<Vec<Proof>, ReadFault>
-    ensures same_reference { tx.new.conn.ghost_name ≡ tx.old.conn.ghost_name }
-    ensures whole { Reads edition (state S.Store tx.old.conn.now) (state S.Store tx.new.conn.now) (λ trees rows. AreProofs trees rows.items) result }
+    ensures mode { conn.old.in_transaction ≡ false → conn.new.in_transaction ≡ false }
+    ensures whole { Reads edition (state S.Store conn.old) (state S.Store conn.new) (λ trees rows. AreProofs trees rows.items) result }
     ensures typed { IfOk result (λ rows. Each IsReadableProof rows.items) }
-    ensures takes { OnReadable edition (state S.Store tx.old.conn.now) (state S.Store tx.new.conn.now) (IfErr result IsOfDatabase) }
-    ensures open { WasOpen (state S.Store tx.old.conn.now) (state S.Store tx.new.conn.now) result }
-    ensures survives { LeavesNone (state S.Store tx.old.conn.now) (state S.Store tx.new.conn.now) }
+    ensures takes { OnReadable edition (state S.Store conn.old) (state S.Store conn.new) (IfErr result IsOfDatabase) }
+    ensures open { WasOpen (state S.Store conn.old) (state S.Store conn.new) result }
+    ensures survives { LeavesNone (state S.Store conn.old) (state S.Store conn.new) }
 {
-    whole_table(alloc, tx, edition, QUERY, Table::Proofs)
+    whole_table(alloc, conn, edition, QUERY, Table::Proofs)
 }
-
-impl WholeRow for Proof {}

@@ -43,7 +43,6 @@ pub use releases::all_releases;
 pub use sets::all_sets;
 pub use slip_counts::all_slip_counts;
 pub use slips::all_slips;
-pub use table_row::WholeRow;
 pub use tellers::all_tellers;
 pub use triples::all_triples;
 pub use users::all_users;

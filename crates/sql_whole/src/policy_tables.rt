@@ -1,6 +1,6 @@
 //! The tables of the policy without the users, in two groups: sets with their members, and who may do what.
 
-ghost use Rattle.std.specs.Prelude.{◌≡◌, IfErr, IfOk};
+ghost use Rattle.std.specs.Prelude.{◌≡◌, IfErr, IfOk, false};
 ghost use Rattle.sqlite.specs.Held.{state};
 ghost use Rattle.sql_whole.specs.PolicyTables.{AreGrantRows, ArePolicyTables, AreSetRows};
 ghost use Rattle.sql_whole.specs.Faults.{IsOfDatabase};
@@ -13,7 +13,7 @@ use crate::{all_certifiers, all_members, all_relations, all_sets, all_triples};
 use bank_policy::{Certifier, Relation, Triple};
 use book_kept::MemberRow;
 use sql_schema::Edition;
-use sqlite::{Alter, Transaction};
+use sqlite::{Alter, Connection};
 use std::alloc::Global;
 
 /// Sets by their numbers, and their members.
@@ -47,34 +47,34 @@ pub struct PolicyTables {
 
 fn set_rows<S: Alter>(
     alloc: Global,
-    tx: &mut Transaction<'_, S>,
+    conn: &mut Connection<S>,
     edition: Edition,
 ) -> Result<SetRows, ReadFault>
-    ensures same_reference { tx.new.conn.ghost_name ≡ tx.old.conn.ghost_name }
-    ensures whole { Reads edition (state S.Store tx.old.conn.now) (state S.Store tx.new.conn.now) AreSetRows result }
+    ensures mode { conn.old.in_transaction ≡ false → conn.new.in_transaction ≡ false }
+    ensures whole { Reads edition (state S.Store conn.old) (state S.Store conn.new) AreSetRows result }
     ensures typed { IfOk result AreSetsTyped }
-    ensures takes { OnReadable edition (state S.Store tx.old.conn.now) (state S.Store tx.new.conn.now) (IfErr result IsOfDatabase) }
-    ensures survives { LeavesNone (state S.Store tx.old.conn.now) (state S.Store tx.new.conn.now) }
+    ensures takes { OnReadable edition (state S.Store conn.old) (state S.Store conn.new) (IfErr result IsOfDatabase) }
+    ensures survives { LeavesNone (state S.Store conn.old) (state S.Store conn.new) }
 {
-    let sets = all_sets(alloc, tx, edition)?;
-    let members = all_members(alloc, tx, edition)?;
+    let sets = all_sets(alloc, conn, edition)?;
+    let members = all_members(alloc, conn, edition)?;
     Ok(SetRows { sets, members })
 }
 
 fn grant_rows<S: Alter>(
     alloc: Global,
-    tx: &mut Transaction<'_, S>,
+    conn: &mut Connection<S>,
     edition: Edition,
 ) -> Result<GrantRows, ReadFault>
-    ensures same_reference { tx.new.conn.ghost_name ≡ tx.old.conn.ghost_name }
-    ensures whole { Reads edition (state S.Store tx.old.conn.now) (state S.Store tx.new.conn.now) (AreGrantRows edition) result }
+    ensures mode { conn.old.in_transaction ≡ false → conn.new.in_transaction ≡ false }
+    ensures whole { Reads edition (state S.Store conn.old) (state S.Store conn.new) (AreGrantRows edition) result }
     ensures typed { IfOk result AreGrantsTyped }
-    ensures takes { OnReadable edition (state S.Store tx.old.conn.now) (state S.Store tx.new.conn.now) (IfErr result IsOfDatabase) }
-    ensures survives { LeavesNone (state S.Store tx.old.conn.now) (state S.Store tx.new.conn.now) }
+    ensures takes { OnReadable edition (state S.Store conn.old) (state S.Store conn.new) (IfErr result IsOfDatabase) }
+    ensures survives { LeavesNone (state S.Store conn.old) (state S.Store conn.new) }
 {
-    let relations = all_relations(alloc, tx, edition)?;
-    let triples = all_triples(alloc, tx, edition)?;
-    let certifiers = all_certifiers(alloc, tx, edition)?;
+    let relations = all_relations(alloc, conn, edition)?;
+    let triples = all_triples(alloc, conn, edition)?;
+    let certifiers = all_certifiers(alloc, conn, edition)?;
     Ok(GrantRows {
         relations,
         triples,
@@ -85,16 +85,16 @@ fn grant_rows<S: Alter>(
 /// All rows of the policy but the users.
 pub fn all_policy_tables<S: Alter>(
     alloc: Global,
-    tx: &mut Transaction<'_, S>,
+    conn: &mut Connection<S>,
     edition: Edition,
 ) -> Result<PolicyTables, ReadFault>
-    ensures same_reference { tx.new.conn.ghost_name ≡ tx.old.conn.ghost_name }
-    ensures whole { Reads edition (state S.Store tx.old.conn.now) (state S.Store tx.new.conn.now) (ArePolicyTables edition) result }
+    ensures mode { conn.old.in_transaction ≡ false → conn.new.in_transaction ≡ false }
+    ensures whole { Reads edition (state S.Store conn.old) (state S.Store conn.new) (ArePolicyTables edition) result }
     ensures typed { IfOk result AreTablesTyped }
-    ensures takes { OnReadable edition (state S.Store tx.old.conn.now) (state S.Store tx.new.conn.now) (IfErr result IsOfDatabase) }
-    ensures survives { LeavesNone (state S.Store tx.old.conn.now) (state S.Store tx.new.conn.now) }
+    ensures takes { OnReadable edition (state S.Store conn.old) (state S.Store conn.new) (IfErr result IsOfDatabase) }
+    ensures survives { LeavesNone (state S.Store conn.old) (state S.Store conn.new) }
 {
-    let sets = set_rows(alloc, tx, edition)?;
-    let grants = grant_rows(alloc, tx, edition)?;
+    let sets = set_rows(alloc, conn, edition)?;
+    let grants = grant_rows(alloc, conn, edition)?;
     Ok(PolicyTables { sets, grants })
 }

@@ -1,6 +1,6 @@
 //! How many slips each user has: none before the third schema version, and from then on by a table of their own.
 
-ghost use Rattle.std.specs.Prelude.{◌≡◌, List, map, IfErr, IfOk, IfSome, IsTrue};
+ghost use Rattle.std.specs.Prelude.{◌≡◌, List, map, IfErr, IfOk, IfSome, IsTrue, false};
 ghost use Rattle.sqlite.specs.Held.{state};
 ghost use Rattle.sql_schema.specs.Held.{without_slips};
 ghost use Rattle.sql_schema.specs.Readable.{IsReadableSlipCount, IsReadableUser};
@@ -13,11 +13,11 @@ ghost use Rattle.sql_whole.specs.Typed.{Each};
 ghost use Rattle.sql_whole.specs.Whole.{IsAnswered, OnReadable, Reads};
 
 use crate::fault::{ReadFault, Table};
-use crate::table_row::{WholeRow, whole_table};
+use crate::table_row::whole_table;
 use book_kept::{KeptUser, SlipCount};
 use money::Fault;
 use sql_schema::{Edition, select_slip_counts};
-use sqlite::{Alter, Transaction};
+use sqlite::{Alter, Connection};
 use std::alloc::{AllocError, Global};
 
 const QUERY: &str = select_slip_counts!("ORDER BY user_no");
@@ -37,20 +37,20 @@ pub(crate) fn query(edition: Edition) -> Option<&'static str>
 /// no table is asked.
 pub fn all_slip_counts<S: Alter>(
     alloc: Global,
-    tx: &mut Transaction<'_, S>,
+    conn: &mut Connection<S>,
     edition: Edition,
     users: &[KeptUser],
 ) -> Result<Vec<SlipCount>, ReadFault>
-    ensures same_reference { tx.new.conn.ghost_name ≡ tx.old.conn.ghost_name }
-    ensures whole { IsTrue (state S.Store tx.old.conn.now).is_open → Reads edition (state S.Store tx.old.conn.now) (state S.Store tx.new.conn.now) (λ trees rows. AreSlipCounts edition users.now trees rows.items) result }
+    ensures mode { conn.old.in_transaction ≡ false → conn.new.in_transaction ≡ false }
+    ensures whole { IsTrue (state S.Store conn.old).is_open → Reads edition (state S.Store conn.old) (state S.Store conn.new) (λ trees rows. AreSlipCounts edition users.now trees rows.items) result }
     ensures typed { Each IsReadableUser users.now → IfOk result (λ rows. Each IsReadableSlipCount rows.items) }
-    ensures takes { OnReadable edition (state S.Store tx.old.conn.now) (state S.Store tx.new.conn.now) (IfErr result IsOfDatabase) }
-    ensures survives { LeavesNone (state S.Store tx.old.conn.now) (state S.Store tx.new.conn.now) }
+    ensures takes { OnReadable edition (state S.Store conn.old) (state S.Store conn.new) (IfErr result IsOfDatabase) }
+    ensures survives { LeavesNone (state S.Store conn.old) (state S.Store conn.new) }
 {
     match edition {
         Edition::First => no_slips(alloc, users),
         Edition::Second => no_slips(alloc, users),
-        Edition::Third => third_slip_counts(alloc, tx),
+        Edition::Third => third_slip_counts(alloc, conn),
     }
 }
 
@@ -83,15 +83,13 @@ fn each_without(alloc: Global, users: &[KeptUser]) -> Result<Vec<SlipCount>, All
 /// Those of the table `slip_counts`.
 fn third_slip_counts<S: Alter>(
     alloc: Global,
-    tx: &mut Transaction<'_, S>,
+    conn: &mut Connection<S>,
 ) -> Result<Vec<SlipCount>, ReadFault>
-    ensures same_reference { tx.new.conn.ghost_name ≡ tx.old.conn.ghost_name }
-    ensures whole { (users : List TheUser) → Reads Third (state S.Store tx.old.conn.now) (state S.Store tx.new.conn.now) (λ trees rows. AreSlipCounts Third users trees rows.items) result }
+    ensures mode { conn.old.in_transaction ≡ false → conn.new.in_transaction ≡ false }
+    ensures whole { (users : List TheUser) → Reads Third (state S.Store conn.old) (state S.Store conn.new) (λ trees rows. AreSlipCounts Third users trees rows.items) result }
     ensures typed { IfOk result (λ rows. Each IsReadableSlipCount rows.items) }
-    ensures takes { OnReadable Third (state S.Store tx.old.conn.now) (state S.Store tx.new.conn.now) (IfErr result IsOfDatabase) }
-    ensures survives { LeavesNone (state S.Store tx.old.conn.now) (state S.Store tx.new.conn.now) }
+    ensures takes { OnReadable Third (state S.Store conn.old) (state S.Store conn.new) (IfErr result IsOfDatabase) }
+    ensures survives { LeavesNone (state S.Store conn.old) (state S.Store conn.new) }
 {
-    whole_table(alloc, tx, Edition::Third, QUERY, Table::SlipCounts)
+    whole_table(alloc, conn, Edition::Third, QUERY, Table::SlipCounts)
 }
-
-impl WholeRow for SlipCount {}

@@ -1,6 +1,6 @@
 //! The slips of all users, for which only the third schema version has a table.
 
-ghost use Rattle.std.specs.Prelude.{◌≡◌, IfErr, IfOk, IfSome, IsTrue};
+ghost use Rattle.std.specs.Prelude.{◌≡◌, IfErr, IfOk, IfSome, IsTrue, false};
 ghost use Rattle.sqlite.specs.Held.{state};
 ghost use Rattle.sql_schema.specs.Readable.{IsReadableSlip};
 ghost use Rattle.sql_schema.specs.Steps.{LeavesNone};
@@ -11,10 +11,10 @@ ghost use Rattle.sql_whole.specs.Typed.{Each};
 ghost use Rattle.sql_whole.specs.Whole.{IsAnswered, OnReadable, Reads};
 
 use crate::fault::{ReadFault, Table};
-use crate::table_row::{WholeRow, whole_table};
+use crate::table_row::whole_table;
 use bank_books::Slip;
 use sql_schema::{Edition, select_slips};
-use sqlite::{Alter, Transaction};
+use sqlite::{Alter, Connection};
 use std::alloc::Global;
 
 const QUERY: &str = select_slips!("ORDER BY user_no, slip");
@@ -33,31 +33,29 @@ pub(crate) fn query(edition: Edition) -> Option<&'static str>
 /// All slips, by user, then number. Schema versions before the third have none, and no table is asked.
 pub fn all_slips<S: Alter>(
     alloc: Global,
-    tx: &mut Transaction<'_, S>,
+    conn: &mut Connection<S>,
     edition: Edition,
 ) -> Result<Vec<Slip>, ReadFault>
-    ensures same_reference { tx.new.conn.ghost_name ≡ tx.old.conn.ghost_name }
-    ensures whole { IsTrue (state S.Store tx.old.conn.now).is_open → Reads edition (state S.Store tx.old.conn.now) (state S.Store tx.new.conn.now) (λ trees rows. AreSlips edition trees rows.items) result }
+    ensures mode { conn.old.in_transaction ≡ false → conn.new.in_transaction ≡ false }
+    ensures whole { IsTrue (state S.Store conn.old).is_open → Reads edition (state S.Store conn.old) (state S.Store conn.new) (λ trees rows. AreSlips edition trees rows.items) result }
     ensures typed { IfOk result (λ rows. Each IsReadableSlip rows.items) }
-    ensures takes { OnReadable edition (state S.Store tx.old.conn.now) (state S.Store tx.new.conn.now) (IfErr result IsOfDatabase) }
-    ensures survives { LeavesNone (state S.Store tx.old.conn.now) (state S.Store tx.new.conn.now) }
+    ensures takes { OnReadable edition (state S.Store conn.old) (state S.Store conn.new) (IfErr result IsOfDatabase) }
+    ensures survives { LeavesNone (state S.Store conn.old) (state S.Store conn.new) }
 {
     match edition {
         Edition::First => Ok(Vec::new(alloc)),
         Edition::Second => Ok(Vec::new(alloc)),
-        Edition::Third => third_slips(alloc, tx),
+        Edition::Third => third_slips(alloc, conn),
     }
 }
 
 /// Those of the table `slips`.
-fn third_slips<S: Alter>(alloc: Global, tx: &mut Transaction<'_, S>) -> Result<Vec<Slip>, ReadFault>
-    ensures same_reference { tx.new.conn.ghost_name ≡ tx.old.conn.ghost_name }
-    ensures whole { Reads Third (state S.Store tx.old.conn.now) (state S.Store tx.new.conn.now) (λ trees rows. AreSlips Third trees rows.items) result }
+fn third_slips<S: Alter>(alloc: Global, conn: &mut Connection<S>) -> Result<Vec<Slip>, ReadFault>
+    ensures mode { conn.old.in_transaction ≡ false → conn.new.in_transaction ≡ false }
+    ensures whole { Reads Third (state S.Store conn.old) (state S.Store conn.new) (λ trees rows. AreSlips Third trees rows.items) result }
     ensures typed { IfOk result (λ rows. Each IsReadableSlip rows.items) }
-    ensures takes { OnReadable Third (state S.Store tx.old.conn.now) (state S.Store tx.new.conn.now) (IfErr result IsOfDatabase) }
-    ensures survives { LeavesNone (state S.Store tx.old.conn.now) (state S.Store tx.new.conn.now) }
+    ensures takes { OnReadable Third (state S.Store conn.old) (state S.Store conn.new) (IfErr result IsOfDatabase) }
+    ensures survives { LeavesNone (state S.Store conn.old) (state S.Store conn.new) }
 {
-    whole_table(alloc, tx, Edition::Third, QUERY, Table::Slips)
+    whole_table(alloc, conn, Edition::Third, QUERY, Table::Slips)
 }
-
-impl WholeRow for Slip {}

@@ -1,6 +1,7 @@
-//! What all reads of whole tables share: the query is run, and each row that it shows is read, or the fault is named.
+//! What all reads of whole tables share: the query is run, each row that it shows is read as it comes, or the fault is named.
 
-ghost use Rattle.std.specs.Prelude.{◌≡◌, [], List, map, Contains, IfErr, IfOk, OnOk};
+ghost use Rattle.std.specs.Prelude.{◌≡◌, [], ◌∷◌, ◌++◌, List, map, Contains, IfErr, IfOk, OnOk, false};
+ghost use Rattle.money.specs.declared.fault.Fault.TheVariants.{Memory};
 ghost use Rattle.sqlite.specs.Given.{IsPlain};
 ghost use Rattle.sqlite.specs.Held.{state};
 ghost use Rattle.sqlite.specs.Listing.{understood};
@@ -10,67 +11,95 @@ ghost use Rattle.sql_schema.specs.HeldRows.{HoldsRows};
 ghost use Rattle.sql_schema.specs.Readable.{IsUnread};
 ghost use Rattle.sql_schema.specs.Schema.{schema_of};
 ghost use Rattle.sql_schema.specs.Steps.{LeavesNone, WasOpen};
-ghost use Rattle.sql_whole.specs.Faults.{IsOfDatabase};
+ghost use Rattle.sql_schema.specs.declared.edition.Edition.{Edition as TheEdition};
+ghost use Rattle.sql_whole.specs.Faults.{IsErrorOfDatabase, IsOfDatabase};
 ghost use Rattle.sql_whole.specs.Typed.{Each};
 ghost use Rattle.sql_whole.specs.Whole.{AreAll, HasBankTables, IsAnswered, Reads, TellsWhole};
 
 use crate::fault::{ReadFault, Table, read_fault, value_fault};
 use money::Fault;
-use sql_schema::{Edition, TableRow, read_rows};
-use sqlite::{Alter, Row, Transaction};
+use sql_schema::{Edition, TableRow};
+use sqlite::{Alter, Connection, Error, ErrorCode, Row};
 use std::alloc::Global;
 
-/// A row of a table that is read whole.
-pub trait WholeRow: TableRow {
-    ghost use Rattle.std.specs.Prelude.{◌≡◌};
-    ghost use Rattle.money.specs.declared.fault.Fault.TheVariants.{Memory};
-    ghost use Rattle.sql_whole.specs.Faults.{IsOfDatabase};
-
-    /// Why a table of these rows is refused, one of which was not read for this fault. Want of memory says nothing of the table.
-    fn refusal(fault: Fault, _rows: &[Row], table: Table) -> ReadFault
-        ensures { fault ≡ Memory → IsOfDatabase result }
-    {
-        value_fault(fault, table)
-    }
-}
-
-/// All rows of a table, by the query for it.
-pub(crate) fn whole_table<S: Alter, T: WholeRow + Drop>(
+/// All rows of a table, by the query for it. Each is read as it comes, so that no other form of them is kept.
+pub(crate) fn whole_table<S: Alter, T: TableRow + Drop>(
     alloc: Global,
-    tx: &mut Transaction<'_, S>,
+    conn: &mut Connection<S>,
     edition: Edition,
     sql: &str,
     table: Table,
 ) -> Result<Vec<T>, ReadFault>
     requires { TellsWhole edition T.shows T.told T.cells T.key T.fits T.sheet sql.now }
-    ensures same_reference { tx.new.conn.ghost_name ≡ tx.old.conn.ghost_name }
-    ensures whole { Reads edition (state S.Store tx.old.conn.now) (state S.Store tx.new.conn.now) (λ trees rows. AreAll T.shows T.cells T.key T.fits T.sheet trees rows.items) result }
+    ensures mode { conn.old.in_transaction ≡ false → conn.new.in_transaction ≡ false }
+    ensures whole { Reads edition (state S.Store conn.old) (state S.Store conn.new) (λ trees rows. AreAll T.shows T.cells T.key T.fits T.sheet trees rows.items) result }
     ensures typed { IfOk result (λ rows. Each T.readable rows.items) }
-    ensures takes { HasCleanDisk (state S.Store tx.new.conn.now) → HasBankTables edition (state S.Store tx.old.conn.now) → (xs : List T) → HoldsRows T.shows T.cells T.key T.fits xs ((state S.Store tx.old.conn.now).now.trees (tree_of T.sheet)) → ((x : T) → Contains xs x → T.readable x) → IfErr result IsOfDatabase }
-    ensures open { WasOpen (state S.Store tx.old.conn.now) (state S.Store tx.new.conn.now) result }
-    ensures survives { LeavesNone (state S.Store tx.old.conn.now) (state S.Store tx.new.conn.now) }
+    ensures takes { HasCleanDisk (state S.Store conn.new) → HasBankTables edition (state S.Store conn.old) → (xs : List T) → HoldsRows T.shows T.cells T.key T.fits xs ((state S.Store conn.old).now.trees (tree_of T.sheet)) → ((x : T) → Contains xs x → T.readable x) → IfErr result IsOfDatabase }
+    ensures open { WasOpen (state S.Store conn.old) (state S.Store conn.new) result }
+    ensures survives { LeavesNone (state S.Store conn.old) (state S.Store conn.new) }
 {
-    let rows = shown_rows(tx, sql, table)?;
-    match read_rows(alloc, &rows) {
-        Ok(told) => Ok(told),
-        Err(fault) => Err(T::refusal(fault, &rows, table)),
+    match taken_rows(alloc, conn, edition, sql) {
+        Ok(Ok(rows)) => Ok(rows),
+        Ok(Err(fault)) => Err(value_fault(fault, table)),
+        Err(error) => Err(read_fault(error, table)),
     }
+}
+
+/// The same, or the fault for which a row was not read, or the error of the database.
+fn taken_rows<S: Alter, T: TableRow + Drop>(
+    alloc: Global,
+    conn: &mut Connection<S>,
+    edition: Edition,
+    sql: &str,
+) -> Result<Result<Vec<T>, Fault>, Error>
+    requires { TellsWhole edition T.shows T.told T.cells T.key T.fits T.sheet sql.now }
+    ensures mode { conn.old.in_transaction ≡ false → conn.new.in_transaction ≡ false }
+    ensures whole { HasCleanDisk (state S.Store conn.new) → HasBankTables edition (state S.Store conn.old) → IfOk result (λ taken. IfOk taken (λ rows. AreAll T.shows T.cells T.key T.fits T.sheet (state S.Store conn.old).now.trees rows.items)) }
+    ensures still { HasCleanDisk (state S.Store conn.new) → HasBankTables edition (state S.Store conn.old) → OnOk result (IsUnchanged (state S.Store conn.old) (state S.Store conn.new)) × KeepsCommit (state S.Store conn.old) (state S.Store conn.new) }
+    ensures typed { IfOk result (λ taken. IfOk taken (λ rows. Each T.readable rows.items)) }
+    ensures takes { HasCleanDisk (state S.Store conn.new) → HasBankTables edition (state S.Store conn.old) → (xs : List T) → HoldsRows T.shows T.cells T.key T.fits xs ((state S.Store conn.old).now.trees (tree_of T.sheet)) → ((x : T) → Contains xs x → T.readable x) → IfOk result (λ taken. IfErr taken (λ fault. fault ≡ Memory)) }
+    ensures there { HasCleanDisk (state S.Store conn.new) → HasBankTables edition (state S.Store conn.old) → IfErr result IsErrorOfDatabase }
+    ensures open { WasOpen (state S.Store conn.old) (state S.Store conn.new) result }
+    ensures survives { LeavesNone (state S.Store conn.old) (state S.Store conn.new) }
+{
+    let mut list = Vec::new(alloc);
+    let mut rows = conn.query(sql, &[])?;
+    'rows: for _ in 0..u64::MAX {
+        let Some(row) = rows.next()? else {
+            return Ok(Ok(list));
+        };
+        if let Err(fault) = take_row(alloc, row, &mut list) {
+            return Ok(Err(fault));
+        }
+    }
+    Err(Error::SqliteFailure(ErrorCode::TooBig))
+}
+
+/// Takes the row that a row of an answer represents, after those that were taken.
+fn take_row<T: TableRow + Drop>(alloc: Global, row: &Row, list: &mut Vec<T>) -> Result<(), Fault>
+    ensures taken { OnOk result ((x : T) × (T.told row.now ≡ T.cells x) × T.fits x × T.readable x × (list.new.items ≡ list.old.items ++ x ∷ [])) }
+    ensures unread { IfErr result (IsUnread T.cells T.readable (T.told row.now)) }
+{
+    let read = T::read(alloc, row)?;
+    list.push(read)?;
+    Ok(())
 }
 
 /// The rows that a query shows.
 pub(crate) fn shown_rows<S: Alter>(
-    tx: &mut Transaction<'_, S>,
+    conn: &mut Connection<S>,
     sql: &str,
     table: Table,
 ) -> Result<Vec<Row>, ReadFault>
-    ensures same_reference { tx.new.conn.ghost_name ≡ tx.old.conn.ghost_name }
-    ensures shown { HasCleanDisk (state S.Store tx.new.conn.now) → IfOk result (λ rows. Shown sql.now [] (state S.Store tx.old.conn.now) (state S.Store tx.new.conn.now) rows.items) }
-    ensures still { HasCleanDisk (state S.Store tx.new.conn.now) → IsPlain (understood (state S.Store tx.old.conn.now).now.schema sql.now) → OnOk result (IsUnchanged (state S.Store tx.old.conn.now) (state S.Store tx.new.conn.now)) × KeepsCommit (state S.Store tx.old.conn.now) (state S.Store tx.new.conn.now) }
-    ensures there { HasCleanDisk (state S.Store tx.new.conn.now) → (e : Edition) → (state S.Store tx.old.conn.now).now.schema ≡ schema_of e → IsAnswered e sql.now → IfErr result IsOfDatabase }
-    ensures open { WasOpen (state S.Store tx.old.conn.now) (state S.Store tx.new.conn.now) result }
-    ensures survives { LeavesNone (state S.Store tx.old.conn.now) (state S.Store tx.new.conn.now) }
+    requires { (e : TheEdition) × IsAnswered e sql.now }
+    ensures mode { conn.old.in_transaction ≡ false → conn.new.in_transaction ≡ false }
+    ensures shown { HasCleanDisk (state S.Store conn.new) → IfOk result (λ rows. Shown sql.now [] (state S.Store conn.old) (state S.Store conn.new) rows.items) }
+    ensures still { HasCleanDisk (state S.Store conn.new) → IsPlain (understood (state S.Store conn.old).now.schema sql.now) → OnOk result (IsUnchanged (state S.Store conn.old) (state S.Store conn.new)) × KeepsCommit (state S.Store conn.old) (state S.Store conn.new) }
+    ensures there { HasCleanDisk (state S.Store conn.new) → (e : TheEdition) → (state S.Store conn.old).now.schema ≡ schema_of e → IsAnswered e sql.now → IfErr result IsOfDatabase }
+    ensures open { WasOpen (state S.Store conn.old) (state S.Store conn.new) result }
+    ensures survives { LeavesNone (state S.Store conn.old) (state S.Store conn.new) }
 {
-    match tx.query_all(sql, &[]) {
+    match conn.query_all(sql, &[]) {
         Ok(rows) => Ok(rows),
         Err(error) => Err(read_fault(error, table)),
     }

@@ -1,6 +1,6 @@
 //! The triples as each schema version keeps them: without moments in the first, and with them from the second on.
 
-ghost use Rattle.std.specs.Prelude.{◌≡◌, IfErr, IfOk};
+ghost use Rattle.std.specs.Prelude.{◌≡◌, IfErr, IfOk, false};
 ghost use Rattle.sqlite.specs.Held.{state};
 ghost use Rattle.sql_schema.specs.Readable.{IsReadableTriple};
 ghost use Rattle.sql_schema.specs.Steps.{LeavesNone, WasOpen};
@@ -11,12 +11,12 @@ ghost use Rattle.sql_whole.specs.Typed.{Each};
 ghost use Rattle.sql_whole.specs.Whole.{IsAnswered, OnReadable, Reads};
 
 use crate::fault::{ReadFault, Table};
-use crate::table_row::{WholeRow, whole_table};
+use crate::table_row::whole_table;
 use bank_policy::Triple;
 use bank_terms::MAX_MOMENT;
 use money::Fault;
 use sql_schema::{Edition, TableRow, number_at, procedure_at, select_triples};
-use sqlite::{Alter, Row, Transaction};
+use sqlite::{Alter, Connection, Row};
 use std::alloc::{AllocError, Global};
 use std::marker::Model;
 
@@ -39,36 +39,36 @@ const GRANTS_QUERY: &str = select_triples!("ORDER BY user_no, procedure, set_no"
 /// All triples, by user, then procedure, then set.
 pub fn all_triples<S: Alter>(
     alloc: Global,
-    tx: &mut Transaction<'_, S>,
+    conn: &mut Connection<S>,
     edition: Edition,
 ) -> Result<Vec<Triple>, ReadFault>
-    ensures same_reference { tx.new.conn.ghost_name ≡ tx.old.conn.ghost_name }
-    ensures whole { Reads edition (state S.Store tx.old.conn.now) (state S.Store tx.new.conn.now) (λ trees rows. AreTriples edition trees rows.items) result }
+    ensures mode { conn.old.in_transaction ≡ false → conn.new.in_transaction ≡ false }
+    ensures whole { Reads edition (state S.Store conn.old) (state S.Store conn.new) (λ trees rows. AreTriples edition trees rows.items) result }
     ensures typed { IfOk result (λ rows. Each IsReadableTriple rows.items) }
-    ensures takes { OnReadable edition (state S.Store tx.old.conn.now) (state S.Store tx.new.conn.now) (IfErr result IsOfDatabase) }
-    ensures open { WasOpen (state S.Store tx.old.conn.now) (state S.Store tx.new.conn.now) result }
-    ensures survives { LeavesNone (state S.Store tx.old.conn.now) (state S.Store tx.new.conn.now) }
+    ensures takes { OnReadable edition (state S.Store conn.old) (state S.Store conn.new) (IfErr result IsOfDatabase) }
+    ensures open { WasOpen (state S.Store conn.old) (state S.Store conn.new) result }
+    ensures survives { LeavesNone (state S.Store conn.old) (state S.Store conn.new) }
 {
     match edition {
-        Edition::First => first_triples(alloc, tx),
-        Edition::Second => second_triples(alloc, tx),
-        Edition::Third => third_triples(alloc, tx),
+        Edition::First => first_triples(alloc, conn),
+        Edition::Second => second_triples(alloc, conn),
+        Edition::Third => third_triples(alloc, conn),
     }
 }
 
 /// Those of the table `triples`, each from the first moment to the last that there is.
 fn first_triples<S: Alter>(
     alloc: Global,
-    tx: &mut Transaction<'_, S>,
+    conn: &mut Connection<S>,
 ) -> Result<Vec<Triple>, ReadFault>
-    ensures same_reference { tx.new.conn.ghost_name ≡ tx.old.conn.ghost_name }
-    ensures whole { Reads First (state S.Store tx.old.conn.now) (state S.Store tx.new.conn.now) (λ trees rows. AreTriples First trees rows.items) result }
+    ensures mode { conn.old.in_transaction ≡ false → conn.new.in_transaction ≡ false }
+    ensures whole { Reads First (state S.Store conn.old) (state S.Store conn.new) (λ trees rows. AreTriples First trees rows.items) result }
     ensures typed { IfOk result (λ rows. Each IsReadableTriple rows.items) }
-    ensures takes { OnReadable First (state S.Store tx.old.conn.now) (state S.Store tx.new.conn.now) (IfErr result IsOfDatabase) }
-    ensures open { WasOpen (state S.Store tx.old.conn.now) (state S.Store tx.new.conn.now) result }
-    ensures survives { LeavesNone (state S.Store tx.old.conn.now) (state S.Store tx.new.conn.now) }
+    ensures takes { OnReadable First (state S.Store conn.old) (state S.Store conn.new) (IfErr result IsOfDatabase) }
+    ensures open { WasOpen (state S.Store conn.old) (state S.Store conn.new) result }
+    ensures survives { LeavesNone (state S.Store conn.old) (state S.Store conn.new) }
 {
-    let rows = whole_table(alloc, tx, Edition::First, FIRST_QUERY, Table::Triples)?;
+    let rows = whole_table(alloc, conn, Edition::First, FIRST_QUERY, Table::Triples)?;
     match triples_of(alloc, &rows) {
         Ok(triples) => Ok(triples),
         Err(_) => Err(ReadFault::Fault(Fault::Memory)),
@@ -139,36 +139,32 @@ impl TableRow for FirstTriple {
     }
 }
 
-impl WholeRow for FirstTriple {}
-
 /// Those of the table `grants`, as the second schema version has it.
 fn second_triples<S: Alter>(
     alloc: Global,
-    tx: &mut Transaction<'_, S>,
+    conn: &mut Connection<S>,
 ) -> Result<Vec<Triple>, ReadFault>
-    ensures same_reference { tx.new.conn.ghost_name ≡ tx.old.conn.ghost_name }
-    ensures whole { Reads Second (state S.Store tx.old.conn.now) (state S.Store tx.new.conn.now) (λ trees rows. AreTriples Second trees rows.items) result }
+    ensures mode { conn.old.in_transaction ≡ false → conn.new.in_transaction ≡ false }
+    ensures whole { Reads Second (state S.Store conn.old) (state S.Store conn.new) (λ trees rows. AreTriples Second trees rows.items) result }
     ensures typed { IfOk result (λ rows. Each IsReadableTriple rows.items) }
-    ensures takes { OnReadable Second (state S.Store tx.old.conn.now) (state S.Store tx.new.conn.now) (IfErr result IsOfDatabase) }
-    ensures open { WasOpen (state S.Store tx.old.conn.now) (state S.Store tx.new.conn.now) result }
-    ensures survives { LeavesNone (state S.Store tx.old.conn.now) (state S.Store tx.new.conn.now) }
+    ensures takes { OnReadable Second (state S.Store conn.old) (state S.Store conn.new) (IfErr result IsOfDatabase) }
+    ensures open { WasOpen (state S.Store conn.old) (state S.Store conn.new) result }
+    ensures survives { LeavesNone (state S.Store conn.old) (state S.Store conn.new) }
 {
-    whole_table(alloc, tx, Edition::Second, GRANTS_QUERY, Table::Triples)
+    whole_table(alloc, conn, Edition::Second, GRANTS_QUERY, Table::Triples)
 }
 
 /// Those of the table `grants`, as the third schema version has it.
 fn third_triples<S: Alter>(
     alloc: Global,
-    tx: &mut Transaction<'_, S>,
+    conn: &mut Connection<S>,
 ) -> Result<Vec<Triple>, ReadFault>
-    ensures same_reference { tx.new.conn.ghost_name ≡ tx.old.conn.ghost_name }
-    ensures whole { Reads Third (state S.Store tx.old.conn.now) (state S.Store tx.new.conn.now) (λ trees rows. AreTriples Third trees rows.items) result }
+    ensures mode { conn.old.in_transaction ≡ false → conn.new.in_transaction ≡ false }
+    ensures whole { Reads Third (state S.Store conn.old) (state S.Store conn.new) (λ trees rows. AreTriples Third trees rows.items) result }
     ensures typed { IfOk result (λ rows. Each IsReadableTriple rows.items) }
-    ensures takes { OnReadable Third (state S.Store tx.old.conn.now) (state S.Store tx.new.conn.now) (IfErr result IsOfDatabase) }
-    ensures open { WasOpen (state S.Store tx.old.conn.now) (state S.Store tx.new.conn.now) result }
-    ensures survives { LeavesNone (state S.Store tx.old.conn.now) (state S.Store tx.new.conn.now) }
+    ensures takes { OnReadable Third (state S.Store conn.old) (state S.Store conn.new) (IfErr result IsOfDatabase) }
+    ensures open { WasOpen (state S.Store conn.old) (state S.Store conn.new) result }
+    ensures survives { LeavesNone (state S.Store conn.old) (state S.Store conn.new) }
 {
-    whole_table(alloc, tx, Edition::Third, GRANTS_QUERY, Table::Triples)
+    whole_table(alloc, conn, Edition::Third, GRANTS_QUERY, Table::Triples)
 }
-
-impl WholeRow for Triple {}

@@ -1,6 +1,7 @@
 //! The whole table of users, and whether it was a user's number or name, or another column, that can't be read.
 
-ghost use Rattle.std.specs.Prelude.{◌≡◌, IfErr, IfOk};
+ghost use Rattle.std.specs.Prelude.{◌≡◌, IfErr, IfOk, false};
+ghost use Rattle.money.specs.declared.fault.Fault.TheVariants.{Memory};
 ghost use Rattle.sqlite.specs.Held.{state};
 ghost use Rattle.sql_schema.specs.Readable.{IsReadableUser};
 ghost use Rattle.sql_schema.specs.Steps.{LeavesNone, WasOpen};
@@ -10,11 +11,11 @@ ghost use Rattle.sql_whole.specs.Typed.{Each};
 ghost use Rattle.sql_whole.specs.Whole.{OnReadable, Reads};
 
 use crate::fault::{ReadFault, Table, value_fault};
-use crate::table_row::{WholeRow, whole_table};
+use crate::table_row::shown_rows;
 use book_kept::KeptUser;
 use money::Fault;
-use sql_schema::{Edition, count_at, number_at, select_users, truth_at};
-use sqlite::{Alter, Row, Transaction};
+use sql_schema::{Edition, count_at, number_at, read_rows, select_users, truth_at};
+use sqlite::{Alter, Connection, Row};
 use std::alloc::Global;
 
 pub(crate) const QUERY: &str = select_users!("ORDER BY user_no");
@@ -22,31 +23,36 @@ pub(crate) const QUERY: &str = select_users!("ORDER BY user_no");
 /// All users with how many releases each was given, by number.
 pub fn all_users<S: Alter>(
     alloc: Global,
-    tx: &mut Transaction<'_, S>,
+    conn: &mut Connection<S>,
     edition: Edition,
 ) -> Result<Vec<KeptUser>, ReadFault>
-    ensures same_reference { tx.new.conn.ghost_name ≡ tx.old.conn.ghost_name }
-    ensures whole { Reads edition (state S.Store tx.old.conn.now) (state S.Store tx.new.conn.now) (λ trees rows. AreUsers trees rows.items) result }
+    ensures mode { conn.old.in_transaction ≡ false → conn.new.in_transaction ≡ false }
+    ensures whole { Reads edition (state S.Store conn.old) (state S.Store conn.new) (λ trees rows. AreUsers trees rows.items) result }
     ensures typed { IfOk result (λ rows. Each IsReadableUser rows.items) }
-    ensures takes { OnReadable edition (state S.Store tx.old.conn.now) (state S.Store tx.new.conn.now) (IfErr result IsOfDatabase) }
-    ensures open { WasOpen (state S.Store tx.old.conn.now) (state S.Store tx.new.conn.now) result }
-    ensures survives { LeavesNone (state S.Store tx.old.conn.now) (state S.Store tx.new.conn.now) }
+    ensures takes { OnReadable edition (state S.Store conn.old) (state S.Store conn.new) (IfErr result IsOfDatabase) }
+    ensures open { WasOpen (state S.Store conn.old) (state S.Store conn.new) result }
+    ensures survives { LeavesNone (state S.Store conn.old) (state S.Store conn.new) }
 {
-    whole_table(alloc, tx, edition, QUERY, Table::Users)
+    let rows = shown_rows(conn, QUERY, Table::Users)?;
+    match read_rows(alloc, &rows) {
+        Ok(users) => Ok(users),
+        Err(fault) => Err(refusal(fault, &rows)),
+    }
 }
 
-impl WholeRow for KeptUser {
-    fn refusal(fault: Fault, rows: &[Row], table: Table) -> ReadFault {
-        if fault == Fault::Memory {
-            return ReadFault::Fault(fault);
-        }
-        for row in rows {
-            if let Err(fault) = marks_read(row) {
-                return value_fault(fault, table);
-            }
-        }
-        ReadFault::UserOutOfLimits
+/// Why the users are refused, one of whom was not read for this fault. Want of memory says nothing of them.
+fn refusal(fault: Fault, rows: &[Row]) -> ReadFault
+    ensures { fault ≡ Memory → IsOfDatabase result }
+{
+    if fault == Fault::Memory {
+        return ReadFault::Fault(fault);
     }
+    for row in rows {
+        if let Err(fault) = marks_read(row) {
+            return value_fault(fault, Table::Users);
+        }
+    }
+    ReadFault::UserOutOfLimits
 }
 
 /// Reads all of a user but the number and the name.

@@ -9,4 +9,4 @@ pub ask-requires : goal.ask-requires
 ask-requires g c = subst (λ found. IfSome found (λ sql. IsAnswered c.args.edition sql.now)) c.in-Some.is c.query_for.ensures
 
 pub returns-in-None-clause-whole : goal.returns-in-None-clause-whole
-returns-in-None-clause-whole g c is_open = still c.args.edition (state g.S.Store c.args.tx.now.conn.now) (λ _. ⊤) (λ _. tt) is_open
+returns-in-None-clause-whole g c is_open = still c.args.edition (state g.S.Store c.args.conn.now) (λ _. ⊤) (λ _. tt) is_open

@@ -1,4 +1,4 @@
-use Rattle.std.proofs.Common.{◌≡◌, IsTrue}
+use Rattle.std.proofs.Common.{◌≡◌, IsTrue, false}
 use Rattle.std.specs.Prelude.{⊤}
 use Rattle.sqlite.specs.Held.{state}
 use Rattle.sql_whole.proofs.ReadsLemmas.{Done}
@@ -7,7 +7,7 @@ use Rattle.sql_whole.proofs.asking.ask_tables.Given as goal
 
 abbrev pub invariant-loop-table : goal.invariant-loop-table
 invariant-loop-table g l = record {
-  same : l.tx.conn.ghost_name ≡ l.fn.tx.conn.ghost_name;
-  done : IsTrue (state g.S.Store l.fn.tx.conn.now).is_open → Done l.edition (state g.S.Store l.fn.tx.conn.now) (state g.S.Store l.tx.conn.now) (λ _. ⊤);
-  survives : LeavesNone (state g.S.Store l.fn.tx.conn.now) (state g.S.Store l.tx.conn.now);
+  mode : l.fn.conn.in_transaction ≡ false → l.conn.in_transaction ≡ false;
+  done : IsTrue (state g.S.Store l.fn.conn).is_open → Done l.edition (state g.S.Store l.fn.conn) (state g.S.Store l.conn) (λ _. ⊤);
+  survives : LeavesNone (state g.S.Store l.fn.conn) (state g.S.Store l.conn);
 }

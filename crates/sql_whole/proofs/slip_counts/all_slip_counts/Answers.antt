@@ -14,5 +14,5 @@ read_in e old new r says is reads = subst (λ x. Reads x old new (says x) r) (sy
 
 pub returns-in-Third-clause-whole : goal.returns-in-Third-clause-whole
 returns-in-Third-clause-whole g c was =
-    read_in c.args.edition (state g.S.Store c.args.tx.now.conn.now) (state g.S.Store c.third_slip_counts.new.tx.conn.now) c.third_slip_counts.result
+    read_in c.args.edition (state g.S.Store c.args.conn.now) (state g.S.Store c.third_slip_counts.new.conn) c.third_slip_counts.result
     (λ e trees rows. AreSlipCounts e c.args.users.now trees rows.items) c.in-Third.is (c.third_slip_counts.ensures.whole c.args.users.now)
