@@ -2,3 +2,4 @@ pub mod Entries
 mod Keys
 pub mod Plans
 pub mod Standing
+pub mod Users

@@ -8,10 +8,12 @@ use Rattle.bank_books.specs.declared.row_write.RowWrite.{RowWrite}
 use Rattle.bank_books.specs.declared.row_write.RowWrite.TheVariants as write
 use Rattle.store_rows.specs.Status.{Changes, Status, after_mark}
 use Rattle.store_cached.specs.Fresh.{AreFresh, HasRows}
+use Rattle.store_cached.specs.Users.{IsKnownOf}
 use Rattle.store_cached.specs.Standing.{Suits, with_kept}
 use Rattle.store_cached.specs.declared.entry.Kept.{Kept}
 use Rattle.store_cached.specs.declared.entry.Key.{Key}
 use Rattle.store_cached.specs.declared.entry.Rows.{Rows}
+use Rattle.store_cached.specs.declared.known.Known.{Known}
 use Rattle.money.specs.declared.fault.Fault.{Fault}
 
 -- another World of the same version and with the same rows
@@ -42,7 +44,7 @@ one_written (write.Slip row) w entries none = along w (written (write.Slip row) 
 one_written (write.Session s) w entries none = along w (written (write.Session s) w) entries refl (λ key rows has. has)
 one_written (write.Policy change) w entries none = absurd (cc)
 
-neither : (a b : Bool) → (a || b) ≡ false → (a ≡ false) × (b ≡ false)
+pub neither : (a b : Bool) → (a || b) ≡ false → (a ≡ false) × (b ≡ false)
 neither true b none = absurd (cc)
 neither false b none = (refl, none)
 
@@ -86,34 +88,23 @@ after_fresh : (mark : Option Fault) (plan : List RowWrite) (w : WorldLists) (ent
 after_fresh None plan w entries fresh = applied_fresh plan w entries fresh
 after_fresh (Some fault) plan w entries fresh = fresh
 
-applied_version : (plan : List RowWrite) (w : WorldLists) → changes_policy plan ≡ false → (applied plan w).version ≡ w.version
+pub applied_version : (plan : List RowWrite) (w : WorldLists) → changes_policy plan ≡ false → (applied plan w).version ≡ w.version
 applied_version plan w none = by (has_version_for plan w.version)
   where
     by : (b : Bool) → (if b then in_full plan w else w).version ≡ w.version
     by true = ap (λ (c : Bool). (with_version c (all_written plan w)).version) none ∙ written_version plan w
     by false = refl
 
-after_version : (mark : Option Fault) (plan : List RowWrite) (w : WorldLists) → changes_policy plan ≡ false → (after_mark mark (applied plan w) w).version ≡ w.version
-after_version None plan w none = applied_version plan w none
-after_version (Some fault) plan w none = refl
+after_known : (mark : Option Fault) (plan : List RowWrite) (w : WorldLists) (after : Option Known) → IfSome after (IsKnownOf (applied plan w)) → IfSome after (IsKnownOf w)
+    → IfSome after (IsKnownOf (after_mark mark (applied plan w) w))
+after_known None plan w after carried refused = carried
+after_known (Some fault) plan w after carried refused = refused
 
-still : (version : Option ℕ) (n m : ℕ) → n ≡ m → IfSome version (λ v. v ≡ n) → IfSome version (λ v. v ≡ m)
-still None n m same is = tt
-still (Some v) n m same is = is ∙ same
-
--- the version that is still known after a plan is that of the World after it
-known_version : (version : Option ℕ) (mark : Option Fault) (plan : List RowWrite) (w : WorldLists) → IfSome version (λ v. v ≡ w.version)
-    → IfSome (if changes_policy plan then None else version) (λ v. v ≡ (after_mark mark (applied plan w) w).version)
-known_version version mark plan w is = by (changes_policy plan) refl
-  where
-    by : (b : Bool) → changes_policy plan ≡ b → IfSome (if b then None else version) (λ v. v ≡ (after_mark mark (applied plan w) w).version)
-    by true some = tt
-    by false none = still version w.version (after_mark mark (applied plan w) w).version (sym (after_version mark plan w none)) is
-
--- a plan that is carried out below is carried out with the cache, which then knows the version unless the plan changes the policy
-pub changes_beside : (old new : Status) (version : Option ℕ) (entries : List (Key × Kept)) (plan : List RowWrite) (mark : Option Fault)
-    → Changes old new (applied plan) mark → Changes (with_kept old (Suits version entries)) (with_kept new (Suits (if changes_policy plan then None else version) entries)) (applied plan) mark
-changes_beside old new version entries plan mark c = record {
+-- a plan that is carried out below is carried out with the cache, which then knows what it knows however the plan ends
+pub changes_beside : (old new : Status) (before after : Option Known) (entries : List (Key × Kept)) (plan : List RowWrite) (mark : Option Fault)
+    → ((w : WorldLists) → IfSome before (IsKnownOf w) → IfSome after (IsKnownOf (applied plan w))) → ((w : WorldLists) → IfSome before (IsKnownOf w) → IfSome after (IsKnownOf w))
+    → Changes old new (applied plan) mark → Changes (with_kept old (Suits before entries)) (with_kept new (Suits after entries)) (applied plan) mark
+changes_beside old new before after entries plan mark carried refused c = record {
   answers = record {
     honest = c.answers.honest;
     state = c.answers.state;
@@ -122,7 +113,7 @@ changes_beside old new version entries plan mark c = record {
     no_more = c.answers.no_more;
     failed = c.answers.failed;
   };
-  moved = λ w holds. (c.moved w holds.0, λ clean. let suits = holds.1 (c.answers.honest clean) in (after_fresh mark plan w entries suits.0, known_version version mark plan w suits.1));
+  moved = λ w holds. (c.moved w holds.0, λ clean. let suits = holds.1 (c.answers.honest clean) in (after_fresh mark plan w entries suits.0, after_known mark plan w after (carried w suits.1) (refused w suits.1)));
   crash = λ clean w left holds may. c.crash clean w left holds.0 may;
   settled = λ clean done w left holds may. c.settled clean done w left holds.0 may;
   whole = λ clean w holds before. c.whole clean w holds.0 before;

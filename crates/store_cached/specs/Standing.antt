@@ -4,13 +4,15 @@ use Rattle.money.specs.Counted.{counted_once_more}
 use Rattle.bank_books.specs.WorldLists.{WorldLists}
 use Rattle.store_rows.specs.Status.{Status}
 use Rattle.store_cached.specs.Fresh.{AreFresh, IsFirst}
+use Rattle.store_cached.specs.Users.{IsKnownOf}
 use Rattle.store_cached.specs.declared.cached.Cached.{Cached}
 use Rattle.store_cached.specs.declared.entry.Kept.{Kept}
 use Rattle.store_cached.specs.declared.entry.Key.{Key}
+use Rattle.store_cached.specs.declared.known.Known.{Known}
 
--- The entries fit this World, and the version, where one is kept, is its version.
-abbrev pub Suits : Option ℕ → List (Key × Kept) → WorldLists → Type 0
-Suits version entries w = AreFresh w entries × IfSome version (λ v. v ≡ w.version)
+-- The entries fit this World, and so does what is known of its policy, if anything is.
+abbrev pub Suits : Option Known → List (Key × Kept) → WorldLists → Type 0
+Suits known entries w = AreFresh w entries × IfSome known (IsKnownOf w)
 
 -- It represents the Worlds that the store below represents and that what it keeps suits. Of a disk that has not
 -- returned what was written nothing is said.
@@ -26,9 +28,9 @@ module _ {S : Type 0} where
   abbrev pub remembered : Cached S → List (Key × Kept)
   remembered c = c.cache
 
-  -- the version of the policy that it read last, where that is kept
-  abbrev pub known_version : Cached S → Option ℕ
-  known_version c = c.version
+  -- the version of the policy that it read last, if that is kept, with users that it read
+  abbrev pub known_version : Cached S → Option Known
+  known_version c = c.known
 
   -- how many times memory for an entry was refused
   abbrev pub unkept_count : Cached S → ℕ

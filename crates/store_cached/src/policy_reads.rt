@@ -17,8 +17,14 @@ use std::rc::RcSlice;
 use store_rows::{PolicyReads, Store, UserRecord};
 
 impl<S: Store> PolicyReads for Cached<S> {
+    /// What the row of a user says, from what is kept if the store below is not stopped, and otherwise from that store.
     fn user(&mut self, alloc: Global, user: u32) -> Result<Option<UserRecord>, Fault> {
-        self.store.user(alloc, user)
+        if let Some(row) = self.kept_user(user) {
+            return Ok(row);
+        }
+        let row = self.store.user(alloc, user)?;
+        self.keep_user(user, row);
+        Ok(row)
     }
 
     /// The triples of a user for a procedure, from what is kept where that is of the present version, and

@@ -3,6 +3,7 @@
 use crate::cached_rows::NO_TRIPLE;
 use crate::counting::Counting;
 use bank_books::{Plan, RowWrite};
+use bank_policy::Session;
 use bank_terms::Procedure;
 use counter_ops::Balance;
 use decide::{Decision, Op, Reply, Who, carry_out, decide};
@@ -124,4 +125,33 @@ fn the_version_is_read_once_for_each_policy(rt: HostRuntime) {
     applied.expect(&rt, "no fault");
     assert!(rt; reads_after_none(&rt, alloc, &mut store) == (2, 0));
     assert!(rt; store.below().watch().all() == 4);
+}
+
+/// How often rows were read below the cache once it was asked for the row of a user, who has to be in this session.
+fn reads_after_user(rt: &impl Abort, alloc: Global, store: &mut CachedSample, session: u32) -> u64 {
+    let found = store.user(alloc, 7).expect(rt, "no fault");
+    let record = found.expect(rt, "a user");
+    assert!(rt; record.standing.session == session);
+    store.below().watch().all()
+}
+
+/// The row of a user is read once beside a version that is known, and again after a session of theirs.
+#[test]
+fn a_user_is_read_once_until_a_session(rt: HostRuntime) {
+    let alloc = rt.alloc();
+    let mut store = cached_sample(&rt, alloc).store;
+    assert!(rt; reads_after_none(&rt, alloc, &mut store) == (1, 0));
+    assert!(rt; reads_after_user(&rt, alloc, &mut store, 1) == 3);
+    assert!(rt; reads_after_user(&rt, alloc, &mut store, 1) == 3);
+    let session = Session {
+        user: 7,
+        session: 2,
+        on: true,
+    };
+    let change = vec![in alloc; RowWrite::Session(session)];
+    let applied = store.apply(alloc, change.expect(&rt, "memory"));
+    applied.expect(&rt, "no fault");
+    assert!(rt; reads_after_user(&rt, alloc, &mut store, 2) == 4);
+    assert!(rt; reads_after_user(&rt, alloc, &mut store, 2) == 4);
+    assert!(rt; reads_after_none(&rt, alloc, &mut store) == (1, 0));
 }

@@ -1,4 +1,4 @@
-use Rattle.std.proofs.Common.{rules, ◌∙◌, ◌≡◌, Ok, refl}
+use Rattle.std.proofs.Common.{rules, ◌≡◌, Ok, refl}
 use Rattle.bank_policy.specs.HeldRows.{relations_of}
 use Rattle.store_cached.proofs.Standing.{reads_beside, reads_kept, reads_then}
 use Rattle.store_cached.specs.Standing.{Suits, cached_status, with_kept}
@@ -27,7 +27,7 @@ returns-in_err-rows-clause-reads g c =
 
 pub returns-clause-reads : goal.returns-clause-reads
 returns-clause-reads g c =
-    let read : ReadsRow (cached_status g.S.Stands.status c.args.self.now) (with_kept (g.S.Stands.status c.relations_of.new.self) (Suits c.present_version.new.self.version c.remember_relations-kept.new.self)) (Ok c.in_ok-rows.rows) (λ w rows. rc_slice_items rows ≡ relations_of w.policy c.args.procedure) =
+    let read : ReadsRow (cached_status g.S.Stands.status c.args.self.now) (with_kept (g.S.Stands.status c.relations_of.new.self) (Suits c.present_version.new.self.known c.remember_relations-kept.new.self)) (Ok c.in_ok-rows.rows) (λ w rows. rc_slice_items rows ≡ relations_of w.policy c.args.procedure) =
     reads_kept _ (g.S.Stands.status c.relations_of.new.self) _ _ _ _ _ _
     (reads_then _ _ _ _ _ _ _ c.in_ok-version.ensures.reads (reads_beside _ _ _ _ _ c.in_ok-rows.ensures)) (search rules)
     (λ clean w holds suits. (
