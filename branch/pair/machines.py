@@ -1,0 +1,123 @@
+"""The two machines, as processes of User-Mode Linux that are switched on and off."""
+import contextlib
+import os
+import signal
+import subprocess
+import threading
+import time
+from collections.abc import Callable, Iterable
+from pathlib import Path
+from typing import Any
+
+from checks import Late, Wrong
+from pair.commands import run
+from pair.networks import NETWORKS
+
+MACHINES = {"a": 11, "b": 12}
+DISK_SIZE = "64M"
+# The device's state, as DRBD says it.
+STATE = "sed -n 's/^ *0: //p' /proc/drbd"
+
+
+class Machine:
+    """A machine that is switched on and off. Its two disks are files in the folder, and stay."""
+
+    def __init__(self, folder: Path, image: Path, name: str) -> None:
+        self.folder, self.image, self.name, self.host = folder, image, name, MACHINES[name]
+        self.process: subprocess.Popen[bytes] | None = None
+        self.lock = threading.Lock()
+        if not (folder / f"{name}.disk").exists():
+            run("truncate", "-s", DISK_SIZE, folder / f"{name}.disk")
+        options = {"StrictHostKeyChecking": "no", "UserKnownHostsFile": "/dev/null", "ConnectTimeout": "30",
+                   "ServerAliveInterval": "30", "ControlPath": f"{folder}/{name}.ssh"}
+        words = [word for key, value in options.items() for word in ("-o", f"{key}={value}")]
+        self.ssh = ["ssh", "-q", "-i", str(image.parent / "key"), *words, f"root@10.0.2.{self.host}"]
+
+    def on(self) -> None:
+        """Gives it power, if it has none."""
+        with self.lock:
+            if self.is_on():
+                return
+            command = ["linux.uml", "mem=512M", f"ubd0={self.name}.cow,{self.image}", f"ubd1={self.name}.disk", "root=/dev/ubda", "rw",
+                       "con=null", "con0=null,fd:1", "ssl=null", f"systemd.hostname={self.name}"]
+            command += [f"vec{number}:transport=tap,ifname={self.name}-{network},mac=52:54:00:00:{number:02}:{self.host}"
+                        for number, network in enumerate(NETWORKS)]
+            with open(self.folder / f"{self.name}.console", "ab") as console:
+                self.process = subprocess.Popen(command, cwd=self.folder, stdin=subprocess.DEVNULL, stdout=console, stderr=console,
+                                                process_group=0, env={**os.environ, "TMPDIR": "/dev/shm"})
+
+    def up(self) -> None:
+        """Waits until it has started, and keeps a connection to it that later orders use."""
+        (self.folder / f"{self.name}.ssh").unlink(missing_ok=True)
+        self.await_that("true")
+        null = subprocess.DEVNULL
+        subprocess.Popen([*self.ssh, "-M", "-N"], stdin=null, stdout=null, stderr=null)
+
+    def off(self) -> None:
+        """The power fails: from here on nothing is written."""
+        with self.lock:
+            if self.process and self.is_on():
+                os.killpg(self.process.pid, signal.SIGKILL)
+                self.process.wait()
+
+    def is_on(self) -> bool:
+        """Whether it has power."""
+        return self.process is not None and self.process.poll() is None
+
+    def sh(self, text: str, **how: Any) -> "subprocess.CompletedProcess[str]":
+        """Has a shell there carry out a text; its status, output and errors."""
+        streams: dict[str, Any] = {"stdout": subprocess.PIPE, "stderr": subprocess.PIPE, "stdin": subprocess.DEVNULL, "timeout": 300, **how}
+        with contextlib.suppress(subprocess.TimeoutExpired):
+            return subprocess.run([*self.ssh, text], text=True, check=False, **streams)
+        return subprocess.CompletedProcess([], 255, "", "no reply in time")
+
+    def done(self, text: str, **how: Any) -> str:
+        """The output of a text that has to be carried out well."""
+        ran = self.sh(text, **how)
+        if ran.returncode:
+            raise Wrong(f"{self.name}: {text[:70]!r}: status {ran.returncode} {ran.stdout[-900:]}{(ran.stderr or '')[-900:]}")
+        return str(ran.stdout).strip()
+
+    def await_that(self, text: str, seconds: float = 180) -> None:
+        """Waits until a text is carried out well."""
+        end = time.monotonic() + seconds
+        while self.sh(text, timeout=60).returncode:
+            if time.monotonic() > end:
+                raise Late(f"{self.name}: {text!r} not within {seconds:.0f} seconds: {self.state()}")
+            time.sleep(0.5)
+
+    def state(self) -> str:
+        """What DRBD says there of the disk; nothing if it has no power."""
+        return str(self.sh(STATE, timeout=20).stdout).strip() if self.is_on() else ""
+
+    def put(self, folder: Path, where: str) -> None:
+        """Copies a folder's files there."""
+        packed = subprocess.run(["tar", "-C", folder, "-c", "."], capture_output=True, check=True).stdout
+        words = [*self.ssh, f"mkdir -p {where} && tar -C {where} --no-same-owner -x"]
+        ran = subprocess.run(words, input=packed, capture_output=True, check=False)
+        if ran.returncode:
+            raise Wrong(f"{self.name}: {where}: {ran.stderr[-900:]!r}")
+
+    def fetch(self, where: str, folder: Path) -> None:
+        """Copies files of a folder there to here."""
+        folder.mkdir(parents=True, exist_ok=True)
+        packed = subprocess.run([*self.ssh, f"tar -C {where} -c ."], capture_output=True, check=True).stdout
+        subprocess.run(["tar", "-C", folder, "-x"], input=packed, check=True)
+
+
+def on_each(machines: Iterable[Machine], what: Callable[[Machine], Any]) -> None:
+    """Does something with each machine at once; raises the first error."""
+    wrong: list[Exception] = []
+
+    def tried(each: Machine) -> None:
+        try:
+            what(each)
+        except Exception as error:  # noqa: BLE001 - it is raised below
+            wrong.append(error)
+    threads = [threading.Thread(target=tried, args=(each,)) for each in machines]
+    for thread in threads:
+        thread.start()
+    for thread in threads:
+        thread.join()
+    for error in wrong:
+        raise error
