@@ -99,7 +99,7 @@ def outcome(make: Callable[[], str | None]) -> tuple[str, Exception | None]:
 
 
 class Report:
-    """What came of checks, which is printed as it comes: of so many, or, if their number is left out, of those that failed."""
+    """What came of checks, printed as it comes: of all n of them or, without their number, of those that failed."""
 
     def __init__(self, count: int = 0) -> None:
         self.count, self.passed, self.failed, self.skipped, self.passed_again = count, 0, 0, 0, 0

@@ -35,7 +35,7 @@ from repository import are_built
 from simulation.coverage import Seen
 from simulation.life import FAULTS, Life
 
-# Where a life stands while it is lived, if so many bytes are free there.
+# Where a life's files stand, if this many bytes are free there.
 MEMORY, MEMORY_BYTES = "/dev/shm", 1 << 30
 PLANTS = ("sync", "clock", "reply", "badge", "copy")
 # What is said of each life, and of all: what occurred, by the names under which it is counted.

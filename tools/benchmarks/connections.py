@@ -53,7 +53,7 @@ def taken(client):
 
 
 def latencies(client, times):
-    """The median and the 99th percentile of so many balances."""
+    """The median and the 99th percentile of n balances."""
     found = sorted(taken(client) for _ in range(times))
     return statistics.median(found), found[len(found) * 99 // 100]
 
@@ -80,7 +80,7 @@ def beside_others(counter, times, is_between):
 
 
 def rate(port, count, times):
-    """How many posts per second are made on so many connections."""
+    """How many posts per second are made on n connections."""
     waiting = selectors.DefaultSelector()
     with contextlib.ExitStack() as open_ones:
         clients = [open_ones.enter_context(connected(port)) for _ in range(count)]

@@ -4,7 +4,7 @@ reports of ten lines there.
     tools/benchmarks/files [--pages PAGES ..] [--years] [PROGRAM]
 
 PROGRAM is crates/bank_cli/out/bank_cli where it is left out. Banks of many accounts are made by `init` from lists that are made,
-and checked. Banks of many entries are made of the sample bank by SQL, with the numbers that are kept beside them, as if so many
+and checked. Banks of many entries are made of the sample bank by SQL, with the numbers that are kept beside them, as if that many
 posts of one cent had been carried out; they are checked, and served one question. Then drawers are put off, the day is closed,
 they are checked once more, and the next year's bank is made of each; with `--years` that alone is taken. All this is done over
 files of each kind that is named, by the length of its pages in bytes, with `s` after it where they end in sums: 1024, 1024s and
@@ -75,7 +75,7 @@ def write_list(folder, name, lines):
 
 
 def make_lists(folder, accounts):
-    """Writes the lists of a bank whose one branch has so many accounts of one cent. Its policy is the sample's, but that Tess may
+    """Writes the lists of a bank whose one branch has n accounts of one cent. Its policy is the sample's, but that Tess may
     see all accounts."""
     os.makedirs(folder)
     for name in os.listdir(LISTS):
@@ -111,7 +111,7 @@ def add_posts(file, count):
 
 
 def closing_of(count):
-    """What closes the day of that bank after so many posts of one cent at Tess's drawer."""
+    """What closes the day of that bank after n posts of one cent at Tess's drawer."""
     cash = {**DRAWERS, ("tess", 11): DRAWERS["tess", 11] + count}
     offs = [message(user, "/do/drawer-off", {"branch": 1, "counted": cents, "teller": teller}) for (user, teller), cents in cash.items()]
     return b"".join([*offs, message("sue", "/do/close-day", {"branch": 1})])
@@ -192,12 +192,12 @@ def grow_among(program, rows, files, path, body_among):
 
 
 def accounts_among(count):
-    """Asks for accounts from the middle of so many."""
+    """Asks for accounts from the middle of n."""
     return {"after": count // 2, "count": LINES}
 
 
 def entries_among(count):
-    """Asks for entries of an account that has half of so many, from their middle."""
+    """Asks for entries of an account that has half of n, from their middle."""
     return {"account": 101, "count": LINES, "start": count // 4}
 
 

@@ -27,7 +27,7 @@ MESSAGES_A_PIECE = 100
 
 
 def feed(stream, messages):
-    """Writes so many messages, and leaves the stream open."""
+    """Writes n messages, and leaves the stream open."""
     try:
         for _ in range(messages // MESSAGES_A_PIECE):
             stream.write(MESSAGE * MESSAGES_A_PIECE)
@@ -38,7 +38,7 @@ def feed(stream, messages):
 
 
 def measured(program, messages):
-    """The kilobytes that the program held at most while it answered so many messages."""
+    """The most kilobytes that the program held while it answered n messages."""
     with subprocess.Popen(
         [program, "sample", "--moment", "700"], stdin=subprocess.PIPE, stdout=subprocess.PIPE
     ) as process:

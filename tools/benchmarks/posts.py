@@ -74,7 +74,7 @@ def post(account, delta, teller, slip=0):
 
 
 def done_posts(count, slips=None):
-    """Posts on all accounts and tellers, up and down. Each is done. Where its user has so many slips, each takes the next."""
+    """Posts on all accounts and tellers, up and down. Each is done. If its user has slips, each takes the next."""
     return b"".join(
         post(1 + at * 7 % 100, 100 if at // 100 % 2 else -100, 1 + at % 10, 0 if slips is None else slips + 1 + at)
         for at in range(count)
@@ -92,7 +92,7 @@ def denied_posts(count):
 
 
 def padded_post(size, before, after):
-    """A post whose head has so many bytes, padded by these line ends, by these fields and by one longer field."""
+    """A post whose head has n bytes, padded by these line ends, by these fields and by one longer field."""
     head, empty, body = post(1, 1, 1).partition(b"\r\n\r\n")
     room = size - len(head + empty) - len(b"\r\nC: ")
     front, fields = (it * (room // len(it) - 1) if it else b"" for it in (before, after))
@@ -222,7 +222,7 @@ def print_pieces(program, quick):
 
 
 def calls_in(program, store, slips, make, due, count):
-    """How many calls valgrind counts that run a SQL statement while so many messages are served."""
+    """How many calls valgrind counts that run a SQL statement while n messages are served."""
     with tempfile.TemporaryDirectory(prefix="bench-") as folder:
         path = os.path.join(folder, "calls")
         before = ["valgrind", "--tool=callgrind", "--compress-strings=no", f"--callgrind-out-file={path}"]
@@ -235,7 +235,7 @@ def calls_in(program, store, slips, make, due, count):
 
 
 def statements_of(program, store, slips, make, due):
-    """How many SQL statements are run by a message of a user with so many slips, once two have been answered."""
+    """How many SQL statements are run by a message of a user with n slips, after two were answered."""
     few, more = (calls_in(program, store, slips, make, due, count) for count in (2, 12))
     return (more - few) / 10
 

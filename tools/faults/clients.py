@@ -39,7 +39,7 @@ STATEMENT_END = b"    25.00         525.00\n"
 MOST_SILENCE = 30
 MOST_AGE = 120
 MOST_WRITING = 180
-# For so many seconds the rest of what a client sends is read after its last reply.
+# For how many seconds the rest of what a client sends is read after its last reply.
 PARTING = 1
 # So many seconds after it is granted a triple ends, and another begins. (What is silent beside it takes longer.)
 SECONDS_OF_TRIPLE = 40

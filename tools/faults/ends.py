@@ -42,7 +42,7 @@ QUESTION = SUITE.only("balance_of_an_account").given
 BALANCE = SUITE.only("balance_of_an_account").output
 REPORT = SUITE.only("listing_of_the_policy").given
 
-# So many questions are sent one after another, and their replies go out in so many writes at most.
+# How many questions are sent one after another, and in how many writes their replies go out at most.
 QUESTIONS = 10
 MOST_WRITES = 11
 # A call of the program that writes to standard output, as strace prints it.
@@ -193,7 +193,7 @@ def make_end(program, end):
 
 
 def receive(file, count, seconds):
-    """The bytes that come, up to so many, within the time."""
+    """The bytes that come, up to a number of them, within the time."""
     last = time.monotonic() + seconds
     got = b""
     while len(got) < count:

@@ -36,7 +36,7 @@ OLDER = "a page of the day before"
 DAY = [SLIPPED, TRANSFER, RELEASE, Asked("post", TOM, ABOVE, release=1), RELEASE, *OFF, CLOSING]
 # The byte that says whether pages end in sums, and the bit of it that does.
 NO_SUMS = {(RESERVED_AT, SUM.bit_length() - 1)}
-# One in so many pairs of pages is exchanged.
+# Of how many pairs of pages one is exchanged.
 PAIRS = 7
 
 

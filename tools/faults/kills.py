@@ -37,14 +37,14 @@ from sample_file import SampleBanks, ended, require_sound, run_words
 from serving import Counter, Serving, connected, read_to_end
 
 TIMES = 20
-# So many kills of posts for each kill of a stream, and so many posts at most before one.
+# How many kills of posts there are for each kill of a stream, and how many posts at most before one.
 KILLS_OF_POSTS = 2.5
 MOST_POSTS = 100
 # How many requests of a stream are sent for each kill, and after the last; at a time; and from the last answered to a kill.
 REQUESTS_OF_KILL = 20
 MOST_AT_A_TIME = 8
 MOST_ANSWERED = 12
-# Up to so many seconds have passed since some were sent when the program is killed.
+# At most how many seconds after some were sent the program is killed.
 LONGEST_OF_POST, LONGEST = 0.002, 0.004
 # How often each kind is drawn.
 WEIGHTS = {
@@ -173,7 +173,7 @@ def replies_to(sent):
 
 
 def require_answered(run, sent):
-    """Sends requests, and goes through where they get the replies that are due."""
+    """Sends requests, and passes if they get the replies that are due."""
     run.send(bytes_of(sent))
     due, got = replies_to(sent), b""
     while len(got) < len(due) and due.startswith(got):
@@ -203,7 +203,7 @@ def in_pieces(sent, most, rng):
 
 
 def send_until_killed(run, sent, answered, most, longest, rng):
-    """Sends requests to a program, of which so many are answered, kills it a moment after some more were sent, and returns how
+    """Sends requests to a program, of which n are answered, kills it a moment after some more were sent, and returns how
     many were answered."""
     for piece in in_pieces(sent[:answered], most, rng):
         require_answered(run, piece)
@@ -226,7 +226,7 @@ def count_done(file, sent, answered):
 
 
 def send_with_kills(by, program, file, sent, times, rng):
-    """Sends a stream to a bank, killed so many times, and returns how many requests were sent again that had been done."""
+    """Sends a stream to a bank, killed n times, and returns how many requests were sent again that had been done."""
     at = again = 0
     for _ in range(times):
         at += send_until_killed(by(program, file), sent[at:], rng.randint(0, MOST_ANSWERED), MOST_AT_A_TIME, LONGEST, rng)

@@ -441,11 +441,11 @@ class Narrow:
             require(reply_of(self.witness)[:15], BALANCE_REPLY[:15], "a balance beside the others")
 
     def set_clock(self, seconds):
-        """Has the clock stand so many seconds after it was started."""
+        """Sets the clock to this many seconds after it was started."""
         self.machine.set(stopped=CLOCK_STARTED + seconds)
 
     def wait(self, seconds):
-        """Has so many seconds have passed since the clock was started, and waits as `visit` does."""
+        """Moves the clock on to this many seconds after it was started, and waits as `visit` does."""
         self.set_clock(seconds)
         self.visit()
 
@@ -489,16 +489,16 @@ def half_message_is_let_go(program, file):
         next_one.sendall(BALANCE[-1:] + BALANCE[:-1])
         require(reply_of(next_one), BALANCE_REPLY, "one that became whole")
         counter.visit(next_one)
-        counter.wait(MOST_SECONDS)
-        require_open({"half a message": half, "one byte by byte": slow, "the next message": next_one}, True, "after 30 seconds")
+        counter.wait(MOST_SECONDS - 1)
+        require_open({"half a message": half, "one byte by byte": slow, "the next message": next_one}, True, "after 29 seconds")
         slow.sendall(BALANCE[MOST_SECONDS : MOST_SECONDS + 1])
         counter.visit(slow)
-        counter.wait(MOST_SECONDS + 1)
-        require_open({"half a message": half, "one byte by byte": slow}, False, "after 31 seconds")
+        counter.wait(MOST_SECONDS)
+        require_open({"half a message": half, "one byte by byte": slow}, False, "after 30 seconds")
+        counter.wait(20 + MOST_SECONDS - 1)
+        require_open({"the next message": next_one}, True, "after 29 seconds of its own")
         counter.wait(20 + MOST_SECONDS)
-        require_open({"the next message": next_one}, True, "after 30 seconds of its own")
-        counter.wait(20 + MOST_SECONDS + 1)
-        require_open({"the next message": next_one}, False, "after 31 seconds of its own")
+        require_open({"the next message": next_one}, False, "after 30 seconds of its own")
         silent.sendall(BALANCE)
         require(reply_of(silent), BALANCE_REPLY, "one that said nothing until then")
 
@@ -512,20 +512,20 @@ def unread_replies_are_let_go(program, file):
             it.sendall(STATEMENT)
         counter.visit(nothing, little)
         taken = 0
-        for second in (10, 20, MOST_SECONDS):
+        for second in (10, 20, MOST_SECONDS - 1):
             counter.wait(second)
             while taken < A_LITTLE * second // 10:
                 taken += len(little.recv(A_LITTLE))
             counter.visit()
-        counter.wait(MOST_SECONDS + 1)
+        counter.wait(MOST_SECONDS)
         for name, client, count in (("nothing", nothing, 0), ("a little", little, taken)):
             client.settimeout(MOST_SECONDS)
             try:
                 count += len(read_to_end(client))
             except TimeoutError:
-                raise Late(f"one that took {name} was not let go after 31 seconds") from None
+                raise Late(f"one that took {name} was not let go after 30 seconds") from None
             if count >= MOST_LINES * STATEMENT_LINE:
-                raise Wrong(f"one that took {name} got all {count} bytes after 31 seconds")
+                raise Wrong(f"one that took {name} got all {count} bytes after 30 seconds")
 
 
 def send_to(client, given):

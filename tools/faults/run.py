@@ -35,7 +35,7 @@ from repository import OVER
 from sample_file import ENDINGS, make_sample
 
 STEP = 20
-# Of the calls for memory before a request is read, one in so many is refused as of the others; and with all later ones.
+# Of how many calls for memory before a request is read one is refused, as of the others; and with all later ones.
 EARLY, LATER = 25, 50
 # What a pipe holds that nobody reads: a case with longer replies is not cut.
 MOST_WRITTEN = 60_000

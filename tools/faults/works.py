@@ -388,7 +388,7 @@ class Run(Work):
         return AFTER if is_after else BEFORE
 
     def require_world(self, file, count):
-        """Passes if a file has the rows after so many of the requests."""
+        """Passes if a file has the rows after the first n requests."""
         difference = difference_of(Tables(file).rows, self.worlds[count])
         if difference:
             raise Wrong(f"after {count} requests another bank is there: {difference}")

@@ -13,7 +13,8 @@ PORT = "0.0.0.0:443"
 A_PORT = "127.0.0.1:44300"
 NO_COMMAND = re.compile(r"Command (\S+) is not executable: No such file")
 # How exposed a unit may be, of 10, by its name; and any other.
-EXPOSURES = {"bank.service": 0.5, "bank-copy.service": 0.7, "bank-certificates.service": 1.1, "bank-night.service": 1.5}
+EXPOSURES = {"bank.service": 0.5, "bank-copy.service": 0.7, "bank-certificates.service": 1.1, "bank-night.service": 1.5,
+             "bank-branch.service": 8.0, "bank-stand-by.service": 7.8} # these two mount a disk for all, and load DRBD
 MOST_EXPOSED = 2.4
 EXPOSURE = re.compile(r"Overall exposure level for (\S+): ([\d.]+)")
 

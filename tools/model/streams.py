@@ -33,7 +33,7 @@ from sample_file import copy_bank, ended, run_words
 
 STREAMS = 200
 REQUESTS = 300
-# For so many streams there is one whose moment moves on, and one to two banks.
+# Of how many streams one has a moment that moves on, and one is of two banks.
 OF_OTHERS = 4
 # The stores that have to answer so.
 STORES = ["list", "cached", "sql"]

@@ -2,7 +2,8 @@
 second try (tools/checks.py); the minutes of a build (tools/toolchain/chain.py) over crates of its own; which functions have a
 clause (tools/toolchain/rattle_source.py, tools/pages/crates); that only tools/try runs an unproved program, of these sources; which
 changes of a definition are seen (tools/pages/reading); whether the model over kept sums (tools/simulation/ledger.py) answers as
-the one that adds up; and whether tools/toolchain/mutants tries again what a change concerns (tools/toolchain/kept_trials.py).
+the one that adds up; what tools/benchmarks/instructions says of two tables; and whether tools/toolchain/mutants tries again what a
+change concerns (tools/toolchain/kept_trials.py).
 
     tools/toolchain/self-tests
 
@@ -23,6 +24,7 @@ import tempfile
 from functools import partial
 from unittest import mock
 
+from benchmarks import counting, instructions
 from cases import run as CASES
 from cases.suite import BadRow, Suite, bytes_of_lines, reply, request, spelled
 from checks import Check, Late, Report, Wrong, reader, require, require_nothing, run_checks
@@ -114,6 +116,28 @@ BUILDS = [
     (minutes_left(USES, MINUTES, {"low": 2.0, "mid": 4.0}, {}, 2), 8.0),
     (minutes_left(USES, MINUTES, {"low": None, "mid": None}, {}, 2), 5.0),
 ]
+
+# A table of instructions; others, of which it is the one before; and what is said of both.
+TABLE = instructions.Table("0123abcd", "valgrind", {"a post": 1000, "a head in 1,000 pieces": 500})
+CHANGED = [
+    ({"a post": 1030, "a head in 1,000 pieces": 400}, []),
+    ({"a post": 1031, "a head in 1,000 pieces": 600}, ["a post takes 3.1% more", "a head in 1,000 pieces takes 20.0% more"]),
+    ({"a post": 1000}, ["a head in 1,000 pieces is not counted any more"]),
+    ({"a post": 1000, "a head in 1,000 pieces": 500, "a balance": 90_000}, []),
+]
+COUNTS = [
+    (instructions.table_of(TABLE.text()), TABLE),
+    (counting.read_of_perf("# started\n\n14061,,instructions:u,1097433,100.00,,\n"), 14061),
+    (counting.read_of_valgrind("events: Ir\nfn=(1) main\n0 12\nsummary: 900\ntotals: 880\n"), 880),
+    *((instructions.risen(instructions.rows_of(TABLE, TABLE._replace(rows=rows))), said) for rows, said in CHANGED),
+]
+# What is no table or no count, or cannot be compared.
+NOT_COUNTED = {
+    "a_table_without_a_commit": lambda: instructions.table_of("a post 1000\n"),
+    "a_row_without_a_count": lambda: instructions.table_of(TABLE.text() + "a balance\n"),
+    "tables_of_two_counters": lambda: instructions.rows_of(TABLE, TABLE._replace(by="perf")),
+    "a_count_that_is_not_shown": lambda: counting.read_of_perf("<not supported>,,instructions:u,0,100.00,,\n"),
+}
 
 # A file of a crate, and its functions that have no clause.
 SOURCE = """
@@ -342,6 +366,15 @@ def require_refused(text):
         raise Wrong("it was read")
 
 
+def require_wrong(make):
+    """Passes if something is refused as it is."""
+    try:
+        found = make()
+    except Wrong:
+        return
+    raise Wrong(f"it was taken: {found!r}")
+
+
 def run_last(text, wanted):
     """Runs the last case of a text, of which this has to be said, or nothing."""
     suite = suite_of(text)
@@ -394,7 +427,7 @@ def ask_both(seed):
 
 def checks_of(room):
     """All that is tried."""
-    for kind, pairs in (("text", TEXTS), ("build", BUILDS), ("clause", CLAUSES), ("sum", SUMS), ("said", SAID)):
+    for kind, pairs in (("text", TEXTS), ("build", BUILDS), ("clause", CLAUSES), ("sum", SUMS), ("said", SAID), ("count", COUNTS)):
         for number, (found, wanted) in enumerate(pairs, 1):
             yield Check(f"{kind}_{number}", partial(require, found, wanted, kind))
     for name, (tries, wanted) in TALLIES.items():
@@ -403,6 +436,8 @@ def checks_of(room):
     yield Check("late_where_no_clock_is_gone_by", partial(require_tally, [[LATE]], (0, 1, 0), go_by_clock=False))
     for name, text in REFUSED.items():
         yield Check(name, partial(require_refused, text))
+    for name, make in NOT_COUNTED.items():
+        yield Check(name, partial(require_wrong, make))
     for seed in range(1, 4):
         yield Check(f"ledger_{seed}", partial(ask_both, seed))
     yield Check("first_look_is_compiled_anew", partial(require_compiled_anew, room))

@@ -23,7 +23,7 @@ from repository import TOP, below, kit, shared_by_tests, tests_to_run, words_of_
 from toolchain.kept import Kept, sum_of, sum_of_files, sum_of_kit, sum_of_tools
 from toolchain.program import layout_of, output_of
 
-# A run of all tests is given so many seconds. CI has it beside the proofs, on the time of the processor that they leave.
+# How many seconds a run of all tests is given. CI has it beside the proofs, on the time of the processor that they leave.
 SECONDS = 14_400
 # The crate that has all tests.
 WHOLE = "unit_tests"
