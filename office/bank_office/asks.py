@@ -7,7 +7,7 @@ from .copies import Copy
 from .policy import Operation, may_correct, may_release, require_operation
 from .store import Refused, changing, now
 
-# A request waits so many seconds. A release is valid on one day of its branch only, so an old one would be of no use.
+# For how long, in seconds, a request waits. A release is valid on one day of its branch only, so an old one would be of no use.
 WAITS = 3_600
 MOST_WAITING = 5
 MOST_REASON = 200

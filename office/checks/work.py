@@ -173,7 +173,7 @@ def two_years(day: Day) -> None:
 
 
 class Cut(carry.Bank):
-    """A bank as a run reaches it, of a process that is killed once so many transfers were answered, before it keeps the last reply."""
+    """A bank as a run reaches it, of a process that is killed after n transfers were answered, before it keeps the last reply."""
 
     def __init__(self, day: Day, kills_at: int) -> None:
         super().__init__(day.settings, pause=0.2)

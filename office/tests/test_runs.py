@@ -98,7 +98,7 @@ def test_two_persons_approve_and_not_who_proposed(office: Office) -> None:
 
 
 class FakeBank:
-    """A bank that takes each slip once. It stops after so many transfers, and refuses those to some accounts."""
+    """A bank that takes each slip once. It stops after n transfers, and refuses those to some accounts."""
 
     def __init__(self, stops_after: int = 10**9, refuses: frozenset[int] = frozenset()) -> None:
         self.taken: dict[int, dict[str, int]] = {}
