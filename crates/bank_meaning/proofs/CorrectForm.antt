@@ -51,7 +51,7 @@ use Rattle.std.specs.Option.{option_map_or}
 use Rattle.std.specs.Ordering.{int_eq}
 use Rattle.std.specs.Prelude.{if◌then◌else◌, is_none, neg_ℤ, option_and_then, option_map, unsigned_abs}
 use Rattle.world_reads.specs.BookReads.{entry, is_entry, undoes_entry, undone}
-use Rattle.counter_ops.specs.Ranges.{IsKey}
+use Rattle.row_members.specs.Ranges.{IsKey}
 use Rattle.bank_meaning.proofs.PassingParts.{account_has_room, account_with_entry, counter_has_room, covers_it, holds_it, is_above_floor, is_no_vault, is_of_branch, key_of_drawer, legs_have_room, none_by}
 use Rattle.bank_books.specs.Keys.{account_key, branch_key}
 use Rattle.postings.proofs.CashedEntry.{cash_of_entry}

@@ -44,7 +44,7 @@ use Rattle.std.proofs.Common.{Bool, None, [], ap, false, neg_ℤ, pos, refl, sub
 use Rattle.std.proofs.lemmas.Bool.{or_parts, and_from, ne_eqb, not_from_true}
 use Rattle.std.specs.Prelude.{if◌then◌else◌, is_none, neg_ℤ, option_map}
 use Rattle.book_laws.specs.Limits.{IsBranchWithin}
-use Rattle.counter_ops.specs.Ranges.{IsCash}
+use Rattle.row_members.specs.Ranges.{IsCash}
 use Rattle.money.specs.Range.{IsCents}
 use Rattle.bank_books.specs.Keys.{branch_key}
 use Rattle.bank_meaning.proofs.PassingParts.{branch_with_lines, cash_as, is_money, is_no_vault, is_of_branch, key_of_drawer, limits_of, money_as, none_by, number_is_left, holds_it}

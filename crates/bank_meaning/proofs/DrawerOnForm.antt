@@ -42,7 +42,7 @@ use Rattle.std.proofs.lemmas.Bool.{not-false, or_parts, and_from, eq-eqb, ne_eqb
 use Rattle.std.proofs.lemmas.List.Elements.{All-contains}
 use Rattle.std.specs.Prelude.{is_none, neg_ℤ, option_map, unsigned_abs, is_some}
 use Rattle.book_laws.specs.Limits.{IsBranchWithin}
-use Rattle.counter_ops.specs.Ranges.{IsCash}
+use Rattle.row_members.specs.Ranges.{IsCash}
 use Rattle.bank_books.specs.Keys.{branch_key}
 use Rattle.bank_meaning.proofs.PassingParts.{branch_with_lines, cash_as, first_alone, holder_is, is_of_branch, key_of_drawer, limits_of, money_as, none_by, number_is_left, place_with_lines, second_alone, vault_covers_it, is_no_vault}
 use Rattle.keyed_rows.proofs.Rows.{found_row}

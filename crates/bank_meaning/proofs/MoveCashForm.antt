@@ -37,7 +37,7 @@ use Rattle.std.proofs.lemmas.Bool.{and_parts, eq-eqb, eqb-false, eqb-true, ne_eq
 use Rattle.std.proofs.lemmas.Int.{ints}
 use Rattle.std.specs.Prelude.{if◌then◌else◌, is_none, neg_ℤ, option_map, unsigned_abs, ◌≤ℤ◌}
 use Rattle.book_laws.specs.Limits.{IsBranchWithin}
-use Rattle.counter_ops.specs.Ranges.{IsCash}
+use Rattle.row_members.specs.Ranges.{IsCash}
 use Rattle.bank_books.specs.declared.rows.Teller.{Teller}
 use Rattle.bank_books.specs.Keys.{branch_key}
 use Rattle.bank_meaning.proofs.PassingParts.{branch_with_lines, cash_as, covers_it, first_alone, holder_is, holds_it, is_of_branch, key_of_drawer, limits_of, money_as, none_by, number_is_left, place_with_lines, second_alone, vault_covers_it}

@@ -5,7 +5,7 @@ use Rattle.std.proofs.lemmas.Bool.{and_from, eq-eqb, le-ltb, lt-leb, ne_eqb}
 use Rattle.std.proofs.lemmas.Int.{ints}
 use Rattle.money.specs.Range.{IsCents, is_cents, max_cents, min_cents}
 use Rattle.bank_terms.specs.Limits.{max_key}
-use Rattle.counter_ops.specs.Ranges.{IsCash, IsKey}
+use Rattle.row_members.specs.Ranges.{IsCash, IsKey}
 use Rattle.bank_books.specs.Books.{Books}
 use Rattle.bank_books.specs.WorldLists.{WorldLists}
 use Rattle.book_laws.proofs.BooksSplit.{books_parts}

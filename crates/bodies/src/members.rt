@@ -4,7 +4,7 @@ ghost use Rattle.std.specs.Prelude.{◌≡◌, ◌≤◌, ◌≤ℤ◌, IfSome};
 ghost use Rattle.serde_json.specs.View.{view};
 ghost use Rattle.money.specs.Range.{IsDelta};
 ghost use Rattle.bodies.specs.Body.{has_members, number_member, natural_member, key_member, delta_member};
-ghost use Rattle.counter_ops.specs.Ranges.{IsKey};
+ghost use Rattle.row_members.specs.Ranges.{IsKey};
 ghost use Rattle.bank_terms.specs.Limits.{max_moment};
 
 use bank_terms::{MAX_KEY, MAX_MOMENT};

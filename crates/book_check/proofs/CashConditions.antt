@@ -12,7 +12,7 @@ use Rattle.bank_books.specs.declared.rows.Branch.{Branch}
 use Rattle.bank_books.specs.Conditions.{CashAgrees, IsBranchOfLines, IsCashBalanced, TotalsAgree}
 use Rattle.bank_books.specs.Keys.{line_key}
 use Rattle.bank_books.specs.Range.{IsBranchInRange, IsInRange}
-use Rattle.counter_ops.specs.Ranges.{IsCash}
+use Rattle.row_members.specs.Ranges.{IsCash}
 use Rattle.bank_books.specs.Records.{KeptLists, branch_record_of}
 use Rattle.book_range.specs.Numbers.{BranchesBearNumbers}
 use Rattle.book_check.specs.RowConditions.{AmountsAgree, BranchesOfCash, TellersOfLines, amount_of, balance_part, teller_sum}

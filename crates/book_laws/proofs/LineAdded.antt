@@ -10,7 +10,7 @@ use Rattle.bank_books.specs.Conditions.{IsCashBalanced}
 use Rattle.bank_books.specs.Effects.{written}
 use Rattle.bank_books.specs.Keys.{branch_key, line_key, teller_key}
 use Rattle.bank_books.specs.Range.{IsUserNumber}
-use Rattle.counter_ops.specs.Ranges.{IsCash}
+use Rattle.row_members.specs.Ranges.{IsCash}
 use Rattle.bank_books.specs.Records.{branch_record_of, teller_record_of}
 use Rattle.bank_books.specs.WorldLists.{WorldLists}
 use Rattle.bank_books.specs.declared.records.BranchRecord.{BranchRecord}

@@ -14,7 +14,7 @@ use Rattle.bank_books.specs.declared.row_write.RowWrite.TheVariants as write
 use Rattle.bank_books.specs.declared.rows.Branch.{Branch}
 use Rattle.bank_books.specs.declared.rows.CashLine.{CashLine}
 use Rattle.bank_books.specs.declared.rows.Teller.{Teller}
-use Rattle.counter_ops.specs.Ranges.{IsCash}
+use Rattle.row_members.specs.Ranges.{IsCash}
 use Rattle.money.specs.Range.{IsCents}
 use Rattle.book_laws.specs.CashGap.{gap_share}
 use Rattle.book_laws.specs.Laws.{LinesOfBranchKeepBooks}

@@ -4,7 +4,7 @@ use Rattle.bank_terms.specs.Limits.{max_key, max_moment, max_version}
 use Rattle.keyed_rows.specs.Ordered.{AreDistinct}
 use Rattle.keyed_rows.specs.Totals.{total}
 use Rattle.bank_policy.specs.declared.rows.User.{User}
-use Rattle.counter_ops.specs.Ranges.{IsCash, IsFloor, IsKey, IsKeyOrZero}
+use Rattle.row_members.specs.Ranges.{IsCash, IsFloor, IsKey, IsKeyOrZero}
 use Rattle.bank_books.specs.Balances.{account_deltas, branch_deltas, teller_deltas}
 use Rattle.bank_books.specs.Cash.{holder_of}
 use Rattle.bank_books.specs.Conditions.{IsCashBalanced}

@@ -7,7 +7,7 @@ use Rattle.bank_books.specs.Balances.{account_balance, account_row, branch_balan
 use Rattle.bank_books.specs.Cash.{cash_of, is_cash_entry, is_difference}
 use Rattle.bank_books.specs.Effects.{written}
 use Rattle.bank_books.specs.Range.{IsEntryOrNone}
-use Rattle.counter_ops.specs.Ranges.{IsCash}
+use Rattle.row_members.specs.Ranges.{IsCash}
 use Rattle.bank_books.specs.Records.{account_record_of, branch_record_of, entry_record_of, teller_record_of}
 use Rattle.bank_books.specs.WorldLists.{WorldLists}
 use Rattle.bank_books.specs.declared.records.AccountRecord.{AccountRecord}

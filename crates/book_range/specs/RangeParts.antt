@@ -3,7 +3,7 @@ use Rattle.std.specs.Prelude.{◌≤◌, List, Contains}
 use Rattle.bank_terms.specs.Limits.{max_key, max_moment, max_releases, max_version}
 use Rattle.bank_policy.specs.declared.rows.User.{User}
 use Rattle.money.specs.Range.{IsCents}
-use Rattle.counter_ops.specs.Ranges.{IsKey, IsKeyOrZero, IsWithin}
+use Rattle.row_members.specs.Ranges.{IsKey, IsKeyOrZero, IsWithin}
 use Rattle.bank_books.specs.declared.records.AccountRecord.{AccountRecord}
 use Rattle.bank_books.specs.declared.records.BranchRecord.{BranchRecord}
 use Rattle.bank_books.specs.declared.records.EntryRecord.{EntryRecord}

@@ -3,10 +3,10 @@
 ghost use Rattle.std.specs.Prelude.{◌↔◌, ◌≤◌, ◌≤ℤ◌, IfSome, IsTrue, pos};
 ghost use Rattle.bank_terms.specs.Limits.{max_key, max_accounts, min_floor};
 ghost use Rattle.money.specs.Range.{IsCents};
-ghost use Rattle.counter_ops.specs.Ranges.{IsKey, IsWithin};
+ghost use Rattle.row_members.specs.Ranges.{IsKey, IsWithin};
 ghost use Rattle.book_sums.specs.Sums.{AreSumsOf};
 ghost use Rattle.bank_books.specs.Range.{HasDistinctKeys, HoldsOperation, HoldsReleasable, IsSlipInRange, IsAccountInRange, IsBranchInRange, IsDay, IsProofInRange, IsTellerInRange, IsUserNumber};
-ghost use Rattle.counter_ops.specs.Ranges.{IsCash};
+ghost use Rattle.row_members.specs.Ranges.{IsCash};
 ghost use Rattle.book_range.specs.RangeParts.{AreCashBooksInRange, IsEntryLimited, IsLineLimited, IsReleaseAlone};
 
 use crate::named::{is_branch, is_entry_or_none, is_user};

@@ -48,7 +48,7 @@ module _ {T : Type 0} (begins : Option Ways → Bool) (ways : T → Option Ways)
   StaysFit old new = (boxes : Boxes) (is_known : ℕ → Bool) → Fits old boxes is_known → Fits new boxes is_known
 
 module _ {T E : Type 0} (begins : Option Ways → Bool) (ways : T → Option Ways) (used_up full : T → Type 0) (status : E → Status) (users : E → List ℕ → Option ℕ) (may_give : E → ℕ → E → Type 0) where
-  -- so many rounds, one after another, in each of which whoever waits for a visit is due
+  -- n rounds, one after another, in each of which whoever waits for a visit is due
   abbrev pub RoundsOn : ℕ → Clients T → Clients T → E → E → Type 0
   RoundsOn zero from to old new = (to ≡ from) × (new ≡ old)
   RoundsOn (suc n) from to old new =

@@ -49,7 +49,7 @@ pub trait Readiness {
         ensures { Reports (reported self.old) (reported self.new) ready.new.items };
 }
 
-/// The machine, which reports what comes to a door, to connections, and to what ends the serving.
+/// The machine, which reports who asks at a door, what arrives at connections, and that serving ends.
 #[derive(Drop)]
 pub struct System<'n, N> {
     net: &'n N,

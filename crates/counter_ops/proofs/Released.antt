@@ -3,7 +3,8 @@ use Rattle.std.proofs.Common.{◌≡◌, [], ◌∷◌, ℤ, pos}
 use Rattle.bank_terms.specs.Procedure.{number_of}
 use Rattle.bank_terms.specs.declared.procedure.Procedure.{Procedure}
 use Rattle.counter_ops.specs.Op.{procedure_of}
-use Rattle.counter_ops.specs.Rows.{places, op_numbers}
+use Rattle.row_members.specs.Places.{places}
+use Rattle.counter_ops.specs.Rows.{op_numbers}
 use Rattle.counter_ops.specs.Releasable.{op_of, releasable_numbers}
 use Rattle.counter_ops.specs.declared.releasable.Releasable.{Releasable}
 use Rattle.counter_ops.specs.declared.releasable.Releasable.TheVariants as releasable

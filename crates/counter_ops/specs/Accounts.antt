@@ -2,7 +2,7 @@
 use Rattle.std.specs.Prelude.{ℤ, pos, List, [], ◌∷◌}
 use Rattle.bank_terms.specs.Limits.{max_listed}
 use Rattle.counter_ops.specs.declared.accounts.Accounts.{Accounts}
-use Rattle.counter_ops.specs.Ranges.{IsWithin, IsKeyOrZero}
+use Rattle.row_members.specs.Ranges.{IsWithin, IsKeyOrZero}
 
 pub record IsAccounts (accounts : Accounts) : Type 0 where
   pub after : IsKeyOrZero accounts.after

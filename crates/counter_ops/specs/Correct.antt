@@ -2,7 +2,7 @@
 use Rattle.std.specs.Prelude.{◌≢◌, ℤ, pos, List, [], ◌∷◌}
 use Rattle.money.specs.Range.{IsDelta}
 use Rattle.counter_ops.specs.declared.correct.Correct.{Correct}
-use Rattle.counter_ops.specs.Ranges.{IsKey, IsKeyOrZero}
+use Rattle.row_members.specs.Ranges.{IsKey, IsKeyOrZero}
 
 pub record IsCorrect (correct : Correct) : Type 0 where
   pub branch : IsKey correct.branch

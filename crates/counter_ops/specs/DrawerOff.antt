@@ -1,7 +1,7 @@
 -- A drawer put off: the ranges of its members, and its numbers in the order in which its form names them.
 use Rattle.std.specs.Prelude.{ℤ, pos, List, [], ◌∷◌}
 use Rattle.counter_ops.specs.declared.drawer_off.DrawerOff.{DrawerOff}
-use Rattle.counter_ops.specs.Ranges.{IsKey, IsCash}
+use Rattle.row_members.specs.Ranges.{IsKey, IsCash}
 
 pub record IsDrawerOff (drawer_off : DrawerOff) : Type 0 where
   pub teller : IsKey drawer_off.teller

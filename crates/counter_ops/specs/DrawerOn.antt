@@ -2,7 +2,7 @@
 use Rattle.std.specs.Prelude.{ℤ, pos, List, [], ◌∷◌}
 use Rattle.bank_terms.specs.Limits.{max_limit}
 use Rattle.counter_ops.specs.declared.drawer_on.DrawerOn.{DrawerOn}
-use Rattle.counter_ops.specs.Ranges.{IsWithin, IsKey}
+use Rattle.row_members.specs.Ranges.{IsWithin, IsKey}
 
 pub record IsDrawerOn (drawer_on : DrawerOn) : Type 0 where
   pub teller : IsKey drawer_on.teller

@@ -7,7 +7,6 @@ pub mod NewAccount
 pub mod Op
 pub mod Operations
 pub mod Post
-pub mod Ranges
 pub mod Releasable
 pub mod Release
 pub mod Rows

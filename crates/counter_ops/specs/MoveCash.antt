@@ -2,7 +2,7 @@
 use Rattle.std.specs.Prelude.{◌≢◌, ℤ, pos, List, [], ◌∷◌}
 use Rattle.bank_terms.specs.Limits.{max_limit}
 use Rattle.counter_ops.specs.declared.move_cash.MoveCash.{MoveCash}
-use Rattle.counter_ops.specs.Ranges.{IsWithin, IsKey, IsKeyOrZero}
+use Rattle.row_members.specs.Ranges.{IsWithin, IsKey, IsKeyOrZero}
 
 pub record IsMoveCash (move_cash : MoveCash) : Type 0 where
   pub source : IsKeyOrZero move_cash.source

@@ -1,7 +1,7 @@
 -- A new account: the ranges of its members, and its numbers in the order in which its form names them.
 use Rattle.std.specs.Prelude.{ℤ, pos, List, [], ◌∷◌}
 use Rattle.counter_ops.specs.declared.new_account.NewAccount.{NewAccount}
-use Rattle.counter_ops.specs.Ranges.{IsKey, IsFloor}
+use Rattle.row_members.specs.Ranges.{IsKey, IsFloor}
 
 pub record IsNewAccount (new_account : NewAccount) : Type 0 where
   pub account : IsKey new_account.account

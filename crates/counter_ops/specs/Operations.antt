@@ -1,7 +1,7 @@
 -- An operation whose members lie in their ranges, and differ where they have to.
 use Rattle.counter_ops.specs.declared.op.Op.{Op}
 use Rattle.counter_ops.specs.declared.op.Op.TheVariants as op
-use Rattle.counter_ops.specs.Ranges.{IsKey}
+use Rattle.row_members.specs.Ranges.{IsKey}
 use Rattle.counter_ops.specs.Post.{IsPost}
 use Rattle.counter_ops.specs.Transfer.{IsTransfer}
 use Rattle.counter_ops.specs.Correct.{IsCorrect}

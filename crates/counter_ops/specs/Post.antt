@@ -2,7 +2,7 @@
 use Rattle.std.specs.Prelude.{ℤ, pos, List, [], ◌∷◌}
 use Rattle.money.specs.Range.{IsDelta}
 use Rattle.counter_ops.specs.declared.post.Post.{Post}
-use Rattle.counter_ops.specs.Ranges.{IsKey}
+use Rattle.row_members.specs.Ranges.{IsKey}
 
 pub record IsPost (post : Post) : Type 0 where
   pub account : IsKey post.account

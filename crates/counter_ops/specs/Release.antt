@@ -4,7 +4,7 @@ use Rattle.bank_terms.specs.Limits.{max_user}
 use Rattle.counter_ops.specs.declared.release.Release.{Release}
 use Rattle.bank_terms.specs.Procedure.{number_of}
 use Rattle.counter_ops.specs.Op.{procedure_of}
-use Rattle.counter_ops.specs.Ranges.{IsWithin}
+use Rattle.row_members.specs.Ranges.{IsWithin}
 use Rattle.counter_ops.specs.Releasable.{IsReleasable, releasable_numbers, op_of}
 
 pub record IsRelease (release : Release) : Type 0 where

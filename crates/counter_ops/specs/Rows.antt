@@ -1,9 +1,10 @@
 -- An operation as a row of the books holds it: the numbers of its members in the order in which its form names them,
 -- with 0 after the last. A release holds whom it is for, and then the row of the operation that it is for.
-use Rattle.std.specs.Prelude.{ℕ, ℤ, pos, ◌≡◌, ◌-◌, List, [], ◌∷◌, ◌++◌, length, replicate, Option, Some}
+use Rattle.std.specs.Prelude.{ℤ, List}
 use Rattle.counter_ops.specs.declared.op.Op.{Op}
 use Rattle.counter_ops.specs.declared.op.Op.TheVariants as op
 use Rattle.bank_terms.specs.declared.operation_row.OperationRow.{OperationRow}
+use Rattle.row_members.specs.Places.{places, key_numbers}
 use Rattle.counter_ops.specs.Op.{procedure_of}
 use Rattle.counter_ops.specs.Post.{post_numbers}
 use Rattle.counter_ops.specs.Transfer.{transfer_numbers}
@@ -15,22 +16,6 @@ use Rattle.counter_ops.specs.NewAccount.{new_account_numbers}
 use Rattle.counter_ops.specs.Statement.{statement_numbers}
 use Rattle.counter_ops.specs.Accounts.{accounts_numbers}
 use Rattle.counter_ops.specs.Release.{release_numbers}
-
--- the eight places of a row, with 0 after the last number
-abbrev pub places : List ℤ → List ℤ
-places numbers = numbers ++ replicate (8 - length numbers) (pos 0)
-
--- the value is in range, and the places hold its numbers
-abbrev pub StandsIn : {T : Type 0} → (T → Type 0) → (T → List ℤ) → List ℤ → T → Type 0
-StandsIn in_range numbers members x = in_range x × (places (numbers x) ≡ members)
-
--- a value that is in range, and whose numbers the places hold, is the one found
-abbrev pub IsOnlyIn : {T : Type 0} → (T → Type 0) → (T → List ℤ) → List ℤ → Option T → Type 0
-IsOnlyIn {T} in_range numbers members found = (x : T) → in_range x → places (numbers x) ≡ members → found ≡ Some x
-
--- the one number of a form with one member
-abbrev pub key_numbers : ℕ → List ℤ
-key_numbers key = pos key ∷ []
 
 abbrev pub op_numbers : Op → List ℤ
 op_numbers (op.Post post) = post_numbers post

@@ -2,7 +2,7 @@
 use Rattle.std.specs.Prelude.{ℤ, pos, List, [], ◌∷◌}
 use Rattle.bank_terms.specs.Limits.{max_listed}
 use Rattle.counter_ops.specs.declared.statement.Statement.{Statement}
-use Rattle.counter_ops.specs.Ranges.{IsWithin, IsKey}
+use Rattle.row_members.specs.Ranges.{IsWithin, IsKey}
 
 pub record IsStatement (statement : Statement) : Type 0 where
   pub account : IsKey statement.account

@@ -2,7 +2,7 @@
 use Rattle.std.specs.Prelude.{◌≢◌, ℤ, pos, List, [], ◌∷◌}
 use Rattle.bank_terms.specs.Limits.{max_transfer}
 use Rattle.counter_ops.specs.declared.transfer.Transfer.{Transfer}
-use Rattle.counter_ops.specs.Ranges.{IsWithin, IsKey}
+use Rattle.row_members.specs.Ranges.{IsWithin, IsKey}
 
 pub record IsTransfer (transfer : Transfer) : Type 0 where
   pub source : IsKey transfer.source

@@ -4,9 +4,8 @@ ghost use Rattle.counter_ops.specs.declared.op.Op.TheVariants as op;
 
 use crate::item_list::ItemList;
 use crate::operation::{Form, Operation};
-use crate::row_numbers::{key_or_zero, number};
-use crate::row_places::{in_places, two};
 use bank_terms::{MAX_LISTED, Procedure};
+use row_members::{in_places, key_or_zero, number, two};
 
 /// The accounts that the user may see, asked for.
 #[derive(Clone, Copy, Debug, PartialEq, Eq)]

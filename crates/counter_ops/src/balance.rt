@@ -5,8 +5,8 @@ ghost use Rattle.counter_ops.specs.declared.op.Op.TheVariants as op;
 use crate::item_list::ItemList;
 use crate::items::account;
 use crate::operation::{Form, Operation};
-use crate::row_key::{key_alone, places_of_key};
 use bank_terms::Procedure;
+use row_members::{key_alone, places_of_key};
 
 /// The balance of an account, asked for.
 #[derive(Clone, Copy, Debug, PartialEq, Eq)]

@@ -5,10 +5,9 @@ ghost use Rattle.counter_ops.specs.declared.op.Op.TheVariants as op;
 use crate::item_list::ItemList;
 use crate::items::{account, entry_items, size};
 use crate::operation::{Form, Operation};
-use crate::row_numbers::{delta, key, key_or_zero};
-use crate::row_places::{in_places, six};
 use bank_terms::Procedure;
 use money::Delta;
+use row_members::{delta, in_places, key, key_or_zero, six};
 
 /// An entry undone by another, which is what it was with the opposite sign.
 #[derive(Clone, Copy, Debug, PartialEq, Eq)]

@@ -5,10 +5,9 @@ ghost use Rattle.counter_ops.specs.declared.op.Op.TheVariants as op;
 use crate::item_list::ItemList;
 use crate::items::items_of_drawer;
 use crate::operation::{Form, Operation};
-use crate::row_numbers::{cash, key};
-use crate::row_places::{in_places, three};
 use bank_terms::Procedure;
 use money::Cents;
+use row_members::{cash, in_places, key, three};
 
 /// A drawer counted and put off, its cash back in the vault.
 #[derive(Clone, Copy, Debug, PartialEq, Eq)]

@@ -5,9 +5,8 @@ ghost use Rattle.counter_ops.specs.declared.op.Op.TheVariants as op;
 use crate::item_list::ItemList;
 use crate::items::items_of_drawer;
 use crate::operation::{Form, Operation};
-use crate::row_numbers::{key, number};
-use crate::row_places::{in_places, three};
 use bank_terms::{MAX_LIMIT, Procedure};
+use row_members::{in_places, key, number, three};
 
 /// A drawer given to the user, with cash from the vault.
 #[derive(Clone, Copy, Debug, PartialEq, Eq)]

@@ -21,9 +21,6 @@ mod post;
 mod proof;
 mod releasable;
 mod release;
-mod row_key;
-mod row_numbers;
-mod row_places;
 mod statement;
 mod transfer;
 

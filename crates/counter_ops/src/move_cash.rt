@@ -7,9 +7,8 @@ ghost use Rattle.counter_ops.specs.declared.op.Op.TheVariants as op;
 use crate::item_list::ItemList;
 use crate::items::{branch, drawer, teller, vault};
 use crate::operation::{Form, Operation};
-use crate::row_numbers::{key, key_or_zero, number};
-use crate::row_places::{four, in_places};
 use bank_terms::{MAX_LIMIT, Procedure};
+use row_members::{four, in_places, key, key_or_zero, number};
 
 /// Cash moved from one place of a branch to another.
 #[derive(Clone, Copy, Debug, PartialEq, Eq)]

@@ -5,9 +5,8 @@ ghost use Rattle.counter_ops.specs.declared.op.Op.TheVariants as op;
 use crate::item_list::ItemList;
 use crate::items::{account, branch};
 use crate::operation::{Form, Operation};
-use crate::row_numbers::{floor, key};
-use crate::row_places::{in_places, three};
 use bank_terms::Procedure;
+use row_members::{floor, in_places, key, three};
 
 /// A new account, with nothing in it.
 #[derive(Clone, Copy, Debug, PartialEq, Eq)]

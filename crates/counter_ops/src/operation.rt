@@ -4,7 +4,8 @@
 ghost use Rattle.std.specs.Prelude.{◌≡◌, ◌≤◌, length, Some, IfSome};
 ghost use Rattle.counter_ops.specs.Op.{procedure_of};
 ghost use Rattle.counter_ops.specs.Operations.{IsOp};
-ghost use Rattle.counter_ops.specs.Rows.{places as places_with, op_numbers, row_of};
+ghost use Rattle.row_members.specs.Places.{places as places_with};
+ghost use Rattle.counter_ops.specs.Rows.{op_numbers, row_of};
 ghost use Rattle.counter_ops.specs.Touched.{touched, amount as amount_of};
 ghost use Rattle.counter_ops.specs.declared.op.Op.{Op as AnOp};
 

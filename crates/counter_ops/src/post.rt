@@ -5,10 +5,9 @@ ghost use Rattle.counter_ops.specs.declared.op.Op.TheVariants as op;
 use crate::item_list::ItemList;
 use crate::items::{account, entry_items, size};
 use crate::operation::{Form, Operation};
-use crate::row_numbers::{delta, key};
-use crate::row_places::{four, in_places};
 use bank_terms::Procedure;
 use money::Delta;
+use row_members::{delta, four, in_places, key};
 
 /// An amount added to an account at a teller: the benchmark's debit-credit transaction.
 #[derive(Clone, Copy, Debug, PartialEq, Eq)]

@@ -10,8 +10,8 @@ ghost use Rattle.counter_ops.specs.declared.op.Op.TheVariants as op;
 use crate::item_list::ItemList;
 use crate::operation::{Form, Operation};
 use crate::releasable::Releasable;
-use crate::row_numbers::number;
 use bank_terms::{MAX_USER, OperationRow, Procedure};
+use row_members::number;
 
 /// Authorization for one operation of another user.
 #[derive(Clone, Copy, Debug, PartialEq, Eq)]

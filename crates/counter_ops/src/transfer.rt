@@ -5,9 +5,8 @@ ghost use Rattle.counter_ops.specs.declared.op.Op.TheVariants as op;
 use crate::item_list::ItemList;
 use crate::items::{account, entry_items};
 use crate::operation::{Form, Operation};
-use crate::row_numbers::{key, number};
-use crate::row_places::{five, in_places};
 use bank_terms::{MAX_TRANSFER, Procedure};
+use row_members::{five, in_places, key, number};
 
 /// An amount moved from one account to another.
 #[derive(Clone, Copy, Debug, PartialEq, Eq)]

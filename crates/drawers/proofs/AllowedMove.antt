@@ -6,7 +6,7 @@ use Rattle.std.proofs.lemmas.Bool.{and_parts, eq-eqb, eqb-true, ltb-false, ne_eq
 use Rattle.std.proofs.lemmas.Int.{ints}
 use Rattle.bank_terms.specs.Limits.{max_key}
 use Rattle.counter_ops.specs.MoveCash.{IsMoveCash}
-use Rattle.counter_ops.specs.Ranges.{IsCash}
+use Rattle.row_members.specs.Ranges.{IsCash}
 use Rattle.counter_ops.specs.declared.move_cash.MoveCash.{MoveCash}
 use Rattle.money.specs.Range.{IsCents, is_cents}
 use Rattle.bank_books.specs.Balances.{branch_row, teller_row}

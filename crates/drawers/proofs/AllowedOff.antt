@@ -7,7 +7,7 @@ use Rattle.std.proofs.lemmas.Int.{ints}
 use Rattle.keyed_rows.specs.Totals.{total}
 use Rattle.bank_terms.specs.Limits.{max_key}
 use Rattle.counter_ops.specs.DrawerOff.{IsDrawerOff}
-use Rattle.counter_ops.specs.Ranges.{IsCash}
+use Rattle.row_members.specs.Ranges.{IsCash}
 use Rattle.counter_ops.specs.declared.drawer_off.DrawerOff.{DrawerOff}
 use Rattle.money.specs.Range.{IsCents}
 use Rattle.bank_books.specs.Balances.{branch_row, teller_row}

@@ -4,7 +4,7 @@ use Rattle.std.specs.Prelude.{if◌then◌else◌}
 use Rattle.std.proofs.lemmas.Bool.{and_parts, ltb-false, ne_eqb, not-false}
 use Rattle.std.proofs.lemmas.Int.{ints}
 use Rattle.counter_ops.specs.DrawerOn.{IsDrawerOn}
-use Rattle.counter_ops.specs.Ranges.{IsCash}
+use Rattle.row_members.specs.Ranges.{IsCash}
 use Rattle.counter_ops.specs.declared.drawer_on.DrawerOn.{DrawerOn}
 use Rattle.money.specs.Range.{IsCents}
 use Rattle.bank_terms.specs.Limits.{max_key}

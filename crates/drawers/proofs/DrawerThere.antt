@@ -2,7 +2,7 @@
 use Rattle.std.proofs.Common.{◌≡◌, ◌≢◌, ℕ, ◌==◌, ◌||◌, true, false, ap, arith, ◌∙◌, Option, Some}
 use Rattle.std.specs.Prelude.{is_none, option_map}
 use Rattle.std.proofs.lemmas.Bool.{eqb-true, or_parts}
-use Rattle.counter_ops.specs.Ranges.{IsKey}
+use Rattle.row_members.specs.Ranges.{IsKey}
 use Rattle.bank_books.specs.Balances.{branch_row, teller_row}
 use Rattle.bank_books.specs.Keys.{teller_key}
 use Rattle.bank_books.specs.Range.{IsTellerOf}

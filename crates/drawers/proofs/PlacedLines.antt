@@ -7,7 +7,7 @@ use Rattle.std.proofs.lemmas.Bool.{cases_Bool, eq-eqb, eqb-true, ne_eqb}
 use Rattle.std.proofs.lemmas.Int.{ints}
 use Rattle.keyed_rows.specs.Ordered.{add_row}
 use Rattle.bank_terms.specs.Limits.{max_key}
-use Rattle.counter_ops.specs.Ranges.{IsCash}
+use Rattle.row_members.specs.Ranges.{IsCash}
 use Rattle.money.specs.Range.{IsCents}
 use Rattle.bank_books.specs.Balances.{branch_row, teller_row}
 use Rattle.bank_books.specs.Books.{Books}

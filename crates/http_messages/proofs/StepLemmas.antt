@@ -25,9 +25,9 @@ use Rattle.http_messages.specs.Step.{AnswersFirst, HandsOn, IsStep, Side}
 split_message : (bytes : List ℕ) (h : RequestHead) (len n : ℕ) → bytes ≡ print_request h ++ drop len bytes
     → bytes ≡ (print_request h ++ take n (drop len bytes)) ++ drop (len + n) bytes
 split_message bytes h len n whole =
-    let behind : drop len bytes ≡ take n (drop len bytes) ++ drop (len + n) bytes =
+    let follows : drop len bytes ≡ take n (drop len bytes) ++ drop (len + n) bytes =
     sym (take-append-drop n (drop len bytes)) ∙ ap (λ l. take n (drop len bytes) ++ l) (drop-drop n len bytes) in
-    whole ∙ ap (λ l. print_request h ++ l) behind ∙ sym (append_assoc (print_request h) (take n (drop len bytes)) (drop (len + n) bytes))
+    whole ∙ ap (λ l. print_request h ++ l) follows ∙ sym (append_assoc (print_request h) (take n (drop len bytes)) (drop (len + n) bytes))
 
 -- the parts of the message that the bytes begin with
 abbrev pub begun_parts : (bytes : List ℕ) (headers : List HeaderSpan) (r : RequestSpans) (n : ℕ) → BeginsMessage bytes headers r n → MessageParts
@@ -45,13 +45,13 @@ module _ {S : Type 0} (way : S → MessageParts → List ℕ → S → Type 0) w
   handed : (old new : Side S) (headers : List HeaderSpan) (r : RequestSpans) (n : ℕ) (rest reply : List ℕ) → length old.held ≤ max_message_len
       → (b : BeginsMessage old.held headers r n) → rest ≡ drop (r.len + n) old.held → way old.engine (begun_parts old.held headers r n b) reply new.engine
       → HandsOn way old new rest reply
-  handed old new headers r n rest reply within b behind answered =
+  handed old new headers r n rest reply within b follows answered =
       let fits : n ≤ length (drop r.len old.held) = omega (arith, b.whole, length-drop r.len old.held) in
       record {
         message = record { head = b.head; body = take n (drop r.len old.held) };
         split =
             split_message old.held b.head r.len n b.begins.covers.reads.1
-            ∙ ap (λ l. (print_request b.head ++ take n (drop r.len old.held)) ++ l) (sym behind);
+            ∙ ap (λ l. (print_request b.head ++ take n (drop r.len old.held)) ++ l) (sym follows);
         is = record {
           head = b.begins.covers.reads.0;
           short = omega (arith, b.begins.short, b.begins.covers.len);
@@ -59,7 +59,7 @@ module _ {S : Type 0} (way : S → MessageParts → List ℕ → S → Type 0) w
           body = length-take-le n (drop r.len old.held) fits ∙ b.body;
         };
         answered = answered;
-        bounded = omega (arith, ap length behind, length-drop (r.len + n) old.held, within);
+        bounded = omega (arith, ap length follows, length-drop (r.len + n) old.held, within);
       }
 
 module _ {S : Type 0} (answers stops breaks : S → MessageParts → List ℕ → S → Type 0) where
@@ -67,9 +67,9 @@ module _ {S : Type 0} (answers stops breaks : S → MessageParts → List ℕ �
       → (b : BeginsMessage old.held headers r n) → m ≡ begun_parts old.held headers r n b → new.held ≡ drop (r.len + n) old.held
       → IsAnswered answers stops breaks old.engine new.engine m old.written new.written (Ok tt) → closes m.head ≡ ends → AnswersFirst answers stops breaks ends old new
   unfolding handed
-  step_answered ends old new headers r n m within b is behind (reply, one, wrote) closing = (
+  step_answered ends old new headers r n m within b is follows (reply, one, wrote) closing = (
     reply,
-    handed answers old new headers r n new.held reply within b behind (subst (λ p. answers old.engine p reply new.engine) is one),
+    handed answers old new headers r n new.held reply within b follows (subst (λ p. answers old.engine p reply new.engine) is one),
     ap (λ p. closes p.head) (sym is) ∙ closing,
     wrote,
   )

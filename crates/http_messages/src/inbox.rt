@@ -160,7 +160,7 @@ impl Inbox {
     }
 }
 
-/// Room for the places of a head's fields. What it holds is of no meaning between steps, so many connections share it.
+/// Room for the places of a head's fields. Nothing in it is kept between steps, and connections share it.
 #[derive(Drop)]
 pub struct FieldRoom {
     spans: Vec<HeaderSpan>,

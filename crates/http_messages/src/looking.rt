@@ -28,7 +28,7 @@ pub(crate) enum Next {
 pub(crate) enum Awaited {
     /// A head. So far it was judged.
     Head(Seen),
-    /// A body. The message has so many bytes with its head, which has no fault.
+    /// A body. The message has this number of bytes with its head, which has no fault.
     Body(usize),
 }
 

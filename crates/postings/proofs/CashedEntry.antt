@@ -27,7 +27,7 @@ use Rattle.book_laws.proofs.EntryBooks.{entry_keeps_books}
 use Rattle.book_laws.proofs.LineAdded.{line_keeps_books}
 use Rattle.keyed_rows.proofs.Rows.{found_row}
 use Rattle.rule_tests.proofs.RuleTests.{cents_from}
-use Rattle.counter_ops.specs.Ranges.{IsCash, IsKey}
+use Rattle.row_members.specs.Ranges.{IsCash, IsKey}
 use Rattle.money.specs.Range.{IsCents}
 use Rattle.rule_tests.specs.BranchParts.{cash_book_of, ledger_of}
 use Rattle.rule_tests.specs.Rules.{cash_book_is_full, cash_entries_in_range, drawer_covers, drawer_in_range, drawers_in_range, ledger_in_range, ledger_is_full, teller_in_range}

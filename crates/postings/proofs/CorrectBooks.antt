@@ -17,7 +17,7 @@ use Rattle.book_laws.proofs.BooksSplit.{books_parts}
 use Rattle.keyed_rows.proofs.Rows.{find-found, found_row}
 use Rattle.rule_tests.proofs.RuleTests.{none_named}
 use Rattle.counter_ops.specs.Correct.{IsCorrect}
-use Rattle.counter_ops.specs.Ranges.{IsKey, IsKeyOrZero}
+use Rattle.row_members.specs.Ranges.{IsKey, IsKeyOrZero}
 use Rattle.counter_ops.specs.declared.correct.Correct.{Correct}
 use Rattle.world_reads.specs.BookReads.{entry, is_entry}
 use Rattle.rule_tests.specs.Rules.{cash_book_is_full, drawer_covers, ledger_is_full}

@@ -13,7 +13,7 @@ use Rattle.bank_books.specs.declared.signature.Signature.{Signature}
 use Rattle.book_laws.specs.Ledger.{IsEntrySound, IsLineSound}
 use Rattle.book_laws.proofs.BooksSplit.{books_parts}
 use Rattle.keyed_rows.proofs.Rows.{found_row}
-use Rattle.counter_ops.specs.Ranges.{IsKeyOrZero}
+use Rattle.row_members.specs.Ranges.{IsKeyOrZero}
 use Rattle.rule_tests.specs.Signed.{IsSigned}
 
 -- the teller and the branch are there, and the teller is of the branch

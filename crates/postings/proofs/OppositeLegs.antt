@@ -21,7 +21,7 @@ use Rattle.book_laws.specs.Moves.{AreLegs, HasRoomForOppositeLegs, account_enter
 use Rattle.book_laws.specs.Next.{IsNextEntry}
 use Rattle.book_laws.proofs.LegsBooks.{opposite_legs_keep_books}
 use Rattle.keyed_rows.proofs.Rows.{count_named, count_other, found_row}
-use Rattle.counter_ops.specs.Ranges.{IsKeyOrZero}
+use Rattle.row_members.specs.Ranges.{IsKeyOrZero}
 use Rattle.rule_tests.specs.BranchParts.{ledger_of}
 use Rattle.rule_tests.specs.Rules.{ledger_is_full}
 use Rattle.rule_tests.specs.Signed.{IsSigned}

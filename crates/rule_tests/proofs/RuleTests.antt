@@ -6,7 +6,7 @@ use Rattle.std.proofs.lemmas.Int.{ints}
 use Rattle.money.specs.Range.{IsCents, is_cents}
 use Rattle.bank_terms.specs.Rule.{number_of}
 use Rattle.bank_terms.specs.declared.rule.Rule.{Rule}
-use Rattle.counter_ops.specs.Ranges.{IsKeyOrZero}
+use Rattle.row_members.specs.Ranges.{IsKeyOrZero}
 use Rattle.rule_tests.specs.Denial.{first_denial, is_denial}
 
 -- where none is named there is none

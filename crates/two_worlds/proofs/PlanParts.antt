@@ -13,7 +13,7 @@ use Rattle.bank_books.specs.WorldLists.{WorldLists}
 use Rattle.bank_books.specs.declared.row_write.RowWrite.{RowWrite}
 use Rattle.bank_books.specs.declared.rows.Release.{Release as ReleaseRow}
 use Rattle.bank_books.specs.declared.rows.Teller.{Teller}
-use Rattle.counter_ops.specs.Ranges.{IsKey}
+use Rattle.row_members.specs.Ranges.{IsKey}
 use Rattle.rule_tests.specs.Rules.{teller_is_of}
 use Rattle.rule_tests.proofs.RuleTests.{passed_by}
 use Rattle.bank_meaning.specs.Meaning.{Meaning, by_books}

@@ -28,7 +28,7 @@ use Rattle.bank_books.specs.declared.signature.Signature.{Signature}
 use Rattle.rule_tests.proofs.RuleTests.{passed_by}
 use Rattle.keyed_rows.proofs.Rows.{find-found}
 use Rattle.counter_ops.specs.Operations.{IsOp}
-use Rattle.counter_ops.specs.Ranges.{IsKey}
+use Rattle.row_members.specs.Ranges.{IsKey}
 use Rattle.counter_ops.specs.declared.op.Op.{Op}
 use Rattle.counter_ops.specs.declared.op.Op.TheVariants as op
 use Rattle.world_reads.specs.BookReads.{is_account_of, is_release, release}

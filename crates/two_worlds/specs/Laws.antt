@@ -8,7 +8,7 @@ use Rattle.bank_books.specs.Records.{slip_count}
 use Rattle.bank_books.specs.SlipRow.{SlipRow}
 use Rattle.bank_books.specs.WorldLists.{WorldLists}
 use Rattle.counter_ops.specs.Operations.{IsOp}
-use Rattle.counter_ops.specs.Ranges.{IsKey}
+use Rattle.row_members.specs.Ranges.{IsKey}
 use Rattle.counter_ops.specs.declared.op.Op.{Op}
 use Rattle.counter_ops.specs.declared.op.Op.TheVariants as op
 use Rattle.world_reads.specs.BookReads.{release, slip}

@@ -8,7 +8,7 @@ use Rattle.bank_books.specs.Balances.{account_row, branch_row, teller_row, turn_
 use Rattle.bank_books.specs.WorldLists.{WorldLists}
 use Rattle.bank_books.specs.declared.rows.Entry.{Entry}
 use Rattle.bank_meaning.specs.Sums.{PassesChecks}
-use Rattle.counter_ops.specs.Ranges.{IsKey}
+use Rattle.row_members.specs.Ranges.{IsKey}
 use Rattle.world_reads.specs.BookReads.{is_entry_at}
 use Rattle.counter_ops.specs.Touched.{account_item}
 use Rattle.two_worlds.specs.View.{nothing, view_of}

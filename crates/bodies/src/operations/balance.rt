@@ -3,7 +3,7 @@
 ghost use Rattle.std.specs.Prelude.{◌≡◌, IfSome};
 ghost use Rattle.serde_json.specs.View.{view};
 ghost use Rattle.bodies.specs.Balance.{balance_of};
-ghost use Rattle.counter_ops.specs.Ranges.{IsKey};
+ghost use Rattle.row_members.specs.Ranges.{IsKey};
 
 use crate::members::{is_object_of, key};
 use counter_ops::Balance;

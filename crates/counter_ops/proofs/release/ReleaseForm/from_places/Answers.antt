@@ -1,6 +1,6 @@
 use Rattle.std.proofs.Common.{◌∙◌, ap, arith}
 use Rattle.std.proofs.lemmas.Int.{ints}
-use Rattle.counter_ops.proofs.Places.{eight_stand}
+use Rattle.row_members.proofs.EightPlaces.{eight_stand}
 use Rattle.counter_ops.proofs.Released.{release_stands}
 use Rattle.counter_ops.proofs.release.ReleaseForm.from_places.Goals as goal
 

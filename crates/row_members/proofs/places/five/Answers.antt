@@ -1,7 +1,7 @@
 use Rattle.std.proofs.Common.{arith}
 use Rattle.std.proofs.lemmas.Int.{ints}
-use Rattle.counter_ops.proofs.Places.{eight_stand}
-use Rattle.counter_ops.proofs.row_places.six.Goals as goal
+use Rattle.row_members.proofs.EightPlaces.{eight_stand}
+use Rattle.row_members.proofs.places.five.Goals as goal
 
 pub returns-clause-some : goal.returns-clause-some
 returns-clause-some c =

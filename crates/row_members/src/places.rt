@@ -1,7 +1,7 @@
 //! Numbers in the places of a row, with 0 after the last, and those of one to six members read back.
 
 ghost use Rattle.std.specs.Prelude.{◌≡◌, ◌≤◌, ℤ, [], ◌∷◌, length, IfSome, IfNone};
-ghost use Rattle.counter_ops.specs.Rows.{places};
+ghost use Rattle.row_members.specs.Places.{places};
 
 /// The numbers in the places of a row, with 0 after the last.
 pub fn in_places(numbers: &[i64]) -> [i64; 8]

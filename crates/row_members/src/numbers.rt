@@ -2,7 +2,7 @@
 
 ghost use Rattle.std.specs.Prelude.{◌≡◌, ℕ, ℤ, pos, Some, IfSome};
 ghost use Rattle.money.specs.Range.{IsDelta};
-ghost use Rattle.counter_ops.specs.Ranges.{IsCash, IsFloor, IsKey, IsKeyOrZero, IsWithin};
+ghost use Rattle.row_members.specs.Ranges.{IsCash, IsFloor, IsKey, IsKeyOrZero, IsWithin};
 
 use bank_terms::{MAX_KEY, MIN_FLOOR};
 use money::{Cents, Delta};

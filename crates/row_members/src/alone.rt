@@ -1,11 +1,11 @@
 //! The row of a form whose only member is a key: a balance, a proof or the end of a day.
 
 ghost use Rattle.std.specs.Prelude.{◌≡◌, IfSome};
-ghost use Rattle.counter_ops.specs.Ranges.{IsKey};
-ghost use Rattle.counter_ops.specs.Rows.{StandsIn, IsOnlyIn, key_numbers, places};
+ghost use Rattle.row_members.specs.Ranges.{IsKey};
+ghost use Rattle.row_members.specs.Places.{StandsIn, IsOnlyIn, key_numbers, places};
 
-use crate::row_numbers::key;
-use crate::row_places::{in_places, one};
+use crate::numbers::key;
+use crate::places::{in_places, one};
 
 /// The key of a form with one member, in the places of a row.
 pub fn places_of_key(key: u32) -> [i64; 8]
