@@ -23,12 +23,12 @@ use Rattle.cli_counter.specs.InFile.{IsAttendedAndClosed, IsAttendedAndUnclosed,
 module _ {S C : Type 0} (begins : Option Ways → Bool) (status : S → Status) (users : List ℕ → Option ℕ) (may_give : C → ℕ → C → Type 0) (place : Place) (output_old output_new : Stream) where
   day_at : (old new : At S C) (result : Result Unit ActionFault) (is : IsAttendedAt begins status users may_give place output_old output_new old new result)
       → IsDay users (status old.store) (status new.store) (messages_at begins status users may_give place output_old output_new old new result is)
-  day_at old new result (inl is) = is.1.attended.day
+  day_at old new result (inl is) = is.1.served.attended.day
   day_at old new result (inr is) = subst (λ (at : At S C). IsDay users (status old.store) (status at.store) []) (sym is.1) (day_of_none users (status old.store))
 
   replied_at : (old new : At S C) (result : Result Unit ActionFault) (is : IsAttendedAt begins status users may_give place output_old output_new old new result)
       → Tells (status old.store) (status new.store) (AreRepliedAt begins status users may_give place output_old output_new old new result is)
-  replied_at old new result (inl is) = is.1.attended.replied
+  replied_at old new result (inl is) = is.1.served.attended.replied
   replied_at old new result (inr is) = λ clean w held. tt
 
 module _ {S C : Type 0} (status : S → Status) (users : List ℕ → Option ℕ) (may_give : C → ℕ → C → Type 0) (place : Place) (output_old output_new : Stream) where

@@ -127,7 +127,7 @@ module _ {D C : Type 0} {g : Ghosts D} (users : List ℕ → Option ℕ) (may_gi
   moments_at : (place : Place) (output_old output_new : Stream) (clock : C) (new : At (Cached (BankStore D g)) C) (result : Result Unit ActionFault)
       → (is : IsAttendedAt is_unreported (cached_status file_status) users may_give place output_old output_new (record { store = began; clock = clock }) new result)
       → HasCleanDisk (file_state (below new.store).conn) → AreMomentsAt g users may_give place output_old output_new (record { store = began; clock = clock }) new result is w
-  moments_at place output_old output_new clock new result (inl is) clean = λ n. moment_of clock is.1.attended.turns is.1.attended.after new is.1.attended.had clean n
+  moments_at place output_old output_new clock new result (inl is) clean = λ n. moment_of clock is.1.served.attended.turns is.1.served.attended.after new is.1.served.attended.had clean n
   moments_at place output_old output_new clock new result (inr is) clean = tt
 
 pub moments_had : {D C : Type 0} {g : Ghosts D} (users : List ℕ → Option ℕ) (may_give : C → ℕ → C → Type 0) (opened : Held (FileStore D g)) (begun ended : BankStore D g) (found : IsFound opened begun)

@@ -9,7 +9,8 @@ use Rattle.exit_lines.specs.Streams.{GetsAll, GetsBeginning, Stream}
 use Rattle.counter_api.specs.Run.{MarkedMessage}
 use Rattle.counter_places.specs.Places.{listening_line}
 use Rattle.counter_places.specs.declared.place.Place.{Place}
-use Rattle.counter_loop.specs.Attended.{AreAnswered, AreAttended}
+use Rattle.counter_loop.specs.Attended.{AreAnswered}
+use Rattle.counter_loop.specs.Rounds.{AreAttendedInRounds, HasUnsent}
 use Rattle.counter_loop.specs.Turns.{At, one_list}
 use Rattle.counter_loop.specs.Ways.{Ways, is_unreported}
 use Rattle.cli_file.specs.declared.fault.ActionFault.{ActionFault}
@@ -17,9 +18,10 @@ use Rattle.cli_file.specs.declared.fault.ActionFault.TheVariants as fault
 use Rattle.cli_counter.specs.Faults.{IsOfCounter}
 
 module _ {S C : Type 0} (begins : Option Ways → Bool) (status : S → Status) (users : List ℕ → Option ℕ) (may_give : C → ℕ → C → Type 0) where
-  -- The connections that came were served at once. A fault says that the place failed, or that memory was refused.
+  -- The connections that came were served at once, round after round. Who holds a whole message as a round begins has a turn in it, unless it had
+  -- its last, bytes wait for its client, or it was let go. A fault says that the place failed, or that memory was refused.
   pub record AreHad (old new : At S C) (result : Result Unit ActionFault) : Type 0 where
-    pub attended : AreAttended begins status users may_give old new
+    pub served : AreAttendedInRounds begins HasUnsent status users may_give old new
     pub fault : IfErr result IsOfCounter
 
   -- The place was printed and they were served so. Or it could not be acquired, or not printed, and nothing was served.
@@ -30,13 +32,13 @@ module _ {S C : Type 0} (begins : Option Ways → Bool) (status : S → Status) 
 
   -- the messages of all connections, in the order in which turns took them
   abbrev pub messages_at : (place : Place) (output_old output_new : Stream) (old new : At S C) (result : Result Unit ActionFault) → IsAttendedAt place output_old output_new old new result → List MarkedMessage
-  messages_at place output_old output_new old new result (inl is) = one_list is.1.attended.turns
+  messages_at place output_old output_new old new result (inl is) = one_list is.1.served.attended.turns
   messages_at place output_old output_new old new result (inr is) = []
 
   -- and what each outbox got is a beginning of the replies to its own
   abbrev pub AreRepliedAt : (place : Place) (output_old output_new : Stream) (old new : At S C) (result : Result Unit ActionFault) → IsAttendedAt place output_old output_new old new result
       → WorldLists → Type 0
-  AreRepliedAt place output_old output_new old new result (inl is) w = AreAnswered users is.1.attended.turns w
+  AreRepliedAt place output_old output_new old new result (inl is) w = AreAnswered users is.1.served.attended.turns w
   AreRepliedAt place output_old output_new old new result (inr is) w = ⊤
 
 module _ {S C : Type 0} (status : S → Status) (users : List ℕ → Option ℕ) (may_give : C → ℕ → C → Type 0) where

@@ -38,9 +38,9 @@ module _ {D C : Type 0} (g : Ghosts D) (users : List ℕ → Option ℕ) (may_gi
   abbrev pub AreMomentsAt : (place : Place) (output_old output_new : Stream) (old new : At (Cached (BankStore D g)) C) (result : Result Unit ActionFault)
       → IsAttendedAt is_unreported (cached_status file_status) users may_give place output_old output_new old new result → WorldLists → Type 0
   AreMomentsAt place output_old output_new old new result (inl is) w =
-      (n : ℕ) → IsMoment w is.1.attended.turns n old
-      (state_after is_unreported (cached_status file_status) users may_give n nothing_yet old is.1.attended.turns is.1.attended.after new is.1.attended.had)
-      (state_after is_unreported (cached_status file_status) users may_give (suc n) nothing_yet old is.1.attended.turns is.1.attended.after new is.1.attended.had)
+      (n : ℕ) → IsMoment w is.1.served.attended.turns n old
+      (state_after is_unreported (cached_status file_status) users may_give n nothing_yet old is.1.served.attended.turns is.1.served.attended.after new is.1.served.attended.had)
+      (state_after is_unreported (cached_status file_status) users may_give (suc n) nothing_yet old is.1.served.attended.turns is.1.served.attended.after new is.1.served.attended.had)
   AreMomentsAt place output_old output_new old new result (inr is) w = ⊤
 
   abbrev pub AreMoments : (place : Place) (output_old output_new : Stream) (old new : At (BankStore D g) C) (result : Result Unit ActionFault)

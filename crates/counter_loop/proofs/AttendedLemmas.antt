@@ -1,7 +1,8 @@
 -- Turns, whosever they are, are one run of the bank, in which each connection has its replies.
-use Rattle.std.proofs.Common.{◌≡◌, ℕ, Bool, List, [], Option, Some, refl}
+use Rattle.std.proofs.Common.{◌≡◌, ℕ, Bool, List, [], ◌∷◌, ◌++◌, inl, inr, Option, Some, refl, sym, ap, ◌∙◌}
 use Rattle.store_rows.specs.Status.{Status}
 use Rattle.counter_loop.specs.Attended.{AreAttended, IsSince}
+use Rattle.counter_loop.specs.Rounds.{AreAttendedInRounds, AreRounds, HasUnsent, IsFull, NoneForgotten}
 use Rattle.counter_loop.specs.Turns.{AreTurns, At, Box, Boxes, Made, nothing_yet}
 use Rattle.counter_loop.specs.Ways.{Ways}
 use Rattle.counter_loop.proofs.StepLemmas.{as_steps}
@@ -14,6 +15,23 @@ use Rattle.counter_loop.proofs.WayLemmas.{moves_none}
 -- nothing went out since
 pub since_now : (box : Box) → IsSince box box.ways box.waits
 since_now box = record { out = []; waits = refl; heard = []; unheard = λ e. refl; moved = moves_none box.ways }
+
+no_rest : {A : Type 0} (out rest : List A) → out ++ rest ≡ [] → rest ≡ []
+no_rest [] rest none = none
+no_rest (x ∷ out) rest none = let e : x ∷ (out ++ rest) ≡ [] = none in absurd cc
+
+is_unsent : {T : Type 0} (ways : T → Option Ways) (full : T → Type 0) (boxes : Boxes) (k : ℕ) → IsFull ways full boxes k → HasUnsent boxes k
+is_unsent ways full boxes k is = (is.box, is.there, λ none. is.some (no_rest is.since.out is.rest (sym is.since.waits ∙ none)))
+
+none_unsent : {T : Type 0} (ways : T → Option Ways) (full : T → Type 0) (boxes between : Boxes) (turns later : List Made) → NoneForgotten (IsFull ways full) boxes between turns later
+    → NoneForgotten HasUnsent boxes between turns later
+none_unsent ways full boxes between turns later none k box is open_still whole = elim (none k box is open_still whole) [
+  | inl had ↦ inl had
+  | inr others ↦ elim others [
+    | inl over ↦ inr (inl over)
+    | inr either ↦ elim either [ inl full_so ↦ inr (inr (inl (is_unsent ways full between k full_so))) | inr gone ↦ inr (inr (inr gone)) ]
+  ]
+]
 
 module _ {S C : Type 0} (begins : Option Ways → Bool) (status : S → Status) (users : List ℕ → Option ℕ) (may_give : C → ℕ → C → Type 0) where
   abbrev pub attended : (old new : At S C) (turns : List Made) (after : Boxes) → AreTurns begins status users may_give nothing_yet old turns after new
@@ -33,5 +51,16 @@ module _ {S C : Type 0} (begins : Option Ways → Bool) (status : S → Status) 
   pub attended_so_far : (old new : At S C) (turns : List Made) (after : Boxes) → AreTurns begins status users may_give nothing_yet old turns after new → AreAttended begins status users may_give old new
   attended_so_far old new turns after had = attended old new turns after had (λ k box is. (box.ways, box.waits, since_now box))
 
-  pub attended_none : (s : At S C) → AreAttended begins status users may_give s s
-  attended_none s = attended_so_far s s [] nothing_yet (refl, refl)
+  pub attended_none : (is_excused : Boxes → ℕ → Type 0) (s : At S C) → AreAttendedInRounds begins is_excused status users may_give s s
+  attended_none is_excused s = record { attended = attended_so_far s s [] nothing_yet (refl, refl); rounds = []; all = refl; had = (refl, refl) }
+
+  -- whoever took no more has bytes waiting
+  unsent_rounds : {T : Type 0} (ways : T → Option Ways) (full : T → Type 0) (boxes after : Boxes) (old new : At S C) (rounds : List (List Made)) → AreRounds begins (IsFull ways full) status users may_give boxes old rounds after new
+      → AreRounds begins HasUnsent status users may_give boxes old rounds after new
+  unsent_rounds ways full boxes after old new [] had = had
+  unsent_rounds ways full boxes after old new (ts ∷ rounds) (between, mid, had, none, rest) =
+      (between, mid, had, none_unsent ways full boxes between ts _ none, unsent_rounds ways full between after mid new rounds rest)
+
+  pub attended_unsent : {T : Type 0} (ways : T → Option Ways) (full : T → Type 0) (old new : At S C) → AreAttendedInRounds begins (IsFull ways full) status users may_give old new
+      → AreAttendedInRounds begins HasUnsent status users may_give old new
+  attended_unsent ways full old new a = record { attended = a.attended; rounds = a.rounds; all = a.all; had = unsent_rounds ways full _ a.attended.after old new a.rounds a.had }

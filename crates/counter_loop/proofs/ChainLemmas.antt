@@ -244,7 +244,7 @@ module _ {T E : Type 0} (begins : Option Ways → Bool) (ways : T → Option Way
       ]
 
   none_forgotten : (from mid to : Clients T) (boxes between after : Boxes) (old at new : E) (ts : List Made) (rounds : List (List Made)) → IsOneRound from boxes old ts mid between at → Chain mid between at rounds to after new
-      → NoneForgotten ways full boxes between ts (joined rounds)
+      → NoneForgotten (IsFull ways full) boxes between ts (joined rounds)
   none_forgotten from mid to boxes between after old at new ts rounds one rest k box is open_still whole = elim (one.served k box is open_still whole) [
     | inl had ↦ inl had
     | inr others ↦ elim others [
@@ -259,14 +259,14 @@ module _ {T E : Type 0} (begins : Option Ways → Bool) (ways : T → Option Way
   ]
 
   pub chain_rounds : (from to : Clients T) (boxes after : Boxes) (old new : E) (rounds : List (List Made)) → Chain from boxes old rounds to after new
-      → AreRounds begins ways full status (users old) may_give boxes (both old) rounds after (both new)
+      → AreRounds begins (IsFull ways full) status (users old) may_give boxes (both old) rounds after (both new)
   chain_rounds from to boxes after old new [] (is_to, is, same) = (is, ap both same)
   chain_rounds from to boxes after old new (ts ∷ rounds) (mid, between, at, one, rest) = (
     between,
     both at,
     one.had,
     none_forgotten from mid to boxes between after old at new ts rounds one rest,
-    subst (λ u. AreRounds begins ways full status u may_give between (both at) rounds after (both new)) one.same (chain_rounds mid to between after at new rounds rest),
+    subst (λ u. AreRounds begins (IsFull ways full) status u may_give between (both at) rounds after (both new)) one.same (chain_rounds mid to between after at new rounds rest),
   )
 
   chain_turns : (from to : Clients T) (boxes after : Boxes) (old new : E) (rounds : List (List Made)) → Chain from boxes old rounds to after new
@@ -308,19 +308,11 @@ module _ {T E : Type 0} (begins : Option Ways → Bool) (ways : T → Option Way
   going_all (suc n) from to old at new going (ready, mid, between, round, rest) =
       going_all n mid to old between new (going_on (IsDue ready) from mid mid old at between going (λ k x waits. inr waits) round (λ boxes is_known fits. fits)) rest
 
-  pub attended_so : (clients : Clients T) (old new : E) → AreGoing clients old new → AreAttendedInRounds begins ways full status (users old) may_give (both old) (both new)
+  pub attended_so : (clients : Clients T) (old new : E) → AreGoing clients old new → AreAttendedInRounds begins (IsFull ways full) status (users old) may_give (both old) (both new)
   attended_so clients old new going = record {
     attended = attended begins status (users old) may_give (both old) (both new) (joined going.rounds) going.after
         (chain_turns going.first clients nothing_yet going.after old new going.rounds going.chain) (all_ended begins ways clients going.after going.suits);
     rounds = going.rounds;
     all = refl;
     had = chain_rounds going.first clients nothing_yet going.after old new going.rounds going.chain;
-  }
-
-  pub attended_not : (s : E) → AreAttendedInRounds begins ways full status (users s) may_give (both s) (both s)
-  attended_not s = record {
-    attended = attended begins status (users s) may_give (both s) (both s) [] nothing_yet (refl, refl) (λ k box is. let e : None ≡ Some box = is in absurd cc);
-    rounds = [];
-    all = refl;
-    had = (refl, refl);
   }

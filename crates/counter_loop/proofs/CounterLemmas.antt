@@ -6,6 +6,7 @@ use Rattle.counter_api.specs.Answers.{CounterGives}
 use Rattle.counter_api.specs.Run.{IsWhole}
 use Rattle.counter_api.specs.declared.counter.Counter.{Counter}
 use Rattle.counter_loop.specs.Attended.{AreAttended}
+use Rattle.counter_loop.specs.Rounds.{AreAttendedInRounds, AreRounds}
 use Rattle.counter_loop.specs.Turns.{AreTurns, At, Box, Boxes, GoesOn, IsAnswering, IsBreaking, IsLast, IsOneTurn, IsQuiet, Made, both, with_box}
 use Rattle.counter_loop.specs.Ways.{Ways}
 
@@ -120,7 +121,7 @@ module _ {S G C : Type 0} (status : S → Status) (known : List ℕ → Option �
       record { bank = later.bank ∙ here.bank; clock = later.clock ∙ here.clock }
 
   -- the counter as its bank and its clock
-  pub attended_over : (begins : Option Ways → Bool) (old new : Counter S G C) → AreAttended begins standing known gives (both old) (both new)
+  attended_over : (begins : Option Ways → Bool) (old new : Counter S G C) → AreAttended begins standing known gives (both old) (both new)
       → AreAttended begins status known may_give (record { store = old.bank.now.store; clock = old.clock.now }) (record { store = new.bank.now.store; clock = new.clock.now })
   attended_over begins old new a = record {
     turns = a.turns;
@@ -131,6 +132,22 @@ module _ {S G C : Type 0} (status : S → Status) (known : List ℕ → Option �
     replied = a.replied;
     handed = a.handed;
     streams = a.streams;
+  }
+
+  rounds_over : (begins : Option Ways → Bool) (is_excused : Boxes → ℕ → Type 0) (boxes after : Boxes) (old new : At (Counter S G C) (Counter S G C)) (rounds : List (List Made))
+      → AreRounds begins is_excused standing known gives boxes old rounds after new → AreRounds begins is_excused status known may_give boxes (over old) rounds after (over new)
+  rounds_over begins is_excused boxes after old new [] (is, same) = (is, ap over same)
+  rounds_over begins is_excused boxes after old new (ts ∷ rounds) (between, mid, had, none, rest) =
+      (between, over mid, turns_over begins boxes between old mid ts had, none, rounds_over begins is_excused between after mid new rounds rest)
+
+  -- round after round, too
+  pub in_rounds_over : (begins : Option Ways → Bool) (is_excused : Boxes → ℕ → Type 0) (old new : Counter S G C) → AreAttendedInRounds begins is_excused standing known gives (both old) (both new)
+      → AreAttendedInRounds begins is_excused status known may_give (record { store = old.bank.now.store; clock = old.clock.now }) (record { store = new.bank.now.store; clock = new.clock.now })
+  in_rounds_over begins is_excused old new a = record {
+    attended = attended_over begins old new a.attended;
+    rounds = a.rounds;
+    all = a.all;
+    had = rounds_over begins is_excused _ a.attended.after (both old) (both new) a.rounds a.had;
   }
 
   pub attended_same : (begins : Option Ways → Bool) (old new : Counter S G C) → AreAttended begins standing known gives (both old) (both new) → IsSame old new

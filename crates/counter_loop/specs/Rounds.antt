@@ -76,20 +76,24 @@ pub record IsFull {T : Type 0} (ways : T → Option Ways) (full : T → Type 0) 
   pub some : rest ≢ []
   pub is_full : full stream
 
--- Whoever holds a whole message as a round begins has a turn in it; or had its last; or bytes wait for its client, who took no more; or it was let
--- go, and none of the later turns is its.
-abbrev pub NoneForgotten : {T : Type 0} → (T → Option Ways) → (T → Type 0) → Boxes → Boxes → List Made → List Made → Type 0
-NoneForgotten ways full boxes between turns later =
-    (k : ℕ) (box : Box) → boxes k ≡ Some box → box.is_over ≡ false → HoldsWhole box.held
-    → Contains (whose turns) k ⊎ (IsOver between k ⊎ (IsFull ways full between k ⊎ ¬ (Contains (whose later) k)))
+-- since its last turn bytes wait for its client
+abbrev pub HasUnsent : Boxes → ℕ → Type 0
+HasUnsent boxes k = (box : Box) × (boxes k ≡ Some box) × (box.waits ≢ [])
 
-module _ {T S C : Type 0} (begins : Option Ways → Bool) (ways : T → Option Ways) (full : T → Type 0) (status : S → Status) (users : List ℕ → Option ℕ) (may_give : C → ℕ → C → Type 0) where
+-- Whoever holds a whole message as a round begins has a turn in it; or had its last; or is excused, as its client took no more; or it was let go, and
+-- none of the later turns is its.
+abbrev pub NoneForgotten : (Boxes → ℕ → Type 0) → Boxes → Boxes → List Made → List Made → Type 0
+NoneForgotten is_excused boxes between turns later =
+    (k : ℕ) (box : Box) → boxes k ≡ Some box → box.is_over ≡ false → HoldsWhole box.held
+    → Contains (whose turns) k ⊎ (IsOver between k ⊎ (is_excused between k ⊎ ¬ (Contains (whose later) k)))
+
+module _ {S C : Type 0} (begins : Option Ways → Bool) (is_excused : Boxes → ℕ → Type 0) (status : S → Status) (users : List ℕ → Option ℕ) (may_give : C → ℕ → C → Type 0) where
   -- turns, round after round, and nobody is forgotten
   abbrev pub AreRounds : Boxes → At S C → List (List Made) → Boxes → At S C → Type 0
   AreRounds boxes old [] after new = (after ≡ boxes) × (new ≡ old)
   AreRounds boxes old (ts ∷ rounds) after new =
       (between : Boxes) × (mid : At S C) × AreTurns begins status users may_give boxes old ts between mid
-      × NoneForgotten ways full boxes between ts (joined rounds) × AreRounds between mid rounds after new
+      × NoneForgotten is_excused boxes between ts (joined rounds) × AreRounds between mid rounds after new
 
   -- connections were served at once, round after round
   pub record AreAttendedInRounds (old new : At S C) : Type 0 where

@@ -1,9 +1,10 @@
 -- Round after round, from no connection on.
 use Rattle.std.proofs.Common.{false, inr, ◌++◌, Contains, rules}
-use Rattle.counter_loop.specs.Rounds.{IsDue}
+use Rattle.counter_loop.specs.Rounds.{IsDue, IsFull}
 use Rattle.counter_loop.specs.Turns.{nothing_yet}
 use Rattle.counter_loop.specs.declared.readiness.Ready.TheVariants.{End}
-use Rattle.counter_loop.proofs.ChainLemmas.{attended_not, attended_so, going_all, going_none, going_on}
+use Rattle.counter_loop.proofs.AttendedLemmas.{attended_none}
+use Rattle.counter_loop.proofs.ChainLemmas.{attended_so, going_all, going_none, going_on}
 use Rattle.counter_loop.proofs.FitLemmas.{fit_nobody}
 use Rattle.counter_loop.proofs.ReportLemmas.{ended_if, reports_none, reports_then}
 use Rattle.counter_loop.proofs.many.serve.Goals as goal
@@ -35,13 +36,13 @@ returns-then-has_ended-clause-ended g c =
     ended_if c.end_serving.result _ _ _ _ c.loop.invariant.1.0 c.wait.new.ready.items c.loop.invariant.1.1 c.wait.ensures is c.end_serving.ensures.reported
 
 pub returns-in_err-ready-clause-rounds : goal.returns-in_err-ready-clause-rounds
-returns-in_err-ready-clause-rounds g c = attended_not g.D.Stream.TwoWay.begins g.D.Stream.TwoWay.ways g.D.Stream.TwoWay.used_up g.D.Stream.TwoWay.full g.E.Service.status g.E.Service.users g.E.Service.may_give _
+returns-in_err-ready-clause-rounds g c = attended_none g.D.Stream.TwoWay.begins g.E.Service.status _ g.E.Service.may_give (IsFull g.D.Stream.TwoWay.ways g.D.Stream.TwoWay.full) _
 
 pub returns-in_err-clients-clause-rounds : goal.returns-in_err-clients-clause-rounds
-returns-in_err-clients-clause-rounds g c = attended_not g.D.Stream.TwoWay.begins g.D.Stream.TwoWay.ways g.D.Stream.TwoWay.used_up g.D.Stream.TwoWay.full g.E.Service.status g.E.Service.users g.E.Service.may_give _
+returns-in_err-clients-clause-rounds g c = attended_none g.D.Stream.TwoWay.begins g.E.Service.status _ g.E.Service.may_give (IsFull g.D.Stream.TwoWay.ways g.D.Stream.TwoWay.full) _
 
 pub returns-in_err-swept-clause-rounds : goal.returns-in_err-swept-clause-rounds
-returns-in_err-swept-clause-rounds g c = attended_not g.D.Stream.TwoWay.begins g.D.Stream.TwoWay.ways g.D.Stream.TwoWay.used_up g.D.Stream.TwoWay.full g.E.Service.status g.E.Service.users g.E.Service.may_give _
+returns-in_err-swept-clause-rounds g c = attended_none g.D.Stream.TwoWay.begins g.E.Service.status _ g.E.Service.may_give (IsFull g.D.Stream.TwoWay.ways g.D.Stream.TwoWay.full) _
 
 pub returns-in_err-wait-clause-rounds : goal.returns-in_err-wait-clause-rounds
 returns-in_err-wait-clause-rounds g c = attended_so g.D.Stream.TwoWay.begins g.D.Stream.TwoWay.ways g.D.Stream.TwoWay.used_up g.D.Stream.TwoWay.full g.E.Service.status g.E.Service.users g.E.Service.may_give c.loop.clients _ _ c.loop.invariant.0
