@@ -6,4 +6,5 @@ pub mod SharesBetween
 pub mod SharesCalls
 pub mod SharesGroups
 pub mod SharesLemmas
+pub mod SharesSteps
 pub mod SumsLemmas

@@ -1,15 +1,12 @@
 -- The parts of a group by the keys that a call computes.
-use Rattle.std.proofs.Common.{◌≡◌, ℕ, ◌+◌, ◌*◌, ◌^◌, ◌<◌, ◌≤◌, ℤ, pos, neg_ℤ, ◌+ℤ◌, ◌≤ℤ◌, List, [], ◌∷◌, ◌++◌, length, map, take, get_or, inl, inr, ◌==◌, ◌&&◌, ap, arith, sym, subst, ◌∙◌}
+use Rattle.std.proofs.Common.{◌≡◌, ℕ, ◌+◌, ◌*◌, ◌^◌, ◌<◌, ◌≤◌, ℤ, pos, neg_ℤ, ◌+ℤ◌, ◌≤ℤ◌, List, length, ◌==◌, ◌&&◌, ap, sym, subst, ◌∙◌}
 use Rattle.std.specs.Prelude.{nat_le}
 use Rattle.std.specs.List.{All}
-use Rattle.std.proofs.lemmas.Bool.{cases_lt}
-use Rattle.std.proofs.lemmas.Int.{ints}
-use Rattle.std.proofs.lemmas.List.{get_or_append_left, get_or_push, length-take-le, length_push, take-take, take_all}
-use Rattle.keyed_rows.specs.Totals.{total}
 use Rattle.book_sums.specs.declared.shares.Part.{Part}
-use Rattle.book_sums.specs.Shares.{AreRunningSums, AreShares, IsPart, count_between, group_count, group_total, is_between, total_at, total_between, total_up_to}
+use Rattle.book_sums.specs.Shares.{IsPart, count_between, group_count, group_total, is_between, total_at, total_before, total_between, total_up_to}
 use Rattle.book_sums.proofs.SharesBetween.{EndsAt, EndsBelow, between_places, count_by-PassBetween, total-PassBetween, within_amounts}
 use Rattle.book_sums.proofs.SharesGroups.{count_of_tests, greatest, is_at, is_of_group, is_up_to, total_of_tests}
+use Rattle.book_sums.proofs.SharesSteps.{few, many}
 
 pub group_added : (group first last : ℕ) (parts : List Part) → first ≡ 2 ^ 32 * group + 0 → last ≡ 2 ^ 32 * group + greatest → All IsPart parts →
     total_between first last parts ≡ group_total group parts
@@ -45,55 +42,29 @@ counted_between first last i j seen other parts view ordered seen_is other_is vi
     (between_places view first last i j ordered (subst (λ l. i ≤ length l) here i_in) (subst (λ l. j ≤ length l) there j_in)
     (subst (λ l. EndsBelow l first i) here low) (subst (λ l. EndsAt l last j) there high))
 
--- what a difference of two running sums comes to, and its bounds
+-- a difference of what the parts before two places add up to, and its bounds
 pub record IsAdded (sum least most : ℤ) (first last : ℕ) (parts : List Part) : Type 0 where
   pub is : least +ℤ sum ≡ most
   pub low : neg_ℤ (pos (2 ^ 126)) ≤ℤ sum
   pub high : sum ≤ℤ pos (2 ^ 126)
 
-few : (n : ℕ) (sum : ℤ) → n < 2 ^ 63 → neg_ℤ (pos (2 ^ 63 * n)) ≤ℤ sum → neg_ℤ (pos (2 ^ 126)) ≤ℤ sum
-few n sum short low = omega (arith, ints)
-
-many : (n : ℕ) (sum : ℤ) → n < 2 ^ 63 → sum ≤ℤ pos (2 ^ 63 * n) → sum ≤ℤ pos (2 ^ 126)
-many n sum short high = omega (arith, ints)
-
 pub added_between : (first last i j : ℕ) (seen other parts view : List Part) → first ≤ last → seen ≡ parts → other ≡ parts → parts ≡ view →
     i ≤ length seen → j ≤ length other → EndsBelow seen first i → EndsAt other last j →
-    (sums : List ℤ) → AreShares parts sums → (least most : ℤ) → least ≡ get_or sums i least → most ≡ get_or sums j most → length seen < 2 ^ 63 →
+    (least most : ℤ) → least ≡ total_before i view → most ≡ total_before j view → All IsPart view → length seen < 2 ^ 63 →
     IsAdded (total_between first last view) least most first last view
-added_between first last i j seen other parts view ordered seen_is other_is view_is i_in j_in low high sums shares least most least_is most_is short =
+added_between first last i j seen other parts view ordered seen_is other_is view_is i_in j_in low high least most least_is most_is all short =
     let here : seen ≡ view = seen_is ∙ view_is in
     let there : other ≡ view = other_is ∙ view_is in
-    let kept : AreShares view sums = subst (λ l. AreShares l sums) view_is shares in
     let i_below : i ≤ length view = subst (λ l. i ≤ length l) here i_in in
     let j_below : j ≤ length view = subst (λ l. j ≤ length l) there j_in in
-    let bounds = within_amounts (is_between first last) view kept.in_range in
+    let bounds = within_amounts (is_between first last) view all in
     let few_parts : length view < 2 ^ 63 = subst (λ l. length l < 2 ^ 63) here short in
     record {
       is =
-          ap (λ z. z +ℤ total_between first last view) (least_is ∙ kept.running.sum i least i_below)
+          ap (λ z. z +ℤ total_between first last view) least_is
           ∙ total-PassBetween (is_between first last) (λ p. p.amount) view i j
           (between_places view first last i j ordered i_below j_below (subst (λ l. EndsBelow l first i) here low) (subst (λ l. EndsAt l last j) there high))
-          ∙ sym (most_is ∙ kept.running.sum j most j_below);
+          ∙ sym most_is;
       low = few (length view) (total_between first last view) few_parts bounds.0;
       high = many (length view) (total_between first last view) few_parts bounds.1;
-    }
-
--- one running sum more
-pub AreRunningSums-more : (parts : List Part) (i : ℕ) (sums after : List ℤ) (sum : ℤ) → i < length parts → AreRunningSums (take i parts) sums →
-    after ≡ sums ++ sum ∷ [] → sum ≡ total (map (λ p. p.amount) (take (i + 1) parts)) → AreRunningSums (take (i + 1) parts) after
-AreRunningSums-more parts i sums after sum inside before after_is is =
-    let short : length (take i parts) ≡ i = length-take-le i parts (omega arith) in
-    let long : length (take (i + 1) parts) ≡ i + 1 = length-take-le (i + 1) parts (omega arith) in
-    record {
-      one_more = omega (arith, ap length after_is, length_push sums sum, before.one_more, short, long);
-      sum = λ k d within. ap (λ l. get_or l k d) after_is ∙ elim (cases_lt k (i + 1)) [
-        | inl less ↦
-            get_or_append_left sums (sum ∷ []) d k (omega (arith, before.one_more, short, less))
-            ∙ before.sum k d (omega (arith, short, less))
-            ∙ ap (λ l. total (map (λ p. p.amount) l)) (take-take k i parts (omega arith) ∙ sym (take-take k (i + 1) parts (omega arith)))
-        | inr rest ↦
-            get_or_push sums sum d k (omega (arith, before.one_more, short, long, within, rest))
-            ∙ is ∙ ap (λ l. total (map (λ p. p.amount) l)) (sym (take_all k (take (i + 1) parts) (omega (arith, long, rest))))
-      ];
     }

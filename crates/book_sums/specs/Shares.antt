@@ -1,5 +1,5 @@
--- Parts of sums by group: what a group comes to, how many parts it has, and the running sums by which both are found.
-use Rattle.std.specs.Prelude.{◌≡◌, ℕ, ◌+◌, ◌*◌, ◌^◌, ◌<◌, ◌≤◌, nat_le, ℤ, pos, neg_ℤ, ◌<ℤ◌, ◌≤ℤ◌, List, length, map, take, slice_index_or, ◌==◌, ◌&&◌, count_by, if◌then◌else◌, Bool}
+-- Parts of sums by group: what a group comes to, how many parts it has, and the sums before every 64th part by which both are found.
+use Rattle.std.specs.Prelude.{◌≡◌, ℕ, ◌+◌, ◌*◌, ◌/◌, ◌^◌, ◌<◌, ◌≤◌, nat_le, ℤ, pos, neg_ℤ, ◌<ℤ◌, ◌≤ℤ◌, List, length, map, take, slice_index_or, ◌==◌, ◌&&◌, count_by, if◌then◌else◌, Bool}
 use Rattle.std.specs.List.{All}
 use Rattle.std.specs.List.Sorted.{IsNonDecreasingBy}
 use Rattle.keyed_rows.specs.Totals.{total}
@@ -44,13 +44,17 @@ pub record IsPart (p : Part) : Type 0 where
   pub low : neg_ℤ (pos (2 ^ 63)) ≤ℤ p.amount
   pub high : p.amount <ℤ pos (2 ^ 63)
 
--- one sum more than there are parts: what the first of them come to, from none of them to all (prefix sums)
-pub record AreRunningSums (parts : List Part) (sums : List ℤ) : Type 0 where
-  pub one_more : length sums ≡ length parts + 1
-  pub sum : (k : ℕ) (d : ℤ) → k ≤ length parts → slice_index_or sums k d ≡ total (map (λ p. p.amount) (take k parts))
+-- what the parts before a place add up to
+abbrev pub total_before : ℕ → List Part → ℤ
+total_before place parts = total (map (λ p. p.amount) (take place parts))
 
--- parts in order, each within its numbers, beside their running sums
+-- the sums before the places 0, 64, 128 and so on, of which the last is this many steps of 64 after the first (sampled prefix sums)
+pub record AreSumsOfSteps (steps : ℕ) (parts : List Part) (sums : List ℤ) : Type 0 where
+  pub one_more : length sums ≡ steps + 1
+  pub sum : (k : ℕ) (d : ℤ) → k ≤ steps → slice_index_or sums k d ≡ total_before (k * 64) parts
+
+-- parts in order, each within its numbers, beside the sums before each full step of them and after the last
 pub record AreShares (parts : List Part) (sums : List ℤ) : Type 0 where
   pub in_order : IsNonDecreasingBy part_key parts
   pub in_range : All IsPart parts
-  pub running : AreRunningSums parts sums
+  pub steps : AreSumsOfSteps (length parts / 64) parts sums

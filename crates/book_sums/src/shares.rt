@@ -1,15 +1,18 @@
-//! Parts of sums by group, sorted once, with running sums by which totals are found in two searches.
+//! Parts of sums by group, sorted once, with the sum before every 64th, by which totals are found in two searches.
 
-ghost use Rattle.std.specs.Prelude.{◌≡◌, ◌+◌, ◌*◌, ◌^◌, ◌<◌, ◌≤◌, ◌≤ℤ◌, IfOk, length, map, neg_ℤ, pos, slice_index_or, IsTrue, ℕ};
+ghost use Rattle.std.specs.Prelude.{◌≡◌, ◌+◌, ◌*◌, ◌/◌, ◌^◌, ◌<◌, ◌≤◌, ◌≤ℤ◌, IfOk, length, map, neg_ℤ, pos, slice_index_or, IsTrue, ℕ};
 ghost use Rattle.std.specs.List.{All};
 ghost use Rattle.std.specs.List.Sorted.{IsNonDecreasingBy, IsPartitionPoint, IsPermutation};
 ghost use Rattle.book_sums.specs.declared.shares.Part.{Part as APart};
-ghost use Rattle.book_sums.specs.Shares.{AreRunningSums, IsPart, part_key};
+ghost use Rattle.book_sums.specs.Shares.{AreSumsOfSteps, IsPart, part_key};
 
 use crate::groups::rows_of_group;
-use keyed_rows::Keyed;
+use keyed_rows::{Keyed, Tally, sum_of};
 use std::alloc::{AllocError, Global};
 use std::marker::Model;
+
+/// How many parts there are from one kept sum to the next.
+const STEP: usize = 64;
 
 /// One row's part in sums by group, such as an entry's delta in the sum of its account.
 #[derive(Clone, Copy, Debug, PartialEq, Eq)]
@@ -47,6 +50,18 @@ fn key_of(group: u32, number: u32) -> u64
     group as u64 * (1 << 32) + number as u64
 }
 
+/// The amounts of parts.
+#[derive(Clone, Copy)]
+struct Amounts;
+
+impl Tally<Part> for Amounts {
+    ghost share = { λ _ p. p.amount };
+
+    fn share(&self, row: &Part) -> i64 {
+        row.amount
+    }
+}
+
 /// How a row is taken as a part.
 pub trait Parts<T> {
     ghost use Rattle.std.specs.Prelude.{◌≡◌};
@@ -59,12 +74,13 @@ pub trait Parts<T> {
         ensures { result ≡ part self.now row.now };
 }
 
-/// Parts in order of group, then number, with their running sums: what a group comes to is found
-/// by two searches, each of which halves the parts that are left.
+/// Parts in order of group, then number, with the sum before every 64th of them: what a group comes
+/// to is found by two searches, each of which halves the parts that are left and then adds up to 63
+/// amounts to a kept sum.
 #[derive(Drop)]
 pub struct Shares {
     parts: Vec<Part>,
-    /// What the parts in front come to, of none of them, then of one, up to all.
+    /// What the parts before the places 0, 64, 128 and so on add up to.
     sums: Vec<i128>,
 }
 
@@ -81,9 +97,9 @@ impl Model for Shares {
 }
 
 impl Shares {
-    ghost use Rattle.std.specs.Prelude.{◌≡◌, ◌==◌, ◌≤ℤ◌, ◌^◌, IfOk, filter, map, neg_ℤ, pos};
+    ghost use Rattle.std.specs.Prelude.{◌≡◌, ◌==◌, ◌≤◌, ◌≤ℤ◌, ◌^◌, IfOk, filter, length, map, neg_ℤ, pos};
     ghost use Rattle.std.specs.List.Sorted.{IsNonDecreasingBy, IsPermutation};
-    ghost use Rattle.book_sums.specs.Shares.{count_between, group_count, group_total, part_key, total_at, total_between, total_up_to};
+    ghost use Rattle.book_sums.specs.Shares.{count_between, group_count, group_total, part_key, total_at, total_before, total_between, total_up_to};
 
     /// The parts of these rows. It takes the time of one sort, and fails only where memory is
     /// refused.
@@ -92,7 +108,7 @@ impl Shares {
     {
         let mut parts = parts_of(alloc, query, rows)?;
         put_in_order(&mut parts);
-        let sums = running_sums(alloc, &parts)?;
+        let sums = sums_of_steps(alloc, &parts)?;
         Ok(Shares { parts, sums })
     }
 
@@ -156,7 +172,16 @@ impl Shares {
         let start = end_below(&self.parts, first);
         let guess = (start as u64).saturating_add(last - first);
         let end = end_near(&self.parts, guess, last);
-        self.sums[end] - self.sums[start]
+        self.sum_before(end) - self.sum_before(start)
+    }
+
+    /// What the parts before a place add up to.
+    fn sum_before(&self, place: usize) -> i128
+        requires { place ≤ length self.now }
+        ensures { result ≡ total_before place self.now }
+    {
+        let step = place / STEP;
+        self.sums[step] + sum_of(&Amounts, &self.parts[step * STEP..place])
     }
 
     /// How many parts have keys from the first to the last.
@@ -246,16 +271,17 @@ fn put_in_order(parts: &mut Vec<Part>)
     parts.sort_unstable_by_key(|part| part.key());
 }
 
-/// What the parts in front come to, of none of them, then of one, up to all.
-fn running_sums(alloc: Global, parts: &[Part]) -> Result<Vec<i128>, AllocError>
+/// What the parts before the places 0, 64, 128 and so on add up to.
+fn sums_of_steps(alloc: Global, parts: &[Part]) -> Result<Vec<i128>, AllocError>
     requires { All IsPart parts.now }
-    ensures { IfOk result (λ sums. AreRunningSums parts.now sums.items) }
+    ensures { IfOk result (λ sums. AreSumsOfSteps (length parts.now / STEP) parts.now sums.items) }
 {
+    let steps = parts.len() / STEP;
     let mut sum: i128 = 0;
-    let mut sums = Vec::with_capacity(alloc, parts.len() + 1)?;
+    let mut sums = Vec::with_capacity(alloc, steps + 1)?;
     sums.push(sum)?;
-    for part in parts {
-        sum += i128::from(part.amount);
+    for step in 0..steps {
+        sum += sum_of(&Amounts, &parts[step * STEP..(step + 1) * STEP]);
         sums.push(sum)?;
     }
     Ok(sums)
