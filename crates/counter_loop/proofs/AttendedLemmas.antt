@@ -1,5 +1,5 @@
 -- Turns, whosever they are, are one run of the bank, in which each connection has its replies.
-use Rattle.std.proofs.Common.{◌≡◌, ℕ, Bool, List, [], ◌∷◌, ◌++◌, inl, inr, Option, Some, refl, sym, ap, ◌∙◌}
+use Rattle.std.proofs.Common.{◌≡◌, ℕ, Bool, List, [], ◌∷◌, ◌++◌, inl, inr, Option, Some, refl, sym, ◌∙◌}
 use Rattle.store_rows.specs.Status.{Status}
 use Rattle.counter_loop.specs.Attended.{AreAttended, IsSince}
 use Rattle.counter_loop.specs.Rounds.{AreAttendedInRounds, AreRounds, HasUnsent, IsFull, NoneForgotten}
@@ -52,6 +52,7 @@ module _ {S C : Type 0} (begins : Option Ways → Bool) (status : S → Status) 
   attended_so_far old new turns after had = attended old new turns after had (λ k box is. (box.ways, box.waits, since_now box))
 
   pub attended_none : (is_excused : Boxes → ℕ → Type 0) (s : At S C) → AreAttendedInRounds begins is_excused status users may_give s s
+  unfolding attended_so_far
   attended_none is_excused s = record { attended = attended_so_far s s [] nothing_yet (refl, refl); rounds = []; all = refl; had = (refl, refl) }
 
   -- whoever took no more has bytes waiting

@@ -143,6 +143,7 @@ module _ {S G C : Type 0} (status : S → Status) (known : List ℕ → Option �
   -- round after round, too
   pub in_rounds_over : (begins : Option Ways → Bool) (is_excused : Boxes → ℕ → Type 0) (old new : Counter S G C) → AreAttendedInRounds begins is_excused standing known gives (both old) (both new)
       → AreAttendedInRounds begins is_excused status known may_give (record { store = old.bank.now.store; clock = old.clock.now }) (record { store = new.bank.now.store; clock = new.clock.now })
+  unfolding attended_over
   in_rounds_over begins is_excused old new a = record {
     attended = attended_over begins old new a.attended;
     rounds = a.rounds;
