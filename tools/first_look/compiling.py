@@ -61,13 +61,14 @@ def link_all(folder: str, to: str, but: list[str]) -> None:
             link_all(os.path.join(folder, name), os.path.join(to, name), inside)
 
 
-def toolchain_that_keeps(to: str, program: str) -> str:
-    """Makes a copy of the toolchain, of links, whose linker leaves the program at a path, and returns the path of its rt."""
+def toolchain_that_keeps(to: str, program: str, replaced: dict[str, str]) -> str:
+    """Makes a copy of the toolchain, of links and of these texts in place of files of its own, whose linker leaves the program at
+    a path, and returns the path of its rt."""
     home, processors = kit(), str(len(os.sched_getaffinity(0)))
-    link_all(home, to, [*OWN_FILES, *REPLACED])
+    link_all(home, to, [*OWN_FILES, *replaced])
     for name in OWN_FILES:
         shutil.copy2(os.path.join(home, name), os.path.join(to, name))
-    for name, text in REPLACED.items():
+    for name, text in replaced.items():
         path = os.path.join(to, name)
         with open(path, "w", encoding="utf-8") as file:
             file.write(text.replace("KIT", home).replace("PROGRAM", program).replace("PROCESSORS", processors))
@@ -110,7 +111,7 @@ def compile_to(program: str) -> bool:
     with tempfile.TemporaryDirectory(prefix="tespiorvu-try-") as room:
         copy, made = os.path.join(room, "copy"), os.path.join(room, "made")
         copy_crates(copy, below(words_of_all(), [BANK_PROGRAM]))
-        rt = toolchain_that_keeps(os.path.join(room, "kit"), made)
+        rt = toolchain_that_keeps(os.path.join(room, "kit"), made, REPLACED)
         ran = subprocess.run(
             [rt, "try", "--seconds", str(SECONDS), "--", "--help"],
             cwd=os.path.join(copy, "crates", BANK_PROGRAM),

@@ -1,9 +1,9 @@
 """Tries the reader of cases (tools/cases/suite.py) and their runs (tools/cases/run) over cases of its own; which checks have a
 second try (tools/checks.py); the minutes of a build (tools/toolchain/chain.py) over crates of its own; which functions have a
-clause (tools/toolchain/rattle_source.py, tools/pages/crates); that only tools/try runs an unproved program, of these sources; which
-changes of a definition are seen (tools/pages/reading); whether the model over kept sums (tools/simulation/ledger.py) answers as
-the one that adds up; what tools/benchmarks/instructions says of two tables; and whether tools/toolchain/mutants tries again what a
-change concerns (tools/toolchain/kept_trials.py).
+clause (tools/toolchain/rattle_source.py, tools/pages/crates); that only tools/try and tools/benchmarks/unproved make an
+unproved program, tools/try of these sources; which changes of a definition are seen (tools/pages/reading); whether the model over
+kept sums (tools/simulation/ledger.py) answers as the one that adds up; what tools/benchmarks/instructions says of two tables; and
+whether tools/toolchain/mutants tries again what a change concerns (tools/toolchain/kept_trials.py).
 
     tools/toolchain/self-tests
 
@@ -229,7 +229,7 @@ SUMS = [
 
 # The files that name the folder of the unproved program, or the modules that make it.
 UNPROVED = re.compile(r"first[-_]look")
-MAY_NAME_IT = {"tools/try", "tools/first_look/compiling.py", "tools/toolchain/self_tests.py"}
+MAY_NAME_IT = {"tools/try", "tools/first_look/compiling.py", "tools/benchmarks/unproved.py", "tools/toolchain/self_tests.py"}
 
 
 def naming_unproved():
